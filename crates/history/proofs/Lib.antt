@@ -1,0 +1,8 @@
+mod Counting
+mod Pairs
+mod Flags
+mod Stepping
+mod Openings
+mod Logs
+mod Reaches
+mod Orders

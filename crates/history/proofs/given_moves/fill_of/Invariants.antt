@@ -1,0 +1,6 @@
+use Rattle.std.proofs.Common.{◌≡◌, ℕ, take}
+use Rattle.history.specs.MoveTable.{MoveTable}
+use Rattle.history.proofs.given_moves.fill_of.Given as goal
+
+abbrev pub invariant-loop-region : goal.invariant-loop-region
+invariant-loop-region g l = l.fill.items ≡ take l.region (g.M.Moves.table l.moves).fill

@@ -1,0 +1,5 @@
+use Rattle.history.proofs.Reaches.{legal_reached}
+use Rattle.history.proofs.laws.what_legal_histories_keep.Goals as goal
+
+pub returns : goal.returns
+returns c = legal_reached

@@ -1,0 +1,22 @@
+use Rattle.std.proofs.Common.{◌≡◌, ◌<◌, ◌≤◌, ◌+◌, ◌-◌, ℕ, List, length, get_or, true, false, refl, sym, ap, ◌∙◌, subst, arith, Some, None, inl, inr, ◌⊎◌, ◌≢◌}
+use Rattle.std.specs.Prelude.{slice_index, slice_index_or, IsTrue, ◌==◌, if◌then◌else◌}
+use Rattle.std.proofs.lemmas.List.{get_or_default}
+use Rattle.std.proofs.lemmas.Bool.{both_ways, ne_eqb}
+use Rattle.history.specs.MoveTable.{MoveTable, region_count}
+use Rattle.history.specs.State.{State, is_pending, readers_left, IsFilling}
+use Rattle.history.specs.Progress.{claimant_of, is_filled, is_settled}
+use Rattle.history.specs.Scheduler.{SchedulerView, state_in, IsKept, IsPendingAt, sources_left}
+use Rattle.history.specs.declared.progress.Progress.TheVariants.{Unclaimed, Filling, Completed, Settled}
+use Rattle.history.proofs.Stepping.{few_left}
+use Rattle.history.proofs.scheduler.Scheduler.readers_left_of.Goals as goal
+
+pub overflow_cast-result : goal.overflow_cast-result
+overflow_cast-result c =
+    let v : SchedulerView = record { workers = c.self.inside.workers; moves = c.self.inside.moves; flags = c.self.inside.drained.items; progress = c.self.inside.progress.items } in
+    let kept : IsKept v c.self.inside.readers_left.items c.self.inside.sources_left.items c.self.inside.unsettled = c.self.invariant in
+    let inside : c.args.region < region_count v.moves = rw (← c.self.view_is) at c.requires in
+    let is : slice_index c.self.inside.readers_left.items c.args.region ≡ readers_left v.moves (state_in v) c.args.region = kept.counts.readers_are c.args.region inside in
+    let here : c.args.region < length c.self.inside.readers_left.items = rw kept.counts.readers_all inside in
+    let same : c.index.result.now ≡ slice_index c.self.inside.readers_left.items c.args.region = c.index.ensures ∙ get_or_default c.self.inside.readers_left.items c.args.region c.index.result.now 0 here in
+    let few : readers_left v.moves (state_in v) c.args.region ≤ 2 = few_left v.moves (state_in v) c.args.region kept.table in
+    omega arith

@@ -1,0 +1,91 @@
+use Rattle.std.specs.Prelude.{◌≡◌, ◌≢◌, ℕ, ◌<◌, ◌≤◌, Bool, true, false, ◌&&◌, ◌==◌, ◌↔◌, IsTrue, Some, None, List, [], ◌∷◌, ◌++◌, count_by}
+use Rattle.std.specs.List.{list_any}
+use Rattle.history.specs.MoveTable.{MoveTable, to_fill, reads}
+use Rattle.history.specs.State.{State, opening, is_pending, state_after, IsStep}
+use Rattle.history.specs.declared.event.Event.{Event}
+use Rattle.history.specs.declared.event.Event.TheVariants.{Claim, Drain, Complete, Settle}
+use Rattle.history.specs.declared.reply.Reply.{Reply}
+use Rattle.history.specs.declared.reply.Reply.TheVariants.{Yes, All}
+use Rattle.history.specs.declared.entry.Entry.{Entry}
+
+-- the state after these calls, from this one on
+abbrev pub state_from : State → List Entry → State
+state_from now [] = now
+state_from now (e ∷ es) = state_from (state_after now e.worker e.event e.reply) es
+
+-- the state to which a history leads
+abbrev pub state_of : List Entry → State
+state_of log = state_from opening log
+
+-- each call is a step from where those before it lead to, made by one of so many workers
+abbrev pub AreSteps : MoveTable → ℕ → State → List Entry → Type 0
+AreSteps m workers now [] = Unit {0}
+AreSteps m workers now (e ∷ es) =
+    (e.worker < workers)
+    × IsStep m now e.worker e.event e.reply (state_after now e.worker e.event e.reply)
+    × AreSteps m workers (state_after now e.worker e.event e.reply) es
+
+-- a legal history, oldest call first, begins at the opening
+abbrev pub IsLegal : MoveTable → ℕ → List Entry → Type 0
+IsLegal m workers log = AreSteps m workers opening log
+
+abbrev pub is_claim_of : ℕ → Event → Bool
+is_claim_of r (Claim q) = r == q
+is_claim_of r _ = false
+
+abbrev pub is_drain_of : ℕ → ℕ → Event → Bool
+is_drain_of d s (Drain e t) = d == e && s == t
+is_drain_of d s _ = false
+
+abbrev pub is_settling_of : ℕ → Event → Bool
+is_settling_of r (Settle q) = r == q
+is_settling_of r _ = false
+
+abbrev pub is_settling : Event → Bool
+is_settling (Settle q) = true
+is_settling _ = false
+
+abbrev pub is_yes : Reply → Bool
+is_yes Yes = true
+is_yes _ = false
+
+-- the entry grants the region
+abbrev pub is_grant : ℕ → Entry → Bool
+is_grant r e = is_claim_of r e.event && is_yes e.reply
+
+-- the entry grants the region to this worker
+abbrev pub is_grant_to : ℕ → ℕ → Entry → Bool
+is_grant_to worker r e = is_grant r e && e.worker == worker
+
+-- the entry stands in the history after these and before those
+abbrev pub IsSplit : List Entry → List Entry → Entry → List Entry → Type 0
+IsSplit log before e after = log ≡ before ++ e ∷ after
+
+-- What the entries of a legal history say of each other.
+pub record IsOrderly (m : MoveTable) (log : List Entry) : Type 0 where
+  -- a region is granted at most once
+  pub granted_once : (r : ℕ) → count_by (is_grant r) log ≤ 1
+  -- when it is granted, nobody has still to read it
+  pub granted_when_read : (before after : List Entry) (e : Entry) (r d : ℕ) → IsSplit log before e after → IsTrue (is_grant r e) → is_pending m (state_of before) d r ≡ false
+  -- and nobody has to read it at any later moment
+  pub stays_read : (before middle after : List Entry) (e : Entry) (r d : ℕ) → IsSplit log before e (middle ++ after) → IsTrue (is_grant r e) → is_pending m (state_of (before ++ e ∷ middle)) d r ≡ false
+  -- it is completed only by the worker to which it was granted
+  pub completed_by_claimant : (before after : List Entry) (e : Entry) (d : ℕ) → IsSplit log before e after → e.event ≡ Complete d → IsTrue (list_any (is_grant_to e.worker d) before)
+  -- and only after it has drained all that it reads
+  pub completed_when_drained : (before after : List Entry) (e : Entry) (d s : ℕ) → IsSplit log before e after → e.event ≡ Complete d → IsTrue (reads m d s) → IsTrue (list_any (λ c. is_drain_of d s c.event) before)
+  -- a settling answers All exactly if every region to be filled is settled with it
+  pub all_when_last : (before after : List Entry) (e : Entry) (d : ℕ) → IsSplit log before e after → e.event ≡ Settle d
+      → (e.reply ≡ All) ↔ ((r : ℕ) → IsTrue (to_fill m r) → IsTrue (list_any (λ c. is_settling_of r c.event) (before ++ e ∷ [])))
+  -- and then no settling follows
+  pub none_after_all : (before after : List Entry) (e : Entry) (d : ℕ) → IsSplit log before e after → e.event ≡ Settle d → e.reply ≡ All → list_any (λ c. is_settling c.event) after ≡ false
+
+-- What holds in each state to which a legal history leads.
+pub record IsReached (m : MoveTable) (now : State) : Type 0 where
+  pub claimed_to_fill : (r worker : ℕ) → now.claimed r ≡ Some worker → IsTrue (to_fill m r)
+  pub filled_claimed : (r : ℕ) → IsTrue (now.filled r) → now.claimed r ≢ None
+  pub settled_filled : (r : ℕ) → IsTrue (now.settled r) → IsTrue (now.filled r)
+  pub drained_reads : (d s : ℕ) → IsTrue (now.drained d s) → IsTrue (reads m d s)
+  -- a region is claimed only once nobody has to read it any more
+  pub claimed_read : (d s worker : ℕ) → now.claimed s ≡ Some worker → is_pending m now d s ≡ false
+  -- a region is filled only once it has drained all that it reads
+  pub filled_drained : (d s : ℕ) → IsTrue (now.filled d) → is_pending m now d s ≡ false

@@ -1,0 +1,198 @@
+ghost use Rattle.std.specs.Prelude.{◌≡◌, ℕ, ◌+◌, ◌<◌, ◌≤◌, ◌↔◌, ◌==◌, length, All, AllPairs, take, count_by, slice_index_or, SomeIff, IsTrue, IfOk, OnOk, true, false};
+ghost use Rattle.history.specs.MoveTable.{MoveTable, IsMoveTable, Slides, is_before, has_source, region_count, pairs_before};
+
+use crate::moves::Moves;
+use std::alloc::{AllocError, Global};
+use std::marker::Model;
+
+/// A table of moves that was handed in. It takes no memory of its own: a count walks the pairs.
+#[derive(Drop)]
+pub struct GivenMoves {
+    fill: Vec<bool>,
+    pairs: Vec<(u32, u32)>,
+}
+
+impl Model for GivenMoves {
+    ghost use Rattle.history.specs.MoveTable.{MoveTable, IsMoveTable};
+
+    ghost Value = { MoveTable };
+
+    ghost view = { λ g. record { fill = g.fill.items; pairs = g.pairs.items } };
+
+    ghost invariant = { λ g. IsMoveTable (record { fill = g.fill.items; pairs = g.pairs.items }) };
+}
+
+impl GivenMoves {
+    /// The table of these regions, a flag each for whether it is to be filled, and these pairs
+    /// (destination, source). None unless there are 1 to 16,384 regions, the pairs are strictly
+    /// ascending and in range, each leads down to a region to be filled, and no source has more
+    /// than two readers.
+    pub fn new(fill: Vec<bool>, pairs: Vec<(u32, u32)>) -> Option<GivenMoves>
+        ensures { SomeIff result (IsMoveTable (record { fill = fill.items; pairs = pairs.items })) (record { fill = fill.items; pairs = pairs.items }) }
+    {
+        if !is_move_table(&fill, &pairs) {
+            return None;
+        }
+        Some(GivenMoves { fill, pairs })
+    }
+
+    /// The same table as these moves tell.
+    pub(crate) fn copy_of<M: Moves>(alloc: Global, moves: &M) -> Result<GivenMoves, AllocError>
+        ensures { IfOk result (λ given. given ≡ M.table moves.now) }
+    {
+        let regions = moves.regions();
+        let fill = fill_of(alloc, moves, regions)?;
+        let pairs = pairs_of(alloc, moves, regions)?;
+        Ok(GivenMoves { fill, pairs })
+    }
+
+    /// All pairs, by destination and then by source.
+    pub(crate) fn pairs(&self) -> &[(u32, u32)]
+        ensures { result.now ≡ self.now.pairs }
+    {
+        &self.pairs
+    }
+
+    /// How many regions are to be filled.
+    pub(crate) fn fill_count(&self) -> usize
+        ensures { result ≡ count_by (λ fills. fills) self.now.fill }
+    {
+        self.fill.iter().filter(|fills| **fills).count()
+    }
+
+    /// The place of the first pair that isn't before this one.
+    pub(crate) fn first_from(&self, destination: u32, source: u32) -> usize
+        ensures within { result ≤ length self.now.pairs }
+        ensures before { (k : ℕ) (d : ℕ × ℕ) → k < result → is_before (slice_index_or self.now.pairs k d) (destination, source) ≡ true }
+        ensures after { (k : ℕ) (d : ℕ × ℕ) → result ≤ k → k < length self.now.pairs → is_before (slice_index_or self.now.pairs k d) (destination, source) ≡ false }
+    {
+        self.pairs.as_slice().partition_point(
+            |pair: &(u32, u32)| -> bool
+                ensures { result ≡ is_before pair.now (destination, source) }
+            { is_before(*pair, (destination, source)) },
+        )
+    }
+}
+
+impl Moves for GivenMoves {
+    ghost table = { λ given. given };
+
+    fn regions(&self) -> u32 {
+        self.fill.len() as u32
+    }
+
+    fn to_fill(&self, region: u32) -> bool {
+        self.fill[region as usize]
+    }
+
+    fn count(&self, source: u32) -> u32 {
+        count_of(&self.pairs, source) as u32
+    }
+
+    fn next_source(&self, destination: u32, from: u32) -> Option<u32> {
+        let (d, s) = *self.pairs.get(self.first_from(destination, from))?;
+        if d == destination { Some(s) } else { None }
+    }
+}
+
+/// By destination, and then by source.
+fn is_before(one: (u32, u32), other: (u32, u32)) -> bool
+    ensures { result ≡ is_before one other }
+{
+    one.0 < other.0 || (one.0 == other.0 && one.1 < other.1)
+}
+
+/// Whether this may be handed in as a table.
+fn is_move_table(fill: &[bool], pairs: &[(u32, u32)]) -> bool
+    ensures { IsTrue result ↔ IsMoveTable (record { fill = fill.now; pairs = pairs.now }) }
+{
+    if fill.is_empty() || fill.len() > 16384 {
+        return false;
+    }
+    are_ascending(pairs) && all_slide(fill, pairs) && have_two_readers_at_most(pairs)
+}
+
+/// How many pairs have this source.
+fn count_of(pairs: &[(u32, u32)], source: u32) -> usize
+    ensures { result ≡ count_by (has_source source) pairs.now }
+{
+    pairs.iter().filter(|pair| source == pair.1).count()
+}
+
+fn are_ascending(pairs: &[(u32, u32)]) -> bool
+    ensures { IsTrue result ↔ AllPairs (λ p q. IsTrue (is_before p q)) pairs.now }
+{
+    for i in 1..pairs.len() {
+        if !is_before(pairs[i - 1], pairs[i]) {
+            return false;
+        }
+    }
+    true
+}
+
+fn all_slide(fill: &[bool], pairs: &[(u32, u32)]) -> bool
+    ensures { IsTrue result ↔ All (Slides fill.now) pairs.now }
+{
+    for &(d, s) in pairs {
+        if d >= s || (s as usize) >= fill.len() || !fill[d as usize] {
+            return false;
+        }
+    }
+    true
+}
+
+/// Ends at the first third reader, so after at most twice as many pairs as there are sources.
+fn have_two_readers_at_most(pairs: &[(u32, u32)]) -> bool
+    ensures { IsTrue result ↔ ((s : ℕ) → count_by (has_source s) pairs.now ≤ 2) }
+{
+    for i in 0..pairs.len() {
+        if count_of(&pairs[..i], pairs[i].1) >= 2 {
+            return false;
+        }
+    }
+    true
+}
+
+/// Of each region, whether it is to be filled.
+fn fill_of<M: Moves>(alloc: Global, moves: &M, regions: u32) -> Result<Vec<bool>, AllocError>
+    requires { regions ≡ region_count (M.table moves.now) }
+    ensures { IfOk result (λ fill. fill.items ≡ (M.table moves.now).fill) }
+{
+    let mut fill = Vec::new(alloc);
+    for region in 0..regions {
+        fill.push(moves.to_fill(region))?;
+    }
+    Ok(fill)
+}
+
+/// All pairs, by destination and then by source.
+fn pairs_of<M: Moves>(alloc: Global, moves: &M, regions: u32) -> Result<Vec<(u32, u32)>, AllocError>
+    requires number { regions ≡ region_count (M.table moves.now) }
+    requires lawful { IsMoveTable (M.table moves.now) }
+    ensures { IfOk result (λ pairs. pairs.items ≡ (M.table moves.now).pairs) }
+{
+    let mut pairs = Vec::new(alloc);
+    for destination in 0..regions {
+        push_pairs(&mut pairs, moves, destination)?;
+    }
+    Ok(pairs)
+}
+
+/// Adds the pairs of one destination to those of the smaller ones.
+fn push_pairs<M: Moves>(
+    pairs: &mut Vec<(u32, u32)>,
+    moves: &M,
+    destination: u32,
+) -> Result<(), AllocError>
+    requires lawful { IsMoveTable (M.table moves.now) }
+    requires inside { destination < region_count (M.table moves.now) }
+    requires before { pairs.old.items ≡ pairs_before (M.table moves.now) destination 0 }
+    ensures { OnOk result (pairs.new.items ≡ pairs_before (M.table moves.now) (destination + 1) 0) }
+{
+    let mut from = 0;
+    while let Some(source) = moves.next_source(destination, from) {
+        pairs.push((destination, source))?;
+        from = source + 1;
+    }
+    Ok(())
+}

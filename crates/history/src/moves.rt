@@ -1,0 +1,31 @@
+ghost use Rattle.std.specs.Prelude.{◌≡◌, ◌<◌};
+ghost use Rattle.history.specs.MoveTable.{MoveTable, IsMoveTable, IsNextSource, region_count, to_fill, readers_of};
+
+/// What moves where: which regions are to be filled, and from which other regions each takes words.
+/// Contracts see it as one table of plain data, a flag for each region and a list of pairs
+/// (destination, source).
+pub trait Moves {
+    /// The whole table.
+    ghost table: { Self → MoveTable };
+
+    /// How many regions there are. Words slide down, into regions to be filled, and at most two
+    /// other regions read one.
+    fn regions(&self) -> u32
+        ensures number { result ≡ region_count (table self.now) }
+        ensures lawful { IsMoveTable (table self.now) };
+
+    /// Whether the region is to be filled.
+    fn to_fill(&self, region: u32) -> bool
+        requires { region < region_count (table self.now) }
+        ensures { result ≡ to_fill (table self.now) region };
+
+    /// How many other regions take words from this one.
+    fn count(&self, source: u32) -> u32
+        requires { source < region_count (table self.now) }
+        ensures { result ≡ readers_of (table self.now) source };
+
+    /// The least other region, from this one on, from which the destination takes words.
+    fn next_source(&self, destination: u32, from: u32) -> Option<u32>
+        requires { destination < region_count (table self.now) }
+        ensures { IsNextSource (table self.now) destination from result };
+}

@@ -1,0 +1,260 @@
+ghost use Rattle.std.specs.Prelude.{◌≡◌, ℕ, ◌+◌, ◌<◌, ◌≤◌, ◌↔◌, ◌==◌, length, slice_index_or, count_by, take, IsTrue, IfOk, OnErr, Some, true, false, IfSome, IfNone, slice_index};
+ghost use Rattle.history.specs.MoveTable.{region_count, to_fill, has_source, readers_of, reads};
+ghost use Rattle.history.specs.State.{all_or_more, unsettled, may_claim, opening, readers_left, is_pending, Allows, IsStep, IsFilling};
+ghost use Rattle.history.specs.Progress.{claimant_of, is_filled, is_settled};
+ghost use Rattle.history.specs.Scheduler.{state_in, IsPendingAt, AreTallies, Steps};
+
+use crate::event::{Event, Illegal};
+use crate::given_moves::GivenMoves;
+use crate::moves::Moves;
+use crate::progress::Progress;
+use crate::reply::Reply;
+use std::alloc::{AllocError, Global};
+use std::marker::Model;
+
+/// The scheduler of one thread: what every other way to hand out regions is measured by.
+/// Contracts see the moves that it keeps, the number of workers, and the state that it is in.
+#[derive(Drop)]
+pub struct Scheduler {
+    workers: u32,
+    moves: GivenMoves,
+    /// Of each pair of the moves, whether it is drained.
+    drained: Vec<bool>,
+    /// Of each region, how far its fill has come.
+    progress: Vec<Progress>,
+    /// Of each region, how many regions have still to read it.
+    readers_left: Vec<usize>,
+    /// Of each region, how many regions it has still to read.
+    sources_left: Vec<usize>,
+    /// How many regions to be filled aren't settled.
+    unsettled: usize,
+}
+
+impl Model for Scheduler {
+    ghost use Rattle.history.specs.Scheduler.{SchedulerView, IsKept};
+
+    ghost Value = { SchedulerView };
+
+    ghost view = { λ s. record { workers = s.workers; moves = s.moves; flags = s.drained.items; progress = s.progress.items } };
+
+    ghost invariant = { λ s. IsKept (record { workers = s.workers; moves = s.moves; flags = s.drained.items; progress = s.progress.items }) s.readers_left.items s.sources_left.items s.unsettled };
+}
+
+impl Scheduler {
+    /// A scheduler of these moves and 1 to 64 workers, to which nothing has happened yet.
+    pub fn new<M: Moves>(alloc: Global, moves: &M, workers: u32) -> Result<Scheduler, AllocError>
+        requires { (1 ≤ workers) × (workers ≤ 64) }
+        ensures moves { IfOk result (λ scheduler. scheduler.moves ≡ M.table moves.now) }
+        ensures opening { IfOk result (λ scheduler. state_in scheduler ≡ opening) }
+        ensures workers { IfOk result (λ scheduler. scheduler.workers ≡ workers) }
+    {
+        let moves = GivenMoves::copy_of(alloc, moves)?;
+        let regions = moves.regions() as usize;
+        let drained = vec![in alloc; false; moves.pairs().len()]?;
+        let progress = vec![in alloc; Progress::Unclaimed; regions]?;
+        let readers_left = readers_by(alloc, &moves)?;
+        let sources_left = sources_by(alloc, &moves)?;
+        let unsettled = moves.fill_count();
+        Ok(Scheduler {
+            workers,
+            moves,
+            drained,
+            progress,
+            readers_left,
+            sources_left,
+            unsettled,
+        })
+    }
+
+    /// One step: the reply, exactly where the event is allowed in the present state. `Illegal`
+    /// leaves the scheduler as it is. Takes no memory, and at most logarithmic time in the number
+    /// of pairs.
+    pub fn step(&mut self, worker: u32, event: Event) -> Result<Reply, Illegal>
+        requires { worker < self.old.workers }
+        ensures moves { self.new.moves ≡ self.old.moves }
+        ensures workers { self.new.workers ≡ self.old.workers }
+        ensures ok { IfOk result (λ reply. IsStep self.old.moves (state_in self.old) worker event reply (state_in self.new)) }
+        ensures illegal { OnErr result (¬ (Allows self.old.moves (state_in self.old) worker event)) }
+        ensures unchanged { OnErr result (self.new ≡ self.old) }
+    {
+        match event {
+            Event::Claim(region) => self.claim(worker, region),
+            Event::Look(region) => self.look(worker, region),
+            Event::Drain(destination, source) => self.drain(worker, destination, source),
+            Event::Complete(destination) => self.complete(worker, destination),
+            Event::Settle(destination) => self.settle(worker, destination),
+            Event::Poll => self.poll(worker),
+            Event::Copy(destination, words) => self.copy(worker, destination, words),
+        }
+    }
+
+    fn claim(&mut self, worker: u32, region: u32) -> Result<Reply, Illegal>
+        ensures { Steps self.old worker (Event.Claim region) result self.new }
+    {
+        if region >= self.moves.regions() {
+            return Err(Illegal);
+        }
+        if !self.may_claim(region) {
+            return Ok(Reply::No);
+        }
+        self.progress[region as usize] = Progress::Filling(worker);
+        Ok(Reply::Yes)
+    }
+
+    fn look(&self, worker: u32, region: u32) -> Result<Reply, Illegal>
+        ensures { Steps self.now worker (Event.Look region) result self.now }
+    {
+        if region >= self.moves.regions() {
+            return Err(Illegal);
+        }
+        let left = self.readers_left_of(region);
+        Ok(match self.progress_of(region) {
+            Progress::Filling(_) => Reply::Claimed,
+            Progress::Completed(_) | Progress::Settled(_) => Reply::Filled,
+            Progress::Unclaimed if self.moves.to_fill(region) => Reply::Open(left),
+            Progress::Unclaimed => Reply::Outside(left),
+        })
+    }
+
+    fn drain(&mut self, worker: u32, destination: u32, source: u32) -> Result<Reply, Illegal>
+        ensures { Steps self.old worker (Event.Drain destination source) result self.new }
+    {
+        if !self.is_at(destination, Progress::Filling(worker)) {
+            return Err(Illegal);
+        }
+        let Some(at) = self.pending_place(destination, source) else {
+            return Err(Illegal);
+        };
+        self.drained[at] = true;
+        self.sources_left[destination as usize] -= 1;
+        let left = self.readers_left[source as usize] - 1;
+        self.readers_left[source as usize] = left;
+        Ok(if left == 0 {
+            Reply::Last
+        } else {
+            Reply::NotLast
+        })
+    }
+
+    fn complete(&mut self, worker: u32, destination: u32) -> Result<Reply, Illegal>
+        ensures { Steps self.old worker (Event.Complete destination) result self.new }
+    {
+        if !self.is_at(destination, Progress::Filling(worker))
+            || self.sources_left[destination as usize] > 0
+        {
+            return Err(Illegal);
+        }
+        self.progress[destination as usize] = Progress::Completed(worker);
+        Ok(Reply::Done)
+    }
+
+    fn settle(&mut self, worker: u32, destination: u32) -> Result<Reply, Illegal>
+        ensures { Steps self.old worker (Event.Settle destination) result self.new }
+    {
+        if !self.is_at(destination, Progress::Completed(worker)) {
+            return Err(Illegal);
+        }
+        self.progress[destination as usize] = Progress::Settled(worker);
+        self.unsettled -= 1;
+        Ok(self.all_or_more())
+    }
+
+    fn poll(&self, worker: u32) -> Result<Reply, Illegal>
+        ensures { Steps self.now worker Event.Poll result self.now }
+    {
+        Ok(self.all_or_more())
+    }
+
+    fn copy(&self, worker: u32, destination: u32, words: u32) -> Result<Reply, Illegal>
+        ensures { Steps self.now worker (Event.Copy destination words) result self.now }
+    {
+        if self.is_at(destination, Progress::Filling(worker)) && words >= 1 {
+            Ok(Reply::Done)
+        } else {
+            Err(Illegal)
+        }
+    }
+
+    /// Whether all regions to be filled are settled.
+    fn all_or_more(&self) -> Reply
+        ensures { result ≡ all_or_more (unsettled self.now.moves (state_in self.now)) }
+    {
+        if self.unsettled == 0 {
+            Reply::All
+        } else {
+            Reply::More
+        }
+    }
+
+    /// How far the fill of the region has come. A region that there isn't is unclaimed.
+    fn progress_of(&self, region: u32) -> Progress
+        ensures { result ≡ slice_index_or self.now.progress region Progress.Unclaimed }
+    {
+        self.progress
+            .get(region as usize)
+            .copied()
+            .unwrap_or(Progress::Unclaimed)
+    }
+
+    /// Whether the fill of the region has come just so far.
+    fn is_at(&self, region: u32, progress: Progress) -> bool
+        ensures { IsTrue result ↔ (slice_index_or self.now.progress region Progress.Unclaimed ≡ progress) }
+    {
+        self.progress_of(region) == progress
+    }
+
+    fn readers_left_of(&self, region: u32) -> u32
+        requires { region < region_count self.now.moves }
+        ensures { result ≡ readers_left self.now.moves (state_in self.now) region }
+    {
+        self.readers_left[region as usize] as u32
+    }
+
+    /// Whether the region may be claimed now.
+    fn may_claim(&self, region: u32) -> bool
+        requires { region < region_count self.now.moves }
+        ensures { result ≡ may_claim self.now.moves (state_in self.now) region }
+    {
+        self.moves.to_fill(region)
+            && self.is_at(region, Progress::Unclaimed)
+            && self.readers_left_of(region) == 0
+    }
+
+    /// The place of the pair, if it stands in the moves and isn't drained.
+    fn pending_place(&self, destination: u32, source: u32) -> Option<usize>
+        ensures found { IfSome result (λ at. IsPendingAt self.now destination source at) }
+        ensures none { IfNone result (is_pending self.now.moves (state_in self.now) destination source ≡ false) }
+    {
+        let at = self.moves.first_from(destination, source);
+        if at < self.drained.len()
+            && !self.drained[at]
+            && self.moves.pairs()[at] == (destination, source)
+        {
+            Some(at)
+        } else {
+            None
+        }
+    }
+}
+
+/// Of each region, how many others read it.
+fn readers_by(alloc: Global, moves: &GivenMoves) -> Result<Vec<usize>, AllocError>
+    ensures { IfOk result (λ counts. AreTallies moves.now (λ pair. pair.1) moves.now.pairs counts.items) }
+{
+    let mut counts = vec![in alloc; 0; moves.regions() as usize]?;
+    for &(_, source) in moves.pairs() {
+        counts[source as usize] += 1;
+    }
+    Ok(counts)
+}
+
+/// Of each region, how many others it reads.
+fn sources_by(alloc: Global, moves: &GivenMoves) -> Result<Vec<usize>, AllocError>
+    ensures { IfOk result (λ counts. AreTallies moves.now (λ pair. pair.0) moves.now.pairs counts.items) }
+{
+    let mut counts = vec![in alloc; 0; moves.regions() as usize]?;
+    for &(destination, _) in moves.pairs() {
+        counts[destination as usize] += 1;
+    }
+    Ok(counts)
+}

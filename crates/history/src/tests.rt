@@ -1,0 +1,116 @@
+//! Worked rows, with replies known from outside, and each public call once.
+use crate::event::{Event, Illegal};
+use crate::given_moves::GivenMoves;
+use crate::moves::Moves;
+use crate::reply::Reply;
+use crate::scheduler::Scheduler;
+use std::alloc::{AllocError, Global};
+use std::test::Fail;
+
+fn given(
+    alloc: Global,
+    fill: &[bool],
+    pairs: &[(u32, u32)],
+) -> Result<Option<GivenMoves>, AllocError> {
+    let fill = Vec::from_slice(alloc, fill)?;
+    let pairs = Vec::from_slice(alloc, pairs)?;
+    Ok(GivenMoves::new(fill, pairs))
+}
+
+#[test]
+fn one_worker_fills_three_regions(rt: HostRuntime) -> Result<(), Fail> {
+    let moves = given(rt.alloc(), &[true, true, true], &[(0, 1), (1, 2)])?.ok_or("a table")?;
+    let mut scheduler = Scheduler::new(rt.alloc(), &moves, 1)?;
+    let rows = [
+        (Event::Claim(1), Ok(Reply::No)),
+        (Event::Claim(0), Ok(Reply::Yes)),
+        (Event::Complete(0), Err(Illegal)),
+        (Event::Drain(0, 2), Err(Illegal)),
+        (Event::Drain(0, 1), Ok(Reply::Last)),
+        (Event::Drain(0, 1), Err(Illegal)),
+        (Event::Claim(1), Ok(Reply::Yes)),
+        (Event::Copy(1, 0), Err(Illegal)),
+        (Event::Copy(1, 8), Ok(Reply::Done)),
+        (Event::Drain(1, 2), Ok(Reply::Last)),
+        (Event::Claim(2), Ok(Reply::Yes)),
+        (Event::Look(2), Ok(Reply::Claimed)),
+        (Event::Settle(0), Err(Illegal)),
+        (Event::Complete(0), Ok(Reply::Done)),
+        (Event::Complete(1), Ok(Reply::Done)),
+        (Event::Complete(2), Ok(Reply::Done)),
+        (Event::Look(2), Ok(Reply::Filled)),
+        (Event::Look(3), Err(Illegal)),
+        (Event::Settle(0), Ok(Reply::More)),
+        (Event::Poll, Ok(Reply::More)),
+        (Event::Settle(1), Ok(Reply::More)),
+        (Event::Settle(2), Ok(Reply::All)),
+        (Event::Settle(2), Err(Illegal)),
+        (Event::Poll, Ok(Reply::All)),
+    ];
+    for (event, reply) in rows {
+        assert_eq!(rt; scheduler.step(0, event), reply);
+    }
+    Ok(())
+}
+
+#[test]
+fn a_region_outside_is_read_and_never_claimed(rt: HostRuntime) -> Result<(), Fail> {
+    let fill = [true, true, true, false];
+    let pairs = [(0, 1), (1, 2), (1, 3), (2, 3)];
+    let moves = given(rt.alloc(), &fill, &pairs)?.ok_or("a table")?;
+    let mut scheduler = Scheduler::new(rt.alloc(), &moves, 2)?;
+    let rows = [
+        (0, Event::Look(1), Ok(Reply::Open(1))),
+        (0, Event::Look(3), Ok(Reply::Outside(2))),
+        (0, Event::Claim(3), Ok(Reply::No)),
+        (0, Event::Claim(0), Ok(Reply::Yes)),
+        (1, Event::Claim(0), Ok(Reply::No)),
+        (1, Event::Drain(0, 1), Err(Illegal)),
+        (0, Event::Drain(0, 1), Ok(Reply::Last)),
+        (1, Event::Claim(1), Ok(Reply::Yes)),
+        (1, Event::Drain(1, 3), Ok(Reply::NotLast)),
+        (0, Event::Look(3), Ok(Reply::Outside(1))),
+        (1, Event::Drain(1, 2), Ok(Reply::Last)),
+        (0, Event::Complete(1), Err(Illegal)),
+        (1, Event::Complete(1), Ok(Reply::Done)),
+        (0, Event::Settle(1), Err(Illegal)),
+        (1, Event::Settle(1), Ok(Reply::More)),
+    ];
+    for (worker, event, reply) in rows {
+        assert!(rt; worker < 2);
+        assert_eq!(rt; scheduler.step(worker, event), reply);
+    }
+    Ok(())
+}
+
+#[test]
+fn refuses_what_is_no_table(rt: HostRuntime) -> Result<(), Fail> {
+    let all = [true, true, true, true];
+    assert!(rt; given(rt.alloc(), &[], &[])?.is_none());
+    assert!(rt; given(rt.alloc(), &all, &[(0, 0)])?.is_none());
+    assert!(rt; given(rt.alloc(), &all, &[(1, 0)])?.is_none());
+    assert!(rt; given(rt.alloc(), &[true, true, true], &[(0, 3)])?.is_none());
+    assert!(rt; given(rt.alloc(), &all, &[(1, 2), (0, 1)])?.is_none());
+    assert!(rt; given(rt.alloc(), &all, &[(0, 1), (0, 1)])?.is_none());
+    assert!(rt; given(rt.alloc(), &[false, true], &[(0, 1)])?.is_none());
+    assert!(rt; given(rt.alloc(), &all, &[(0, 3), (1, 3), (2, 3)])?.is_none());
+    let most = vec![in rt.alloc(); true; 16384]?;
+    assert!(rt; GivenMoves::new(most, Vec::new(rt.alloc())).is_some());
+    let more = vec![in rt.alloc(); true; 16385]?;
+    assert!(rt; GivenMoves::new(more, Vec::new(rt.alloc())).is_none());
+    Ok(())
+}
+
+#[test]
+fn a_table_tells_what_was_handed_in(rt: HostRuntime) -> Result<(), Fail> {
+    let fill = [true, true, false, false];
+    let table = given(rt.alloc(), &fill, &[(0, 1), (0, 3), (1, 3)])?.ok_or("a table")?;
+    assert_eq!(rt; table.regions(), 4);
+    assert!(rt; table.to_fill(1));
+    assert!(rt; !table.to_fill(2));
+    assert_eq!(rt; table.count(3), 2);
+    assert_eq!(rt; table.next_source(0, 0), Some(1));
+    assert_eq!(rt; table.next_source(0, 2), Some(3));
+    assert_eq!(rt; table.next_source(1, 4), None);
+    Ok(())
+}
