@@ -8,6 +8,9 @@ pub record MoveTable : Type 0 where
   -- (destination, source): some word goes to the destination from the source, another region
   pub pairs : List (ℕ × ℕ)
 
+abbrev pub table_of : List Bool → List (ℕ × ℕ) → MoveTable
+table_of fill pairs = record { fill = fill; pairs = pairs }
+
 abbrev pub region_count : MoveTable → ℕ
 region_count m = length m.fill
 

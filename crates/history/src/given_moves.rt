@@ -1,9 +1,12 @@
 ghost use Rattle.std.specs.Prelude.{◌≡◌, ℕ, ◌+◌, ◌<◌, ◌≤◌, ◌↔◌, ◌==◌, length, All, AllPairs, take, count_by, slice_index_or, SomeIff, IsTrue, IfOk, OnOk, true, false};
-ghost use Rattle.history.specs.MoveTable.{MoveTable, IsMoveTable, Slides, is_before, has_source, region_count, pairs_before};
+ghost use Rattle.history.specs.MoveTable.{MoveTable, IsMoveTable, Slides, table_of, is_before, has_source, region_count, pairs_before};
 
 use crate::moves::Moves;
 use std::alloc::{AllocError, Global};
 use std::marker::Model;
+
+/// A table has at most so many regions.
+const MOST_REGIONS: usize = 16_384;
 
 /// A table of moves that was handed in. It takes no memory of its own: a count walks the pairs.
 #[derive(Drop)]
@@ -13,13 +16,13 @@ pub struct GivenMoves {
 }
 
 impl Model for GivenMoves {
-    ghost use Rattle.history.specs.MoveTable.{MoveTable, IsMoveTable};
+    ghost use Rattle.history.specs.MoveTable.{MoveTable, IsMoveTable, table_of};
 
     ghost Value = { MoveTable };
 
-    ghost view = { λ g. record { fill = g.fill.items; pairs = g.pairs.items } };
+    ghost view = { λ g. table_of g.fill.items g.pairs.items };
 
-    ghost invariant = { λ g. IsMoveTable (record { fill = g.fill.items; pairs = g.pairs.items }) };
+    ghost invariant = { λ g. IsMoveTable (table_of g.fill.items g.pairs.items) };
 }
 
 impl GivenMoves {
@@ -28,7 +31,7 @@ impl GivenMoves {
     /// ascending and in range, each leads down to a region to be filled, and no source has more
     /// than two readers.
     pub fn new(fill: Vec<bool>, pairs: Vec<(u32, u32)>) -> Option<GivenMoves>
-        ensures { SomeIff result (IsMoveTable (record { fill = fill.items; pairs = pairs.items })) (record { fill = fill.items; pairs = pairs.items }) }
+        ensures { let table = table_of fill.items pairs.items in SomeIff result (IsMoveTable table) table }
     {
         if !is_move_table(&fill, &pairs) {
             return None;
@@ -104,9 +107,9 @@ fn is_before(one: (u32, u32), other: (u32, u32)) -> bool
 
 /// Whether this may be handed in as a table.
 fn is_move_table(fill: &[bool], pairs: &[(u32, u32)]) -> bool
-    ensures { IsTrue result ↔ IsMoveTable (record { fill = fill.now; pairs = pairs.now }) }
+    ensures { IsTrue result ↔ IsMoveTable (table_of fill.now pairs.now) }
 {
-    if fill.is_empty() || fill.len() > 16384 {
+    if fill.is_empty() || fill.len() > MOST_REGIONS {
         return false;
     }
     are_ascending(pairs) && all_slide(fill, pairs) && have_two_readers_at_most(pairs)
