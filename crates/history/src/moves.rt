@@ -1,4 +1,4 @@
-ghost use Rattle.std.specs.Prelude.{◌≡◌, ◌<◌};
+ghost use Rattle.std.specs.Prelude.{◌≡◌, ◌<◌, IfSome};
 ghost use Rattle.history.specs.MoveTable.{MoveTable, IsMoveTable, IsNextSource, region_count, to_fill, readers_of};
 
 /// What moves where: which regions are to be filled, and from which other regions each takes words.
@@ -27,5 +27,6 @@ pub trait Moves {
     /// The least other region, from this one on, from which the destination takes words.
     fn next_source(&self, destination: u32, from: u32) -> Option<u32>
         requires { destination < region_count (table self.now) }
-        ensures { IsNextSource (table self.now) destination from result };
+        ensures least { IsNextSource (table self.now) destination from result }
+        ensures inside { IfSome result (λ source. source < region_count (table self.now)) };
 }

@@ -1,29 +1,24 @@
 use Rattle.std.proofs.Common.{◌≡◌, ◌<◌, ◌≤◌, ◌+◌, ◌-◌, ◌++◌, ◌∷◌, [], ℕ, List, refl, sym, ap, ◌∙◌, arith}
 use Rattle.history.specs.MoveTable.{MoveTable, region_count, pairs_before}
-use Rattle.history.proofs.Pairs.{IsSlide, slide_of, pairs_before-source, pairs_before-region}
+use Rattle.history.proofs.Pairs.{pairs_before-source, pairs_before-region}
 use Rattle.history.proofs.given_moves.push_pairs.Goals as goal
 
 pub overflow_add-from : goal.overflow_add-from
 overflow_add-from g c =
-    let m : MoveTable = g.M.Moves.table c.args.moves.now in
-    let slide : IsSlide m c.args.destination c.in-Some.source = slide_of m c.args.destination c.in-Some.source c.requires.lawful c.in-Some.ensures.1 in
-    let few : region_count m ≤ 16384 = c.requires.lawful.few in
-    omega (arith, slide.from_inside)
+    let few : region_count (g.M.Moves.table c.args.moves.now) ≤ 16384 = c.requires.lawful.few in
+    omega (arith, c.in-Some.ensures.inside)
 
 pub loop-source-smaller : goal.loop-source-smaller
-loop-source-smaller g c =
-    let m : MoveTable = g.M.Moves.table c.args.moves.now in
-    let slide : IsSlide m c.args.destination c.in-Some.source = slide_of m c.args.destination c.in-Some.source c.requires.lawful c.in-Some.ensures.1 in
-    omega (arith, slide.from_inside, c.in-Some.ensures.0)
+loop-source-smaller g c = omega (arith, c.in-Some.ensures.inside, c.in-Some.ensures.least.0)
 
 pub loop-source-preserved : goal.loop-source-preserved
 loop-source-preserved g c =
     let m : MoveTable = g.M.Moves.table c.args.moves.now in
     c.in_ok-push.ensures.items
     ∙ (ap (λ (ps : List (ℕ × ℕ)). ps ++ (c.args.destination, c.in-Some.source) ∷ []) c.loop-source.invariant
-    ∙ sym (pairs_before-source m c.args.destination c.loop-source.from c.in-Some.source c.requires.lawful c.in-Some.ensures.0 c.in-Some.ensures.1 c.in-Some.ensures.2))
+    ∙ sym (pairs_before-source m c.args.destination c.loop-source.from c.in-Some.source c.requires.lawful c.in-Some.ensures.least.0 c.in-Some.ensures.least.1 c.in-Some.ensures.least.2))
 
 pub returns : goal.returns
 returns g c =
     let m : MoveTable = g.M.Moves.table c.args.moves.now in
-    c.loop-source.invariant ∙ pairs_before-region m c.args.destination c.loop-source.from c.in_default.ensures
+    c.loop-source.invariant ∙ pairs_before-region m c.args.destination c.loop-source.from c.in_default.ensures.least

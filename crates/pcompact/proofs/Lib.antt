@@ -1,0 +1,3 @@
+pub mod TranscriptLemmas
+pub mod BoardLemmas
+pub mod CommandLineLemmas

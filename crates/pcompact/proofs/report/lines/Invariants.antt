@@ -1,0 +1,7 @@
+use Rattle.std.proofs.Common.{◌≡◌, string_bytes}
+use Rattle.pcompact.specs.Report.{lines_of}
+use Rattle.pcompact.proofs.report.lines.Given as goal
+
+-- the lines so far
+abbrev pub invariant-loop-region : goal.invariant-loop-region
+invariant-loop-region l = string_bytes l.text ≡ lines_of l.region-counter l.transcript.calls

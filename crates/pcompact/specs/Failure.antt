@@ -1,0 +1,13 @@
+use Rattle.std.specs.Prelude.{ℕ}
+use Rattle.pcompact.specs.declared.fault.Fault.TheVariants.{Memory}
+use Rattle.pcompact.specs.declared.failure.Failure.{Failure}
+use Rattle.pcompact.specs.declared.failure.Failure.TheVariants.{Usage, Fault}
+
+-- the exit status of a failure
+abbrev pub status_of : Failure → ℕ
+status_of (Usage text) = 2
+status_of (Fault fault) = 1
+
+-- the failure for want of memory
+abbrev pub out_of_memory : Failure
+out_of_memory = Fault Memory

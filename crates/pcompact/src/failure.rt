@@ -1,0 +1,37 @@
+ghost use Rattle.std.specs.Prelude.{◌≡◌};
+ghost use Rattle.pcompact.specs.declared.fault.Fault.TheVariants.{Memory};
+ghost use Rattle.pcompact.specs.declared.failure.Failure.TheVariants.{Fault};
+
+use crate::fault::Fault;
+use std::alloc::AllocError;
+
+/// Why the program ends with a status other than 0.
+#[derive(Debug, Drop)]
+pub enum Failure {
+    /// The words are no command. The text, of whole lines, says what is wrong with them.
+    Usage(String),
+    /// The command met a fault.
+    Fault(Fault),
+}
+
+impl Failure {
+    ghost use Rattle.pcompact.specs.Failure.{status_of};
+
+    /// The exit status: 2 for words that are no command, 1 for a fault.
+    pub fn status(&self) -> u8
+        ensures { result ≡ status_of self.now }
+    {
+        match self {
+            Failure::Usage(_) => 2,
+            Failure::Fault(_) => 1,
+        }
+    }
+}
+
+impl From<AllocError> for Failure {
+    ghost from_gives = { λ _ failure. failure ≡ Fault Memory };
+
+    fn from(_refused: AllocError) -> Failure {
+        Failure::Fault(Fault::Memory)
+    }
+}

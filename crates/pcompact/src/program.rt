@@ -1,0 +1,86 @@
+//! The whole program, over the writers that it is handed.
+ghost use Rattle.std.specs.Prelude.{◌≡◌, ◌≤◌, ◌∷◌, [], ℕ, List, MatchResult, OnOk};
+ghost use Rattle.std.specs.Prelude.{codes, string_bytes};
+ghost use Rattle.std.specs.Io.KnownBytes.{Appends};
+ghost use Rattle.pcompact.specs.Board.{IsBoardText};
+ghost use Rattle.pcompact.specs.CommandLine.{AreWords};
+ghost use Rattle.pcompact.specs.Failure.{out_of_memory, status_of};
+
+use crate::command_line::Request;
+use crate::failure::Failure;
+use crate::fault::Fault;
+use crate::{board, command_line};
+use std::alloc::Global;
+use std::io;
+use std::io::Write;
+use std::rt::Files;
+use std::sync::Wait;
+use std::thread::Threads;
+
+/// Runs the program on the words after its name, and answers the exit status.
+///
+/// `out` and `err` stand for standard output and standard error. What a command prints is written
+/// to `out` whole, once its work is done, and flushed; a write or flush of `out` that fails is
+/// fault 13. A failed write to `err` changes nothing.
+///
+/// `host` opens files and allocates, `threads` starts threads and `wait` waits for them: no
+/// command of today opens a file, starts a thread or waits.
+pub fn run<H: Files + AllocGlobal, T: Threads, L: Wait, A: Write, B: Write>(
+    host: &H,
+    words: &[String],
+    out: &mut A,
+    err: &mut B,
+    _threads: &T,
+    _wait: &L,
+) -> u8
+    ensures status { result ≤ 2 }
+    ensures good { result ≡ 0 → err.new ≡ err.old }
+    ensures usage { result ≡ 2 → out.new ≡ out.old }
+
+    // The word `board` is a command, and what it prints is the report of a legal history.
+    ensures board_is_known { AreWords words.now (codes "board" ∷ []) → result ≤ 1 }
+    ensures board { AreWords words.now (codes "board" ∷ []) → result ≡ 0
+        → (text : List ℕ) × IsBoardText text
+        × Appends (A.contents out.old) (A.contents out.new) text }
+{
+    let text = match answer(host.alloc(), words) {
+        Ok(text) => text,
+        Err(failure) => return tell(&failure, err),
+    };
+    match show(text.as_str(), out) {
+        Ok(()) => 0,
+        Err(_) => tell(&Failure::Fault(Fault::InputOrOutput), err),
+    }
+}
+
+/// What the words ask for, as the text for standard output.
+fn answer(alloc: Global, words: &[String]) -> Result<String, Failure>
+    ensures { AreWords words.now (codes "board" ∷ []) → MatchResult result
+        (λ text. IsBoardText (string_bytes text)) (λ failure. failure ≡ out_of_memory) }
+{
+    match command_line::read(alloc, words)? {
+        Request::Board => Ok(board::board(alloc)?),
+        Request::Show(text) => Ok(text),
+    }
+}
+
+/// Writes the text whole and flushes it.
+fn show<A: Write>(text: &str, out: &mut A) -> io::Result<()>
+    ensures { OnOk result (Appends (A.contents out.old) (A.contents out.new) text.now) }
+{
+    out.write_all(text.as_bytes())?;
+    out.flush()
+}
+
+/// Says on `err` why the program fails, and answers the exit status: 2 for words that are no
+/// command, 1 for a fault. Where `err` takes no text the status is the same.
+pub fn tell<B: Write>(failure: &Failure, err: &mut B) -> u8
+    ensures { result ≡ status_of failure.now }
+{
+    let _ = match failure {
+        Failure::Usage(text) => err.write_all(text.as_bytes()),
+        Failure::Fault(fault) => writeln!(err, "pcompact: fault {fault}"),
+    };
+    let _ = err.flush();
+    failure.status()
+}

@@ -1,0 +1,239 @@
+//! The program on words: its status, and what it writes to standard output and standard error.
+use crate::program;
+use std::io;
+use std::io::{Error, ErrorKind, Write};
+use std::process::Abort;
+use std::rt::Files;
+use std::sync::Wait;
+use std::test::Fail;
+use std::thread::Threads;
+
+const BOARD: &str = "\
+region 0 claims 1 completions 1
+region 1 claims 1 completions 1
+region 2 claims 1 completions 1
+all settled
+";
+
+const HELP: &str = "\
+Full collection of a heap image by parallel sliding compaction
+
+Usage: pcompact <COMMAND>
+
+Commands:
+  board  Schedules two workers over three regions, and counts their claims and completions
+  help   Print this message or the help of the given subcommand(s)
+
+Options:
+  -h, --help     Print help
+  -V, --version  Print version
+
+Exit status:
+  0  the command did its work, or showed help or the version
+  1  a fault: standard error has one line, `pcompact: fault` and which one
+  2  the words are no command: standard error says why
+";
+
+const BOARD_HELP: &str = "\
+Schedules two workers over three regions, and counts their claims and completions
+
+Usage: pcompact board
+
+Options:
+  -h, --help  Print help
+";
+
+const VERSION: &str = "pcompact 0.1.0\n";
+
+const NO_COMMAND: &str = "\
+error: 'pcompact' requires a subcommand but one was not provided
+  [subcommands: board, help]
+
+Usage: pcompact <COMMAND>
+
+For more information, try '--help'.
+";
+
+const UNKNOWN_COMMAND: &str = "\
+error: unrecognized subcommand 'sweep'
+
+Usage: pcompact <COMMAND>
+
+For more information, try '--help'.
+";
+
+const UNKNOWN_OPTION: &str = "\
+error: unexpected argument '--quiet' found
+
+Usage: pcompact <COMMAND>
+
+For more information, try '--help'.
+";
+
+const EXTRA_WORD: &str = "\
+error: unexpected argument 'twice' found
+
+Usage: pcompact board
+
+For more information, try '--help'.
+";
+
+const FAULT_13: &str = "pcompact: fault 13 input or output\n";
+
+/// A device that takes so many bytes and then fails, and whose flush may fail.
+#[derive(Drop)]
+struct Device {
+    room: usize,
+    flushes: bool,
+}
+
+impl Write for Device {
+    fn write(&mut self, buf: &[u8]) -> io::Result<usize> {
+        let taken = buf.len().min(self.room);
+        if taken == 0 {
+            return Err(Error::from(ErrorKind::Other));
+        }
+        self.room -= taken;
+        Ok(taken)
+    }
+
+    fn flush(&mut self) -> io::Result<()> {
+        if self.flushes {
+            Ok(())
+        } else {
+            Err(Error::from(ErrorKind::Other))
+        }
+    }
+}
+
+/// Runs the program on these words, with these devices.
+fn run_on<R: Files + AllocGlobal + Threads + Wait, A: Write, B: Write>(
+    rt: &R,
+    texts: &[&str],
+    out: &mut A,
+    err: &mut B,
+) -> Result<u8, Fail> {
+    let mut words = Vec::new(rt.alloc());
+    for &text in texts {
+        words.push(String::from_str(rt.alloc(), text)?)?;
+    }
+    Ok(program::run(rt, words.as_slice(), out, err, rt, rt))
+}
+
+/// Asserts what a run on these words answers, and writes to standard output and standard error.
+fn assert_run<R: Files + AllocGlobal + Threads + Wait + Abort>(
+    rt: &R,
+    texts: &[&str],
+    status: u8,
+    out: &str,
+    err: &str,
+) -> Result<(), Fail> {
+    let mut shown = Vec::new(rt.alloc());
+    let mut told = Vec::new(rt.alloc());
+    assert_eq!(rt;
+        run_on(rt, texts, &mut shown, &mut told)?,
+        status,
+        "the status of {texts:?}"
+    );
+    assert!(rt;
+        shown.as_slice() == out.as_bytes(),
+        "standard output of {texts:?}"
+    );
+    assert!(rt;
+        told.as_slice() == err.as_bytes(),
+        "standard error of {texts:?}"
+    );
+    Ok(())
+}
+
+#[test]
+fn board_prints_its_counts(rt: HostRuntime) -> Result<(), Fail> {
+    assert_run(&rt, &["board"], 0, BOARD, "")
+}
+
+#[test]
+fn help_and_version_are_shown(rt: HostRuntime) -> Result<(), Fail> {
+    assert_run(&rt, &["--help"], 0, HELP, "")?;
+    assert_run(&rt, &["-h"], 0, HELP, "")?;
+    assert_run(&rt, &["help"], 0, HELP, "")?;
+    assert_run(&rt, &["board", "--help"], 0, BOARD_HELP, "")?;
+    assert_run(&rt, &["--version"], 0, VERSION, "")?;
+    assert_run(&rt, &["-V"], 0, VERSION, "")
+}
+
+#[test]
+fn words_that_are_no_command_are_refused(rt: HostRuntime) -> Result<(), Fail> {
+    assert_run(&rt, &[], 2, "", NO_COMMAND)?;
+    assert_run(&rt, &["sweep"], 2, "", UNKNOWN_COMMAND)?;
+    assert_run(&rt, &["--quiet"], 2, "", UNKNOWN_OPTION)?;
+    assert_run(&rt, &["board", "twice"], 2, "", EXTRA_WORD)
+}
+
+#[test]
+fn later_commands_are_unknown(rt: HostRuntime) -> Result<(), Fail> {
+    for name in [
+        "summary", "collect", "record", "replay", "verify", "upgrade",
+    ] {
+        let mut out = Vec::new(rt.alloc());
+        let mut err = Vec::new(rt.alloc());
+        assert_eq!(rt;
+            run_on(&rt, &[name], &mut out, &mut err)?,
+            2,
+            "the status of {name}"
+        );
+        assert!(rt; out.is_empty(), "standard output of {name}");
+        assert!(rt; !err.is_empty(), "standard error of {name}");
+    }
+    Ok(())
+}
+
+#[test]
+fn a_failed_write_is_fault_13(rt: HostRuntime) -> Result<(), Fail> {
+    let whole = BOARD.len();
+    for (room, flushes) in [(0, true), (1, true), (whole - 1, true), (whole, false)] {
+        let mut out = Device { room, flushes };
+        let mut err = Vec::new(rt.alloc());
+        assert_eq!(rt;
+            run_on(&rt, &["board"], &mut out, &mut err)?,
+            1,
+            "with room for {room}"
+        );
+        assert!(rt;
+            err.as_slice() == FAULT_13.as_bytes(),
+            "with room for {room}"
+        );
+    }
+    let mut out = Device {
+        room: whole,
+        flushes: true,
+    };
+    let mut err = Vec::new(rt.alloc());
+    assert_eq!(rt; run_on(&rt, &["board"], &mut out, &mut err)?, 0);
+    assert_eq!(rt; out.room, 0);
+    Ok(())
+}
+
+#[test]
+fn a_failing_standard_error_keeps_the_status(rt: HostRuntime) -> Result<(), Fail> {
+    let mut out = Vec::new(rt.alloc());
+    let mut err = Device {
+        room: 0,
+        flushes: false,
+    };
+    assert_eq!(rt; run_on(&rt, &["sweep"], &mut out, &mut err)?, 2);
+    assert!(rt; out.is_empty());
+    assert_eq!(rt;
+        run_on(
+            &rt,
+            &["board"],
+            &mut Device {
+                room: 7,
+                flushes: true
+            },
+            &mut err
+        )?,
+        1
+    );
+    assert_eq!(rt; run_on(&rt, &["board"], &mut out, &mut err)?, 0);
+    Ok(())
+}

@@ -1,0 +1,37 @@
+// Preloaded into a program, refuses one of its allocations: the one whose number, from 1, the
+// environment gives as REFUSED. At exit a line on file descriptor 3 gives how many were asked for.
+#define _GNU_SOURCE
+#include <dlfcn.h>
+#include <stdio.h>
+#include <stdlib.h>
+
+static unsigned long asked;
+
+static int is_refused(void) {
+    static unsigned long refused;
+    if (asked++ == 0) {
+        const char *text = getenv("REFUSED");
+        refused = text ? strtoul(text, NULL, 10) : 0;
+    }
+    return asked == refused;
+}
+
+void *malloc(size_t size) {
+    static void *(*next)(size_t);
+    if (!next) {
+        next = (void *(*)(size_t))dlsym(RTLD_NEXT, "malloc");
+    }
+    return is_refused() ? NULL : next(size);
+}
+
+void *realloc(void *block, size_t size) {
+    static void *(*next)(void *, size_t);
+    if (!next) {
+        next = (void *(*)(void *, size_t))dlsym(RTLD_NEXT, "realloc");
+    }
+    return is_refused() ? NULL : next(block, size);
+}
+
+__attribute__((destructor)) static void tell(void) {
+    dprintf(3, "%lu\n", asked);
+}
