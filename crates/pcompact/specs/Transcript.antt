@@ -1,5 +1,6 @@
-use Rattle.std.specs.Prelude.{◌≡◌, ℕ, Bool, true, false, ◌==◌, List}
-use Rattle.history.specs.History.{state_of, IsLegal}
+use Rattle.std.specs.Prelude.{◌≡◌, ℕ, Bool, true, false, ◌==◌, ◌&&◌, IsTrue, List}
+use Rattle.std.specs.List.{list_any}
+use Rattle.history.specs.History.{state_of, IsLegal, is_claim_of}
 use Rattle.history.specs.Scheduler.{SchedulerView, state_in}
 use Rattle.history.specs.declared.event.Event.{Event}
 use Rattle.history.specs.declared.event.Event.TheVariants.{Complete, Settle}
@@ -34,3 +35,11 @@ settles_all_reply _ _ = false
 -- the call settles a region, and is answered that all are settled
 abbrev pub settles_all : Entry → Bool
 settles_all call = settles_all_reply call.event call.reply
+
+-- the worker claims the region, granted or not
+abbrev pub asks_for : ℕ → ℕ → Entry → Bool
+asks_for worker region call = call.worker == worker && is_claim_of region call.event
+
+-- whatever call stood in the old list stands in the new one
+abbrev pub KeepsCalls : List Entry → List Entry → Type 0
+KeepsCalls old new = (is_it : Entry → Bool) → IsTrue (list_any is_it old) → IsTrue (list_any is_it new)

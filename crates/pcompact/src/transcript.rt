@@ -4,7 +4,7 @@ ghost use Rattle.std.specs.List.{list_any};
 ghost use Rattle.history.specs.State.{Allows};
 ghost use Rattle.history.specs.History.{is_grant};
 ghost use Rattle.history.specs.Scheduler.{state_in};
-ghost use Rattle.pcompact.specs.Transcript.{completes, settles_all};
+ghost use Rattle.pcompact.specs.Transcript.{completes, settles_all, KeepsCalls};
 
 use history::{Entry, Event, Moves, Reply, Scheduler};
 use std::alloc::{AllocError, Global};
@@ -54,6 +54,7 @@ impl Transcript {
             (¬ (Allows self.old.scheduler.moves (state_in self.old.scheduler) worker event))) }
         ensures refused { IfOk result (λ answer. IfNone answer (self.new ≡ self.old)) }
         ensures no_memory { OnErr result (self.new ≡ self.old) }
+        ensures kept { KeepsCalls self.old.calls self.new.calls }
     {
         self.calls.reserve(1)?;
         match self.scheduler.step(worker, event) {
