@@ -1,0 +1,118 @@
+//! The region: a list of words.
+ghost use Rattle.std.specs.Prelude.{◌≡◌, ◌+◌, ◌<◌, ◌≤◌, length, replicate, slice_index, slice_set, IfOk};
+ghost use Rattle.std.specs.Borrow.{sem};
+ghost use Rattle.raw_region.specs.Region.{with_words, part};
+
+use crate::block::{Block, MAX_WORDS};
+use crate::chunks::move_down;
+use std::alloc::{AllocError, Global};
+use std::marker::Model;
+
+/// From 1 to `MAX_WORDS` words of 64 bits. In a contract it is the list of them.
+pub struct Region {
+    block: Block,
+    alloc: Global,
+}
+
+impl Model for Region {
+    ghost use Rattle.std.specs.Prelude.{List, ℕ};
+
+    ghost Value = { List ℕ };
+
+    ghost view = { λ r. r.block.words };
+}
+
+impl Region {
+    ghost use Rattle.raw_region.specs.RegionLending.{LendsRegion};
+
+    /// A region of as many words, all 0. The only error is that the heap has no room.
+    pub fn new(alloc: Global, words: usize) -> Result<Region, AllocError>
+        requires nonempty { 1 ≤ words }
+        requires at_most { words ≤ MAX_WORDS }
+        ensures zeros { IfOk result (λ r. r ≡ replicate words 0) }
+        ensures length { IfOk result (λ r. length r ≡ words) }
+    {
+        let block = Block::zeroed(&alloc, words)?;
+        Ok(Region { block, alloc })
+    }
+
+    /// How many words the region has. It never changes.
+    pub fn len(&self) -> usize
+        ensures value { result ≡ length self.now }
+        ensures nonempty { 1 ≤ length self.now }
+        ensures at_most { length self.now ≤ MAX_WORDS }
+    {
+        self.words().len()
+    }
+
+    /// The words, to read.
+    pub fn words(&self) -> &[u64]
+        ensures value { result.now ≡ self.now }
+        ensures nonempty { 1 ≤ length self.now }
+        ensures at_most { length self.now ≤ MAX_WORDS }
+    {
+        self.block.words()
+    }
+
+    /// The words, to write. The region ends with those that the slice is left with.
+    pub fn words_mut(&mut self) -> &mut [u64]
+        ensures* writes_back { sem 𝓛 (LendsRegion self.entry result) }
+        ensures value { result.now ≡ self.old }
+    {
+        self.block.words_mut()
+    }
+
+    /// The word at index `i`.
+    pub fn get(&self, i: usize) -> u64
+        requires { i < length self.now }
+        ensures { result ≡ slice_index self.now i }
+    {
+        self.words()[i]
+    }
+
+    /// Makes `word` the one at index `i`.
+    pub fn set(&mut self, i: usize, word: u64)
+        requires { i < length self.old }
+        ensures value { self.new ≡ slice_set self.old i word }
+        ensures same_length { length self.new ≡ length self.old }
+    {
+        self.words_mut()[i] = word;
+    }
+
+    /// Makes each of the `n` words from index `at` on `word`.
+    pub fn fill(&mut self, at: usize, n: usize, word: u64)
+        requires { at + n ≤ length self.old }
+        ensures value { self.new ≡ with_words self.old at (replicate n word) }
+        ensures same_length { length self.new ≡ length self.old }
+    {
+        self.words_mut()[at..at + n].fill(word);
+    }
+
+    /// Copies the `n` words of `other` from index `from` on to index `at` and on.
+    pub fn copy_from(&mut self, at: usize, other: &Region, from: usize, n: usize)
+        requires room { at + n ≤ length self.old }
+        requires source { from + n ≤ length other.now }
+        ensures value { self.new ≡ with_words self.old at (part other.now from n) }
+        ensures same_length { length self.new ≡ length self.old }
+    {
+        self.words_mut()[at..at + n].copy_from_slice(&other.words()[from..from + n]);
+    }
+
+    /// Copies the `n` words from index `from` on down to index `to` and on. The two ranges may
+    /// overlap: the words that arrive are those that stood there before the call.
+    pub fn slide(&mut self, from: usize, to: usize, n: usize)
+        requires downward { to ≤ from }
+        requires source { from + n ≤ length self.old }
+        ensures value { self.new ≡ with_words self.old to (part self.old from n) }
+        ensures same_length { length self.new ≡ length self.old }
+    {
+        move_down(self.words_mut(), from, to, n);
+    }
+}
+
+impl Drop for Region {
+    fn drop(self) {
+        let Region { block, alloc } = self;
+        block.release(&alloc);
+    }
+}
