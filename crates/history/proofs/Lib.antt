@@ -6,3 +6,4 @@ mod Openings
 mod Logs
 mod Reaches
 mod Orders
+mod Rows
