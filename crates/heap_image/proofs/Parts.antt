@@ -1,0 +1,41 @@
+-- What an image and its regions have to do with one another.
+use Rattle.std.proofs.Common.{◌≡◌, ℕ, ◌-◌, ◌*◌, ◌/◌, ◌%◌, ◌^◌, ◌≤◌, ◌<◌, List, [], length, get_or, sym, ◌∙◌, ap, arith, bit_and}
+use Rattle.std.proofs.lemmas.Nat.{and_mask, pow_below}
+use Rattle.std.proofs.Math.Nat.{one-le-pow, mod-eq_of_lt}
+use Rattle.std.specs.List.{concat}
+use Rattle.heap_image.specs.HeapImage.{HeapImage, AreValidParts, IsValid, image_of, heap_words, region_words, region_count, block_of, word_at}
+use Rattle.heap_image.proofs.BlockWords.{length-concat, count, concat_part}
+
+pub region_some : (log : ℕ) → 0 < 2 ^ log
+region_some log = let h : 1 ≤ 2 ^ log = one-le-pow log 2 (omega arith) in omega arith
+
+module _ (log allowance : ℕ) (blocks : List (List ℕ)) (live : List ℕ) (parts : AreValidParts log allowance blocks live) where
+  abbrev image : HeapImage
+  image = image_of log allowance blocks live
+
+  pub words_by_blocks : heap_words image ≡ length blocks * 2 ^ log
+  words_by_blocks = length-concat (2 ^ log) blocks parts.whole
+
+  pub len_fits : length blocks * 2 ^ log % 18446744073709551616 ≡ heap_words image
+  len_fits =
+      let few = parts.valid.limits.few_words in
+      let words = words_by_blocks in
+      let fits : length blocks * 2 ^ log < 18446744073709551616 = omega arith in
+      mod-eq_of_lt fits ∙ sym words
+
+  pub count_by_blocks : region_count image ≡ length blocks
+  count_by_blocks = count (2 ^ log) (region_some log) blocks parts.whole
+
+  pub few_blocks : length blocks ≤ 16384
+  few_blocks = let few = parts.valid.limits.few_regions in let is = count_by_blocks in omega arith
+
+  pub block_by_blocks : (r : ℕ) → r < length blocks → block_of image r ≡ get_or blocks r []
+  block_by_blocks r l = concat_part (2 ^ log) blocks parts.whole r l
+
+-- the mask of a place in a region
+pub place_by_mask : (log a : ℕ) → log ≤ 16 → bit_and a (1 * 2 ^ log % 18446744073709551616 - 1) ≡ a % 2 ^ log
+place_by_mask log a high =
+    let below : 2 ^ log < 2 ^ 17 = pow_below log 17 (omega arith) in
+    let one : 1 * 2 ^ log ≡ 2 ^ log = omega arith in
+    let fits : 1 * 2 ^ log < 18446744073709551616 = omega arith in
+    ap (λ n. bit_and a (n - 1)) (mod-eq_of_lt fits ∙ one) ∙ and_mask a log

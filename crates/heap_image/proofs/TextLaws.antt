@@ -1,0 +1,124 @@
+-- The text of a valid image tells that image.
+use Rattle.std.proofs.Common.{◌≡◌, ℕ, zero, suc, ◌+◌, ◌-◌, ◌*◌, ◌<◌, ◌^◌, List, [], ◌∷◌, ◌++◌, length, get_or, take, drop, refl, sym, ◌∙◌, ap, arith, append_assoc, length-append}
+use Rattle.std.proofs.lemmas.Nat.{from_le_bytes-to_le_bytes_4, from_le_bytes-to_le_bytes_8}
+use Rattle.std.proofs.lemmas.List.{drop-drop, drop_at, append-nil}
+use Rattle.std.proofs.lemmas.List.Elements.{All-from_get_or}
+use Rattle.std.proofs.lemmas.List.FromFn.{fill_by_all}
+use Rattle.std.specs.Prelude.{flat_map, map, All}
+use Rattle.std.specs.List.{range_with_len}
+use Rattle.std.specs.Int.{w64, to_le_bytes, from_le_bytes}
+use Rattle.heap_image.specs.HeapImage.{HeapImage, IsValid, IsWithinLimits, heap_words}
+use Rattle.heap_image.specs.ImageText.{front, numbers, text, told_image, told_words, told_live_count, told_region_log, told_length, u64_at}
+use Rattle.heap_image.proofs.LiveWords.{live_end-le}
+
+pub length-numbers : (xs : List ℕ) → length (numbers xs) ≡ 8 * length xs
+length-numbers [] = refl
+length-numbers (x ∷ xs) = let more = length-numbers xs in omega arith
+
+pub number_bytes : (xs ys : List ℕ) (i : ℕ) → i < length xs → take 8 (drop (8 * i) (numbers xs ++ ys)) ≡ to_le_bytes w64 (get_or xs i 0)
+number_bytes [] ys i l = let no : ⊥ = omega arith in absurd no
+number_bytes (x ∷ xs) ys zero l = refl
+number_bytes (x ∷ xs) ys (suc i) l =
+    let e : 8 * suc i ≡ 8 + 8 * i = omega arith in
+    ap (λ n. take 8 (drop n (numbers (x ∷ xs) ++ ys))) e
+    ∙ ap (take 8) (sym (drop-drop (8 * i) 8 (numbers (x ∷ xs) ++ ys)))
+    ∙ number_bytes xs ys i (omega arith)
+
+-- a number that stands behind the first bytes
+u64_at-behind : (bytes rest : List ℕ) (n i x : ℕ) → drop n bytes ≡ rest → take 8 (drop (8 * i) rest) ≡ to_le_bytes w64 x → x < 2 ^ 64 → u64_at bytes (n + 8 * i) ≡ x
+u64_at-behind bytes rest n i x e at fits =
+    let width : n + 8 * i + 8 - (n + 8 * i) ≡ 8 = omega arith in
+    ap (λ w. from_le_bytes w64 (take w (drop (n + 8 * i) bytes))) width
+    ∙ ap (λ l. from_le_bytes w64 (take 8 l)) (sym (drop-drop (8 * i) n bytes) ∙ ap (drop (8 * i)) e)
+    ∙ ap (from_le_bytes w64) at
+    ∙ from_le_bytes-to_le_bytes_8 x fits
+
+-- what a front tells, whatever stands behind it
+module _ (log live_count words allowance : ℕ) (limits : IsWithinLimits log words live_count) (behind : List ℕ) where
+  abbrev pub fronted : List ℕ
+  fronted = front log live_count words allowance ++ behind
+
+  pub front_log : told_region_log fronted ≡ log
+  front_log = let low = limits.region_log_high in from_le_bytes-to_le_bytes_4 log (omega arith)
+
+  pub front_live : told_live_count fronted ≡ live_count
+  front_live = let few = limits.few_live in let less = limits.few_words in from_le_bytes-to_le_bytes_4 live_count (omega arith)
+
+  pub front_words : told_words fronted ≡ words
+  front_words = let less = limits.few_words in from_le_bytes-to_le_bytes_8 words (omega arith)
+
+  pub front_length : told_length fronted ≡ 32 + 8 * words + 8 * live_count
+  front_length = let w = front_words in let l = front_live in omega arith
+
+-- an image whose numbers fit the format, be its live list sound or not
+pub record HasFittingNumbers (image : HeapImage) : Type 0 where
+  pub limits : IsWithinLimits image.region_log (heap_words image) (length image.live)
+  pub allowance : image.allowance < 2 ^ 64
+  pub words : All (λ w. w < 2 ^ 64) image.words
+  pub live : All (λ a. a < 2 ^ 64) image.live
+
+pub valid_numbers : (image : HeapImage) → IsValid image → HasFittingNumbers image
+valid_numbers image valid = record {
+  limits = valid.limits;
+  allowance = valid.allowance_fits;
+  words = valid.words_fit;
+  live = All-from_get_or (λ a. a < 2 ^ 64) image.live 0 (λ i l. let e = live_end-le image valid.live_list i l in let less = valid.limits.few_words in omega arith);
+}
+
+-- a text, and what follows it
+module _ (image : HeapImage) (fits : HasFittingNumbers image) (rest : List ℕ) where
+  abbrev pub bytes : List ℕ
+  bytes = text image ++ rest
+
+  behind_front : drop 32 bytes ≡ (numbers image.words ++ numbers image.live) ++ rest
+  behind_front = refl
+
+  behind_words : drop (32 + 8 * heap_words image) bytes ≡ numbers image.live ++ rest
+  behind_words =
+      sym (drop-drop (8 * heap_words image) 32 bytes)
+      ∙ ap (drop (8 * heap_words image)) (append_assoc (numbers image.words) (numbers image.live) rest)
+      ∙ drop_at (numbers image.words) (numbers image.live ++ rest) (8 * heap_words image) (length-numbers image.words)
+
+  pub log_told : told_region_log bytes ≡ image.region_log
+  log_told = front_log image.region_log (length image.live) (heap_words image) image.allowance fits.limits ((numbers image.words ++ numbers image.live) ++ rest)
+
+  pub live_told : told_live_count bytes ≡ length image.live
+  live_told = front_live image.region_log (length image.live) (heap_words image) image.allowance fits.limits ((numbers image.words ++ numbers image.live) ++ rest)
+
+  pub words_told : told_words bytes ≡ heap_words image
+  words_told = front_words image.region_log (length image.live) (heap_words image) image.allowance fits.limits ((numbers image.words ++ numbers image.live) ++ rest)
+
+  allowance_told : u64_at bytes 24 ≡ image.allowance
+  allowance_told = from_le_bytes-to_le_bytes_8 image.allowance fits.allowance
+
+  word_told : (a : ℕ) → a < heap_words image → get_or image.words a 0 ≡ u64_at bytes (32 + 8 * a)
+  word_told a l = sym (u64_at-behind bytes (numbers image.words ++ (numbers image.live ++ rest)) 32 a (get_or image.words a 0) (behind_front ∙ append_assoc (numbers image.words) (numbers image.live) rest) (number_bytes image.words (numbers image.live ++ rest) a l) (fits.words a 0 l))
+
+  address_told : (i : ℕ) → i < length image.live → get_or image.live i 0 ≡ u64_at bytes (32 + 8 * heap_words image + 8 * i)
+  address_told i l = sym (u64_at-behind bytes (numbers image.live ++ rest) (32 + 8 * heap_words image) i (get_or image.live i 0) behind_words (number_bytes image.live rest i l) (fits.live i 0 l))
+
+  pub told_image-append : told_image bytes ≡ image
+  told_image-append =
+      let ws : (told_image bytes).words ≡ image.words = ap (λ n. map (λ a. u64_at bytes (32 + 8 * a)) (range_with_len 0 n)) words_told ∙ sym (fill_by_all (λ a. u64_at bytes (32 + 8 * a)) image.words (heap_words image) 0 refl word_told) in
+      let ls : (told_image bytes).live ≡ image.live =
+      ap (λ n. map (λ i. u64_at bytes (32 + 8 * n + 8 * i)) (range_with_len 0 (told_live_count bytes))) words_told
+      ∙ ap (λ n. map (λ i. u64_at bytes (32 + 8 * heap_words image + 8 * i)) (range_with_len 0 n)) live_told
+      ∙ sym (fill_by_all (λ i. u64_at bytes (32 + 8 * heap_words image + 8 * i)) image.live (length image.live) 0 refl address_told) in
+      λ i. record { region_log = log_told i; allowance = allowance_told i; words = ws i; live = ls i }
+
+  pub length_told : told_length bytes ≡ length (text image)
+  length_told =
+      let both = length-append (numbers image.words) (numbers image.live) in
+      let ws = length-numbers image.words in
+      let ls = length-numbers image.live in
+      let all : length (text image) ≡ 32 + length (numbers image.words ++ numbers image.live) = omega arith in
+      let w = words_told in
+      let l = live_told in
+      omega arith
+
+pub told_image-text : (image : HeapImage) → IsValid image → told_image (text image) ≡ image
+told_image-text image valid = ap told_image (sym (append-nil (text image))) ∙ told_image-append image (valid_numbers image valid) []
+
+-- two valid images with one text are equal
+pub text-injective : (image other : HeapImage) → IsValid image → IsValid other → text image ≡ text other → image ≡ other
+text-injective image other v w e = sym (told_image-text image v) ∙ ap told_image e ∙ told_image-text other w

@@ -1,0 +1,11 @@
+use Rattle.std.proofs.Common.{◌≡◌, ◌*◌, ◌%◌, ◌^◌, length, ap, ◌∙◌}
+use Rattle.heap_image.specs.HeapImage.{heap_words}
+use Rattle.heap_image.proofs.Parts.{len_fits}
+use Rattle.heap_image.proofs.image.Image.len.Goals as goal
+
+pub returns-clause-value : goal.returns-clause-value
+returns-clause-value c =
+    let i = c.self.inside in
+    ap (λ n. n * 2 ^ i.region_log % 18446744073709551616) (c.len.ensures ∙ i.regions.ok.0)
+    ∙ len_fits i.region_log i.allowance i.regions.items i.live.items c.self.invariant
+    ∙ ap heap_words c.self.view_is

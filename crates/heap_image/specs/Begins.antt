@@ -1,0 +1,13 @@
+-- Bits that tell at which addresses live objects begin.
+use Rattle.std.specs.Prelude.{◌≡◌, ◌<◌, ◌≤◌, ℕ, ◌+◌, ◌*◌, ◌/◌, ◌%◌, ◌==◌, Bool, List, length, slice_index}
+use Rattle.std.specs.List.{list_any}
+use Rattle.std.specs.Int.{bit_at}
+
+-- the bit of address a is set, in words of 64 bits
+abbrev pub is_marked : List ℕ → ℕ → Bool
+is_marked bits a = bit_at (slice_index bits (a / 64)) (a % 64) == 1
+
+-- of the addresses below words, those of the list are marked and no other
+pub record MarkBegins (live : List ℕ) (words : ℕ) (bits : List ℕ) : Type 0 where
+  pub room : words / 64 < length bits
+  pub marked : (a : ℕ) → a < words → is_marked bits a ≡ list_any (λ b. a == b) live

@@ -1,0 +1,125 @@
+-- A heap with its live objects, as contracts see an image.
+use Rattle.std.specs.Prelude.{◌≡◌, ℕ, ◌+◌, ◌-◌, ◌*◌, ◌/◌, ◌%◌, ◌^◌, ◌<◌, ◌≤◌, Bool, not, ◌&&◌, ◌||◌, nat_lt, nat_le, ◌==◌, IsTrue, List, length, take, drop, fold, All, count_by, slice_index}
+use Rattle.std.specs.List.{concat, list_any, range_with_len, AllAdjacentBelow}
+use Rattle.heap_image.specs.Header.{size_of, references_of, kind_of}
+
+-- Address a is the a-th word. A region is 2 ^ region_log words in a row. The allowance is the number of dead words that
+-- the dense prefix may keep. The live list has the address of each live object.
+pub record HeapImage : Type 0 where
+  pub region_log : ℕ
+  pub allowance : ℕ
+  pub words : List ℕ
+  pub live : List ℕ
+
+module _ (image : HeapImage) where
+  abbrev pub region_words : ℕ
+  region_words = 2 ^ image.region_log
+
+  abbrev pub heap_words : ℕ
+  heap_words = length image.words
+
+  -- how many regions the heap has
+  abbrev pub region_count : ℕ
+  region_count = heap_words / region_words
+
+  abbrev pub region_of : ℕ → ℕ
+  region_of a = a / region_words
+
+  abbrev pub start_of : ℕ → ℕ
+  start_of r = r * region_words
+
+  abbrev pub word_at : ℕ → ℕ
+  word_at a = slice_index image.words a
+
+  -- the words of region r
+  abbrev pub block_of : ℕ → List ℕ
+  block_of r = take region_words (drop (start_of r) image.words)
+
+  -- of the object at a: its size, its number of references, its kind, and the address behind its last word
+  abbrev pub size_at : ℕ → ℕ
+  size_at a = size_of (word_at a)
+
+  abbrev pub references_at : ℕ → ℕ
+  references_at a = references_of (word_at a)
+
+  abbrev pub kind_at : ℕ → ℕ
+  kind_at a = kind_of (word_at a)
+
+  abbrev pub end_of : ℕ → ℕ
+  end_of a = a + size_at a
+
+  -- the f-th reference of the object at a, from 0: the references stand behind the header
+  abbrev pub reference_at : ℕ → ℕ → ℕ
+  reference_at a f = word_at (a + 1 + f)
+
+  -- a reference is 0, which is null, or 1 plus the address of a live object
+  abbrev pub is_null_or_live : ℕ → Bool
+  is_null_or_live w = (w == 0) || list_any (λ a. w == a + 1) image.live
+
+  -- q is one of the words of the object at a
+  abbrev pub is_word_of : ℕ → ℕ → Bool
+  is_word_of a q = nat_le a q && nat_lt q (end_of a)
+
+  -- q is a word of a live object; the other words are dead
+  abbrev pub is_live_word : ℕ → Bool
+  is_live_word q = list_any (λ a. is_word_of a q) image.live
+
+  abbrev pub is_dead_word : ℕ → Bool
+  is_dead_word q = not (is_live_word q)
+
+  -- how many live words there are from one address up to another
+  abbrev pub live_words : ℕ → ℕ → ℕ
+  live_words from to = count_by is_live_word (range_with_len from (to - from))
+
+  -- the end of the last live object, or 0 where there is none
+  abbrev pub last_end : ℕ
+  last_end = fold (λ _ a. end_of a) 0 image.live
+
+-- an object has a header of kind 1 and at least that word, fewer references than words, and ends within the heap
+pub record HasSoundHeader (image : HeapImage) (a : ℕ) : Type 0 where
+  pub object : kind_at image a ≡ 1
+  pub header : 0 < size_at image a
+  pub references : references_at image a < size_at image a
+  pub inside : end_of image a ≤ heap_words image
+
+-- The live list names sound objects in ascending order that do not overlap, and the references of each lead to listed
+-- objects or nowhere.
+pub record HasLiveList (image : HeapImage) : Type 0 where
+  pub sound : All (λ a. HasSoundHeader image a) image.live
+  pub apart : AllAdjacentBelow (λ a b. end_of image a ≤ b) image.live (length image.live)
+  pub references : All (λ a. (f : ℕ) → f < references_at image a → IsTrue (is_null_or_live image (reference_at image a f))) image.live
+
+-- the sizes that the format allows
+pub record IsWithinLimits (region_log words live_count : ℕ) : Type 0 where
+  pub region_log_low : 3 ≤ region_log
+  pub region_log_high : region_log ≤ 16
+  pub not_empty : 0 < words
+  pub whole_regions : words % 2 ^ region_log ≡ 0
+  pub few_words : words ≤ 4194304
+  pub few_regions : words / 2 ^ region_log ≤ 16384
+  pub few_live : live_count ≤ words
+
+pub record IsValid (image : HeapImage) : Type 0 where
+  pub limits : IsWithinLimits image.region_log (heap_words image) (length image.live)
+  pub allowance_fits : image.allowance < 2 ^ 64
+  pub words_fit : All (λ w. w < 2 ^ 64) image.words
+  pub live_list : HasLiveList image
+
+-- each of these blocks has the words of one region
+abbrev pub AreBlocks : ℕ → List (List ℕ) → Type 0
+AreBlocks region_log blocks = All (λ block. length block ≡ 2 ^ region_log) blocks
+
+-- the image of the heap whose regions hold these blocks, one after the other
+abbrev pub image_of : ℕ → ℕ → List (List ℕ) → List ℕ → HeapImage
+image_of region_log allowance blocks live = record { region_log = region_log; allowance = allowance; words = concat blocks; live = live }
+
+-- blocks of this size form a heap that is not too large
+pub record FormHeap (region_log : ℕ) (blocks : List (List ℕ)) : Type 0 where
+  pub log : region_log ≤ 16
+  pub whole : AreBlocks region_log blocks
+  pub few : length (concat blocks) ≤ 4194304
+
+-- these parts are those of a valid image
+pub record AreValidParts (region_log allowance : ℕ) (blocks : List (List ℕ)) (live : List ℕ) : Type 0 where
+  pub whole : AreBlocks region_log blocks
+  pub valid : IsValid (image_of region_log allowance blocks live)

@@ -1,0 +1,143 @@
+-- The text of an image, in bytes, and the first fault of a byte list.
+use Rattle.std.specs.Prelude.{◌≡◌, ℕ, ◌+◌, ◌-◌, ◌*◌, ◌/◌, ◌%◌, ◌^◌, ◌<◌, Bool, true, false, not, ◌&&◌, ◌||◌, nat_lt, nat_le, ◌==◌, List, [], ◌∷◌, ◌++◌, length, map, take, drop, slice_index, slice_range, codes, All, Option, None, Some, option_map, find, flat_map, zip}
+use Rattle.std.specs.List.{range_with_len}
+use Rattle.std.specs.Str.{bytes_eq}
+use Rattle.std.specs.Int.{w32, w64, to_le_bytes, from_le_bytes}
+use Rattle.heap_image.specs.HeapImage.{HeapImage, IsValid, heap_words, size_at, references_at, kind_at, end_of, reference_at, is_null_or_live}
+use Rattle.heap_image.specs.declared.fault.Fault.{Fault}
+use Rattle.heap_image.specs.declared.fault.Fault.TheVariants.{TruncatedHeader, Magic, RegionLog, Length, TruncatedBody, LiveOrder, Header, Overlap, Reference, Trailing}
+
+abbrev pub magic : List ℕ
+magic = codes "PCHEAP01"
+
+-- The first 32 bytes of a text. Numbers are little endian.
+abbrev pub front : (region_log live_count words allowance : ℕ) → List ℕ
+front region_log live_count words allowance = magic
+    ++ to_le_bytes w32 region_log
+    ++ to_le_bytes w32 live_count
+    ++ to_le_bytes w64 words
+    ++ to_le_bytes w64 allowance
+
+-- numbers of eight bytes each
+abbrev pub numbers : List ℕ → List ℕ
+numbers xs = flat_map (to_le_bytes w64) xs
+
+-- the front, then the words, and then the live addresses
+abbrev pub text : HeapImage → List ℕ
+text image = front image.region_log (length image.live) (heap_words image) image.allowance ++ numbers image.words ++ numbers image.live
+
+-- What the numbers of a byte list say, whether or not the bytes are an image's text.
+module _ (bytes : List ℕ) where
+  abbrev pub u32_at : ℕ → ℕ
+  u32_at offset = from_le_bytes w32 (slice_range bytes offset (offset + 4))
+
+  abbrev pub u64_at : ℕ → ℕ
+  u64_at offset = from_le_bytes w64 (slice_range bytes offset (offset + 8))
+
+  abbrev pub told_region_log : ℕ
+  told_region_log = u32_at 8
+
+  abbrev pub told_live_count : ℕ
+  told_live_count = u32_at 12
+
+  abbrev pub told_words : ℕ
+  told_words = u64_at 16
+
+  abbrev pub told_region_words : ℕ
+  told_region_words = 2 ^ told_region_log
+
+  abbrev pub told_length : ℕ
+  told_length = 32 + 8 * told_words + 8 * told_live_count
+
+  abbrev pub told_image : HeapImage
+  told_image = record {
+    region_log = told_region_log;
+    allowance = u64_at 24;
+    words = map (λ a. u64_at (32 + 8 * a)) (range_with_len 0 told_words);
+    live = map (λ i. u64_at (32 + 8 * told_words + 8 * i)) (range_with_len 0 told_live_count);
+  }
+
+-- the i-th address is outside a heap of so many words or not above the one before it
+abbrev pub is_misplaced : ℕ → List ℕ → ℕ → Bool
+is_misplaced words live i = nat_le words (slice_index live i) || (nat_lt 0 i && nat_le (slice_index live i) (slice_index live (i - 1)))
+
+-- the least such index
+abbrev pub misplaced_index : ℕ → List ℕ → Option ℕ
+misplaced_index words live = find (is_misplaced words live) (range_with_len 0 (length live))
+
+-- What is wrong with the objects of an image.
+module _ (image : HeapImage) where
+  -- the word at an address is not the header of an object that fits
+  abbrev pub is_unsound : ℕ → Bool
+  is_unsound a = not (kind_at image a == 1) || (size_at image a == 0) || nat_le (size_at image a) (references_at image a) || nat_lt (heap_words image) (end_of image a)
+
+  -- the least such address
+  abbrev pub unsound_header : Option ℕ
+  unsound_header = find is_unsound image.live
+
+  -- the least address below the end of the object before it
+  abbrev pub overlapping : Option ℕ
+  overlapping = option_map (λ p. p.1) (find (λ p. nat_lt p.1 (end_of image p.0)) (zip image.live (drop 1 image.live)))
+
+  -- the fields of an object, from 0, each with its address
+  abbrev pub fields_of : ℕ → List (ℕ × ℕ)
+  fields_of a = map (λ f. (a, f)) (range_with_len 0 (references_at image a))
+
+  -- the reference in a field is neither null nor to a live object
+  abbrev pub is_dangling : ℕ × ℕ → Bool
+  is_dangling p = not (is_null_or_live image (reference_at image p.0 p.1))
+
+  -- the least address, and in it the least field, with such a reference
+  abbrev pub dangling : Option (ℕ × ℕ)
+  dangling = find is_dangling (flat_map fields_of image.live)
+
+abbrev pub fault_if : Bool → Fault → Option Fault
+fault_if true f = Some f
+fault_if false f = None
+
+abbrev pub first_some : {A : Type 0} → List (Option A) → Option A
+first_some [] = None
+first_some (None ∷ more) = first_some more
+first_some (Some x ∷ more) = Some x
+
+-- what can be wrong with the front, each fault if its condition holds
+abbrev pub front_faults : List ℕ → List (Option Fault)
+front_faults bytes =
+    fault_if (nat_lt (length bytes) 32) TruncatedHeader
+    ∷ fault_if (not (bytes_eq (take 8 bytes) magic)) Magic
+    ∷ fault_if (nat_lt (told_region_log bytes) 3 || nat_lt 16 (told_region_log bytes)) RegionLog
+    ∷ fault_if ((told_words bytes == 0) || not (told_words bytes % told_region_words bytes == 0)
+    || nat_lt 4194304 (told_words bytes) || nat_lt 16384 (told_words bytes / told_region_words bytes)
+    || nat_lt (told_words bytes) (told_live_count bytes)) Length
+    ∷ []
+
+-- what can be wrong before a word is looked at: the front, and too few bytes behind it
+abbrev pub layout_faults : List ℕ → List (Option Fault)
+layout_faults bytes = front_faults bytes ++ (fault_if (nat_lt (length bytes) (told_length bytes)) TruncatedBody ∷ [])
+
+-- what can be wrong with the live list
+abbrev pub live_list_faults : HeapImage → List (Option Fault)
+live_list_faults image =
+    option_map LiveOrder (misplaced_index (heap_words image) image.live)
+    ∷ option_map Header (unsound_header image)
+    ∷ option_map Overlap (overlapping image)
+    ∷ option_map (λ p. Reference p.0 p.1) (dangling image)
+    ∷ []
+
+-- each fault of a text, if its condition holds, in the order in which they are tested
+abbrev pub faults : List ℕ → List (Option Fault)
+faults bytes =
+    layout_faults bytes
+    ++ live_list_faults (told_image bytes)
+    ++ (fault_if (nat_lt (told_length bytes) (length bytes)) Trailing ∷ [])
+
+abbrev pub first_fault : List ℕ → Option Fault
+first_fault bytes = first_some (faults bytes)
+
+-- A text without a fault is that of a valid image, and the image is the one that the bytes tell.
+abbrev pub FaultlessIsText : Type 0
+FaultlessIsText = (bytes : List ℕ) → All (λ b. b < 256) bytes → first_fault bytes ≡ None → IsValid (told_image bytes) × (bytes ≡ text (told_image bytes))
+
+-- The text of a valid image has no fault, and tells that image.
+abbrev pub TextIsFaultless : Type 0
+TextIsFaultless = (image : HeapImage) → IsValid image → (first_fault (text image) ≡ None) × (told_image (text image) ≡ image)

@@ -1,0 +1,9 @@
+pub mod Header
+pub mod HeapImage
+pub mod ImageText
+pub mod Device
+pub mod StdDevices
+pub mod Incoming
+pub mod Begins
+pub mod Refusals
+pub mod Outgoing

@@ -1,0 +1,16 @@
+-- What was written and is not given yet.
+use Rattle.std.specs.Prelude.{◌≡◌, ℕ, ◌*◌, List, ◌++◌, Option, take}
+use Rattle.std.specs.Io.KnownBytes.{Appends}
+use Rattle.heap_image.specs.declared.outgoing.Outgoing.{Outgoing}
+
+-- the bytes of the numbers that are held
+abbrev pub held_bytes : Outgoing → List ℕ
+held_bytes o = take (8 * o.end) o.bytes
+
+-- a device took bytes, which with those that are held now are those that were held and what was written
+abbrev pub Sends : Option (List ℕ) → Option (List ℕ) → List ℕ → List ℕ → List ℕ → Type 0
+Sends before after held holds written = (given : List ℕ) × Appends before after given × (given ++ holds ≡ held ++ written)
+
+-- a device took a beginning of these bytes
+abbrev pub TakesBeginning : Option (List ℕ) → Option (List ℕ) → List ℕ → Type 0
+TakesBeginning before after bytes = (n : ℕ) × Appends before after (take n bytes)

@@ -1,0 +1,150 @@
+//! The checks of a live list.
+ghost use Rattle.std.specs.Prelude.{◌≡◌, ◌<◌, ◌≤◌, ◌+◌, ◌/◌, ◌||◌, ◌⊎◌, ◌==◌, nat_le, nat_lt, not, ℕ, Option, Some, None, [], ◌∷◌, List, All, option_map, find, map, OnOk, IfErr, IsTrue, length};
+ghost use Rattle.std.specs.List.{concat, list_any, range_with_len};
+ghost use Rattle.heap_image.specs.Header.{size_of, references_of, kind_of};
+ghost use Rattle.heap_image.specs.HeapImage.{FormHeap, image_of, references_at, end_of};
+ghost use Rattle.heap_image.specs.ImageText.{live_list_faults, first_some, misplaced_index, unsound_header, overlapping, dangling, fields_of, is_dangling};
+ghost use Rattle.heap_image.specs.Begins.{MarkBegins};
+
+use crate::begins::{begin_bits, is_marked};
+use crate::blocks::word_of;
+use crate::{Fault, header};
+use raw_region::Region;
+use std::alloc::Global;
+
+/// What is first wrong with a live list over a heap that lies in these regions, if anything is. `words` is how many
+/// words they have.
+pub(crate) fn check_live_list(
+    alloc: Global,
+    regions: &[Region],
+    region_log: u32,
+    words: u64,
+    live: &[u64],
+) -> Result<(), Fault>
+    requires heap { FormHeap region_log regions.now }
+    requires words { words ≡ length (concat regions.now) }
+    requires few { length live.now ≤ words }
+    ensures ok { OnOk result (first_some (live_list_faults (image_of region_log 0 regions.now live.now)) ≡ None) }
+    ensures fault { IfErr result (λ fault. (fault ≡ Fault.Memory) ⊎ (first_some (live_list_faults (image_of region_log 0 regions.now live.now)) ≡ Some fault)) }
+{
+    if let Some(index) = misplaced_index(live, words) {
+        return Err(Fault::LiveOrder(index));
+    }
+    check_objects(regions, region_log, words, live)?;
+    let bits = begin_bits(alloc, live, words)?;
+    check_references(regions, region_log, words, live, bits.as_slice())
+}
+
+/// The least index of an address that is outside the heap or not above the one before it.
+fn misplaced_index(live: &[u64], words: u64) -> Option<u32>
+    requires few { length live.now ≤ words }
+    requires fits { words ≤ 4194304 }
+    ensures { result ≡ misplaced_index words live.now }
+{
+    let mut next = 0;
+    for (index, a) in live.iter().enumerate() {
+        if *a < next || *a >= words {
+            return Some(index as u32);
+        }
+        next = *a + 1;
+    }
+    None
+}
+
+/// Whether this word at `a` is not the header of an object that fits.
+#[inline]
+fn is_unsound(word: u64, a: u64, words: u64) -> bool
+    requires { a ≤ 4194304 }
+    ensures { result ≡ (not (kind_of word == 1) || (size_of word == 0) || nat_le (size_of word) (references_of word) || nat_lt words (a + size_of word)) }
+{
+    let size = header::size(word);
+    header::kind(word) != header::OBJECT
+        || size == 0
+        || size <= header::references(word)
+        || a + u64::from(size) > words
+}
+
+/// Whether each live address has the header of an object that fits, and no object begins before the end of the one
+/// before it.
+fn check_objects(regions: &[Region], region_log: u32, words: u64, live: &[u64]) -> Result<(), Fault>
+    requires heap { FormHeap region_log regions.now }
+    requires words { words ≡ length (concat regions.now) }
+    requires inside { All (λ a. a < words) live.now }
+    ensures ok { let image = image_of region_log 0 regions.now live.now in OnOk result ((unsound_header image ≡ None) × (overlapping image ≡ None)) }
+    ensures fault { let image = image_of region_log 0 regions.now live.now in IfErr result (λ fault. first_some (option_map Fault.Header (unsound_header image) ∷ option_map Fault.Overlap (overlapping image) ∷ []) ≡ Some fault) }
+{
+    let mut end = 0;
+    let mut overlap = None;
+    for a in live {
+        let word = word_of(regions, region_log, *a);
+        if is_unsound(word, *a, words) {
+            return Err(Fault::Header(*a));
+        }
+        overlap = overlap.or((*a < end).then_some(*a));
+        end = *a + u64::from(header::size(word));
+    }
+    match overlap {
+        Some(a) => Err(Fault::Overlap(a)),
+        None => Ok(()),
+    }
+}
+
+/// Whether each reference of a live object is null or to a live object.
+fn check_references(
+    regions: &[Region],
+    region_log: u32,
+    words: u64,
+    live: &[u64],
+    bits: &[u64],
+) -> Result<(), Fault>
+    requires heap { FormHeap region_log regions.now }
+    requires words { words ≡ length (concat regions.now) }
+    requires sound { unsound_header (image_of region_log 0 regions.now live.now) ≡ None }
+    requires inside { All (λ a. a < words) live.now }
+    requires bits { MarkBegins live.now words bits.now }
+    ensures ok { OnOk result (dangling (image_of region_log 0 regions.now live.now) ≡ None) }
+    ensures fault { IfErr result (λ fault. option_map (λ p. Fault.Reference p.0 p.1) (dangling (image_of region_log 0 regions.now live.now)) ≡ Some fault) }
+{
+    for a in live {
+        let references = header::references(word_of(regions, region_log, *a));
+        if let Some(field) = dangling_field(regions, region_log, *a, references, words, bits) {
+            return Err(Fault::Reference(*a, field));
+        }
+    }
+    Ok(())
+}
+
+/// Whether a reference is null or to a live object, whose addresses are marked.
+#[inline]
+fn is_null_or_live(reference: u64, words: u64, bits: &[u64]) -> bool
+    requires { words / 64 < length bits.now }
+    ensures { (live : List ℕ) → All (λ b. b < words) live → MarkBegins live words bits.now
+        → result ≡ ((reference == 0) || list_any (λ b. reference == b + 1) live) }
+{
+    reference == 0 || reference <= words && is_marked(bits, reference - 1)
+}
+
+/// The least of the first fields of the object at `a` whose reference is neither null nor to a live object.
+fn dangling_field(
+    regions: &[Region],
+    region_log: u32,
+    a: u64,
+    references: u32,
+    words: u64,
+    bits: &[u64],
+) -> Option<u32>
+    requires heap { FormHeap region_log regions.now }
+    requires words { words ≡ length (concat regions.now) }
+    requires inside { a + references < words }
+    requires bits { words / 64 < length bits.now }
+    ensures { (live : List ℕ) → All (λ b. b < words) live → MarkBegins live words bits.now
+        → option_map (λ f. (a, f)) result ≡ find (is_dangling (image_of region_log 0 regions.now live)) (map (λ f. (a, f)) (range_with_len 0 references)) }
+{
+    for field in 0..references {
+        let reference = word_of(regions, region_log, a + 1 + u64::from(field));
+        if !is_null_or_live(reference, words, bits) {
+            return Some(field);
+        }
+    }
+    None
+}

@@ -1,0 +1,55 @@
+//! Encoding an image as bytes.
+ghost use Rattle.std.specs.Prelude.{◌≡◌, IfOk};
+ghost use Rattle.heap_image.specs.ImageText.{text};
+
+use crate::Image;
+use crate::intake::Failed;
+use crate::outlet::Outlet;
+use crate::write::write_image;
+use std::alloc::{AllocError, Global};
+
+/// The text of an image.
+pub fn encode(alloc: Global, image: &Image) -> Result<Vec<u8>, AllocError>
+    ensures { IfOk result (λ bytes. bytes.items ≡ text image.now) }
+{
+    let mut out = Bytes {
+        bytes: Vec::new(alloc),
+        failed: false,
+    };
+    match write_image(image, &mut out) {
+        Ok(()) => Ok(out.bytes),
+        Err(_) => Err(AllocError),
+    }
+}
+
+/// Bytes in memory, which take what they are given and fail where memory is refused.
+#[derive(Drop)]
+struct Bytes {
+    bytes: Vec<u8>,
+    failed: bool,
+}
+
+impl Outlet for Bytes {
+    ghost use Rattle.std.specs.Prelude.{Some};
+
+    ghost took = { λ out. Some out.bytes.items };
+
+    ghost has_failed = { λ out. out.failed };
+
+    fn give(&mut self, bytes: &[u8]) -> Result<usize, Failed> {
+        if self.failed {
+            return Err(Failed);
+        }
+        match self.bytes.extend_from_slice(bytes) {
+            Ok(()) => Ok(bytes.len()),
+            Err(_) => {
+                self.failed = true;
+                Err(Failed)
+            }
+        }
+    }
+
+    fn failed(&self) -> bool {
+        self.failed
+    }
+}

@@ -1,0 +1,78 @@
+//! `Fault`: what is wrong with an input, or what a run met.
+ghost use Rattle.std.specs.Prelude.{◌≡◌};
+ghost use Rattle.heap_image.specs.declared.fault.Fault.TheVariants.{Memory};
+
+use std::alloc::{AllocError, AllocFailed};
+use thiserror::Error;
+
+/// What is wrong with an image or a schedule, or what a run met. The number in a text is the fault's own.
+///
+/// Faults 1 to 10 are those of an image's bytes, tested in this order.
+#[derive(Debug, Clone, Copy, PartialEq, Eq, Error)]
+pub enum Fault {
+    /// There are fewer than 32 bytes.
+    #[error("1 truncated header")]
+    TruncatedHeader,
+    /// The first 8 bytes are not `PCHEAP01`.
+    #[error("2 magic")]
+    Magic,
+    /// The region log is not 3 to 16.
+    #[error("3 region log")]
+    RegionLog,
+    /// The number of words is 0, not a multiple of the words of a region or above 4,194,304, or there are more than
+    /// 16,384 regions, or more live objects than words.
+    #[error("4 length")]
+    Length,
+    /// There are fewer bytes than the first 32 tell of.
+    #[error("5 truncated body")]
+    TruncatedBody,
+    /// The live address at this index, the least, is outside the heap or not above the one before it.
+    #[error("6 live order at index {0}")]
+    LiveOrder(u32),
+    /// The word at this live address, the least, is not the header of an object that fits.
+    #[error("7 header at {0}")]
+    Header(u64),
+    /// The live object at this address, the least, begins before the end of the one before it.
+    #[error("8 overlap at {0}")]
+    Overlap(u64),
+    /// In the live object at this address, the least, this field, the least, is neither null nor a live object's.
+    #[error("9 reference at {0} field {1}")]
+    Reference(u64, u32),
+    /// There are bytes after the live list.
+    #[error("10 trailing bytes")]
+    Trailing,
+    /// Memory was refused.
+    #[error("11 memory")]
+    Memory,
+    /// The number of workers is not 1 to 64.
+    #[error("12 workers")]
+    Workers,
+    /// A read, a write or an opening failed, or a write took no byte.
+    #[error("13 input or output")]
+    Io,
+    /// This line of a schedule, counted from 1, is malformed, not allowed, missing, or has another reply.
+    #[error("14 schedule line {0}")]
+    Schedule(u64),
+    /// A region was written while the schedule says otherwise.
+    #[error("15 overwritten region {0}")]
+    Overwritten(u32),
+    /// The gate answered no.
+    #[error("16 gate")]
+    Gate,
+}
+
+impl From<AllocError> for Fault {
+    ghost from_gives = { λ _ fault. fault ≡ Memory };
+
+    fn from(_refused: AllocError) -> Fault {
+        Fault::Memory
+    }
+}
+
+impl<T: Drop> From<AllocFailed<T>> for Fault {
+    ghost from_gives = { λ _ fault. fault ≡ Memory };
+
+    fn from(_refused: AllocFailed<T>) -> Fault {
+        Fault::Memory
+    }
+}

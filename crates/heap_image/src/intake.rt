@@ -1,0 +1,120 @@
+//! `Intake`: where the bytes of an image come from.
+ghost use Rattle.std.specs.Prelude.{◌≡◌, ◌<◌, ◌≤◌, ◌||◌, ℕ, List, Bool, Option, length, take, IsTrue, IfOk, IsErr, is_err};
+ghost use Rattle.std.specs.Io.KnownBytes.{Consumes, IsAtEnd, ReadConsumes};
+
+use crate::Fault;
+use std::io::Read;
+use thiserror::Error;
+
+/// A device failed. It is not asked again.
+#[derive(Debug, Clone, Copy, PartialEq, Eq, Error)]
+#[error("the device failed")]
+pub struct Failed;
+
+impl From<Failed> for Fault {
+    ghost use Rattle.std.specs.Prelude.{◌≡◌};
+    ghost use Rattle.heap_image.specs.declared.fault.Fault.TheVariants.{Io};
+
+    ghost from_gives = { λ _ fault. fault ≡ Io };
+
+    fn from(_failed: Failed) -> Fault {
+        Fault::Io
+    }
+}
+
+/// A device that gives bytes, in any pieces.
+///
+/// A contract sees the bytes that are `left`, where they are told, and whether the device `has_failed`.
+pub trait Intake {
+    ghost left: { Self → Option (List ℕ) };
+
+    ghost has_failed: { Self → Bool };
+
+    /// Takes bytes into the front of the buffer and answers how many. It answers 0 for a buffer with room only where no
+    /// byte is left. A call that answers [`Failed`] takes no byte, and so does each later one.
+    fn take(&mut self, buffer: &mut [u8]) -> Result<usize, Failed>
+        ensures within { IfOk result (λ n. n ≤ length buffer.new) }
+        ensures bytes { ReadConsumes (left self.old) (left self.new) result buffer.new }
+        ensures failed { has_failed self.new ≡ is_err result }
+        ensures stays_failed { IsTrue (has_failed self.old) → IsErr result };
+
+    /// Whether a call has answered [`Failed`].
+    fn failed(&self) -> bool
+        ensures { result ≡ has_failed self.now };
+}
+
+/// Fills the buffer as far as the device has bytes, and answers how many came.
+pub(crate) fn fill<R: Intake>(reader: &mut R, buffer: &mut [u8]) -> Result<usize, Failed>
+    ensures within { IfOk result (λ n. n ≤ length buffer.new) }
+    ensures bytes { IfOk result (λ n. Consumes (R.left reader.old) (R.left reader.new) (take n buffer.new)) }
+    ensures lost { (came : List ℕ) × Consumes (R.left reader.old) (R.left reader.new) came }
+    ensures end { IfOk result (λ n. n < length buffer.new → IsAtEnd (R.left reader.new)) }
+    ensures failed { R.has_failed reader.new ≡ (is_err result || R.has_failed reader.old) }
+    ensures stays_failed { IsTrue (R.has_failed reader.old) → 0 < length buffer.old → IsErr result }
+{
+    let mut filled = 0;
+    while filled < buffer.len() {
+        let came = reader.take(&mut buffer[filled..])?;
+        if came == 0 {
+            break;
+        }
+        filled += came;
+    }
+    Ok(filled)
+}
+
+/// The bytes of a reader of std. An error of the reader is [`Failed`], and the reader is not read again.
+#[derive(Drop)]
+pub struct FromRead<R: Read + Drop> {
+    reader: R,
+    failed: bool,
+}
+
+impl<R: Read + Drop> FromRead<R> {
+    ghost use Rattle.std.specs.Prelude.{◌≡◌, false};
+    ghost use Rattle.heap_image.specs.StdDevices.{reader_of, reader_has_failed};
+
+    /// The bytes of this reader, which has not failed.
+    pub fn new(reader: R) -> FromRead<R>
+        ensures reader { reader_of result ≡ reader }
+        ensures failed { reader_has_failed result ≡ false }
+    {
+        FromRead {
+            reader,
+            failed: false,
+        }
+    }
+
+    /// The reader, where it stands.
+    pub fn into_inner(self) -> R
+        ensures { result ≡ reader_of self }
+    {
+        let FromRead { reader, failed: _ } = self;
+        reader
+    }
+}
+
+impl<R: Read + Drop> Intake for FromRead<R> {
+    ghost use Rattle.heap_image.specs.StdDevices.{reader_of, reader_has_failed};
+
+    ghost left = { λ intake. R.remaining (reader_of intake) };
+
+    ghost has_failed = { reader_has_failed };
+
+    fn take(&mut self, buffer: &mut [u8]) -> Result<usize, Failed> {
+        if self.failed {
+            return Err(Failed);
+        }
+        match self.reader.read(buffer) {
+            Ok(n) => Ok(n),
+            Err(_) => {
+                self.failed = true;
+                Err(Failed)
+            }
+        }
+    }
+
+    fn failed(&self) -> bool {
+        self.failed
+    }
+}

@@ -1,0 +1,47 @@
+//! The image of a heap: its type, its text in bytes, and what can be wrong with a text.
+//!
+//! An [`Image`] is a heap of words in regions, the addresses of its live objects, and an allowance of dead words. It is
+//! valid by its type: whoever holds one knows that the sizes keep the limits of the format, that each live address has
+//! the header of an object that fits, that no object begins before the end of the one before it, and that each
+//! reference is null or leads to a live object.
+//!
+//! Each valid image has exactly one text. [`decode`] and [`encode`] go between the two in memory; [`read_image`] and
+//! [`write_image`] do the same over any [`Intake`] and [`Outlet`], as [`FromRead`] and [`ToWrite`] are over std's. A
+//! text that is none of a valid image is refused with its first [`Fault`].
+//!
+//! **Proved**, for all inputs: `decode` answers an image exactly where the bytes are its text, unless memory is refused,
+//! and else the first fault; `encode` and `write_image` give the text; `read_image` decides as `decode` does of the
+//! bytes that its device has left, and takes no byte that its answer does not need; two valid images with one text are
+//! equal; a fault 13 comes exactly where the device has failed. **Only tested**: the wording of the faults, and that
+//! memory is refused only where it is. See the README.
+#![tactic(auto)]
+
+mod begins;
+mod blocks;
+mod check;
+mod decoding;
+mod encoding;
+mod fault;
+mod front;
+pub mod header;
+mod image;
+mod incoming;
+mod intake;
+mod laws;
+mod numbers;
+mod outgoing;
+mod outlet;
+mod read;
+#[cfg(test)]
+mod tests;
+mod write;
+
+pub use decoding::decode;
+pub use encoding::encode;
+pub use fault::Fault;
+pub use image::{Image, ImageParts};
+pub use intake::{Failed, FromRead, Intake};
+pub use laws::{faultless_is_text, one_text, text_is_faultless};
+pub use outlet::{Outlet, ToWrite};
+pub use read::read_image;
+pub use write::write_image;

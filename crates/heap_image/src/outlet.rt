@@ -1,0 +1,99 @@
+//! `Outlet`: where the bytes of an image go.
+ghost use Rattle.std.specs.Prelude.{◌≡◌, ◌<◌, ◌≤◌, ◌||◌, ℕ, List, Bool, Option, length, take, IsTrue, IfOk, OnOk, IsErr, is_err};
+ghost use Rattle.std.specs.Io.KnownBytes.{Appends, WriteAppends};
+
+use crate::intake::Failed;
+use std::io::Write;
+
+/// A device that takes bytes, in any pieces.
+///
+/// A contract sees the bytes that the device `took`, where they are told, and whether it `has_failed`.
+pub trait Outlet {
+    ghost took: { Self → Option (List ℕ) };
+
+    ghost has_failed: { Self → Bool };
+
+    /// Gives the device bytes and answers how many of them, from the first on, it took: of some bytes at least one. A
+    /// call that answers [`Failed`] gives no byte, and so does each later one.
+    fn give(&mut self, bytes: &[u8]) -> Result<usize, Failed>
+        ensures within { IfOk result (λ n. n ≤ length bytes.now) }
+        ensures some { IfOk result (λ n. 0 < length bytes.now → 0 < n) }
+        ensures bytes { WriteAppends (took self.old) (took self.new) result bytes.now }
+        ensures failed { has_failed self.new ≡ is_err result }
+        ensures stays_failed { IsTrue (has_failed self.old) → IsErr result };
+
+    /// Whether a call has answered [`Failed`].
+    fn failed(&self) -> bool
+        ensures { result ≡ has_failed self.now };
+}
+
+/// Gives the device all of the bytes. After [`Failed`] it took a beginning of them.
+pub(crate) fn give_all<W: Outlet>(writer: &mut W, bytes: &[u8]) -> Result<(), Failed>
+    ensures bytes { OnOk result (Appends (W.took writer.old) (W.took writer.new) bytes.now) }
+    ensures beginning { (n : ℕ) × Appends (W.took writer.old) (W.took writer.new) (take n bytes.now) }
+    ensures failed { W.has_failed writer.new ≡ (is_err result || W.has_failed writer.old) }
+    ensures stays_failed { IsTrue (W.has_failed writer.old) → 0 < length bytes.now → IsErr result }
+{
+    let mut given = 0;
+    while given < bytes.len() {
+        given += writer.give(&bytes[given..])?;
+    }
+    Ok(())
+}
+
+/// The bytes go to a writer of std. An error of the writer, or that it took none of some bytes, is [`Failed`], and the
+/// writer is not written to again.
+#[derive(Drop)]
+pub struct ToWrite<W: Write + Drop> {
+    writer: W,
+    failed: bool,
+}
+
+impl<W: Write + Drop> ToWrite<W> {
+    ghost use Rattle.std.specs.Prelude.{◌≡◌, false};
+    ghost use Rattle.heap_image.specs.StdDevices.{writer_of, writer_has_failed};
+
+    /// The bytes go to this writer, which has not failed.
+    pub fn new(writer: W) -> ToWrite<W>
+        ensures writer { writer_of result ≡ writer }
+        ensures failed { writer_has_failed result ≡ false }
+    {
+        ToWrite {
+            writer,
+            failed: false,
+        }
+    }
+
+    /// The writer, where it stands.
+    pub fn into_inner(self) -> W
+        ensures { result ≡ writer_of self }
+    {
+        let ToWrite { writer, failed: _ } = self;
+        writer
+    }
+}
+
+impl<W: Write + Drop> Outlet for ToWrite<W> {
+    ghost use Rattle.heap_image.specs.StdDevices.{writer_of, writer_has_failed};
+
+    ghost took = { λ outlet. W.contents (writer_of outlet) };
+
+    ghost has_failed = { writer_has_failed };
+
+    fn give(&mut self, bytes: &[u8]) -> Result<usize, Failed> {
+        if self.failed {
+            return Err(Failed);
+        }
+        match self.writer.write(bytes) {
+            Ok(n) if n > 0 || bytes.is_empty() => Ok(n),
+            _ => {
+                self.failed = true;
+                Err(Failed)
+            }
+        }
+    }
+
+    fn failed(&self) -> bool {
+        self.failed
+    }
+}

@@ -1,0 +1,149 @@
+//! Reading an image.
+ghost use Rattle.std.specs.Prelude.{◌≡◌, ◌≢◌, ◌<◌, ◌≤◌, ◌+◌, ◌*◌, ◌++◌, ◌⊎◌, ◌↔◌, ◌||◌, ◌^◌, ℕ, List, All, Some, None, length, IfOk, OnOk, IfErr, IfSome, IsErrOf, IsTrue};
+ghost use Rattle.std.specs.List.{concat};
+ghost use Rattle.std.specs.Io.KnownBytes.{Consumes, IsAtEnd};
+ghost use Rattle.heap_image.specs.Device.{is_io};
+ghost use Rattle.heap_image.specs.HeapImage.{HeapImage, IsValid, IsWithinLimits, FormHeap, AreBlocks};
+ghost use Rattle.heap_image.specs.ImageText.{text, front, numbers, front_faults, first_fault, first_some};
+ghost use Rattle.heap_image.specs.Refusals.{IsReason, LeavesRest};
+ghost use Rattle.heap_image.specs.Incoming.{IsInRange, expected, known_rest};
+
+use crate::check::check_live_list;
+use crate::front::{FRONT_BYTES, Front};
+use crate::incoming::Incoming;
+use crate::intake::{Intake, fill};
+use crate::{Fault, Image};
+use raw_region::Region;
+use std::alloc::Global;
+
+/// Reads an image up to the end of the input, and decides as [`decode`](crate::decode) does of these bytes.
+///
+/// Faults 2 to 4 are found before a byte behind the first 32 is asked for, and faults 6 to 9 before a byte behind the
+/// live list is. No memory is taken before the first byte behind the front has come. Fault 13 comes where the device
+/// has failed, which is not asked again. After a fault what was read is gone.
+pub fn read_image<R: Intake>(alloc: Global, reader: &mut R) -> Result<Image, Fault>
+    ensures valid { IfOk result (λ image. IsValid image) }
+    // The input is the text of the image, all of it.
+    ensures text { IfOk result (λ image. Consumes (R.left reader.old) (R.left reader.new) (text image)) }
+    ensures end { OnOk result (IsAtEnd (R.left reader.new)) }
+    // Memory was refused, the device failed, or it is the first fault of the input.
+    ensures fault { IfErr result (λ fault. IfSome (R.left reader.old) (λ input. IsReason input fault)) }
+    ensures left { IfErr result (λ fault. IfSome (R.left reader.old) (λ input. LeavesRest fault input (R.left reader.new))) }
+    ensures memory { IfErr result (λ fault. fault ≡ Fault.Memory → IfSome (R.left reader.old) (λ input. 32 < length input)) }
+    ensures io { R.has_failed reader.new ≡ is_io result }
+{
+    let front = read_front(reader)?;
+    let Body { regions, live } = read_body(alloc, reader, front)?;
+    check_live_list(
+        alloc,
+        regions.as_slice(),
+        front.region_log,
+        front.words,
+        live.as_slice(),
+    )?;
+    if fill(reader, &mut [0; 1])? > 0 {
+        return Err(Fault::Trailing);
+    }
+    Ok(Image::of_parts(front.region_log, front.allowance, regions, live))
+}
+
+/// Reads the first 32 bytes, and no byte behind them.
+fn read_front<R: Intake>(reader: &mut R) -> Result<Front, Fault>
+    ensures told { IfOk result (λ told. Consumes (R.left reader.old) (R.left reader.new) (front told.region_log told.live_count told.words told.allowance)) }
+    ensures limits { IfOk result (λ told. IsWithinLimits told.region_log told.words told.live_count) }
+    ensures fit { IfOk result (λ told. told.allowance < 2 ^ 64) }
+    ensures fault { IfErr result (λ fault. IfSome (R.left reader.old) (λ input. IsReason input fault)) }
+    ensures left { IfErr result (λ fault. IfSome (R.left reader.old) (λ input. LeavesRest fault input (R.left reader.new))) }
+    ensures memory { IfErr result (λ fault. fault ≢ Fault.Memory) }
+    ensures failed { R.has_failed reader.new ≡ is_io result }
+{
+    let mut bytes = [0; FRONT_BYTES];
+    if fill(reader, &mut bytes)? < FRONT_BYTES {
+        return Err(Fault::TruncatedHeader);
+    }
+    Front::parse(&bytes)
+}
+
+/// What stands behind the front: the regions with the words, and the live list.
+#[derive(Drop)]
+struct Body {
+    regions: Vec<Region>,
+    live: Vec<u64>,
+}
+
+/// Reads what stands behind this front, and no byte behind that. It takes no memory before a byte has come.
+fn read_body<R: Intake>(alloc: Global, reader: &mut R, front: Front) -> Result<Body, Fault>
+    requires { IsWithinLimits front.region_log front.words front.live_count }
+    ensures bytes { IfOk result (λ body. Consumes (R.left reader.old) (R.left reader.new) (numbers (concat body.regions.items) ++ numbers body.live.items)) }
+    ensures regions { IfOk result (λ body. AreBlocks front.region_log body.regions.items) }
+    ensures fit { IfOk result (λ body. All (λ w. w < 2 ^ 64) (concat body.regions.items)) }
+    ensures words { IfOk result (λ body. length (concat body.regions.items) ≡ front.words) }
+    ensures live { IfOk result (λ body. length body.live.items ≡ front.live_count) }
+    ensures live_fit { IfOk result (λ body. All (λ a. a < 2 ^ 64) body.live.items) }
+    ensures truncated { result ≡ Err Fault.TruncatedBody → IsAtEnd (R.left reader.new) × IfSome (R.left reader.old) (λ rest. length rest < 8 * (front.words + front.live_count)) }
+    ensures memory { result ≡ Err Fault.Memory → IfSome (R.left reader.old) (λ rest. 0 < length rest) }
+    ensures fault { IfErr result (λ fault. (fault ≡ Fault.Memory) ⊎ ((fault ≡ Fault.Io) ⊎ (fault ≡ Fault.TruncatedBody))) }
+    ensures lost { (came : List ℕ) × Consumes (R.left reader.old) (R.left reader.new) came }
+    ensures failed { R.has_failed reader.new ≡ (is_io result || R.has_failed reader.old) }
+{
+    let mut incoming = Incoming::new(front.words as usize + front.live_count as usize);
+    incoming.top_up(reader)?;
+    let regions = read_regions(alloc, &mut incoming, reader, front)?;
+    let mut live = vec![in alloc; 0u64; front.live_count as usize]?;
+    incoming.read(reader, live.as_mut_slice())?;
+    Ok(Body { regions, live })
+}
+
+/// Reads the words of a heap into regions, each a block of its own.
+fn read_regions<R: Intake>(
+    alloc: Global,
+    incoming: &mut Incoming,
+    reader: &mut R,
+    front: Front,
+) -> Result<Vec<Region>, Fault>
+    requires limits { IsWithinLimits front.region_log front.words front.live_count }
+    requires in_range { IsInRange incoming.old }
+    requires enough { front.words ≤ expected incoming.old }
+    ensures in_range { OnOk result (IsInRange incoming.new) }
+    ensures bytes { IfOk result (λ regions. Consumes (known_rest incoming.old (R.left reader.old)) (known_rest incoming.new (R.left reader.new)) (numbers (concat regions.items))) }
+    ensures regions { IfOk result (λ regions. AreBlocks front.region_log regions.items) }
+    ensures fit { IfOk result (λ regions. All (λ w. w < 2 ^ 64) (concat regions.items)) }
+    ensures words { IfOk result (λ regions. length (concat regions.items) ≡ front.words) }
+    ensures expected { OnOk result (expected incoming.new + front.words ≡ expected incoming.old) }
+    ensures truncated { result ≡ Err Fault.TruncatedBody → IsAtEnd (R.left reader.new) × IfSome (known_rest incoming.old (R.left reader.old)) (λ rest. length rest < 8 * expected incoming.old) }
+    ensures fault { IfErr result (λ fault. (fault ≡ Fault.Memory) ⊎ ((fault ≡ Fault.Io) ⊎ (fault ≡ Fault.TruncatedBody))) }
+    ensures lost { (came : List ℕ) × Consumes (R.left reader.old) (R.left reader.new) came }
+    ensures failed { R.has_failed reader.new ≡ (is_io result || R.has_failed reader.old) }
+{
+    let count = (front.words >> front.region_log) as usize;
+    let mut regions = Vec::with_capacity(alloc, count)?;
+    for _r in 0..count {
+        regions.push(read_region(alloc, incoming, reader, front.region_log)?)?;
+    }
+    Ok(regions)
+}
+
+/// Reads the words of one region.
+fn read_region<R: Intake>(
+    alloc: Global,
+    incoming: &mut Incoming,
+    reader: &mut R,
+    region_log: u32,
+) -> Result<Region, Fault>
+    requires log { region_log ≤ 16 }
+    requires in_range { IsInRange incoming.old }
+    requires enough { 2 ^ region_log ≤ expected incoming.old }
+    ensures in_range { OnOk result (IsInRange incoming.new) }
+    ensures bytes { IfOk result (λ region. Consumes (known_rest incoming.old (R.left reader.old)) (known_rest incoming.new (R.left reader.new)) (numbers region)) }
+    ensures whole { IfOk result (λ region. length region ≡ 2 ^ region_log) }
+    ensures fit { IfOk result (λ region. All (λ w. w < 2 ^ 64) region) }
+    ensures expected { OnOk result (expected incoming.new + 2 ^ region_log ≡ expected incoming.old) }
+    ensures truncated { result ≡ Err Fault.TruncatedBody → IsAtEnd (R.left reader.new) × IfSome (known_rest incoming.old (R.left reader.old)) (λ rest. length rest < 8 * expected incoming.old) }
+    ensures fault { IfErr result (λ fault. (fault ≡ Fault.Memory) ⊎ ((fault ≡ Fault.Io) ⊎ (fault ≡ Fault.TruncatedBody))) }
+    ensures lost { (came : List ℕ) × Consumes (R.left reader.old) (R.left reader.new) came }
+    ensures failed { R.has_failed reader.new ≡ (is_io result || R.has_failed reader.old) }
+{
+    let mut region = Region::new(alloc, 1 << region_log)?;
+    incoming.read(reader, region.words_mut())?;
+    Ok(region)
+}

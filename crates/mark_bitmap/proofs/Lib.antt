@@ -1,0 +1,7 @@
+pub mod Places
+pub mod Masks
+pub mod Words
+pub mod Counts
+pub mod Firsts
+pub mod Apart
+pub mod BlockSums

@@ -1,0 +1,21 @@
+-- Bits in words of 64.
+use Rattle.std.specs.Prelude.{◌≡◌, ℕ, ◌*◌, ◌/◌, ◌%◌, ◌<◌, ◌≤◌, ◌==◌, Bool, false, IsTrue, List, length, slice_index}
+use Rattle.std.specs.Int.{bit_at}
+
+-- how many bits the words have
+abbrev pub room : List ℕ → ℕ
+room words = 64 * length words
+
+-- whether bit k is set
+abbrev pub has : List ℕ → ℕ → Bool
+has words k = bit_at (slice_index words (k / 64)) (k % 64) == 1
+
+-- no address from this one on passes the test
+abbrev pub NoneFrom : (ℕ → Bool) → ℕ → Type 0
+NoneFrom test from = (k : ℕ) → from ≤ k → test k ≡ false
+
+-- a is the first address from this one on that passes the test
+pub record IsFirstFrom (test : ℕ → Bool) (from a : ℕ) : Type 0 where
+  pub behind : from ≤ a
+  pub passes : IsTrue (test a)
+  pub least : (k : ℕ) → from ≤ k → k < a → test k ≡ false

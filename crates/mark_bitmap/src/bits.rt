@@ -1,0 +1,174 @@
+//! `Bits`: a set of addresses, with one bit for each address.
+ghost use Rattle.std.specs.Prelude.{◌≡◌, ℕ, ◌+◌, ◌-◌, ◌*◌, ◌/◌, ◌%◌, ◌^◌, ◌<◌, ◌≤◌, ◌==◌, ◌||◌, ◌&&◌, nat_le, nat_lt, ◌++◌, length, replicate, take, drop, count_by, count_ones, position, not, IfOk, MatchOption};
+ghost use Rattle.std.specs.Int.{bit_at};
+ghost use Rattle.std.specs.List.{range_with_len};
+ghost use Rattle.mark_bitmap.specs.Bits.{has, room, NoneFrom, IsFirstFrom};
+
+use std::alloc::{AllocError, Global};
+use std::marker::Model;
+
+/// A set of addresses, with one bit for each: address `i` is bit `i % 64` of word `i / 64`.
+///
+/// A contract sees the words, and asks by `has` whether an address is in the set.
+#[derive(Drop)]
+pub(crate) struct Bits {
+    words: Vec<u64>,
+}
+
+impl Model for Bits {
+    ghost use Rattle.std.specs.Prelude.{List, ℕ};
+
+    ghost Value = { List ℕ };
+
+    ghost view = { λ b. b.words.items };
+}
+
+impl Bits {
+    /// The empty set, with room for the addresses up to `len`, itself included.
+    pub(crate) fn new(alloc: Global, len: u64) -> Result<Bits, AllocError>
+        ensures { IfOk result (λ bits. bits ≡ replicate (len / 64 + 1) 0) }
+    {
+        let words = vec![in alloc; 0; (len / 64 + 1) as usize]?;
+        Ok(Bits { words })
+    }
+
+    /// Whether address `i` is in the set. One that there is no room for is not.
+    #[inline]
+    pub(crate) fn contains(&self, i: u64) -> bool
+        ensures { result ≡ has self.now i }
+    {
+        match self.words.get((i / 64) as usize) {
+            Some(word) => (*word >> (i % 64)) & 1 == 1,
+            None => false,
+        }
+    }
+
+    /// Puts address `i` into the set.
+    #[inline]
+    pub(crate) fn insert(&mut self, i: u64)
+        requires { i < room self.old }
+        ensures room { length self.new ≡ length self.old }
+        ensures bits { (k : ℕ) → has self.new k ≡ (has self.old k || i == k) }
+    {
+        self.insert_mask((i / 64) as usize, 1 << (i % 64));
+    }
+
+    /// Puts the addresses from `from` up to `to`, itself not included, into the set.
+    pub(crate) fn insert_run(&mut self, from: u64, to: u64)
+        requires some { from < to }
+        requires inside { to ≤ room self.old }
+        ensures room { length self.new ≡ length self.old }
+        ensures bits { (k : ℕ) → has self.new k ≡ (has self.old k || (nat_le from k && nat_lt k to)) }
+    {
+        let first = (from / 64) as usize;
+        let last = ((to - 1) / 64) as usize;
+        let low = u64::MAX << (from % 64);
+        let high = u64::MAX >> (63 - (to - 1) % 64);
+        if first == last {
+            self.insert_mask(first, low & high);
+        } else {
+            self.insert_mask(first, low);
+            self.insert_words(first + 1, last);
+            self.insert_mask(last, high);
+        }
+    }
+
+    /// Sets, in the word with index `i`, the bits of a mask.
+    #[inline]
+    fn insert_mask(&mut self, i: usize, mask: u64)
+        requires { i < length self.old }
+        ensures room { length self.new ≡ length self.old }
+        ensures bits { (k : ℕ) → has self.new k ≡ (has self.old k || (k / 64 == i && bit_at mask (k % 64) == 1)) }
+    {
+        self.words[i] |= mask;
+    }
+
+    /// Sets all bits of the words with an index from `from` up to `to`, itself not included.
+    #[inline]
+    fn insert_words(&mut self, from: usize, to: usize)
+        requires ordered { from ≤ to }
+        requires inside { to ≤ length self.old }
+        ensures room { length self.new ≡ length self.old }
+        ensures bits { (k : ℕ) → has self.new k ≡ (has self.old k || (nat_le from (k / 64) && nat_lt (k / 64) to)) }
+    {
+        fill_ones(self.words.as_mut_slice(), from, to);
+    }
+
+    /// The least address of the set from `from` on.
+    pub(crate) fn next(&self, from: u64) -> Option<u64>
+        requires { room self.now < 2 ^ 64 }
+        ensures { MatchOption result (NoneFrom (has self.now) from) (IsFirstFrom (has self.now) from) }
+    {
+        let start = (from / 64) as usize;
+        let rest = *self.words.get(start)? & (u64::MAX << (from % 64));
+        if rest != 0 {
+            return Some(64 * start as u64 + lowest(rest));
+        }
+        let behind = &self.words[start + 1..];
+        let i = first_nonzero(behind)?;
+        Some(64 * (start + 1 + i) as u64 + lowest(behind[i]))
+    }
+
+    /// How many addresses from `from` up to `to`, itself not included, are in the set.
+    #[inline]
+    pub(crate) fn count(&self, from: u64, to: u64) -> u64
+        requires ordered { from ≤ to }
+        requires inside { to < room self.now }
+        ensures { result ≡ count_by (has self.now) (range_with_len from (to - from)) }
+    {
+        let first = (from / 64) as usize;
+        let last = (to / 64) as usize;
+        let mut whole = 0;
+        for word in &self.words[first..last] {
+            whole += ones(*word);
+        }
+        whole + self.count_below(to) - self.count_below(from)
+    }
+
+    /// How many addresses below `i` that lie in the same word are in the set.
+    #[inline]
+    fn count_below(&self, i: u64) -> u64
+        requires { i < room self.now }
+        ensures { result ≡ count_by (has self.now) (range_with_len (i - i % 64) (i % 64)) }
+    {
+        let below = (1 << (i % 64)) - 1;
+        ones(self.words[(i / 64) as usize] & below)
+    }
+}
+
+/// Sets all bits of the words with an index from `from` up to `to`, itself not included.
+#[inline]
+fn fill_ones(words: &mut [u64], from: usize, to: usize)
+    requires ordered { from ≤ to }
+    requires inside { to ≤ length words.old }
+    ensures { words.new ≡ take from words.old ++ replicate (to - from) (2 ^ 64 - 1) ++ drop to words.old }
+{
+    words[from..to].fill(u64::MAX);
+}
+
+/// The index of the first word that is not zero.
+fn first_nonzero(words: &[u64]) -> Option<usize>
+    ensures { result ≡ position (λ word. not (word == 0)) words.now }
+{
+    words.iter().position(|word| *word != 0)
+}
+
+/// The place of the lowest bit that is set in a word.
+#[inline]
+fn lowest(word: u64) -> u64
+    requires { 0 < word }
+    ensures below { result < 64 }
+    ensures set { bit_at word result ≡ 1 }
+    ensures least { (j : ℕ) → j < result → bit_at word j ≡ 0 }
+{
+    u64::from(word.trailing_zeros())
+}
+
+/// How many bits of a word are set.
+#[inline]
+fn ones(word: u64) -> u64
+    ensures value { result ≡ count_ones (word % 2 ^ 64) }
+    ensures few { result ≤ 64 }
+{
+    u64::from(word.count_ones())
+}

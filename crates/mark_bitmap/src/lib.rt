@@ -1,0 +1,32 @@
+//! The marks of a heap image: where its live objects begin and end, and how many of its words are theirs.
+//!
+//! [`Marks::of`] makes two bit arrays with one bit for each word of the heap, from the live list alone: the begin bit of
+//! an object's first word is set, and the end bit of its last. Beside them it keeps what makes counts fast: one bit for
+//! each word that belongs to a live object, and a sum for each block of 128 words. No other call takes memory.
+//!
+//! # What a contract sees
+//!
+//! Marks are seen as the image that they were made of, as it was then: a [`Marks`] has the value of an image, so that
+//! `marks.now ≡ image.now` says that these are the marks of this image. Each query then answers what the definitions of
+//! `heap_image` say of that image.
+//!
+//! # What is proved
+//!
+//! Every function, and of each query the exact answer, for every valid image: the begin and end bits are those of the
+//! live list and no others; `next_begin` and `next_end` give the least such address, and `None` only where there is
+//! none; `live_words` is the plain count of the words in live objects, also where a range begins or ends inside one;
+//! `size_at` is the size in the object's header; `block_live` is the plain count from the start of the block's region.
+//!
+//! # What is only tested
+//!
+//! That memory that is refused ends `of` with an error. How fast the queries are is neither proved nor tested.
+#![tactic(auto)]
+
+mod bits;
+mod blocks;
+mod marks;
+mod objects;
+#[cfg(test)]
+mod tests;
+
+pub use marks::Marks;

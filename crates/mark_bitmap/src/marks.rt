@@ -1,0 +1,132 @@
+//! `Marks`: the mark bitmaps of an image.
+ghost use Rattle.std.specs.Prelude.{◌≡◌, ◌<◌, ◌≤◌, IsTrue, IfOk, MatchOption};
+ghost use Rattle.heap_image.specs.HeapImage.{IsValid, heap_words, live_words, size_at};
+ghost use Rattle.mark_bitmap.specs.Bits.{NoneFrom, IsFirstFrom};
+ghost use Rattle.mark_bitmap.specs.Marks.{is_begin, is_end, block_words, block_count, block_live};
+
+use crate::bits::Bits;
+use crate::blocks::{live_before_blocks, words_of_block};
+use crate::objects::mark_objects;
+use heap_image::Image;
+use std::alloc::{AllocError, Global};
+use std::marker::Model;
+use std::snapshot::Snapshot;
+
+/// The marks of an image: where its live objects begin and end, and which words are theirs.
+///
+/// A contract sees marks as the image that they were made of, as it was then. The image itself is not kept.
+#[derive(Drop)]
+pub struct Marks {
+    image: Snapshot<Image>,
+    block_words: u64,
+    begins: Bits,
+    ends: Bits,
+    live: Bits,
+    live_before: Vec<u32>,
+}
+
+impl Model for Marks {
+    ghost use Rattle.heap_image.specs.HeapImage.{HeapImage};
+    ghost use Rattle.mark_bitmap.specs.Marks.{AreMarks};
+
+    ghost Value = { HeapImage };
+
+    ghost view = { λ m. m.image.value };
+
+    ghost invariant = { λ m. AreMarks m.image.value m.block_words m.begins m.ends m.live m.live_before.items };
+}
+
+impl Marks {
+    /// The marks of an image, by its live list and the headers of the objects that it names.
+    ///
+    /// Takes about 3 bits for each word of the heap and 32 for each block.
+    pub fn of(alloc: Global, image: &Image) -> Result<Marks, AllocError>
+        ensures { IfOk result (λ marks. marks ≡ image.now) }
+    {
+        let len = image.len();
+        let mut begins = Bits::new(alloc, len)?;
+        let mut ends = Bits::new(alloc, len)?;
+        let mut live = Bits::new(alloc, len)?;
+        mark_objects(image, &mut begins, &mut ends, &mut live);
+        let live_before = live_before_blocks(alloc, image, &live)?;
+        Ok(Marks {
+            image: Snapshot::of(image),
+            block_words: words_of_block(image),
+            begins,
+            ends,
+            live,
+            live_before,
+        })
+    }
+
+    /// Whether a live object begins at address `a`. None does at an address past the heap.
+    #[inline]
+    pub fn is_begin(&self, a: u64) -> bool
+        ensures { result ≡ is_begin self.now a }
+    {
+        self.begins.contains(a)
+    }
+
+    /// Whether the word at address `a` is the last of a live object. None is at an address past the heap.
+    #[inline]
+    pub fn is_end(&self, a: u64) -> bool
+        ensures { result ≡ is_end self.now a }
+    {
+        self.ends.contains(a)
+    }
+
+    /// The first address from `from` on at which a live object begins.
+    pub fn next_begin(&self, from: u64) -> Option<u64>
+        ensures { MatchOption result (NoneFrom (is_begin self.now) from) (IsFirstFrom (is_begin self.now) from) }
+    {
+        self.begins.next(from)
+    }
+
+    /// The first address from `from` on that has the last word of a live object.
+    pub fn next_end(&self, from: u64) -> Option<u64>
+        ensures { MatchOption result (NoneFrom (is_end self.now) from) (IsFirstFrom (is_end self.now) from) }
+    {
+        self.ends.next(from)
+    }
+
+    /// How many words from address `from` up to `to`, itself not included, belong to live objects.
+    #[inline]
+    pub fn live_words(&self, from: u64, to: u64) -> u64
+        requires ordered { from ≤ to }
+        requires inside { to ≤ heap_words self.now }
+        ensures { result ≡ live_words self.now from to }
+    {
+        self.live.count(from, to)
+    }
+
+    /// The size in words of the live object that begins at address `begin`.
+    pub fn size_at(&self, begin: u64) -> u64
+        requires { IsTrue (is_begin self.now begin) }
+        ensures { result ≡ size_at self.now begin }
+    {
+        match self.ends.next(begin) {
+            Some(end) => end - begin + 1,
+            None => unreachable!(),
+        }
+    }
+
+    /// The number of words of a block: 128, or those of a region where a region is smaller.
+    #[inline]
+    pub fn block_words(&self) -> u64
+        ensures value { result ≡ block_words self.now }
+        ensures valid { IsValid self.now }
+    {
+        self.block_words
+    }
+
+    /// How many live words there are from the start of its region up to the start of block `b`.
+    ///
+    /// Blocks are numbered from 0 at address 0, and each lies within one region.
+    #[inline]
+    pub fn block_live(&self, b: u64) -> u32
+        requires { b < block_count self.now }
+        ensures { result ≡ block_live self.now b }
+    {
+        self.live_before[b as usize]
+    }
+}

@@ -1,0 +1,131 @@
+-- Fillers by longest runs of dead words.
+use Rattle.std.proofs.Common.{◌≡◌, ℕ, zero, suc, ◌+◌, ◌-◌, ◌≤◌, ◌<◌, inl, inr, Bool, true, false, ◌||◌, get_or, ◌∙◌, ap, arith, ltb, eqb}
+use Rattle.std.proofs.lemmas.Bool.{cases_Bool, cases_lt, cond-true, cond-false, or_left, or_right, or_from, eq-eqb, ne_eqb, not_from_true, not_from_false, lt-ltb}
+use Rattle.std.proofs.lemmas.List.FromFn.{get_or-range_with_len, length-range_with_len}
+use Rattle.std.proofs.lemmas.List.Sums.{prefix_len_is}
+use Rattle.std.specs.Prelude.{not}
+use Rattle.std.specs.List.{range_with_len}
+use Rattle.heap_image.specs.Header.{filler_header}
+use Rattle.heap_image.specs.HeapImage.{HeapImage, HasLiveList, is_live_word, is_dead_word}
+use Rattle.summary.specs.NewAddresses.{prefix_end, new_top}
+use Rattle.summary.specs.WordMoves.{origin}
+use Rattle.summary.specs.Fillers.{IsDeadRun, filler_word, gap_at}
+use Rattle.summary.specs.Compaction.{compacted_word, moved_word, written, is_deferred}
+use Rattle.summary.proofs.Addresses.{new_top-live_words}
+use Rattle.summary.proofs.Words.{origin-dead}
+
+-- from p on, up to n addresses, the first that passes
+run_end : (t : ℕ → Bool) (p n : ℕ) → (b : ℕ) × (p ≤ b) × (b ≤ p + n) × ((q : ℕ) → p ≤ q → q < b → t q ≡ false) × (b < p + n → t b ≡ true)
+run_end t p zero = (p, omega arith, omega arith, (λ q l m. let no : ⊥ = omega arith in absurd no), (λ l. let no : ⊥ = omega arith in absurd no))
+run_end t p (suc n) = elim (cases_Bool (t p)) [
+  | inl passes ↦ (p, omega arith, omega arith, (λ q l m. let no : ⊥ = omega arith in absurd no), (λ l. passes))
+  | inr fails ↦
+      let r = run_end t (p + 1) n in
+      let b : ℕ = r.0 in
+      let low : p + 1 ≤ b = r.1 in
+      let high : b ≤ p + 1 + n = r.2 in (
+        b,
+        omega arith,
+        omega arith,
+        (λ q l m. elim (cases_lt p q) [
+          | inl less ↦ r.3 q (omega arith) m
+          | inr more ↦ let e : q ≡ p = omega arith in ap t e ∙ fails
+        ]),
+        (λ l. r.4 (omega arith)),
+      )
+]
+
+-- down from p, the last that passes
+run_start : (t : ℕ → Bool) (p : ℕ) → (a : ℕ) × (a ≤ p) × ((q : ℕ) → a ≤ q → q < p → t q ≡ false) × (0 < a → t (a - 1) ≡ true)
+run_start t zero = (0, omega arith, (λ q l m. let no : ⊥ = omega arith in absurd no), (λ l. let no : ⊥ = omega arith in absurd no))
+run_start t (suc p) = elim (cases_Bool (t p)) [
+  | inl passes ↦
+      let e : suc p - 1 ≡ p = omega arith in
+      (suc p, omega arith, (λ q l m. let no : ⊥ = omega arith in absurd no), (λ l. ap t e ∙ passes))
+  | inr fails ↦
+      let r = run_start t p in
+      let a : ℕ = r.0 in
+      let low : a ≤ p = r.1 in (
+        a,
+        omega arith,
+        (λ q l m. elim (cases_lt q p) [
+          | inl less ↦ r.2 q l less
+          | inr more ↦ let e : q ≡ p = omega arith in ap t e ∙ fails
+        ]),
+        r.3,
+      )
+]
+
+module _ (image : HeapImage) where
+  abbrev P : ℕ
+  P = prefix_end image
+
+  pub gap_at-run : (a b : ℕ) → a ≤ b → b ≤ P → ((q : ℕ) → a ≤ q → q < b → is_live_word image q ≡ false) → (b < P → is_live_word image b ≡ true) → gap_at image a ≡ b - a
+  gap_at-run a b l h dead live =
+      let n : ℕ = P - a in
+      let long = length-range_with_len a n in
+      prefix_len_is (is_dead_word image) (range_with_len a n) (b - a) 0 (omega arith)
+      (λ k m.
+      let at = get_or-range_with_len a n k 0 (omega arith) in
+      ap (is_dead_word image) at ∙ not_from_false (is_live_word image (a + k)) (dead (a + k) (omega arith) (omega arith)))
+      (λ m.
+      let at = get_or-range_with_len a n (b - a) 0 (omega arith) in
+      let e : a + (b - a) ≡ b = omega arith in
+      ap (is_dead_word image) (at ∙ e) ∙ not_from_true (is_live_word image b) (live (omega arith)))
+
+  -- the first word of a run becomes a filler's header, and the others zero
+  pub filler-first : (a b : ℕ) → IsDeadRun image a b → filler_word image a ≡ filler_header (b - a)
+  filler-first a b run =
+      let begins : (eqb a 0 || is_live_word image (a - 1)) ≡ true = elim (cases_lt 0 a) [
+        | inl some ↦ or_right (eqb a 0) (is_live_word image (a - 1)) (run.begins some)
+        | inr none ↦ or_left (eqb a 0) (is_live_word image (a - 1)) (eq-eqb a 0 (omega arith))
+      ] in
+      let less : a < b = run.some in
+      cond-true (eqb a 0 || is_live_word image (a - 1)) (filler_header (gap_at image a)) 0 begins ∙ ap filler_header (gap_at-run a b (omega arith) run.inside run.dead run.ends)
+
+  pub filler-rest : (a b p : ℕ) → IsDeadRun image a b → a < p → p < b → filler_word image p ≡ 0
+  filler-rest a b p run l m =
+      cond-false (eqb p 0 || is_live_word image (p - 1)) (filler_header (gap_at image p)) 0
+      (or_from (eqb p 0) (is_live_word image (p - 1)) (ne_eqb p 0 (λ e. let no : ⊥ = omega arith in no)) (run.dead (p - 1) (omega arith) (omega arith)))
+
+  -- each dead word of the dense prefix is in a run
+  pub dead_run-of : (p : ℕ) → p < P → is_live_word image p ≡ false → (a : ℕ) × (b : ℕ) × IsDeadRun image a b × (a ≤ p) × (p < b)
+  dead_run-of p l dead =
+      let low = run_start (is_live_word image) p in
+      let high = run_end (is_live_word image) (p + 1) (P - (p + 1)) in
+      let a : ℕ = low.0 in
+      let b : ℕ = high.0 in
+      let from : a ≤ p = low.1 in
+      let past : p + 1 ≤ b = high.1 in
+      let up : b ≤ p + 1 + (P - (p + 1)) = high.2 in
+      let run : IsDeadRun image a b = record {
+        some = omega arith;
+        inside = omega arith;
+        dead = λ q m n. elim (cases_lt q p) [
+          | inl less ↦ low.2 q m less
+          | inr more ↦ elim (cases_lt p q) [
+            | inl over ↦ high.3 q (omega arith) n
+            | inr same ↦ let e : q ≡ p = omega arith in ap (is_live_word image) e ∙ dead
+          ]
+        ];
+        begins = low.3;
+        ends = λ m. high.4 (omega arith);
+      } in
+      (a, b, run, from, omega arith)
+
+module _ (image : HeapImage) (sound : HasLiveList image) where
+  pub top-above : prefix_end image ≤ new_top image
+  top-above = let e = new_top-live_words image sound in omega arith
+
+  -- a dead word of the dense prefix becomes its filler's word, in the moved heap too
+  pub compacted-dead : (p : ℕ) → p < prefix_end image → is_live_word image p ≡ false → compacted_word image p ≡ filler_word image p
+  compacted-dead p l dead =
+      let top = top-above in
+      cond-true (ltb p (new_top image)) (written image (λ _. true) (origin image p) p) 0 (lt-ltb p (new_top image) (omega arith))
+      ∙ ap (λ o. written image (λ _. true) o p) (origin-dead image sound p l dead)
+
+  pub moved-dead : (p : ℕ) → p < prefix_end image → is_live_word image p ≡ false → moved_word image p ≡ filler_word image p
+  moved-dead p l dead =
+      let top = top-above in
+      cond-true (ltb p (new_top image)) (written image (λ a. not (is_deferred image a)) (origin image p) p) (get_or image.words p 0) (lt-ltb p (new_top image) (omega arith))
+      ∙ ap (λ o. written image (λ a. not (is_deferred image a)) o p) (origin-dead image sound p l dead)

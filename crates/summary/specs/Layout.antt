@@ -1,0 +1,26 @@
+-- What is known of the regions before their sources are told.
+use Rattle.std.specs.Prelude.{◌≡◌, ℕ, List, map, None}
+use Rattle.std.specs.List.{range_with_len}
+use Rattle.heap_image.specs.HeapImage.{HeapImage, region_count}
+use Rattle.summary.specs.NewAddresses.{new_top}
+use Rattle.summary.specs.RegionData.{partial_words, own_words, region_data}
+use Rattle.summary.specs.declared.region_data.RegionData.{RegionData}
+use Rattle.summary.specs.declared.region_counts.RegionCounts.{RegionCounts}
+use Rattle.summary.specs.declared.layout.Layout.{Layout}
+
+module _ (image : HeapImage) where
+  abbrev pub region_counts : ℕ → RegionCounts
+  region_counts r = record { partial = partial_words image r; live = own_words image r }
+
+  -- these are the counts of all regions
+  abbrev pub AreCounts : List RegionCounts → Type 0
+  AreCounts counts = counts ≡ map region_counts (range_with_len 0 (region_count image))
+
+  -- the data of a region, but for its source
+  abbrev pub placed_region : ℕ → RegionData
+  placed_region r = record (region_data image r) { source = None }
+
+-- the data of all regions, but for their sources, and the new top
+pub record IsLayout (image : HeapImage) (layout : Layout) : Type 0 where
+  pub regions : layout.regions.items ≡ map (placed_region image) (range_with_len 0 (region_count image))
+  pub top : layout.new_top ≡ new_top image

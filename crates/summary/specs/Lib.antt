@@ -1,0 +1,12 @@
+pub mod LiveObjects
+pub mod NewAddresses
+pub mod WordMoves
+pub mod Fillers
+pub mod Compaction
+pub mod RegionData
+pub mod Updates
+pub mod SameGraph
+pub mod Placement
+pub mod Layout
+pub mod Sources
+pub mod Report

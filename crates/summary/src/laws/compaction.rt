@@ -1,0 +1,83 @@
+//! The compacted heap as a whole.
+//!
+//! The functions do nothing: each one's contract is a law.
+
+ghost use Rattle.std.specs.Prelude.{◌≡◌, ◌+◌, ◌-◌, ◌<◌, ◌≤◌, ◌&&◌, true, ℕ, slice_range, replicate, map, flat_map, cond, Bool};
+ghost use Rattle.std.specs.List.{range_with_len};
+ghost use Rattle.heap_image.specs.HeapImage.{HeapImage, IsValid, HasLiveList, heap_words, region_count, start_of, word_at, block_of, references_at, end_of, reference_at, is_live_word};
+ghost use Rattle.summary.specs.LiveObjects.{object_count, object_at};
+ghost use Rattle.summary.specs.NewAddresses.{new_address, new_end_of, new_top};
+ghost use Rattle.summary.specs.WordMoves.{slid};
+ghost use Rattle.summary.specs.Compaction.{redirected, is_reference_of, object_image, carried, moved_word, compacted_word, moved, compact};
+ghost use Rattle.summary.specs.SameGraph.{IsSameGraph};
+ghost use Rattle.summary.specs.RegionData.{addresses};
+
+/// The image after a collection is valid again.
+pub fn compaction_is_valid()
+    ensures { (image : HeapImage) → IsValid image → IsValid (compact image) }
+{}
+
+/// The compacted heap has the same live objects in the same order, and the same references between them.
+pub fn compaction_keeps_the_graph()
+    ensures { (image : HeapImage) → HasLiveList image → IsSameGraph image (compact image) }
+{}
+
+/// Each reference of a live object leads, after the compaction, to the new address of the object to which it led,
+/// and null stays null.
+pub fn references_lead_to_the_same_objects()
+    ensures object { (image : HeapImage) → HasLiveList image → (i k f : ℕ) → i < object_count image
+        → k < object_count image → f < references_at image (object_at image i)
+        → reference_at image (object_at image i) f ≡ object_at image k + 1
+        → reference_at (compact image) (new_address image (object_at image i)) f
+        ≡ new_address image (object_at image k) + 1 }
+    ensures null { (image : HeapImage) → HasLiveList image → (i f : ℕ) → i < object_count image
+        → f < references_at image (object_at image i) → reference_at image (object_at image i) f ≡ 0
+        → reference_at (compact image) (new_address image (object_at image i)) f ≡ 0 }
+{}
+
+/// In the compacted heap the new place of a live word holds that word, redirected where it is a reference.
+pub fn compaction_by_words()
+    ensures { (image : HeapImage) → HasLiveList image → (q : ℕ) → q < heap_words image
+        → is_live_word image q ≡ true → slid image q < heap_words image
+        → slid image q < new_top image
+        → word_at (compact image) (slid image q) ≡ carried image (λ _. true) q }
+{}
+
+/// The compacted heap has each object's image at its new address, and zeros from the new top up.
+pub fn compaction_by_objects()
+    ensures object { (image : HeapImage) → HasLiveList image → (i : ℕ) → i < object_count image
+        → slice_range (compact image).words (new_address image (object_at image i)) (new_end_of image (object_at image i))
+        ≡ object_image image (object_at image i) }
+    ensures zeros { (image : HeapImage) → HasLiveList image → (p : ℕ) → new_top image ≤ p
+        → compacted_word image p ≡ 0 }
+    ensures carried { (image : HeapImage) → HasLiveList image → (test : ℕ → Bool) (i q : ℕ)
+        → i < object_count image → object_at image i ≤ q → q < end_of image (object_at image i)
+        → carried image test q
+        ≡ cond (is_reference_of image (object_at image i) q && test (object_at image i))
+        (redirected image (word_at image q)) (word_at image q) }
+    ensures zeros_block { (image : HeapImage) → HasLiveList image
+        → slice_range (compact image).words (new_top image) (heap_words image)
+        ≡ replicate (heap_words image - new_top image) 0 }
+{}
+
+/// The block of a region is its words address by address.
+pub fn blocks_of_regions()
+    ensures compacted { (image : HeapImage) → (r : ℕ) → r < region_count image
+        → block_of (compact image) r ≡ map (compacted_word image) (addresses image r) }
+    ensures moved { (image : HeapImage) → (r : ℕ) → r < region_count image
+        → block_of (moved image) r ≡ map (moved_word image) (addresses image r) }
+    ensures old { (image : HeapImage) → (r : ℕ) → r < region_count image
+        → block_of image r ≡ map (word_at image) (addresses image r) }
+    ensures kept { (image : HeapImage) → (r : ℕ) → new_top image ≤ start_of image r → r < region_count image
+        → block_of (moved image) r ≡ block_of image r }
+    ensures moved_length { (image : HeapImage) → heap_words (moved image) ≡ heap_words image }
+    ensures compacted_length { (image : HeapImage) → heap_words (compact image) ≡ heap_words image }
+    ensures moved_joined { (image : HeapImage) → IsValid image
+        → (moved image).words
+        ≡ flat_map (λ r. map (moved_word image) (addresses image r)) (range_with_len 0
+        (region_count image)) }
+    ensures compacted_joined { (image : HeapImage) → IsValid image
+        → (compact image).words
+        ≡ flat_map (λ r. map (compacted_word image) (addresses image r)) (range_with_len 0
+        (region_count image)) }
+{}

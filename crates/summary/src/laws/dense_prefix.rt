@@ -1,0 +1,46 @@
+//! The dense prefix: its end, its dead words and its fillers.
+//!
+//! The functions do nothing: each one's contract is a law.
+
+ghost use Rattle.std.specs.Prelude.{◌≡◌, ◌+◌, ◌-◌, ◌<◌, ◌≤◌, ◌∷◌, false, ℕ, slice_range, replicate};
+ghost use Rattle.heap_image.specs.Header.{filler_header};
+ghost use Rattle.heap_image.specs.HeapImage.{HeapImage, HasLiveList, region_words, start_of, is_live_word, live_words};
+ghost use Rattle.summary.specs.NewAddresses.{dead_words_below, prefix_end, IsPrefixEnd};
+ghost use Rattle.summary.specs.Fillers.{filler_word, IsDeadRun};
+ghost use Rattle.summary.specs.Compaction.{moved_word, compacted_word, moved, compact};
+ghost use Rattle.summary.specs.RegionData.{data_words};
+
+/// The prefix end has the property that defines it: it is the greatest region start that the allowance permits.
+pub fn prefix_end_is_greatest()
+    ensures { (image : HeapImage) → IsPrefixEnd image (prefix_end image) }
+{}
+
+/// Dead and live words below an address are all words there; more addresses have no fewer dead ones; a region adds
+/// the words that are not its data.
+pub fn dead_words_by_region()
+    ensures live { (image : HeapImage) → (b : ℕ) → dead_words_below image b + live_words image 0 b ≡ b }
+    ensures more { (image : HeapImage) → (b c : ℕ) → b ≤ c
+        → dead_words_below image b ≤ dead_words_below image c }
+    ensures region { (image : HeapImage) → HasLiveList image → (r : ℕ)
+        → dead_words_below image (start_of image r + region_words image) + data_words image r
+        ≡ dead_words_below image (start_of image r) + region_words image }
+{}
+
+/// Each dead word of the dense prefix is in a longest run, cut at the prefix end, that becomes a filler: a header
+/// with the run's length, then zeros.
+pub fn fillers_by_runs()
+    ensures run { (image : HeapImage) → (p : ℕ) → p < prefix_end image → is_live_word image p ≡ false
+        → (a : ℕ) × (b : ℕ) × IsDeadRun image a b × (a ≤ p) × (p < b) }
+    ensures header { (image : HeapImage) → (a b : ℕ) → IsDeadRun image a b
+        → filler_word image a ≡ filler_header (b - a) }
+    ensures zeros { (image : HeapImage) → (a b p : ℕ) → IsDeadRun image a b → a < p → p < b
+        → filler_word image p ≡ 0 }
+    ensures compacted { (image : HeapImage) → HasLiveList image → (p : ℕ) → p < prefix_end image
+        → is_live_word image p ≡ false → compacted_word image p ≡ filler_word image p }
+    ensures moved { (image : HeapImage) → HasLiveList image → (p : ℕ) → p < prefix_end image
+        → is_live_word image p ≡ false → moved_word image p ≡ filler_word image p }
+    ensures compacted_run { (image : HeapImage) → HasLiveList image → (a b : ℕ) → IsDeadRun image a b
+        → slice_range (compact image).words a b ≡ filler_header (b - a) ∷ replicate (b - a - 1) 0 }
+    ensures moved_run { (image : HeapImage) → HasLiveList image → (a b : ℕ) → IsDeadRun image a b
+        → slice_range (moved image).words a b ≡ filler_header (b - a) ∷ replicate (b - a - 1) 0 }
+{}

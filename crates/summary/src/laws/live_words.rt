@@ -1,0 +1,59 @@
+//! Live words: whose they are, and how they are counted.
+//!
+//! The functions do nothing: each one's contract is a law.
+
+ghost use Rattle.std.specs.Prelude.{◌≡◌, ◌+◌, ◌-◌, ◌*◌, ◌/◌, ◌<◌, ◌≤◌, true, false, ℕ, map, sum};
+ghost use Rattle.std.specs.List.{range_with_len};
+ghost use Rattle.heap_image.specs.HeapImage.{HeapImage, HasLiveList, heap_words, end_of, is_live_word, live_words};
+ghost use Rattle.summary.specs.LiveObjects.{object_count, object_at};
+
+/// A live word is of one object; of two objects in the live list the first ends where the second begins, or below.
+pub fn words_of_objects()
+    ensures owner { (image : HeapImage) → HasLiveList image → (q : ℕ) → is_live_word image q ≡ true → (i : ℕ)
+        × (i < object_count image) × (object_at image i ≤ q)
+        × (q < end_of image (object_at image i)) }
+    ensures live { (image : HeapImage) → HasLiveList image → (i q : ℕ) → i < object_count image
+        → object_at image i ≤ q → q < end_of image (object_at image i) → is_live_word image q ≡ true }
+    ensures below { (image : HeapImage) → HasLiveList image → (q : ℕ) → is_live_word image q ≡ true
+        → q < heap_words image }
+    ensures one { (image : HeapImage) → HasLiveList image → (i k q : ℕ) → i < object_count image
+        → k < object_count image → object_at image i ≤ q → q < end_of image (object_at image i)
+        → object_at image k ≤ q → q < end_of image (object_at image k)
+        → object_at image i ≡ object_at image k }
+    ensures ordered { (image : HeapImage) → HasLiveList image → (i k : ℕ) → i < k → k < object_count image
+        → end_of image (object_at image i) ≤ object_at image k }
+{}
+
+/// All words of an object count, and none before the first object, behind the last or between two.
+pub fn live_words_by_objects()
+    ensures within { (image : HeapImage) → HasLiveList image → (i a b : ℕ) → i < object_count image
+        → object_at image i ≤ a → a ≤ b → b ≤ end_of image (object_at image i)
+        → live_words image a b ≡ b - a }
+    ensures between { (image : HeapImage) → HasLiveList image → (i a b : ℕ) → i < object_count image
+        → end_of image (object_at image i) ≤ a
+        → (i + 1 < object_count image → b ≤ object_at image (i + 1)) → live_words image a b ≡ 0 }
+    ensures before { (image : HeapImage) → HasLiveList image → (a b : ℕ)
+        → (0 < object_count image → b ≤ object_at image 0) → live_words image a b ≡ 0 }
+    ensures dead { (image : HeapImage) → HasLiveList image → (i q : ℕ) → i < object_count image
+        → end_of image (object_at image i) ≤ q
+        → (i + 1 < object_count image → q < object_at image (i + 1)) → is_live_word image q ≡ false }
+{}
+
+/// Live words are counted part by part, and by blocks of n words.
+pub fn live_words_by_blocks()
+    ensures parts { (image : HeapImage) → (a b c : ℕ) → a ≤ b → b ≤ c
+        → live_words image a c ≡ live_words image a b + live_words image b c }
+    ensures blocks { (image : HeapImage) → (n i k : ℕ)
+        → live_words image (i * n) ((i + k) * n)
+        ≡ sum (map (λ j. live_words image (j * n) (j * n + n)) (range_with_len i k)) }
+    ensures ends { (image : HeapImage) → (n i j from to : ℕ) → i < j → from ≤ (i + 1) * n → j * n ≤ to
+        → live_words image from to
+        ≡ live_words image from ((i + 1) * n)
+        + sum (map (λ m. live_words image (m * n) (m * n + n)) (range_with_len (i + 1) (j -
+        (i + 1)))) + live_words image (j * n) to }
+    ensures cut { (image : HeapImage) → (n from to : ℕ) → 0 < n → from / n < to / n
+        → live_words image from to
+        ≡ live_words image from ((from / n + 1) * n)
+        + sum (map (λ m. live_words image (m * n) (m * n + n)) (range_with_len (from / n + 1)
+        (to / n - (from / n + 1)))) + live_words image (to / n * n) to }
+{}

@@ -1,0 +1,69 @@
+//! New addresses of objects and the new top.
+//!
+//! The functions do nothing: each one's contract is a law.
+
+ghost use Rattle.std.specs.Prelude.{◌≡◌, ◌+◌, ◌<◌, ◌≤◌, ℕ};
+ghost use Rattle.heap_image.specs.HeapImage.{HeapImage, HasLiveList, heap_words, region_of, start_of, size_at, live_words};
+ghost use Rattle.summary.specs.LiveObjects.{object_count, object_at};
+ghost use Rattle.summary.specs.NewAddresses.{prefix_end, new_address, new_end_of, new_top};
+ghost use Rattle.summary.specs.WordMoves.{slid};
+ghost use Rattle.summary.specs.RegionData.{partial_words, destination};
+
+/// Live objects keep their order and do not overlap at their new addresses, none goes up, and none ends above the
+/// new top.
+pub fn objects_keep_their_order()
+    ensures apart { (image : HeapImage) → HasLiveList image → (i k : ℕ) → i < k → k < object_count image
+        → new_end_of image (object_at image i) ≤ new_address image (object_at image k) }
+    ensures ordered { (image : HeapImage) → HasLiveList image → (i k : ℕ) → i < k → k < object_count image
+        → new_address image (object_at image i) < new_address image (object_at image k) }
+    ensures down { (image : HeapImage) → HasLiveList image → (i : ℕ) → i < object_count image
+        → new_address image (object_at image i) ≤ object_at image i }
+    ensures below { (image : HeapImage) → HasLiveList image → (i : ℕ) → i < object_count image
+        → new_end_of image (object_at image i) ≤ new_top image }
+{}
+
+/// Each place from the prefix end up to the new top is of a live object at its new address.
+pub fn no_gaps_above_the_prefix()
+    ensures { (image : HeapImage) → HasLiveList image → (p : ℕ) → prefix_end image ≤ p → p < new_top image
+        → (i : ℕ) × (i < object_count image) × (new_address image (object_at image i) ≤ p)
+        × (p < new_end_of image (object_at image i)) }
+{}
+
+/// The new top is the prefix end and the live words above it.
+pub fn new_top_by_counting()
+    ensures { (image : HeapImage) → HasLiveList image
+        → new_top image ≡ prefix_end image + live_words image (prefix_end image) (heap_words image) }
+{}
+
+/// Each word of a live object goes where counting says.
+pub fn new_address_by_counting()
+    ensures { (image : HeapImage) → HasLiveList image → (i j : ℕ) → i < object_count image
+        → j < size_at image (object_at image i)
+        → new_address image (object_at image i) + j ≡ slid image (object_at image i + j) }
+{}
+
+/// An object above the prefix end goes behind its region's destination by the live words that stand before it in
+/// the region.
+pub fn new_address_by_region()
+    ensures region { (image : HeapImage) → HasLiveList image → (i : ℕ) → i < object_count image
+        → prefix_end image ≤ object_at image i
+        → new_address image (object_at image i)
+        ≡ destination image (region_of image (object_at image i))
+        + live_words image (start_of image (region_of image (object_at image i)))
+        (object_at image i) }
+    ensures block { (image : HeapImage) → HasLiveList image → (i b : ℕ) → i < object_count image
+        → prefix_end image ≤ object_at image i
+        → start_of image (region_of image (object_at image i)) ≤ b → b ≤ object_at image i
+        → new_address image (object_at image i)
+        ≡ destination image (region_of image (object_at image i))
+        + live_words image (start_of image (region_of image (object_at image i))) b
+        + live_words image b (object_at image i) }
+    ensures partial { (image : HeapImage) → HasLiveList image → (i : ℕ) → i < object_count image
+        → prefix_end image ≤ object_at image i
+        → new_address image (object_at image i)
+        ≡ destination image (region_of image (object_at image i))
+        + partial_words image (region_of image (object_at image i))
+        + live_words image (start_of image (region_of image
+        (object_at image i)) + partial_words image (region_of image (object_at image i)))
+        (object_at image i) }
+{}

@@ -1,0 +1,46 @@
+//! The sources of the regions: from which region the word comes that goes to a region's start.
+
+ghost use Rattle.std.specs.Prelude.{◌≡◌, ◌≢◌, ℕ, Some, ◌<◌, map, MatchOption};
+ghost use Rattle.std.specs.List.{range_with_len};
+ghost use Rattle.heap_image.specs.HeapImage.{region_count};
+ghost use Rattle.summary.specs.NewAddresses.{prefix_end};
+ghost use Rattle.summary.specs.RegionData.{region_data, source};
+ghost use Rattle.summary.specs.Layout.{placed_region};
+ghost use Rattle.summary.specs.Sources.{StartsOnly, told_region};
+
+use crate::region_data::RegionData;
+use crate::region_words::region_words;
+use heap_image::Image;
+
+/// Tells each region its source, where nothing but the sources is missing.
+pub fn tell_sources(image: &Image, prefix: u64, regions: &mut [RegionData])
+    requires prefix { prefix ≡ prefix_end image.now }
+    requires regions { regions.old ≡ map (placed_region image.now) (range_with_len 0 (region_count image.now)) }
+    ensures { regions.new ≡ map (region_data image.now) (range_with_len 0 (region_count image.now)) }
+{
+    for s in 0..image.regions() {
+        if let Some(d) = started_by(image, prefix, s, &regions[s as usize]) {
+            regions[d as usize].source = Some(s);
+        }
+    }
+}
+
+/// The region to whose start a word of region `s` goes, if it lies behind the dense prefix.
+fn started_by(image: &Image, prefix: u64, s: u32, region: &RegionData) -> Option<u64>
+    requires prefix { prefix ≡ prefix_end image.now }
+    requires inside { s < region_count image.now }
+    requires region { told_region image.now s s ≡ region.now }
+    ensures { MatchOption result ((d : ℕ) → source image.now d ≢ Some s) (StartsOnly image.now s) }
+{
+    let region_words = region_words(image);
+    let words = u64::from(region.partial) + u64::from(region.live);
+    if region.destination < prefix {
+        return None;
+    }
+    let d = region.destination.div_ceil(region_words);
+    if d * region_words < region.destination + words {
+        Some(d)
+    } else {
+        None
+    }
+}
