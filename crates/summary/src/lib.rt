@@ -28,6 +28,3 @@ pub use plainly::compact_plainly;
 pub use region_counts::RegionCounts;
 pub use region_data::RegionData;
 pub use sources::tell_sources;
-
-#[cfg(test)]
-mod tests;
