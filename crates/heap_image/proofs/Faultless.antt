@@ -8,8 +8,8 @@ use Rattle.std.specs.Option.{option_or}
 use Rattle.std.proofs.lemmas.List.{append-nil}
 use Rattle.std.proofs.lemmas.List.Folds.{find-append}
 use Rattle.heap_image.specs.declared.fault.Fault.TheVariants.{TruncatedHeader, RegionLog, Length, TruncatedBody, LiveOrder, Header, Overlap, Reference, Trailing}
-use Rattle.heap_image.specs.HeapImage.{HeapImage, IsValid, IsWithinLimits, HasLiveList, heap_words, region_words, end_of, size_at, references_at, kind_at, reference_at, is_null_or_live}
-use Rattle.heap_image.specs.ImageText.{front, numbers, text, told_image, front_faults, layout_faults, live_list_faults, told_words, told_live_count, told_region_log, told_length, told_region_words, faults, first_fault, first_some, fault_if, is_misplaced, misplaced_index, unsound_header, overlapping, dangling}
+use Rattle.heap_image.specs.HeapImage.{HeapImage, IsValid, IsWithinLimits, HasLiveList, heap_words, end_of, size_at, references_at, kind_at, reference_at, is_null_or_live}
+use Rattle.heap_image.specs.ImageText.{front, numbers, text, told_image, front_faults, layout_faults, live_list_faults, told_words, told_live_count, told_region_log, told_length, told_region_words, first_fault, first_some, fault_if, is_misplaced, misplaced_index, unsound_header, overlapping, dangling}
 use Rattle.heap_image.specs.declared.fault.Fault.{Fault}
 use Rattle.heap_image.proofs.Spans.{Apart}
 use Rattle.heap_image.proofs.LiveWords.{live_apart, live_end-le}

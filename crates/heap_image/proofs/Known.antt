@@ -1,9 +1,9 @@
 -- The known bytes of a device, over several calls.
-use Rattle.std.proofs.Common.{◌≡◌, ℕ, ◌+◌, ◌<◌, ◌≤◌, List, [], ◌++◌, length, take, drop, refl, sym, ◌∙◌, ap, arith, append_assoc, Bool, true, false, Option, Some, None, Result, Err}
+use Rattle.std.proofs.Common.{◌≡◌, ℕ, List, [], ◌++◌, refl, sym, ◌∙◌, ap, append_assoc, Bool, true, false, Option, Some, None, Result, Err}
 use Rattle.heap_image.specs.declared.fault.Fault.{Fault}
 use Rattle.std.proofs.lemmas.Bool.{false≢true}
 use Rattle.std.proofs.lemmas.List.{append-nil}
-use Rattle.std.specs.Io.KnownBytes.{Consumes, Keeps, Appends, IsAtEnd, prepend_known}
+use Rattle.std.specs.Io.KnownBytes.{Consumes, Keeps, Appends, prepend_known}
 
 pub consumes_none : (known : Option (List ℕ)) → Consumes known known []
 consumes_none None = tt

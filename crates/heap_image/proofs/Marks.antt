@@ -1,7 +1,7 @@
 -- Bits in words of 64.
-use Rattle.std.proofs.Common.{◌≡◌, ℕ, zero, suc, ◌+◌, ◌-◌, ◌*◌, ◌/◌, ◌%◌, ◌^◌, ◌≤◌, ◌<◌, inl, inr, Bool, true, false, ◌||◌, List, length, get_or, set, take, refl, sym, ◌∙◌, ap, arith, not, eqb, nat_eq, bit_and, bit_or, get_or-set_same, get_or-set_other, ◌⊎◌}
-use Rattle.std.proofs.lemmas.Bool.{cases_eq, eq-eqb, ne_eqb, cases_Bool, eqb-true, or_left, or_right, or_from}
-use Rattle.std.proofs.lemmas.Nat.{mod_below, pow_below, same_from_place}
+use Rattle.std.proofs.Common.{◌≡◌, ℕ, zero, suc, ◌+◌, ◌*◌, ◌/◌, ◌%◌, ◌^◌, ◌<◌, inl, inr, Bool, true, false, ◌||◌, List, length, get_or, set, refl, sym, ◌∙◌, ap, arith, not, eqb, bit_and, bit_or, get_or-set_same, get_or-set_other, ◌⊎◌}
+use Rattle.std.proofs.lemmas.Bool.{cases_eq, eq-eqb, ne_eqb, or_right}
+use Rattle.std.proofs.lemmas.Nat.{mod_below, pow_below}
 use Rattle.std.proofs.lemmas.Nat.Bits.{and_pow, bit_at-lt, bit_at_set_same, bit_at_set_other}
 use Rattle.std.proofs.Math.Nat.{mod-eq_of_lt, one-le-pow}
 use Rattle.std.specs.Int.{bit_at, w64}

@@ -1,5 +1,5 @@
 -- The objects of a live list, one after the other.
-use Rattle.std.proofs.Common.{◌≡◌, ℕ, ◌+◌, ◌<◌, Bool, true, false, ◌||◌, not, eqb, leb, ltb, cond, List, [], ◌∷◌, ◌++◌, length, get_or, take, refl, sym, ◌∙◌, ap, Option, Some, None}
+use Rattle.std.proofs.Common.{◌≡◌, ℕ, ◌+◌, ◌<◌, Bool, true, false, ◌||◌, not, eqb, leb, ltb, List, [], ◌∷◌, length, get_or, take, refl, sym, ◌∙◌, ap, Option, Some, None}
 use Rattle.std.proofs.lemmas.List.{take_more}
 use Rattle.std.specs.Prelude.{find, option_map}
 use Rattle.std.specs.Bool.{then_some}
@@ -9,7 +9,7 @@ use Rattle.heap_image.specs.Header.{size_of, references_of, kind_of}
 use Rattle.heap_image.specs.HeapImage.{HeapImage, image_of, size_at}
 use Rattle.heap_image.specs.ImageText.{is_unsound, unsound_header, overlapping, first_some}
 use Rattle.heap_image.specs.declared.fault.Fault.TheVariants.{Header, Overlap}
-use Rattle.heap_image.proofs.Finds.{find_first, find_none_more}
+use Rattle.heap_image.proofs.Finds.{find_first}
 use Rattle.heap_image.proofs.Overlaps.{last_end_of, overlap_of, one_if, overlap_more, last_end_more}
 
 module _ (log : ℕ) (regions : List (List ℕ)) (live : List ℕ) (words i : ℕ) (inside : i < length live) (are : words ≡ length (concat regions)) where

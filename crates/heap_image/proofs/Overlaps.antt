@@ -1,7 +1,6 @@
 -- The first object that begins before the end of the one before it.
-use Rattle.std.proofs.Common.{◌≡◌, ℕ, ◌+◌, ◌<◌, Bool, true, false, cond, List, [], ◌∷◌, ◌++◌, length, get_or, take, drop, refl, sym, ◌∙◌, ap, arith, ltb, Option, Some, None}
+use Rattle.std.proofs.Common.{◌≡◌, ℕ, ◌+◌, Bool, true, false, cond, List, [], ◌∷◌, ◌++◌, drop, refl, sym, arith, ltb, Option, Some, None}
 use Rattle.std.proofs.lemmas.Bool.{cond-false, le-ltb}
-use Rattle.std.proofs.lemmas.List.{take_more}
 use Rattle.std.specs.Prelude.{find, zip, fold, option_map}
 use Rattle.std.specs.Option.{option_or}
 

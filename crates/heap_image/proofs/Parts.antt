@@ -1,9 +1,8 @@
 -- What an image and its regions have to do with one another.
-use Rattle.std.proofs.Common.{◌≡◌, ℕ, ◌-◌, ◌*◌, ◌/◌, ◌%◌, ◌^◌, ◌≤◌, ◌<◌, List, [], length, get_or, sym, ◌∙◌, ap, arith, bit_and}
+use Rattle.std.proofs.Common.{◌≡◌, ℕ, ◌-◌, ◌*◌, ◌%◌, ◌^◌, ◌≤◌, ◌<◌, List, [], length, get_or, sym, ◌∙◌, ap, arith, bit_and}
 use Rattle.std.proofs.lemmas.Nat.{and_mask, pow_below}
 use Rattle.std.proofs.Math.Nat.{one-le-pow, mod-eq_of_lt}
-use Rattle.std.specs.List.{concat}
-use Rattle.heap_image.specs.HeapImage.{HeapImage, AreValidParts, IsValid, image_of, heap_words, region_words, region_count, block_of, word_at}
+use Rattle.heap_image.specs.HeapImage.{HeapImage, AreValidParts, image_of, heap_words, region_count, block_of}
 use Rattle.heap_image.proofs.BlockWords.{length-concat, count, concat_part}
 
 pub region_some : (log : ℕ) → 0 < 2 ^ log

@@ -1,6 +1,6 @@
 -- A list that comes or goes piece by piece.
 use Rattle.std.proofs.Common.{◌≡◌, ℕ, zero, suc, ◌+◌, ◌-◌, ◌≤◌, List, [], ◌∷◌, ◌++◌, length, take, drop, refl, sym, ◌∙◌, ap, arith, length-take, length-drop}
-use Rattle.std.proofs.lemmas.List.{take-append-le, take-append-drop, take-take, take_all}
+use Rattle.std.proofs.lemmas.List.{take-append-le, take-take, take_all}
 use borrow.Rule.Slice.PartMut.{put_mid, post_of, mid_of, same_len_mid}
 
 pub take_past : (xs ys : List ℕ) (a n : ℕ) → length xs ≡ a → take (a + n) (xs ++ ys) ≡ xs ++ take n ys

@@ -1,20 +1,18 @@
 -- A text without a fault is that of the image which it tells, and that image is valid.
-use Rattle.std.proofs.Common.{◌≡◌, ℕ, zero, suc, ◌+◌, ◌-◌, ◌*◌, ◌/◌, ◌%◌, ◌≤◌, ◌<◌, ◌^◌, inl, inr, Bool, true, false, ◌||◌, List, [], ◌∷◌, ◌++◌, length, get_or, take, drop, refl, sym, ◌∙◌, ap, subst, arith, ltb, leb, eqb, add-one, add-zero, zero-add, length-take, length-drop}
-use Rattle.std.proofs.lemmas.Bool.{cases_Bool, cases_lt, cond-true, cond-false, ltb-false, leb-false, eqb-true, eqb-false, or_parts, not-false}
+use Rattle.std.proofs.Common.{◌≡◌, ℕ, zero, suc, ◌+◌, ◌-◌, ◌*◌, ◌/◌, ◌%◌, ◌≤◌, ◌<◌, ◌^◌, inl, inr, Bool, false, ◌||◌, List, [], ◌++◌, length, get_or, take, drop, refl, sym, ◌∙◌, ap, subst, arith, ltb, eqb, add-zero, length-take, length-drop}
+use Rattle.std.proofs.lemmas.Bool.{cases_lt, ltb-false, eqb-true, eqb-false, or_parts, not-false}
 use Rattle.std.proofs.lemmas.Nat.{le_bytes_4, le_bytes_8}
 use Rattle.std.proofs.lemmas.List.{append_assoc, append-nil, take-append-drop, get_or_past, drop_all}
 use Rattle.std.proofs.lemmas.List.Elements.{All-get_or, All-take, All-drop, All-map, All-from_get_or}
-use Rattle.std.proofs.lemmas.List.Folds.{drop_split, find-append}
-use Rattle.std.proofs.lemmas.List.FromFn.{length-map-range_with_len, get_or-map-range_with_len}
+use Rattle.std.proofs.lemmas.List.Folds.{drop_split}
+use Rattle.std.proofs.lemmas.List.FromFn.{length-map-range_with_len}
 use Rattle.std.specs.Cmp.Lexicographic.{same_text}
-use Rattle.std.specs.Prelude.{find, zip, flat_map, map, All, Option, Some, None, option_map, not, slice_range}
-use Rattle.std.specs.Option.{option_or}
+use Rattle.std.specs.Prelude.{map, All, None, not, slice_range}
 use Rattle.std.specs.Str.{bytes_eq}
 use Rattle.std.specs.List.{range_with_len}
 use Rattle.std.specs.Int.{w32, w64, to_le_bytes}
-use Rattle.heap_image.specs.HeapImage.{HeapImage, IsValid, HasLiveList, HasSoundHeader, heap_words, end_of, size_at, references_at, kind_at, reference_at, is_null_or_live}
-use Rattle.heap_image.specs.ImageText.{numbers, front, text, told_image, told_words, told_live_count, told_region_log, told_length, told_region_words, u32_at, u64_at, faults, first_fault, first_some, fault_if, unsound_header, overlapping, dangling, magic}
-use Rattle.heap_image.specs.declared.fault.Fault.{Fault}
+use Rattle.heap_image.specs.HeapImage.{HeapImage, IsValid, HasLiveList}
+use Rattle.heap_image.specs.ImageText.{numbers, front, text, told_image, told_words, told_live_count, told_region_log, told_length, told_region_words, u32_at, u64_at, faults, first_fault, unsound_header, overlapping, dangling, magic}
 use Rattle.heap_image.specs.declared.fault.Fault.TheVariants.{TruncatedHeader, Magic, RegionLog, Length, TruncatedBody, Header, Overlap, Reference, Trailing}
 use Rattle.heap_image.proofs.Faultless.{AllNone}
 use Rattle.heap_image.proofs.LiveListFaults.{AllNone-from_first_some, no_fault, map_None, faultless-HasLiveList}

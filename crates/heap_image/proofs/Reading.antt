@@ -1,13 +1,13 @@
 -- Numbers that were read from their bytes.
-use Rattle.std.proofs.Common.{◌≡◌, ℕ, zero, suc, ◌+◌, ◌-◌, ◌*◌, ◌≤◌, ◌<◌, List, [], ◌∷◌, ◌++◌, length, get_or, take, drop, refl, sym, ◌∙◌, ap, arith, length-take, length-drop, length-append, inl, inr, Option, Some, None}
+use Rattle.std.proofs.Common.{◌≡◌, ℕ, suc, ◌+◌, ◌-◌, ◌*◌, ◌≤◌, ◌<◌, List, [], ◌∷◌, ◌++◌, length, get_or, take, drop, refl, sym, ◌∙◌, ap, arith, length-take, length-drop, length-append, inl, inr, Option, Some, None}
 use Rattle.std.proofs.lemmas.List.{take-append-drop, drop-drop, get_or_past}
 use Rattle.std.proofs.lemmas.List.Elements.{All-get_or, All-take, All-drop, All-from_get_or}
 use Rattle.std.proofs.lemmas.Bool.{cases_lt}
 use Rattle.std.proofs.lemmas.Nat.{le_bytes_8}
 use Rattle.std.specs.Prelude.{All, IfSome, slice_range}
 use Rattle.std.specs.Io.KnownBytes.{Consumes, prepend_known}
-use Rattle.std.specs.Int.{w64, to_le_bytes, from_le_bytes}
-use Rattle.byteorder.specs.Endian.{IsRead, little_number, little_from}
+use Rattle.std.specs.Int.{w64, to_le_bytes}
+use Rattle.byteorder.specs.Endian.{IsRead, little_number}
 use Rattle.byteorder.specs.Numbers.{little_from-take}
 use Rattle.heap_image.specs.ImageText.{numbers}
 use Rattle.heap_image.proofs.Pieces.{take_more}

@@ -1,6 +1,6 @@
 -- References, and the marks by which they are checked.
-use Rattle.std.proofs.Common.{◌≡◌, ℕ, zero, suc, ◌+◌, ◌-◌, ◌/◌, ◌≤◌, ◌<◌, inl, inr, Bool, true, false, ◌||◌, List, length, get_or, refl, sym, ◌∙◌, ap, arith, eqb, not, Option, Some, None, cond, [], ◌++◌, take, drop}
-use Rattle.std.proofs.lemmas.Bool.{eq-eqb, ne_eqb, eqb-true, eqb-false, cases_eq, or_from, or_right}
+use Rattle.std.proofs.Common.{◌≡◌, ℕ, ◌+◌, ◌-◌, ◌≤◌, ◌<◌, inl, inr, Bool, false, ◌||◌, List, get_or, sym, ◌∙◌, ap, arith, eqb}
+use Rattle.std.proofs.lemmas.Bool.{eq-eqb, ne_eqb, cases_eq, or_from}
 use Rattle.std.proofs.lemmas.List.Folds.{list_any_none}
 use Rattle.std.proofs.lemmas.List.Elements.{All-from_get_or, All-get_or}
 use Rattle.std.specs.Prelude.{All}

@@ -4,7 +4,7 @@ use Rattle.std.proofs.lemmas.Nat.{from_le_bytes-to_le_bytes_4, from_le_bytes-to_
 use Rattle.std.proofs.lemmas.List.{drop-drop, drop_at, append-nil}
 use Rattle.std.proofs.lemmas.List.Elements.{All-from_get_or}
 use Rattle.std.proofs.lemmas.List.FromFn.{fill_by_all}
-use Rattle.std.specs.Prelude.{flat_map, map, All}
+use Rattle.std.specs.Prelude.{map, All}
 use Rattle.std.specs.List.{range_with_len}
 use Rattle.std.specs.Int.{w64, to_le_bytes, from_le_bytes}
 use Rattle.heap_image.specs.HeapImage.{HeapImage, IsValid, IsWithinLimits, heap_words}

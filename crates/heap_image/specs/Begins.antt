@@ -1,5 +1,5 @@
 -- Bits that tell at which addresses live objects begin.
-use Rattle.std.specs.Prelude.{◌≡◌, ◌<◌, ◌≤◌, ℕ, ◌+◌, ◌*◌, ◌/◌, ◌%◌, ◌==◌, Bool, List, length, slice_index}
+use Rattle.std.specs.Prelude.{◌≡◌, ◌<◌, ℕ, ◌/◌, ◌%◌, ◌==◌, Bool, List, length, slice_index}
 use Rattle.std.specs.List.{list_any}
 use Rattle.std.specs.Int.{bit_at}
 

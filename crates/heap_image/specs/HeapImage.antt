@@ -87,7 +87,8 @@ pub record HasSoundHeader (image : HeapImage) (a : ℕ) : Type 0 where
 pub record HasLiveList (image : HeapImage) : Type 0 where
   pub sound : All (λ a. HasSoundHeader image a) image.live
   pub apart : AllAdjacentBelow (λ a b. end_of image a ≤ b) image.live (length image.live)
-  pub references : All (λ a. (f : ℕ) → f < references_at image a → IsTrue (is_null_or_live image (reference_at image a f))) image.live
+  pub references : All (λ a. (f : ℕ) → f < references_at image a
+      → IsTrue (is_null_or_live image (reference_at image a f))) image.live
 
 -- the sizes that the format allows
 pub record IsWithinLimits (region_log words live_count : ℕ) : Type 0 where
@@ -111,7 +112,8 @@ AreBlocks region_log blocks = All (λ block. length block ≡ 2 ^ region_log) bl
 
 -- the image of the heap whose regions hold these blocks, one after the other
 abbrev pub image_of : ℕ → ℕ → List (List ℕ) → List ℕ → HeapImage
-image_of region_log allowance blocks live = record { region_log = region_log; allowance = allowance; words = concat blocks; live = live }
+image_of region_log allowance blocks live =
+    record { region_log = region_log; allowance = allowance; words = concat blocks; live = live }
 
 -- blocks of this size form a heap that is not too large
 pub record FormHeap (region_log : ℕ) (blocks : List (List ℕ)) : Type 0 where

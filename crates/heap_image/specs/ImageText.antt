@@ -24,7 +24,9 @@ numbers xs = flat_map (to_le_bytes w64) xs
 
 -- the front, then the words, and then the live addresses
 abbrev pub text : HeapImage → List ℕ
-text image = front image.region_log (length image.live) (heap_words image) image.allowance ++ numbers image.words ++ numbers image.live
+text image = front image.region_log (length image.live) (heap_words image) image.allowance
+    ++ numbers image.words
+    ++ numbers image.live
 
 -- What the numbers of a byte list say, whether or not the bytes are an image's text.
 module _ (bytes : List ℕ) where
@@ -59,7 +61,8 @@ module _ (bytes : List ℕ) where
 
 -- the i-th address is outside a heap of so many words or not above the one before it
 abbrev pub is_misplaced : ℕ → List ℕ → ℕ → Bool
-is_misplaced words live i = nat_le words (slice_index live i) || (nat_lt 0 i && nat_le (slice_index live i) (slice_index live (i - 1)))
+is_misplaced words live i = nat_le words (slice_index live i)
+    || (nat_lt 0 i && nat_le (slice_index live i) (slice_index live (i - 1)))
 
 -- the least such index
 abbrev pub misplaced_index : ℕ → List ℕ → Option ℕ
@@ -69,7 +72,8 @@ misplaced_index words live = find (is_misplaced words live) (range_with_len 0 (l
 module _ (image : HeapImage) where
   -- the word at an address is not the header of an object that fits
   abbrev pub is_unsound : ℕ → Bool
-  is_unsound a = not (kind_at image a == 1) || (size_at image a == 0) || nat_le (size_at image a) (references_at image a) || nat_lt (heap_words image) (end_of image a)
+  is_unsound a = not (kind_at image a == 1) || (size_at image a == 0)
+      || nat_le (size_at image a) (references_at image a) || nat_lt (heap_words image) (end_of image a)
 
   -- the least such address
   abbrev pub unsound_header : Option ℕ
@@ -136,8 +140,10 @@ first_fault bytes = first_some (faults bytes)
 
 -- A text without a fault is that of a valid image, and the image is the one that the bytes tell.
 abbrev pub FaultlessIsText : Type 0
-FaultlessIsText = (bytes : List ℕ) → All (λ b. b < 256) bytes → first_fault bytes ≡ None → IsValid (told_image bytes) × (bytes ≡ text (told_image bytes))
+FaultlessIsText = (bytes : List ℕ) → All (λ b. b < 256) bytes → first_fault bytes ≡ None
+    → IsValid (told_image bytes) × (bytes ≡ text (told_image bytes))
 
 -- The text of a valid image has no fault, and tells that image.
 abbrev pub TextIsFaultless : Type 0
-TextIsFaultless = (image : HeapImage) → IsValid image → (first_fault (text image) ≡ None) × (told_image (text image) ≡ image)
+TextIsFaultless = (image : HeapImage) → IsValid image
+    → (first_fault (text image) ≡ None) × (told_image (text image) ≡ image)

@@ -9,7 +9,8 @@ held_bytes o = take (8 * o.end) o.bytes
 
 -- a device took bytes, which with those that are held now are those that were held and what was written
 abbrev pub Sends : Option (List ℕ) → Option (List ℕ) → List ℕ → List ℕ → List ℕ → Type 0
-Sends before after held holds written = (given : List ℕ) × Appends before after given × (given ++ holds ≡ held ++ written)
+Sends before after held holds written = (given : List ℕ)
+    × Appends before after given × (given ++ holds ≡ held ++ written)
 
 -- a device took a beginning of these bytes
 abbrev pub TakesBeginning : Option (List ℕ) → Option (List ℕ) → List ℕ → Type 0

@@ -8,6 +8,10 @@ use Rattle.heap_image.specs.ImageText.{first_fault, told_length}
 abbrev pub IsReason : List ℕ → Fault → Type 0
 IsReason input fault = (fault ≡ Memory) ⊎ ((fault ≡ Io) ⊎ (first_fault input ≡ Some fault))
 
+-- a fault of what stands behind the front: memory was refused, the device failed, or too few bytes came
+abbrev pub IsOfBody : Fault → Type 0
+IsOfBody fault = (fault ≡ Memory) ⊎ ((fault ≡ Io) ⊎ (fault ≡ TruncatedBody))
+
 -- What is left after a fault: behind the front where it is the front's; behind the whole text where it is the live
 -- list's, and one byte less where a byte follows; nothing where there are too few bytes; and else some rest.
 abbrev pub LeavesRest : Fault → List ℕ → Option (List ℕ) → Type 0

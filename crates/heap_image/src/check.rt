@@ -24,8 +24,10 @@ pub(crate) fn check_live_list(
     requires heap { FormHeap region_log regions.now }
     requires words { words ≡ length (concat regions.now) }
     requires few { length live.now ≤ words }
-    ensures ok { OnOk result (first_some (live_list_faults (image_of region_log 0 regions.now live.now)) ≡ None) }
-    ensures fault { IfErr result (λ fault. (fault ≡ Fault.Memory) ⊎ (first_some (live_list_faults (image_of region_log 0 regions.now live.now)) ≡ Some fault)) }
+    ensures ok { let faults = live_list_faults (image_of region_log 0 regions.now live.now) in
+        OnOk result (first_some faults ≡ None) }
+    ensures fault { let faults = live_list_faults (image_of region_log 0 regions.now live.now) in
+        IfErr result (λ fault. (fault ≡ Fault.Memory) ⊎ (first_some faults ≡ Some fault)) }
 {
     if let Some(index) = misplaced_index(live, words) {
         return Err(Fault::LiveOrder(index));
@@ -55,7 +57,8 @@ fn misplaced_index(live: &[u64], words: u64) -> Option<u32>
 #[inline]
 fn is_unsound(word: u64, a: u64, words: u64) -> bool
     requires { a ≤ 4194304 }
-    ensures { result ≡ (not (kind_of word == 1) || (size_of word == 0) || nat_le (size_of word) (references_of word) || nat_lt words (a + size_of word)) }
+    ensures { result ≡ (not (kind_of word == 1) || (size_of word == 0)
+        || nat_le (size_of word) (references_of word) || nat_lt words (a + size_of word)) }
 {
     let size = header::size(word);
     header::kind(word) != header::OBJECT
@@ -70,8 +73,11 @@ fn check_objects(regions: &[Region], region_log: u32, words: u64, live: &[u64]) 
     requires heap { FormHeap region_log regions.now }
     requires words { words ≡ length (concat regions.now) }
     requires inside { All (λ a. a < words) live.now }
-    ensures ok { let image = image_of region_log 0 regions.now live.now in OnOk result ((unsound_header image ≡ None) × (overlapping image ≡ None)) }
-    ensures fault { let image = image_of region_log 0 regions.now live.now in IfErr result (λ fault. first_some (option_map Fault.Header (unsound_header image) ∷ option_map Fault.Overlap (overlapping image) ∷ []) ≡ Some fault) }
+    ensures ok { let image = image_of region_log 0 regions.now live.now in
+        OnOk result ((unsound_header image ≡ None) × (overlapping image ≡ None)) }
+    ensures fault { let image = image_of region_log 0 regions.now live.now in
+        IfErr result (λ fault. first_some (option_map Fault.Header (unsound_header image)
+        ∷ option_map Fault.Overlap (overlapping image) ∷ []) ≡ Some fault) }
 {
     let mut end = 0;
     let mut overlap = None;
@@ -103,7 +109,8 @@ fn check_references(
     requires inside { All (λ a. a < words) live.now }
     requires bits { MarkBegins live.now words bits.now }
     ensures ok { OnOk result (dangling (image_of region_log 0 regions.now live.now) ≡ None) }
-    ensures fault { IfErr result (λ fault. option_map (λ p. Fault.Reference p.0 p.1) (dangling (image_of region_log 0 regions.now live.now)) ≡ Some fault) }
+    ensures fault { let found = dangling (image_of region_log 0 regions.now live.now) in
+        IfErr result (λ fault. option_map (λ p. Fault.Reference p.0 p.1) found ≡ Some fault) }
 {
     for a in live {
         let references = header::references(word_of(regions, region_log, *a));
@@ -138,7 +145,9 @@ fn dangling_field(
     requires inside { a + references < words }
     requires bits { words / 64 < length bits.now }
     ensures { (live : List ℕ) → All (λ b. b < words) live → MarkBegins live words bits.now
-        → option_map (λ f. (a, f)) result ≡ find (is_dangling (image_of region_log 0 regions.now live)) (map (λ f. (a, f)) (range_with_len 0 references)) }
+        → option_map (λ f. (a, f)) result
+        ≡ find (is_dangling (image_of region_log 0 regions.now live))
+        (map (λ f. (a, f)) (range_with_len 0 references)) }
 {
     for field in 0..references {
         let reference = word_of(regions, region_log, a + 1 + u64::from(field));

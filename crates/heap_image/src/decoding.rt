@@ -14,9 +14,12 @@ use std::alloc::Global;
 pub fn decode(alloc: Global, bytes: &[u8]) -> Result<Image, Fault>
     ensures text { IfOk result (λ image. IsValid image × (bytes.now ≡ text image)) }
     // No text of a valid image is refused, but for want of memory.
-    ensures only { (image : HeapImage) → IsValid image → bytes.now ≡ text image → (result ≡ Ok image) ⊎ (result ≡ Err Fault.Memory) }
-    ensures fault { IfErr result (λ fault. (fault ≡ Fault.Memory) ⊎ (first_fault bytes.now ≡ Some fault)) }
-    ensures memory { IfErr result (λ fault. fault ≡ Fault.Memory → first_some (layout_faults bytes.now) ≡ None) }
+    ensures only { (image : HeapImage) → IsValid image → bytes.now ≡ text image
+        → (result ≡ Ok image) ⊎ (result ≡ Err Fault.Memory) }
+    ensures fault { IfErr result
+        (λ fault. (fault ≡ Fault.Memory) ⊎ (first_fault bytes.now ≡ Some fault)) }
+    ensures memory { IfErr result
+        (λ fault. fault ≡ Fault.Memory → first_some (layout_faults bytes.now) ≡ None) }
 {
     if bytes.len() < FRONT_BYTES {
         return Err(Fault::TruncatedHeader);

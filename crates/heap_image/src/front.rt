@@ -37,8 +37,10 @@ impl Front {
     /// What a front of these bytes tells, or what is first wrong with it.
     pub(crate) fn parse(bytes: &[u8]) -> Result<Front, Fault>
         requires { length bytes.now ≡ 32 }
-        ensures told { IfOk result (λ told. bytes.now ≡ front told.region_log told.live_count told.words told.allowance) }
-        ensures limits { IfOk result (λ told. IsWithinLimits told.region_log told.words told.live_count) }
+        ensures told { IfOk result
+            (λ told. bytes.now ≡ front told.region_log told.live_count told.words told.allowance) }
+        ensures limits { IfOk result
+            (λ told. IsWithinLimits told.region_log told.words told.live_count) }
         ensures fit { IfOk result (λ told. told.allowance < 2 ^ 64) }
         ensures fault { IfErr result (λ fault. first_some (front_faults bytes.now) ≡ Some fault) }
         ensures of_front { IfErr result IsOfFront }
@@ -89,7 +91,8 @@ impl Front {
     fn sizes_fit(&self) -> bool
         requires low { 3 ≤ self.now.region_log }
         requires high { self.now.region_log ≤ 16 }
-        ensures { IsTrue result ↔ IsWithinLimits self.now.region_log self.now.words self.now.live_count }
+        ensures { IsTrue result
+            ↔ IsWithinLimits self.now.region_log self.now.words self.now.live_count }
     {
         if self.words == 0 || self.words > MAX_WORDS {
             return false;

@@ -1,6 +1,6 @@
 //! `Image`: a heap with its live objects.
-ghost use Rattle.std.specs.Prelude.{◌≡◌, ◌<◌, ◌≤◌, length};
-ghost use Rattle.std.specs.List.{concat};
+ghost use Rattle.std.specs.Prelude.{◌≡◌, ◌<◌, ◌≤◌, length, map};
+ghost use Rattle.std.specs.List.{concat, range_with_len};
 ghost use Rattle.heap_image.specs.HeapImage.{HeapImage, IsValid, AreBlocks, AreValidParts, image_of, heap_words, region_count, word_at, block_of};
 
 use crate::blocks::word_of;
@@ -63,6 +63,7 @@ impl Image {
     pub fn into_parts(self) -> ImageParts
         ensures parts { AreValidParts result.region_log result.allowance result.regions.items result.live.items }
         ensures whole { self ≡ image_of result.region_log result.allowance result.regions.items result.live.items }
+        ensures blocks { result.regions.items ≡ map (block_of self) (range_with_len 0 (region_count self)) }
     {
         let Image {
             region_log,

@@ -26,7 +26,7 @@ pub(crate) struct Incoming {
 }
 
 impl Incoming {
-    ghost use Rattle.heap_image.specs.Incoming.{IsInRange, expected, held_bytes, known_rest};
+    ghost use Rattle.heap_image.specs.Incoming.{IsInRange, FallsShort, expected, held_bytes, known_rest};
 
     /// So many numbers will come.
     pub(crate) fn new(due: usize) -> Incoming
@@ -47,10 +47,14 @@ impl Incoming {
         requires in_range { IsInRange self.old }
         requires enough { length words.old ≤ expected self.old }
         ensures in_range { OnOk result (IsInRange self.new) }
-        ensures bytes { OnOk result (Consumes (known_rest self.old (R.left reader.old)) (known_rest self.new (R.left reader.new)) (numbers words.new)) }
+        ensures bytes { OnOk result (Consumes
+            (known_rest self.old (R.left reader.old))
+            (known_rest self.new (R.left reader.new))
+            (numbers words.new)) }
         ensures expected { OnOk result (expected self.new + length words.new ≡ expected self.old) }
         ensures fit { All (λ w. w < 2 ^ 64) words.new }
-        ensures truncated { result ≡ Err Fault.TruncatedBody → IsAtEnd (R.left reader.new) × IfSome (known_rest self.old (R.left reader.old)) (λ rest. length rest < 8 * expected self.old) }
+        ensures truncated { result ≡ Err Fault.TruncatedBody → FallsShort
+            (known_rest self.old (R.left reader.old)) (R.left reader.new) (expected self.old) }
         ensures fault { IfErr result (λ fault. (fault ≡ Fault.TruncatedBody) ⊎ (fault ≡ Fault.Io)) }
         ensures lost { (came : List ℕ) × Consumes (R.left reader.old) (R.left reader.new) came }
         ensures failed { R.has_failed reader.new ≡ (is_io result || R.has_failed reader.old) }
@@ -68,10 +72,16 @@ impl Incoming {
         requires { IsInRange self.old }
         ensures in_range { OnOk result (IsInRange self.new) }
         ensures some { OnOk result (0 < expected self.old → self.new.start < self.new.end) }
-        ensures came { OnOk result (self.old.start ≡ self.old.end → 0 < self.old.due → IfSome (R.left reader.old) (λ rest. 0 < length rest)) }
-        ensures bytes { OnOk result (Consumes (known_rest self.old (R.left reader.old)) (known_rest self.new (R.left reader.new)) []) }
+        ensures came { OnOk result
+            (self.old.start ≡ self.old.end → 0 < self.old.due
+            → IfSome (R.left reader.old) (λ rest. 0 < length rest)) }
+        ensures bytes { OnOk result (Consumes
+            (known_rest self.old (R.left reader.old))
+            (known_rest self.new (R.left reader.new))
+            []) }
         ensures expected { OnOk result (expected self.new ≡ expected self.old) }
-        ensures truncated { result ≡ Err Fault.TruncatedBody → IsAtEnd (R.left reader.new) × IfSome (known_rest self.old (R.left reader.old)) (λ rest. length rest < 8 * expected self.old) }
+        ensures truncated { result ≡ Err Fault.TruncatedBody → FallsShort
+            (known_rest self.old (R.left reader.old)) (R.left reader.new) (expected self.old) }
         ensures fault { IfErr result (λ fault. (fault ≡ Fault.TruncatedBody) ⊎ (fault ≡ Fault.Io)) }
         ensures lost { (came : List ℕ) × Consumes (R.left reader.old) (R.left reader.new) came }
         ensures failed { R.has_failed reader.new ≡ (is_io result || R.has_failed reader.old) }
@@ -96,7 +106,8 @@ impl Incoming {
         ensures in_range { IsInRange self.new }
         ensures within { result ≤ length words.new }
         ensures some { self.old.start < self.old.end → 0 < length words.new → 0 < result }
-        ensures bytes { held_bytes self.old ≡ numbers (take result words.new) ++ held_bytes self.new }
+        ensures bytes { held_bytes self.old
+            ≡ numbers (take result words.new) ++ held_bytes self.new }
         ensures expected { expected self.new + result ≡ expected self.old }
     {
         let n = (self.end - self.start).min(words.len());

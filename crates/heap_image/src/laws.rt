@@ -15,5 +15,6 @@ pub fn text_is_faultless()
 
 /// Two valid images with the same text are equal.
 pub fn one_text()
-    ensures { (image other : HeapImage) → IsValid image → IsValid other → text image ≡ text other → image ≡ other }
+    ensures { (image other : HeapImage) → IsValid image → IsValid other → text image ≡ text other
+        → image ≡ other }
 {}

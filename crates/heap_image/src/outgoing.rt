@@ -39,8 +39,12 @@ impl Outgoing {
     pub(crate) fn write<W: Outlet>(&mut self, writer: &mut W, words: &[u64]) -> Result<(), Failed>
         requires { self.old.end ≤ 8192 }
         ensures in_range { OnOk result (self.new.end ≤ 8192) }
-        ensures bytes { OnOk result (Sends (W.took writer.old) (W.took writer.new) (held_bytes self.old) (held_bytes self.new) (numbers words.now)) }
-        ensures beginning { OnErr result (TakesBeginning (W.took writer.old) (W.took writer.new) (held_bytes self.old ++ numbers words.now)) }
+        ensures bytes { OnOk result
+            (Sends (W.took writer.old) (W.took writer.new) (held_bytes self.old)
+            (held_bytes self.new) (numbers words.now)) }
+        ensures beginning { OnErr result
+            (TakesBeginning (W.took writer.old) (W.took writer.new)
+            (held_bytes self.old ++ numbers words.now)) }
         ensures failed { W.has_failed writer.new ≡ (is_err result || W.has_failed writer.old) }
     {
         let mut done = 0;
@@ -55,8 +59,11 @@ impl Outgoing {
     fn make_room<W: Outlet>(&mut self, writer: &mut W) -> Result<(), Failed>
         requires { self.old.end ≤ 8192 }
         ensures room { OnOk result (self.new.end < 8192) }
-        ensures bytes { OnOk result (Sends (W.took writer.old) (W.took writer.new) (held_bytes self.old) (held_bytes self.new) []) }
-        ensures beginning { OnErr result (TakesBeginning (W.took writer.old) (W.took writer.new) (held_bytes self.old)) }
+        ensures bytes { OnOk result
+            (Sends (W.took writer.old) (W.took writer.new) (held_bytes self.old)
+            (held_bytes self.new) []) }
+        ensures beginning { OnErr result
+            (TakesBeginning (W.took writer.old) (W.took writer.new) (held_bytes self.old)) }
         ensures failed { W.has_failed writer.new ≡ (is_err result || W.has_failed writer.old) }
     {
         if self.end < ROOM {
@@ -69,8 +76,10 @@ impl Outgoing {
     pub(crate) fn flush<W: Outlet>(&mut self, writer: &mut W) -> Result<(), Failed>
         requires { self.old.end ≤ 8192 }
         ensures empty { OnOk result (self.new.end ≡ 0) }
-        ensures bytes { OnOk result (Appends (W.took writer.old) (W.took writer.new) (held_bytes self.old)) }
-        ensures beginning { OnErr result (TakesBeginning (W.took writer.old) (W.took writer.new) (held_bytes self.old)) }
+        ensures bytes { OnOk result
+            (Appends (W.took writer.old) (W.took writer.new) (held_bytes self.old)) }
+        ensures beginning { OnErr result
+            (TakesBeginning (W.took writer.old) (W.took writer.new) (held_bytes self.old)) }
         ensures failed { W.has_failed writer.new ≡ (is_err result || W.has_failed writer.old) }
     {
         give_all(writer, &self.bytes[..8 * self.end])?;
@@ -84,7 +93,8 @@ impl Outgoing {
         ensures in_range { self.new.end ≤ 8192 }
         ensures within { result ≤ length words.now }
         ensures some { self.old.end < 8192 → 0 < length words.now → 0 < result }
-        ensures bytes { held_bytes self.new ≡ held_bytes self.old ++ numbers (take result words.now) }
+        ensures bytes { held_bytes self.new
+            ≡ held_bytes self.old ++ numbers (take result words.now) }
         ensures room { self.new.end ≡ self.old.end + result }
     {
         let n = (ROOM - self.end).min(words.len());

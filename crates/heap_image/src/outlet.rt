@@ -30,7 +30,8 @@ pub trait Outlet {
 /// Gives the device all of the bytes. After [`Failed`] it took a beginning of them.
 pub(crate) fn give_all<W: Outlet>(writer: &mut W, bytes: &[u8]) -> Result<(), Failed>
     ensures bytes { OnOk result (Appends (W.took writer.old) (W.took writer.new) bytes.now) }
-    ensures beginning { (n : ℕ) × Appends (W.took writer.old) (W.took writer.new) (take n bytes.now) }
+    ensures beginning { (n : ℕ)
+        × Appends (W.took writer.old) (W.took writer.new) (take n bytes.now) }
     ensures failed { W.has_failed writer.new ≡ (is_err result || W.has_failed writer.old) }
     ensures stays_failed { IsTrue (W.has_failed writer.old) → 0 < length bytes.now → IsErr result }
 {

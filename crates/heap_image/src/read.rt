@@ -5,8 +5,8 @@ ghost use Rattle.std.specs.Io.KnownBytes.{Consumes, IsAtEnd};
 ghost use Rattle.heap_image.specs.Device.{is_io};
 ghost use Rattle.heap_image.specs.HeapImage.{HeapImage, IsValid, IsWithinLimits, FormHeap, AreBlocks};
 ghost use Rattle.heap_image.specs.ImageText.{text, front, numbers, front_faults, first_fault, first_some};
-ghost use Rattle.heap_image.specs.Refusals.{IsReason, LeavesRest};
-ghost use Rattle.heap_image.specs.Incoming.{IsInRange, expected, known_rest};
+ghost use Rattle.heap_image.specs.Refusals.{IsReason, IsOfBody, LeavesRest};
+ghost use Rattle.heap_image.specs.Incoming.{IsInRange, FallsShort, expected, known_rest};
 
 use crate::check::check_live_list;
 use crate::front::{FRONT_BYTES, Front};
@@ -24,12 +24,16 @@ use std::alloc::Global;
 pub fn read_image<R: Intake>(alloc: Global, reader: &mut R) -> Result<Image, Fault>
     ensures valid { IfOk result (λ image. IsValid image) }
     // The input is the text of the image, all of it.
-    ensures text { IfOk result (λ image. Consumes (R.left reader.old) (R.left reader.new) (text image)) }
+    ensures text { IfOk result
+        (λ image. Consumes (R.left reader.old) (R.left reader.new) (text image)) }
     ensures end { OnOk result (IsAtEnd (R.left reader.new)) }
     // Memory was refused, the device failed, or it is the first fault of the input.
-    ensures fault { IfErr result (λ fault. IfSome (R.left reader.old) (λ input. IsReason input fault)) }
-    ensures left { IfErr result (λ fault. IfSome (R.left reader.old) (λ input. LeavesRest fault input (R.left reader.new))) }
-    ensures memory { IfErr result (λ fault. fault ≡ Fault.Memory → IfSome (R.left reader.old) (λ input. 32 < length input)) }
+    ensures fault { IfErr result
+        (λ fault. IfSome (R.left reader.old) (λ input. IsReason input fault)) }
+    ensures left { IfErr result (λ fault. IfSome (R.left reader.old)
+        (λ input. LeavesRest fault input (R.left reader.new))) }
+    ensures memory { IfErr result
+        (λ fault. fault ≡ Fault.Memory → IfSome (R.left reader.old) (λ input. 32 < length input)) }
     ensures io { R.has_failed reader.new ≡ is_io result }
 {
     let front = read_front(reader)?;
@@ -49,11 +53,16 @@ pub fn read_image<R: Intake>(alloc: Global, reader: &mut R) -> Result<Image, Fau
 
 /// Reads the first 32 bytes, and no byte behind them.
 fn read_front<R: Intake>(reader: &mut R) -> Result<Front, Fault>
-    ensures told { IfOk result (λ told. Consumes (R.left reader.old) (R.left reader.new) (front told.region_log told.live_count told.words told.allowance)) }
-    ensures limits { IfOk result (λ told. IsWithinLimits told.region_log told.words told.live_count) }
+    ensures told { IfOk result
+        (λ told. Consumes (R.left reader.old) (R.left reader.new)
+        (front told.region_log told.live_count told.words told.allowance)) }
+    ensures limits { IfOk result
+        (λ told. IsWithinLimits told.region_log told.words told.live_count) }
     ensures fit { IfOk result (λ told. told.allowance < 2 ^ 64) }
-    ensures fault { IfErr result (λ fault. IfSome (R.left reader.old) (λ input. IsReason input fault)) }
-    ensures left { IfErr result (λ fault. IfSome (R.left reader.old) (λ input. LeavesRest fault input (R.left reader.new))) }
+    ensures fault { IfErr result
+        (λ fault. IfSome (R.left reader.old) (λ input. IsReason input fault)) }
+    ensures left { IfErr result (λ fault. IfSome (R.left reader.old)
+        (λ input. LeavesRest fault input (R.left reader.new))) }
     ensures memory { IfErr result (λ fault. fault ≢ Fault.Memory) }
     ensures failed { R.has_failed reader.new ≡ is_io result }
 {
@@ -74,15 +83,19 @@ struct Body {
 /// Reads what stands behind this front, and no byte behind that. It takes no memory before a byte has come.
 fn read_body<R: Intake>(alloc: Global, reader: &mut R, front: Front) -> Result<Body, Fault>
     requires { IsWithinLimits front.region_log front.words front.live_count }
-    ensures bytes { IfOk result (λ body. Consumes (R.left reader.old) (R.left reader.new) (numbers (concat body.regions.items) ++ numbers body.live.items)) }
+    ensures bytes { IfOk result
+        (λ body. Consumes (R.left reader.old) (R.left reader.new)
+        (numbers (concat body.regions.items) ++ numbers body.live.items)) }
     ensures regions { IfOk result (λ body. AreBlocks front.region_log body.regions.items) }
     ensures fit { IfOk result (λ body. All (λ w. w < 2 ^ 64) (concat body.regions.items)) }
     ensures words { IfOk result (λ body. length (concat body.regions.items) ≡ front.words) }
     ensures live { IfOk result (λ body. length body.live.items ≡ front.live_count) }
     ensures live_fit { IfOk result (λ body. All (λ a. a < 2 ^ 64) body.live.items) }
-    ensures truncated { result ≡ Err Fault.TruncatedBody → IsAtEnd (R.left reader.new) × IfSome (R.left reader.old) (λ rest. length rest < 8 * (front.words + front.live_count)) }
-    ensures memory { result ≡ Err Fault.Memory → IfSome (R.left reader.old) (λ rest. 0 < length rest) }
-    ensures fault { IfErr result (λ fault. (fault ≡ Fault.Memory) ⊎ ((fault ≡ Fault.Io) ⊎ (fault ≡ Fault.TruncatedBody))) }
+    ensures truncated { result ≡ Err Fault.TruncatedBody → FallsShort
+        (R.left reader.old) (R.left reader.new) (front.words + front.live_count) }
+    ensures memory { result ≡ Err Fault.Memory
+        → IfSome (R.left reader.old) (λ rest. 0 < length rest) }
+    ensures fault { IfErr result IsOfBody }
     ensures lost { (came : List ℕ) × Consumes (R.left reader.old) (R.left reader.new) came }
     ensures failed { R.has_failed reader.new ≡ (is_io result || R.has_failed reader.old) }
 {
@@ -105,13 +118,16 @@ fn read_regions<R: Intake>(
     requires in_range { IsInRange incoming.old }
     requires enough { front.words ≤ expected incoming.old }
     ensures in_range { OnOk result (IsInRange incoming.new) }
-    ensures bytes { IfOk result (λ regions. Consumes (known_rest incoming.old (R.left reader.old)) (known_rest incoming.new (R.left reader.new)) (numbers (concat regions.items))) }
+    ensures bytes { IfOk result
+        (λ regions. Consumes (known_rest incoming.old (R.left reader.old))
+        (known_rest incoming.new (R.left reader.new)) (numbers (concat regions.items))) }
     ensures regions { IfOk result (λ regions. AreBlocks front.region_log regions.items) }
     ensures fit { IfOk result (λ regions. All (λ w. w < 2 ^ 64) (concat regions.items)) }
     ensures words { IfOk result (λ regions. length (concat regions.items) ≡ front.words) }
     ensures expected { OnOk result (expected incoming.new + front.words ≡ expected incoming.old) }
-    ensures truncated { result ≡ Err Fault.TruncatedBody → IsAtEnd (R.left reader.new) × IfSome (known_rest incoming.old (R.left reader.old)) (λ rest. length rest < 8 * expected incoming.old) }
-    ensures fault { IfErr result (λ fault. (fault ≡ Fault.Memory) ⊎ ((fault ≡ Fault.Io) ⊎ (fault ≡ Fault.TruncatedBody))) }
+    ensures truncated { result ≡ Err Fault.TruncatedBody → FallsShort
+        (known_rest incoming.old (R.left reader.old)) (R.left reader.new) (expected incoming.old) }
+    ensures fault { IfErr result IsOfBody }
     ensures lost { (came : List ℕ) × Consumes (R.left reader.old) (R.left reader.new) came }
     ensures failed { R.has_failed reader.new ≡ (is_io result || R.has_failed reader.old) }
 {
@@ -134,12 +150,16 @@ fn read_region<R: Intake>(
     requires in_range { IsInRange incoming.old }
     requires enough { 2 ^ region_log ≤ expected incoming.old }
     ensures in_range { OnOk result (IsInRange incoming.new) }
-    ensures bytes { IfOk result (λ region. Consumes (known_rest incoming.old (R.left reader.old)) (known_rest incoming.new (R.left reader.new)) (numbers region)) }
+    ensures bytes { IfOk result
+        (λ region. Consumes (known_rest incoming.old (R.left reader.old))
+        (known_rest incoming.new (R.left reader.new)) (numbers region)) }
     ensures whole { IfOk result (λ region. length region ≡ 2 ^ region_log) }
     ensures fit { IfOk result (λ region. All (λ w. w < 2 ^ 64) region) }
-    ensures expected { OnOk result (expected incoming.new + 2 ^ region_log ≡ expected incoming.old) }
-    ensures truncated { result ≡ Err Fault.TruncatedBody → IsAtEnd (R.left reader.new) × IfSome (known_rest incoming.old (R.left reader.old)) (λ rest. length rest < 8 * expected incoming.old) }
-    ensures fault { IfErr result (λ fault. (fault ≡ Fault.Memory) ⊎ ((fault ≡ Fault.Io) ⊎ (fault ≡ Fault.TruncatedBody))) }
+    ensures expected { OnOk result
+        (expected incoming.new + 2 ^ region_log ≡ expected incoming.old) }
+    ensures truncated { result ≡ Err Fault.TruncatedBody → FallsShort
+        (known_rest incoming.old (R.left reader.old)) (R.left reader.new) (expected incoming.old) }
+    ensures fault { IfErr result IsOfBody }
     ensures lost { (came : List ℕ) × Consumes (R.left reader.old) (R.left reader.new) came }
     ensures failed { R.has_failed reader.new ≡ (is_io result || R.has_failed reader.old) }
 {

@@ -14,7 +14,8 @@ use crate::{Fault, Image};
 /// again; it then took a beginning of the text.
 pub fn write_image<W: Outlet>(image: &Image, writer: &mut W) -> Result<(), Fault>
     ensures text { OnOk result (Appends (W.took writer.old) (W.took writer.new) (text image.now)) }
-    ensures beginning { OnErr result (TakesBeginning (W.took writer.old) (W.took writer.new) (text image.now)) }
+    ensures beginning { OnErr result
+        (TakesBeginning (W.took writer.old) (W.took writer.new) (text image.now)) }
     ensures fault { IfErr result (λ fault. fault ≡ Fault.Io) }
     ensures io { W.has_failed writer.new ≡ is_io result }
 {

@@ -1,4 +1,3 @@
-use Rattle.std.proofs.Common.{◌≡◌}
 use Rattle.heap_image.proofs.Marks.{bit_by_mask}
 use Rattle.heap_image.proofs.begins.is_marked.Goals as goal
 

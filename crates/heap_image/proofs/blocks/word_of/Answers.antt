@@ -1,8 +1,8 @@
-use Rattle.std.proofs.Common.{◌≡◌, ◌<◌, ◌≤◌, length, ℕ, ◌*◌, ◌/◌, ◌%◌, ◌^◌, List, [], get_or, sym, ◌∙◌, ap, subst, arith}
+use Rattle.std.proofs.Common.{◌≡◌, ◌<◌, length, ℕ, ◌/◌, ◌%◌, ◌^◌, List, [], get_or, sym, ◌∙◌, ap, arith}
 use Rattle.std.proofs.lemmas.List.{get_or_default}
 use Rattle.std.proofs.lemmas.Nat.{mod_below}
 use Rattle.std.proofs.Math.Nat.{div-le_self}
-use Rattle.heap_image.proofs.BlockWords.{block_below, word_by_block, length-concat}
+use Rattle.heap_image.proofs.BlockWords.{block_below, word_by_block}
 use Rattle.heap_image.proofs.Parts.{region_some, place_by_mask}
 use Rattle.heap_image.proofs.blocks.word_of.Goals as goal
 use Rattle.heap_image.proofs.blocks.word_of.Goals.{Start, After-index-regions-a}

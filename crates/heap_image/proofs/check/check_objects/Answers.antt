@@ -1,5 +1,4 @@
-use Rattle.std.proofs.Common.{◌≡◌, ◌<◌, ◌+◌, ℕ, true, get_or, length, sym, ◌∙◌, ap, arith}
-use Rattle.std.proofs.lemmas.List.{take_all}
+use Rattle.std.proofs.Common.{◌∙◌}
 use Rattle.heap_image.specs.HeapImage.{image_of}
 use Rattle.heap_image.specs.ImageText.{is_unsound}
 use Rattle.heap_image.proofs.Finds.{find_none_more}

@@ -1,6 +1,6 @@
-use Rattle.std.proofs.Common.{◌≡◌, ℕ, ◌<◌, take, None}
+use Rattle.std.proofs.Common.{◌≡◌, take, None}
 use Rattle.std.specs.Prelude.{find}
-use Rattle.heap_image.specs.HeapImage.{image_of, end_of, size_at}
+use Rattle.heap_image.specs.HeapImage.{image_of, size_at}
 use Rattle.heap_image.specs.ImageText.{is_unsound}
 use Rattle.heap_image.proofs.Overlaps.{last_end_of, overlap_of}
 use Rattle.heap_image.proofs.check.check_objects.Given as goal

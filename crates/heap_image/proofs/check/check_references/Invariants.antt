@@ -1,4 +1,4 @@
-use Rattle.std.proofs.Common.{◌≡◌, ℕ, take, None}
+use Rattle.std.proofs.Common.{◌≡◌, take, None}
 use Rattle.std.specs.Prelude.{find, flat_map}
 use Rattle.heap_image.specs.HeapImage.{image_of}
 use Rattle.heap_image.specs.ImageText.{is_dangling, fields_of}

@@ -1,4 +1,4 @@
-use Rattle.std.proofs.Common.{◌≡◌, ◌<◌, ◌≤◌, ◌+◌, ℕ, Bool, true, false, List, get_or, not, ◌||◌, eqb, sym, ◌∙◌, ap, arith, below_more}
+use Rattle.std.proofs.Common.{◌≡◌, ◌≤◌, ◌+◌, ℕ, Bool, false, List, get_or, not, ◌||◌, eqb, sym, ◌∙◌, ap, arith, below_more}
 use Rattle.std.specs.List.{list_any, concat}
 use Rattle.heap_image.specs.HeapImage.{image_of}
 use Rattle.heap_image.specs.ImageText.{is_dangling}

@@ -1,6 +1,5 @@
 use Rattle.std.proofs.Common.{◌≡◌, ℕ, ◌<◌, false, List}
 use Rattle.std.specs.Prelude.{All}
-use Rattle.std.specs.List.{concat}
 use Rattle.heap_image.specs.HeapImage.{image_of}
 use Rattle.heap_image.specs.ImageText.{is_dangling}
 use Rattle.heap_image.specs.Begins.{MarkBegins}

@@ -1,4 +1,4 @@
-use Rattle.std.proofs.Common.{◌≡◌, ℕ, ◌+◌, ◌-◌, ◌<◌, true, false, get_or, length, ap, ◌∙◌, sym, arith, below_more, Some}
+use Rattle.std.proofs.Common.{◌≡◌, ◌+◌, ◌-◌, true, false, get_or, length, ap, sym, arith, below_more}
 use Rattle.heap_image.specs.ImageText.{is_misplaced}
 use Rattle.heap_image.proofs.Finds.{find_least_from_zero, find_none_in_range}
 use Rattle.heap_image.proofs.LiveOrder.{placed, too_low, too_high}

@@ -1,4 +1,4 @@
-use Rattle.std.proofs.Common.{◌≡◌, ◌≤◌, ◌<◌, ◌+◌, ◌*◌, inr, length, arith, subst, Some}
+use Rattle.std.proofs.Common.{inr, arith, Some}
 use Rattle.std.proofs.lemmas.Result.{err_from_is_err_and}
 use Rattle.heap_image.specs.declared.fault.Fault.TheVariants.{TruncatedBody, Memory}
 use Rattle.heap_image.proofs.WholeBytes.{front_fault_first, truncated_first, layout_none, no_refusal, decodes_only, for_each_fault}

@@ -1,4 +1,4 @@
-use Rattle.std.proofs.Common.{length, ◌-◌, ◌≡◌, ◌<◌, ◌≤◌, take, drop, true, false, ◌+◌, sym, ◌∙◌, subst, arith, length-drop}
+use Rattle.std.proofs.Common.{length, ◌-◌, ◌≡◌, ◌≤◌, take, drop, false, sym, ◌∙◌, subst, arith}
 use Rattle.std.specs.Io.KnownBytes.{Appends}
 use Rattle.heap_image.proofs.Known.{appends_more, refuted}
 use Rattle.heap_image.proofs.Pieces.{take_piece, length_of_piece}

@@ -1,7 +1,6 @@
-use Rattle.std.proofs.Common.{◌≡◌, ◌<◌, ◌≤◌, ◌+◌, ◌*◌, ◌++◌, [], List, ℕ, length, ap, sym, ◌∙◌, arith}
+use Rattle.std.proofs.Common.{◌≡◌, ◌+◌, ◌*◌, ◌++◌, [], arith}
 use Rattle.std.proofs.lemmas.Result.{err_from_is_err_and}
 use Rattle.std.specs.List.{concat}
-use Rattle.std.specs.Prelude.{IfSome}
 use Rattle.heap_image.specs.ImageText.{numbers}
 use Rattle.heap_image.specs.Incoming.{expected, known_rest, held_bytes}
 use Rattle.heap_image.specs.declared.fault.Fault.TheVariants.{TruncatedBody}

@@ -1,8 +1,8 @@
-use Rattle.std.proofs.Common.{◌≡◌, ◌<◌, ◌≤◌, ◌+◌, ◌*◌, ◌++◌, [], List, ℕ, length, get_or, take, inl, inr, ap, sym, subst, ◌∙◌, arith, Err, None}
+use Rattle.std.proofs.Common.{◌++◌, take, ap, sym, ◌∙◌, Err}
 use Rattle.std.proofs.lemmas.Result.{err_from_is_err_and}
 use Rattle.std.specs.Io.KnownBytes.{Consumes}
 use Rattle.heap_image.specs.HeapImage.{HeapImage, image_of}
-use Rattle.heap_image.specs.ImageText.{text, live_list_faults, first_some}
+use Rattle.heap_image.specs.ImageText.{text}
 use Rattle.heap_image.proofs.TextLaws.{HasFittingNumbers}
 use Rattle.heap_image.proofs.Refusing.{fitting_parts, read_parts, body_leaves, check_reason, check_leaves, check_is_not_io, trailing_reason, trailing_leaves, some_rest, valid_parts, check_of_parts, no_fault_of_parts, more_than_front, one_taken}
 use Rattle.heap_image.proofs.Known.{consumes_more}

@@ -1,4 +1,4 @@
-use Rattle.std.proofs.Common.{◌≡◌, ◌≤◌, ◌*◌, take, false}
+use Rattle.std.proofs.Common.{◌≡◌, ◌≤◌, ◌*◌, take}
 use Rattle.heap_image.specs.HeapImage.{region_words}
 use Rattle.heap_image.specs.ImageText.{numbers}
 use Rattle.heap_image.specs.Outgoing.{held_bytes, Sends}

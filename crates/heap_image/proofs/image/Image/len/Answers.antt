@@ -1,4 +1,4 @@
-use Rattle.std.proofs.Common.{◌≡◌, ◌*◌, ◌%◌, ◌^◌, length, ap, ◌∙◌}
+use Rattle.std.proofs.Common.{◌*◌, ◌%◌, ◌^◌, ap, ◌∙◌}
 use Rattle.heap_image.specs.HeapImage.{heap_words}
 use Rattle.heap_image.proofs.Parts.{len_fits}
 use Rattle.heap_image.proofs.image.Image.len.Goals as goal

@@ -1,4 +1,4 @@
-use Rattle.std.proofs.Common.{◌≡◌, ◌<◌, ap, ◌∙◌, sym, subst, length, arith, [], get_or}
+use Rattle.std.proofs.Common.{◌<◌, ap, ◌∙◌, sym, subst, arith, []}
 use Rattle.std.proofs.lemmas.List.{get_or_default}
 use Rattle.heap_image.specs.HeapImage.{region_count, block_of}
 use Rattle.heap_image.proofs.Parts.{count_by_blocks, block_by_blocks}

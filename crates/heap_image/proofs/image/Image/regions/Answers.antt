@@ -1,4 +1,4 @@
-use Rattle.std.proofs.Common.{◌≡◌, ◌≤◌, length, ap, ◌∙◌, sym, arith, Fits, w32}
+use Rattle.std.proofs.Common.{ap, ◌∙◌, sym, arith}
 use Rattle.heap_image.specs.HeapImage.{region_count}
 use Rattle.heap_image.proofs.Parts.{count_by_blocks, few_blocks}
 use Rattle.heap_image.proofs.image.Image.regions.Goals as goal

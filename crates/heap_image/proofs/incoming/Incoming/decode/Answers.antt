@@ -1,4 +1,4 @@
-use Rattle.std.proofs.Common.{◌≡◌, ◌<◌, ◌≤◌, ◌-◌, ◌*◌, ◌+◌, ◌++◌, take, drop, ℕ, List, get_or, length, arith, ap, sym, ◌∙◌, length-take}
+use Rattle.std.proofs.Common.{◌≡◌, ◌-◌, ◌*◌, ◌+◌, ◌++◌, take, drop, length, arith, ap, sym, ◌∙◌, length-take}
 use Rattle.heap_image.specs.ImageText.{numbers}
 use Rattle.std.specs.Prelude.{slice_range}
 use Rattle.heap_image.proofs.Reading.{slice_split}

@@ -1,12 +1,12 @@
-use Rattle.std.proofs.Common.{◌≡◌, ◌<◌, ◌≤◌, ◌^◌, ◌-◌, ◌*◌, ◌+◌, ◌++◌, take, drop, ℕ, List, [], get_or, length, arith, ap, sym, subst, ◌∙◌, length-take}
+use Rattle.std.proofs.Common.{◌≡◌, ◌<◌, ◌^◌, ◌-◌, ◌+◌, ◌++◌, take, [], length, arith, ap, sym, subst, ◌∙◌, length-take}
 use Rattle.std.proofs.lemmas.List.{append-nil}
 use Rattle.std.proofs.lemmas.List.Elements.{All-from_get_or}
 use Rattle.std.proofs.lemmas.List.Concat.{flat_map-append}
 use Rattle.std.specs.Int.{w64, to_le_bytes}
 use Rattle.std.proofs.lemmas.Result.{err_from_is_err_and}
-use Rattle.std.specs.Io.KnownBytes.{Consumes, prepend_known}
+use Rattle.std.specs.Io.KnownBytes.{Consumes}
 use borrow.Rule.Slice.PartMut.{put_mid}
-use Rattle.heap_image.specs.Incoming.{IsInRange, expected, known_rest, held_bytes}
+use Rattle.heap_image.specs.Incoming.{expected, known_rest, held_bytes}
 use Rattle.heap_image.specs.ImageText.{numbers}
 use Rattle.heap_image.proofs.Known.{consumes_more, consumes_held}
 use Rattle.heap_image.proofs.Pieces.{take_put_back, length-put_mid, length_of_rest}
