@@ -10,7 +10,7 @@ use Rattle.mark_bitmap.specs.Marks.{block_words, block_count, block_live}
 use Rattle.mark_bitmap.proofs.Counts.{count-split, count-le}
 
 -- a region is a number of blocks
-blocks_divide : (log : ℕ) → (m : ℕ) × (0 < m) × (0 < min 128 (2 ^ log)) × (2 ^ log ≡ m * min 128 (2 ^ log))
+pub blocks_divide : (log : ℕ) → (m : ℕ) × (0 < m) × (0 < min 128 (2 ^ log)) × (2 ^ log ≡ m * min 128 (2 ^ log))
 blocks_divide log = elim (cases_lt log 7) [
   | inl small ↦
       let below : 2 ^ log < 2 ^ 7 = pow_below log 7 small in

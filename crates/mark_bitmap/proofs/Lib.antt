@@ -5,3 +5,4 @@ pub mod Counts
 pub mod Firsts
 pub mod Apart
 pub mod BlockSums
+pub mod Absent

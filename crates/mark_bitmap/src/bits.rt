@@ -109,6 +109,26 @@ impl Bits {
         Some(64 * (start + 1 + i) as u64 + lowest(behind[i]))
     }
 
+    /// The least address from `from` on that is not in the set.
+    pub(crate) fn next_absent(&self, from: u64) -> u64
+        requires { room self.now < 2 ^ 64 }
+        ensures { IsFirstFrom (λ k. not (has self.now k)) from result }
+    {
+        let start = (from / 64) as usize;
+        let Some(word) = self.words.get(start) else {
+            return from;
+        };
+        let rest = lacking(*word) & (u64::MAX << (from % 64));
+        if rest != 0 {
+            return 64 * start as u64 + lowest(rest);
+        }
+        let behind = &self.words[start + 1..];
+        match first_not_full(behind) {
+            Some(i) => 64 * (start + 1 + i) as u64 + lowest(lacking(behind[i])),
+            None => 64 * self.words.len() as u64,
+        }
+    }
+
     /// How many addresses from `from` up to `to`, itself not included, are in the set.
     #[inline]
     pub(crate) fn count(&self, from: u64, to: u64) -> u64
@@ -151,6 +171,22 @@ fn first_nonzero(words: &[u64]) -> Option<usize>
     ensures { result ≡ position (λ word. not (word == 0)) words.now }
 {
     words.iter().position(|word| *word != 0)
+}
+
+/// The bits that are not set in a word.
+#[inline]
+fn lacking(word: u64) -> u64
+    ensures bits { (j : ℕ) → j < 64 → bit_at result j ≡ 1 - bit_at word j }
+    ensures some { (word ≡ 2 ^ 64 - 1 → ⊥) → 0 < result }
+{
+    !word
+}
+
+/// The index of the first word that has a bit which is not set.
+fn first_not_full(words: &[u64]) -> Option<usize>
+    ensures { result ≡ position (λ word. not (word == 2 ^ 64 - 1)) words.now }
+{
+    words.iter().position(|word| *word != u64::MAX)
 }
 
 /// The place of the lowest bit that is set in a word.

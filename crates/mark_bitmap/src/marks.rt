@@ -1,6 +1,6 @@
 //! `Marks`: the mark bitmaps of an image.
 ghost use Rattle.std.specs.Prelude.{◌≡◌, ◌<◌, ◌≤◌, IsTrue, IfOk, MatchOption};
-ghost use Rattle.heap_image.specs.HeapImage.{IsValid, heap_words, live_words, size_at};
+ghost use Rattle.heap_image.specs.HeapImage.{IsValid, heap_words, is_live_word, is_dead_word, live_words, size_at};
 ghost use Rattle.mark_bitmap.specs.Bits.{NoneFrom, IsFirstFrom};
 ghost use Rattle.mark_bitmap.specs.Marks.{is_begin, is_end, block_words, block_count, block_live};
 
@@ -87,6 +87,20 @@ impl Marks {
         ensures { MatchOption result (NoneFrom (is_end self.now) from) (IsFirstFrom (is_end self.now) from) }
     {
         self.ends.next(from)
+    }
+
+    /// The first address from `from` on whose word belongs to a live object.
+    pub fn next_live(&self, from: u64) -> Option<u64>
+        ensures { MatchOption result (NoneFrom (is_live_word self.now) from) (IsFirstFrom (is_live_word self.now) from) }
+    {
+        self.live.next(from)
+    }
+
+    /// The first address from `from` on whose word belongs to no live object. The words past the heap belong to none.
+    pub fn next_dead(&self, from: u64) -> u64
+        ensures { IsFirstFrom (is_dead_word self.now) from result }
+    {
+        self.live.next_absent(from)
     }
 
     /// How many words from address `from` up to `to`, itself not included, belong to live objects.

@@ -123,6 +123,10 @@ fn base_heap_answers(rt: HostRuntime) -> Result<(), Fail> {
     assert_eq!(rt; begins, [Some(20), None]);
     let ends = [marks.next_end(21), marks.next_end(32)];
     assert_eq!(rt; ends, [Some(29), None]);
+    let live = [marks.next_live(3), marks.next_live(30)];
+    assert_eq!(rt; live, [Some(5), None]);
+    let dead = [marks.next_dead(5), marks.next_dead(30), marks.next_dead(99)];
+    assert_eq!(rt; dead, [9, 30, 99]);
     assert!(rt; marks.is_begin(20));
     assert_eq!(rt; marks.size_at(20), 10);
     Ok(())
