@@ -20,3 +20,10 @@ pub mod Updates
 pub mod Blocks
 pub mod Steps
 pub mod Runs
+pub mod LiveOrder
+pub mod Lines
+pub mod ReadSteps
+pub mod Filters
+pub mod SourceRows
+pub mod Crossings
+pub mod BlockAddresses

@@ -2,7 +2,7 @@
 use Rattle.std.specs.Prelude.{◌≡◌, ℕ, List, map, None}
 use Rattle.std.specs.List.{range_with_len}
 use Rattle.heap_image.specs.HeapImage.{HeapImage, region_count}
-use Rattle.summary.specs.NewAddresses.{new_top}
+use Rattle.summary.specs.NewAddresses.{prefix_end, new_top}
 use Rattle.summary.specs.RegionData.{partial_words, own_words, region_data}
 use Rattle.summary.specs.declared.region_data.RegionData.{RegionData}
 use Rattle.summary.specs.declared.region_counts.RegionCounts.{RegionCounts}
@@ -20,7 +20,8 @@ module _ (image : HeapImage) where
   abbrev pub placed_region : ℕ → RegionData
   placed_region r = record (region_data image r) { source = None }
 
--- the data of all regions, but for their sources, and the new top
+-- the data of all regions, but for their sources, the prefix end and the new top
 pub record IsLayout (image : HeapImage) (layout : Layout) : Type 0 where
   pub regions : layout.regions.items ≡ map (placed_region image) (range_with_len 0 (region_count image))
+  pub prefix : layout.prefix_end ≡ prefix_end image
   pub top : layout.new_top ≡ new_top image

@@ -10,3 +10,5 @@ pub mod Placement
 pub mod Layout
 pub mod Sources
 pub mod Report
+pub mod Plan
+pub mod Reads

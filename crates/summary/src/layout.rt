@@ -17,6 +17,8 @@ use std::alloc::{AllocError, Global};
 pub struct Layout {
     /// The data of each region; no region has a source.
     pub regions: Vec<RegionData>,
+    /// The address at which the dense prefix ends.
+    pub prefix_end: u64,
     /// The first free address after the collection.
     pub new_top: u64,
 }
@@ -39,6 +41,7 @@ impl Layout {
         }
         Ok(Layout {
             regions,
+            prefix_end: prefix,
             new_top: next,
         })
     }

@@ -1,6 +1,10 @@
 //! What a collection will do to a heap: where the dense prefix ends, where each live object goes, and what each region
 //! holds and reads.
 //!
+//! [`Plan::of`] makes the plan of an image from its marks. It counts the regions by several threads, and takes memory
+//! for each region alone. Its queries take no memory; each is answered at once, but for [`Plan::reads`], which goes from
+//! region to region.
+//!
 //! The definitions stand in `specs/`. [`laws`] has their laws, by subject: among them that live objects keep their
 //! order and don't overlap, that nothing but live words lies between the prefix end and the new top, that each
 //! reference still leads to the object to which it led, and that the compacted heap is valid.
@@ -8,23 +12,35 @@
 //! [`compact_plainly`] is the compaction as a plain slow program, for tests: whatever it gives is proved to be the
 //! compaction of the definitions, word for word.
 //!
-//! [`prefix_end`], [`Layout::of`] and [`tell_sources`] make the data of each region from the counts of its live words.
-//! The counts themselves, which come from mark bitmaps, aren't here yet, nor is the plan that a collection works from.
+//! # What a contract sees
 //!
-//! Proved: each law, and that each function gives what the definitions say. Not said by any contract: that memory is
-//! enough, and how long a call takes.
+//! A plan is seen as the image that it was made of, as it was then: `plan.now ≡ image.now` says that this is the plan
+//! of this image, and each query answers what the definitions say of it.
+//!
+//! # What is proved
+//!
+//! Each law, and that each function gives exactly what the definitions say. Only tested, or not said by any contract:
+//! that memory is enough, in how many threads the counting runs, and how long a call takes.
 #![tactic(auto)]
 
+mod counting;
+mod deferred;
 pub mod laws;
 mod layout;
+mod object_words;
 mod plainly;
+mod plan;
+mod reads;
 mod region_counts;
 mod region_data;
+mod region_table;
 mod region_words;
+mod report;
 mod sources;
+#[cfg(test)]
+mod tests;
 
-pub use layout::{Layout, prefix_end};
 pub use plainly::compact_plainly;
-pub use region_counts::RegionCounts;
+pub use plan::Plan;
+pub use reads::Reads;
 pub use region_data::RegionData;
-pub use sources::tell_sources;

@@ -1,5 +1,7 @@
 //! `RegionData`.
 
+ghost use Rattle.std.specs.Prelude.{◌≡◌, ◌+◌};
+
 /// What a region holds and where it goes.
 #[derive(Debug, Clone, Copy, PartialEq, Eq)]
 pub struct RegionData {
@@ -15,4 +17,13 @@ pub struct RegionData {
     /// The region whose word goes to the start of this one, if this one is to be filled and lies behind the dense
     /// prefix.
     pub source: Option<u32>,
+}
+
+impl RegionData {
+    /// All live words of the region.
+    pub(crate) fn words(self) -> u64
+        ensures { result ≡ self.partial + self.live }
+    {
+        u64::from(self.partial) + u64::from(self.live)
+    }
 }

@@ -107,5 +107,6 @@ returns c =
     let prefix = c.prefix_end-prefix.ensures.value in
     record {
       regions = c.loop-r.invariant.0 ∙ ap (λ r. map (placed_region image) (range_with_len 0 r)) all;
+      prefix = prefix;
       top = c.loop-r.invariant.2 (omega arith) ∙ ap (destination image) all ∙ destination-top image valid;
     }

@@ -1,0 +1,23 @@
+use Rattle.std.proofs.Common.{◌≡◌, ℕ, ◌<◌, List, length, sym, ◌∙◌, ap, subst, arith}
+use Rattle.std.proofs.lemmas.List.FromFn.{length-map-range_with_len, get_or-map-range_with_len}
+use Rattle.std.specs.Prelude.{Option, slice_index_or}
+use Rattle.heap_image.specs.HeapImage.{HeapImage, region_count}
+use Rattle.summary.specs.RegionData.{deferred}
+use Rattle.summary.proofs.plan.Plan.deferred.Goals as goal
+
+pub index-requires : goal.index-requires
+index-requires c =
+    let image = c.self.inside.table in
+    let long = ap length c.self.invariant ∙ length-map-range_with_len (deferred image) 0 (region_count image) ∙ ap region_count c.self.view_is in
+    let inside = c.requires in
+    omega arith
+
+pub returns : goal.returns
+returns c =
+    let image = c.self.inside.table in
+    let d = c.args.d in
+    let inside : d < region_count image = subst (λ i. d < region_count i) (sym c.self.view_is) c.requires in
+    c.index.ensures
+    ∙ ap (λ (xs : List (Option ℕ)). slice_index_or xs d c.index.result.now) c.self.invariant
+    ∙ get_or-map-range_with_len (deferred image) 0 (region_count image) d d c.index.result.now inside (omega arith)
+    ∙ ap (λ i. deferred i d) c.self.view_is

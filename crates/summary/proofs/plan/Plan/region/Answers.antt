@@ -1,0 +1,11 @@
+use Rattle.std.proofs.Common.{◌≡◌, ℕ, ◌<◌, refl, sym, ◌∙◌, ap, subst}
+use Rattle.heap_image.specs.HeapImage.{region_count}
+use Rattle.summary.specs.RegionData.{region_data}
+use Rattle.summary.proofs.BlockAddresses.{region_at}
+use Rattle.summary.proofs.plan.Plan.region.Goals as goal
+
+pub returns : goal.returns
+returns c =
+    let image = c.self.inside.table in
+    let inside = subst (λ i. c.args.r < region_count i) (sym c.self.view_is) c.requires in
+    region_at image c.regions.result.now c.regions.ensures.data c.args.r c.args.r _ inside refl ∙ ap (λ i. region_data i c.args.r) c.self.view_is

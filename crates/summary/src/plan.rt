@@ -1,0 +1,150 @@
+//! `Plan`: what a collection will do to an image.
+
+ghost use Rattle.std.specs.Prelude.{◌≡◌, ◌<◌, IfOk, IfErr, Contains, string_bytes};
+ghost use Rattle.heap_image.specs.HeapImage.{IsValid, region_count};
+ghost use Rattle.heap_image.specs.declared.fault.Fault.TheVariants.{Memory};
+ghost use Rattle.summary.specs.NewAddresses.{prefix_end, new_address, new_top};
+ghost use Rattle.summary.specs.RegionData.{region_data, deferred, fill_count};
+ghost use Rattle.summary.specs.Plan.{sources, sources_from};
+ghost use Rattle.summary.specs.Report.{report};
+
+use crate::counting::count_regions;
+use crate::deferred::deferred_addresses;
+use crate::reads::Reads;
+use crate::region_data::RegionData;
+use crate::region_table::RegionTable;
+use crate::report::report;
+use heap_image::{Fault, Image};
+use mark_bitmap::Marks;
+use std::alloc::{AllocError, Global};
+use std::marker::Model;
+use std::thread::Threads;
+
+/// What a collection will do to an image: what each region holds and reads, and where each live object goes.
+///
+/// A contract sees a plan as the image that it was made of, as it was then. The image itself is not kept.
+#[derive(Drop)]
+pub struct Plan {
+    table: RegionTable,
+    deferred: Vec<Option<u64>>,
+}
+
+impl Model for Plan {
+    ghost use Rattle.heap_image.specs.HeapImage.{HeapImage};
+    ghost use Rattle.summary.specs.Plan.{AreDeferred};
+
+    ghost Value = { HeapImage };
+
+    ghost view = { λ p. p.table };
+
+    ghost invariant = { λ p. AreDeferred p.table p.deferred.items };
+}
+
+impl Plan {
+    /// The plan of an image with these marks. The regions are counted by as many threads as there are processors.
+    ///
+    /// The only error is [`Fault::Memory`], where memory is refused.
+    pub fn of(
+        alloc: Global,
+        image: &Image,
+        marks: &Marks,
+        threads: &(impl Threads + Sync),
+    ) -> Result<Plan, Fault>
+        requires { marks.now ≡ image.now }
+        ensures plan { IfOk result (λ plan. plan ≡ image.now) }
+        ensures fault { IfErr result (λ fault. fault ≡ Memory) }
+    {
+        let counts = count_regions(alloc, image, marks, threads)?;
+        let table = RegionTable::of(alloc, image, counts.as_slice())?;
+        let deferred = deferred_addresses(alloc, image, marks, &table, threads)?;
+        Ok(Plan { table, deferred })
+    }
+
+    /// The logarithm, to base 2, of the number of words of a region.
+    pub fn region_log(&self) -> u32
+        ensures value { result ≡ self.now.region_log }
+        ensures valid { IsValid self.now }
+    {
+        self.table.region_log()
+    }
+
+    /// The address at which the dense prefix ends. Objects that begin below it stay.
+    pub fn prefix_end(&self) -> u64
+        ensures value { result ≡ prefix_end self.now }
+        ensures valid { IsValid self.now }
+    {
+        self.table.prefix_end()
+    }
+
+    /// The first free address after the collection.
+    pub fn new_top(&self) -> u64
+        ensures { result ≡ new_top self.now }
+    {
+        self.table.new_top()
+    }
+
+    /// The number of regions.
+    pub fn regions(&self) -> u32
+        ensures value { result ≡ region_count self.now }
+        ensures valid { IsValid self.now }
+    {
+        self.table.regions().len() as u32
+    }
+
+    /// What region `r` holds and where it goes.
+    pub fn region(&self, r: u32) -> RegionData
+        requires { r < region_count self.now }
+        ensures { result ≡ region_data self.now r }
+    {
+        self.table.regions()[r as usize]
+    }
+
+    /// The new address of the live object at `a`.
+    #[inline]
+    pub fn new_address(&self, marks: &Marks, a: u64) -> u64
+        requires same { marks.now ≡ self.now }
+        requires live { Contains self.now.live a }
+        ensures { result ≡ new_address self.now a }
+    {
+        self.table.new_address(marks, a)
+    }
+
+    /// The new address of the deferred object that begins in region `d` at its new address.
+    pub fn deferred(&self, d: u32) -> Option<u64>
+        requires { d < region_count self.now }
+        ensures { result ≡ deferred self.now d }
+    {
+        self.deferred[d as usize]
+    }
+
+    /// How many regions are to be filled: those from 0 on that begin below the new top.
+    pub fn fill_regions(&self) -> u32
+        ensures { result ≡ fill_count self.now }
+    {
+        self.table.new_top().div_ceil(self.table.region_words()) as u32
+    }
+
+    /// The regions that region `d` reads, ascending. It is among them where it takes words from itself.
+    pub fn reads(&self, d: u32) -> Reads<'_>
+        requires { d < region_count self.now }
+        ensures { result ≡ sources self.now d }
+    {
+        self.reads_from(d, 0)
+    }
+
+    /// The regions at or after region `from` that region `d` reads, ascending.
+    pub fn reads_from(&self, d: u32, from: u32) -> Reads<'_>
+        requires { d < region_count self.now }
+        ensures { result ≡ sources_from self.now d from }
+    {
+        Reads::of(&self.table, d, from)
+    }
+
+    /// A line for each region: its number, partial and live words, destination, count and source, each at the right of
+    /// 8 places with a space between, and `-` for no source.
+    pub fn report(&self, alloc: Global) -> Result<String, AllocError>
+        ensures { IfOk result (λ text. string_bytes text ≡ report self.now) }
+    {
+        report(alloc, &self.table)
+    }
+}

@@ -1,0 +1,124 @@
+//! `RegionTable`: the data of all regions, and the new addresses that they tell.
+
+ghost use Rattle.std.specs.Prelude.{◌≡◌, ◌<◌, ◌≤◌, IfOk, Contains, length};
+ghost use Rattle.heap_image.specs.HeapImage.{IsValid, region_words, region_count};
+ghost use Rattle.summary.specs.NewAddresses.{prefix_end, new_address, new_top};
+ghost use Rattle.summary.specs.RegionData.{region_data};
+ghost use Rattle.summary.specs.Layout.{AreCounts};
+ghost use Rattle.summary.specs.Plan.{AreRegions};
+
+use crate::layout::Layout;
+use crate::region_counts::RegionCounts;
+use crate::region_data::RegionData;
+use crate::sources::tell_sources;
+use heap_image::Image;
+use mark_bitmap::Marks;
+use std::alloc::{AllocError, Global};
+use std::marker::Model;
+use std::snapshot::Snapshot;
+
+/// The data of all regions of an image, where its dense prefix ends, and its new top.
+///
+/// A contract sees the table as the image that it was made of, as it was then.
+#[derive(Drop)]
+pub(crate) struct RegionTable {
+    image: Snapshot<Image>,
+    region_log: u32,
+    prefix_end: u64,
+    new_top: u64,
+    regions: Vec<RegionData>,
+}
+
+impl Model for RegionTable {
+    ghost use Rattle.heap_image.specs.HeapImage.{HeapImage};
+    ghost use Rattle.summary.specs.Plan.{IsTable};
+
+    ghost Value = { HeapImage };
+
+    ghost view = { λ t. t.image.value };
+
+    ghost invariant = { λ t. IsTable t.image.value t.region_log t.prefix_end t.new_top t.regions.items };
+}
+
+impl RegionTable {
+    /// The table of an image whose regions have these counts.
+    pub(crate) fn of(
+        alloc: Global,
+        image: &Image,
+        counts: &[RegionCounts],
+    ) -> Result<RegionTable, AllocError>
+        requires { AreCounts image.now counts.now }
+        ensures { IfOk result (λ table. table ≡ image.now) }
+    {
+        let Layout {
+            mut regions,
+            prefix_end,
+            new_top,
+        } = Layout::of(alloc, image, counts)?;
+        tell_sources(image, prefix_end, regions.as_mut_slice());
+        Ok(RegionTable {
+            image: Snapshot::of(image),
+            region_log: image.region_log(),
+            prefix_end,
+            new_top,
+            regions,
+        })
+    }
+
+    pub(crate) fn region_log(&self) -> u32
+        ensures value { result ≡ self.now.region_log }
+        ensures valid { IsValid self.now }
+    {
+        self.region_log
+    }
+
+    /// The number of words of a region.
+    pub(crate) fn region_words(&self) -> u64
+        ensures value { result ≡ region_words self.now }
+        ensures some { 0 < result }
+        ensures few { result ≤ 65536 }
+    {
+        1 << self.region_log
+    }
+
+    pub(crate) fn prefix_end(&self) -> u64
+        ensures value { result ≡ prefix_end self.now }
+        ensures valid { IsValid self.now }
+    {
+        self.prefix_end
+    }
+
+    pub(crate) fn new_top(&self) -> u64
+        ensures value { result ≡ new_top self.now }
+        ensures valid { IsValid self.now }
+    {
+        self.new_top
+    }
+
+    pub(crate) fn regions(&self) -> &[RegionData]
+        ensures data { AreRegions self.now result.now }
+        ensures number { length result.now ≡ region_count self.now }
+        ensures valid { IsValid self.now }
+    {
+        self.regions.as_slice()
+    }
+
+    /// The new address of the live object at `a`. One that stays keeps its own. Any other goes to its region's
+    /// destination, behind the words that are live in the blocks of the region before its own, and in its own block
+    /// before it.
+    #[inline]
+    pub(crate) fn new_address(&self, marks: &Marks, a: u64) -> u64
+        requires same { marks.now ≡ self.now }
+        requires live { Contains self.now.live a }
+        ensures { result ≡ new_address self.now a }
+    {
+        if a < self.prefix_end {
+            return a;
+        }
+        let region = self.regions[(a >> self.region_log) as usize];
+        let block_words = marks.block_words();
+        let block = a / block_words;
+        let before = u64::from(marks.block_live(block)) + marks.live_words(block * block_words, a);
+        region.destination + before
+    }
+}

@@ -1,0 +1,178 @@
+//! Heaps whose plans are known.
+ghost use Rattle.std.specs.Prelude.{◌≡◌};
+
+use crate::Plan;
+use heap_image::{Image, decode};
+use mark_bitmap::Marks;
+use std::alloc::{AllocError, Global};
+use std::test::Fail;
+use std::thread::Threads;
+
+/// A word of no live object.
+const DEAD: u64 = 999;
+
+/// The first eight bytes of an image.
+const MAGIC: u64 = 0x3130_5041_4548_4350;
+
+/// An address and a size.
+type Object = (u64, u64);
+
+/// The objects of the base heap: 32 words in regions of 8.
+const BASE: [Object; 4] = [(0, 3), (5, 4), (12, 2), (20, 10)];
+
+/// The image with this region log, number of words and allowance, whose objects have no references and only zeros behind
+/// their headers.
+fn image_of(
+    alloc: Global,
+    (region_log, len, allowance): (u64, u64, u64),
+    objects: &[Object],
+) -> Result<Image, Fail> {
+    let live_count = objects.len() as u64;
+    let front = [MAGIC, region_log | live_count << 32, len, allowance];
+    let mut bytes = Vec::new(alloc);
+    for word in front {
+        put_word(&mut bytes, word)?;
+    }
+    for a in 0..len {
+        put_word(&mut bytes, word_at(objects, a))?;
+    }
+    for (a, _) in objects {
+        put_word(&mut bytes, *a)?;
+    }
+    Ok(decode(alloc, bytes.as_slice())?)
+}
+
+fn put_word(bytes: &mut Vec<u8>, word: u64) -> Result<(), AllocError> {
+    bytes.extend_from_slice(&word.to_le_bytes())
+}
+
+/// The word at address `a` of such a heap.
+fn word_at(objects: &[Object], a: u64) -> u64 {
+    for (begin, size) in objects {
+        if a == *begin {
+            return 1 << 56 | *size;
+        }
+        if *begin < a && a - *begin < *size {
+            return 0;
+        }
+    }
+    DEAD
+}
+
+/// The prefix end, the new top and the number of regions to fill, and then the new addresses.
+fn figures(alloc: Global, image: &Image, marks: &Marks, plan: &Plan) -> Result<Vec<u64>, AllocError>
+    requires marks { marks.now ≡ image.now }
+    requires plan { plan.now ≡ image.now }
+{
+    let mut figures = Vec::new(alloc);
+    figures.push(plan.prefix_end())?;
+    figures.push(plan.new_top())?;
+    figures.push(u64::from(plan.fill_regions()))?;
+    for a in image.live() {
+        figures.push(plan.new_address(marks, *a))?;
+    }
+    Ok(figures)
+}
+
+/// Whether these are the figures of such a heap.
+fn slides_to(
+    threads: &(impl Threads + Sync),
+    alloc: Global,
+    sizes: (u64, u64, u64),
+    objects: &[Object],
+    expected: &[u64],
+) -> Result<bool, Fail> {
+    let image = image_of(alloc, sizes, objects)?;
+    let marks = Marks::of(alloc, &image)?;
+    let plan = Plan::of(alloc, &image, &marks, threads)?;
+    let found = figures(alloc, &image, &marks, &plan)?;
+    Ok(found.as_slice() == expected)
+}
+
+#[test]
+fn objects_of_the_base_heap_slide(rt: HostRuntime) -> Result<(), Fail> {
+    let alloc = rt.alloc();
+    let slid = [0, 19, 3, 0, 3, 7, 9];
+    assert!(rt; slides_to(&rt, alloc, (3, 32, 0), &BASE, &slid)?);
+    assert!(rt; slides_to(&rt, alloc, (3, 32, 1), &BASE, &slid)?);
+    assert!(rt; slides_to(&rt, alloc, (3, 32, 2), &BASE, &[8, 21, 3, 0, 5, 9, 11])?);
+    let stayed = [24, 30, 4, 0, 5, 12, 20];
+    assert!(rt; slides_to(&rt, alloc, (3, 32, u64::MAX), &BASE, &stayed)?);
+    Ok(())
+}
+
+#[test]
+fn prefixes_are_cut_at_the_last_live_end(rt: HostRuntime) -> Result<(), Fail> {
+    let alloc = rt.alloc();
+    let two = [(2, 2), (20, 3)];
+    assert!(rt;
+        slides_to(
+            &rt,
+            alloc,
+            (3, 16, 8),
+            &[(0, 4), (10, 2)],
+            &[8, 10, 2, 0, 8]
+        )?
+    );
+    assert!(rt; slides_to(&rt, alloc, (3, 24, 14), &two, &[16, 19, 3, 2, 16])?);
+    assert!(rt; slides_to(&rt, alloc, (3, 24, 13), &two, &[8, 11, 2, 2, 8])?);
+    assert!(rt; slides_to(&rt, alloc, (3, 32, 5), &[], &[0, 0, 0])?);
+    Ok(())
+}
+
+#[test]
+fn blocks_and_whole_heaps(rt: HostRuntime) -> Result<(), Fail> {
+    let alloc = rt.alloc();
+    let small = [(0, 1), (2, 1), (3, 5)];
+    assert!(rt; slides_to(&rt, alloc, (3, 32, 0), &[(0, 32)], &[32, 32, 4, 0])?);
+    assert!(rt; slides_to(&rt, alloc, (3, 8, 0), &small, &[0, 7, 1, 0, 1, 2])?);
+    assert!(rt; slides_to(&rt, alloc, (3, 8, 1), &small, &[8, 8, 1, 0, 2, 3])?);
+    let long = [(10, 700), (900, 3)];
+    assert!(rt; slides_to(&rt, alloc, (9, 1024, 0), &long, &[0, 703, 2, 0, 700])?);
+    Ok(())
+}
+
+#[test]
+fn report_of_an_object_over_three_regions(rt: HostRuntime) -> Result<(), Fail> {
+    let image = image_of(rt.alloc(), (3, 32, 0), [(1, 20)].as_slice())?;
+    let marks = Marks::of(rt.alloc(), &image)?;
+    let plan = Plan::of(rt.alloc(), &image, &marks, &rt)?;
+    assert_eq!(rt;
+        plan.report(rt.alloc())?.as_str(),
+        concat!(
+            "       0        0        7        0        0        0\n",
+            "       1        8        0        7        1        1\n",
+            "       2        5        0       15        1        2\n",
+            "       3        0        0       20        0        -\n"
+        )
+    );
+    Ok(())
+}
+
+#[test]
+fn deferred_addresses_of_the_base_heap(rt: HostRuntime) -> Result<(), Fail> {
+    let image = image_of(rt.alloc(), (3, 32, 2), BASE.as_slice())?;
+    let marks = Marks::of(rt.alloc(), &image)?;
+    let plan = Plan::of(rt.alloc(), &image, &marks, &rt)?;
+    let mut deferred = Vec::new(rt.alloc());
+    for d in 0..plan.regions() {
+        deferred.push(plan.deferred(d))?;
+    }
+    assert_eq!(rt;
+        deferred.as_slice(),
+        [Some(5), Some(11), None, None].as_slice()
+    );
+    Ok(())
+}
+
+#[test]
+fn one_region_of_the_base_heap(rt: HostRuntime) -> Result<(), Fail> {
+    let image = image_of(rt.alloc(), (3, 32, 0), BASE.as_slice())?;
+    let marks = Marks::of(rt.alloc(), &image)?;
+    let plan = Plan::of(rt.alloc(), &image, &marks, &rt)?;
+    assert_eq!(rt; (plan.regions(), plan.region_log()), (4, 3));
+    assert_eq!(rt; plan.region(1).source, Some(1));
+    let rest: Vec<u32> = plan.reads_from(1, 2).collect(rt.alloc())?;
+    assert_eq!(rt; rest.as_slice(), [2, 3].as_slice());
+    Ok(())
+}
