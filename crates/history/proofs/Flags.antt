@@ -1,11 +1,11 @@
 -- The pairs of a table, and a flag beside each.
-use Rattle.std.proofs.Common.{◌≡◌, ℕ, zero, suc, ◌+◌, ◌<◌, ◌≤◌, Bool, true, false, List, [], ◌∷◌, length, get_or, set, refl, sym, ap, ◌∙◌, inl, inr, ◌⊎◌, arith}
+use Rattle.std.proofs.Common.{◌≡◌, ℕ, zero, suc, ◌<◌, Bool, true, false, List, [], ◌∷◌, length, get_or, set, refl, sym, ◌∙◌, arith}
 use Rattle.std.specs.Prelude.{◌==◌, ◌&&◌, ◌||◌}
 use Rattle.std.specs.List.{list_any}
-use Rattle.std.proofs.lemmas.Bool.{and_parts, and_from, and_left, and_right, or_parts, or_from, cases_Bool, eq-eqb, eqb-true, both_ways, false_from_ne_true}
-use Rattle.history.specs.MoveTable.{is_pair, is_before}
+use Rattle.std.proofs.lemmas.Bool.{and_parts, and_from, and_left, and_right, or_parts, or_from, eq-eqb, eqb-true, false_from_ne_true}
+use Rattle.history.specs.MoveTable.{is_pair}
 use Rattle.history.specs.Scheduler.{is_flagged}
-use Rattle.history.proofs.Pairs.{IsAscending, ascending_tail, ascending_head, not_before_itself, before_tells, placed, reads_at}
+use Rattle.history.proofs.Pairs.{IsAscending, ascending_tail, ascending_head, not_before_itself, placed}
 
 -- no flag is set
 pub is_flagged-none : (d s : ℕ) (ps : List (ℕ × ℕ)) (flags : List Bool) → ((k : ℕ) → k < length flags → get_or flags k false ≡ false) → is_flagged d s ps flags ≡ false

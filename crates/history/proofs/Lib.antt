@@ -7,3 +7,15 @@ mod Logs
 mod Reaches
 mod Orders
 mod Rows
+mod Own
+mod Countdown
+mod Drained
+mod PairLists
+mod ImageTables
+mod DrainedBefore
+mod ImageSources
+mod Books
+mod Texts
+mod EventTexts
+mod LineTexts
+mod ScheduleTexts

@@ -1,15 +1,15 @@
 -- Histories: their fronts, what comes after, and what their entries tell of the state that they lead to.
-use Rattle.std.proofs.Common.{◌≡◌, ◌≢◌, ℕ, ◌+◌, ◌<◌, ◌≤◌, Bool, true, false, List, [], ◌∷◌, ◌++◌, Option, Some, None, refl, sym, ap, ◌∙◌, subst, inl, inr, ◌⊎◌, arith}
-use Rattle.std.specs.Prelude.{◌==◌, ◌&&◌, ◌||◌, not, if◌then◌else◌, IsTrue}
+use Rattle.std.proofs.Common.{◌≡◌, ℕ, Bool, true, false, List, [], ◌∷◌, ◌++◌, Some, refl, sym, ap, ◌∙◌, inl, inr, ◌⊎◌}
+use Rattle.std.specs.Prelude.{◌==◌, ◌&&◌, ◌||◌, not, if◌then◌else◌}
 use Rattle.std.specs.List.{list_any}
-use Rattle.std.proofs.lemmas.Bool.{cases_Bool, and_parts, and_from, and_left, and_right, or_left, or_right, eq-eqb, false≢true}
+use Rattle.std.proofs.lemmas.Bool.{cases_Bool, and_from, or_left, or_right, eq-eqb}
 use Rattle.history.specs.MoveTable.{MoveTable, reads}
-use Rattle.history.specs.State.{State, opening, is_pending, claimed_by, state_after, IsStep}
-use Rattle.history.specs.History.{state_from, AreSteps, IsLegal, is_claim_of, is_drain_of, is_settling_of, is_yes, is_grant, is_grant_to}
+use Rattle.history.specs.State.{State, is_pending, claimed_by, state_after}
+use Rattle.history.specs.History.{state_from, AreSteps, is_claim_of, is_drain_of, is_settling_of, is_yes, is_grant, is_grant_to}
 use Rattle.history.specs.declared.event.Event.{Event}
 use Rattle.history.specs.declared.event.Event.TheVariants.{Claim, Look, Drain, Complete, Settle, Poll, Copy}
 use Rattle.history.specs.declared.reply.Reply.{Reply}
-use Rattle.history.specs.declared.reply.Reply.TheVariants.{Yes, No, Open, Outside, Claimed, Filled, Last, NotLast, Done, All, More}
+use Rattle.history.specs.declared.reply.Reply.TheVariants.{Yes}
 use Rattle.history.specs.declared.entry.Entry.{Entry}
 
 pub state_from-append : (now : State) (xs ys : List Entry) → state_from now (xs ++ ys) ≡ state_from (state_from now xs) ys

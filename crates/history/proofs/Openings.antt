@@ -1,17 +1,17 @@
 -- A scheduler to which nothing has happened.
-use Rattle.std.proofs.Common.{◌≡◌, ℕ, zero, suc, ◌+◌, ◌<◌, ◌≤◌, Bool, true, false, List, [], ◌∷◌, length, get_or, set, take, map, replicate, Option, Some, None, refl, sym, ap, ◌∙◌, inl, inr, ◌⊎◌, subst, arith}
+use Rattle.std.proofs.Common.{◌≡◌, ℕ, ◌+◌, ◌<◌, ◌≤◌, Bool, false, List, [], length, get_or, take, map, replicate, Some, None, sym, ap, ◌∙◌, inl, inr, ◌⊎◌, arith}
 use Rattle.std.proofs.Math.Path.{fun_ext}
-use Rattle.std.specs.Prelude.{◌==◌, ◌&&◌, not, slice_index, slice_index_or, slice_set, count_by, IsTrue}
+use Rattle.std.specs.Prelude.{◌==◌, ◌&&◌, not, slice_index, slice_index_or, slice_set, count_by}
 use Rattle.std.specs.List.{range_with_len}
 use Rattle.std.proofs.Math.ListN.{length-set}
 use Rattle.std.proofs.lemmas.Bool.{cases_eq, cases_lt, eq-eqb, ne_eqb}
 use Rattle.std.proofs.lemmas.List.{ext_get_or, length-take-le, get_or_past, get_or-set_same, get_or-set_other, get_or-replicate, length-replicate}
 use Rattle.std.proofs.lemmas.List.FromFn.{length-map-range_with_len, get_or-map-range_with_len}
 use Rattle.std.proofs.lemmas.List.Sums.{count_by-le-length, count_by_more_yes, count_by_more_no}
-use Rattle.history.specs.MoveTable.{MoveTable, IsMoveTable, region_count, to_fill, Slides}
+use Rattle.history.specs.MoveTable.{MoveTable, IsMoveTable, region_count, to_fill}
 use Rattle.history.specs.State.{State, opening, readers_left, unsettled}
 use Rattle.history.specs.Progress.{claimant_of, is_filled, is_settled}
-use Rattle.history.specs.Scheduler.{SchedulerView, state_in, is_flagged, sources_left, AreCounts, IsKept, AreTallies}
+use Rattle.history.specs.Scheduler.{SchedulerView, state_in, sources_left, IsKept, AreTallies}
 use Rattle.history.specs.declared.progress.Progress.{Progress}
 use Rattle.history.specs.declared.progress.Progress.TheVariants.{Unclaimed}
 use Rattle.history.proofs.Counting.{count_by_same, count_by-map, and_true}
@@ -63,6 +63,12 @@ count_of_flags flags = ap (λ (bs : List Bool). count_by (λ b. b) bs) (sym plac
         zero_plus : (n : ℕ) → 0 + n ≡ n
         zero_plus n = omega arith
 
+-- at the opening no region is settled
+pub unsettled-opening : (m : MoveTable) → count_by (λ b. b) m.fill ≡ unsettled m opening
+unsettled-opening m =
+    count_of_flags m.fill
+    ∙ count_by_same (λ r. to_fill m r) (λ r. to_fill m r && not false) (range_with_len 0 (region_count m)) (λ k d lt. sym (and_true (to_fill m (get_or (range_with_len 0 (region_count m)) k d))))
+
 -- what a scheduler keeps at first
 pub record IsOpening (v : SchedulerView) (readers sources : List ℕ) (left : ℕ) : Type 0 where
   pub state : state_in v ≡ opening
@@ -83,7 +89,7 @@ opening_kept v readers sources left table flags progress reads' takes count =
           sources_all = takes.all;
           readers_are = λ s lt. reads'.each s lt ∙ (every (λ pair. s == pair.1) ∙ ap (λ (n : State). readers_left v.moves n s) (sym state));
           sources_are = λ d lt. takes.each d lt ∙ (every (λ pair. d == pair.0) ∙ ap (λ (n : State). sources_left v.moves n d) (sym state));
-          left_is = count ∙ (count_of_flags v.moves.fill ∙ (count_by_same (λ r. to_fill v.moves r) (λ r. to_fill v.moves r && not false) (range_with_len 0 (region_count v.moves)) (λ k d lt. sym (and_true (to_fill v.moves (get_or (range_with_len 0 (region_count v.moves)) k d)))) ∙ ap (λ (n : State). unsettled v.moves n) (sym state)));
+          left_is = count ∙ (unsettled-opening v.moves ∙ ap (λ (n : State). unsettled v.moves n) (sym state));
         };
       };
     }

@@ -1,22 +1,22 @@
 -- What the entries of a legal history say of each other.
-use Rattle.std.proofs.Common.{◌≡◌, ◌≢◌, ℕ, zero, suc, ◌+◌, ◌<◌, ◌≤◌, Bool, true, false, cond, List, [], ◌∷◌, ◌++◌, length, get_or, Option, Some, None, refl, sym, ap, ◌∙◌, subst, inl, inr, ◌⊎◌, arith}
+use Rattle.std.proofs.Common.{◌≡◌, ℕ, ◌+◌, ◌<◌, ◌≤◌, Bool, true, false, cond, List, [], ◌∷◌, ◌++◌, get_or, Option, Some, None, refl, sym, ap, ◌∙◌, subst, inl, inr, ◌⊎◌, arith}
 use Rattle.std.specs.Prelude.{is_some, if◌then◌else◌, IsTrue, ◌==◌, ◌&&◌, ◌||◌, ◌↔◌, not, count_by}
 use Rattle.std.specs.List.{list_any, range_with_len}
-use Rattle.std.proofs.lemmas.Bool.{cases_Bool, and_parts, and_left, and_right, and_from, or_cases, or_left, or_right, or_from, or_parts, eqb-true, eq-eqb, ne_eqb, cases_eq, not-false, not_from_true, both_ways, false≢true}
+use Rattle.std.proofs.lemmas.Bool.{cases_Bool, and_left, and_right, or_right, or_from, ne_eqb, cases_eq, not-false, not_from_true, both_ways, false≢true}
 use Rattle.std.proofs.lemmas.List.Folds.{list_any-append}
 use Rattle.std.proofs.lemmas.List.FromFn.{length-range_with_len, get_or-range_with_len}
-use Rattle.history.specs.MoveTable.{MoveTable, IsMoveTable, region_count, to_fill, reads}
-use Rattle.history.specs.State.{State, opening, is_pending, unsettled, all_or_more, state_after, reply_to, Allows, IsStep}
-use Rattle.history.specs.History.{state_from, state_of, AreSteps, IsLegal, IsReached, IsOrderly, IsSplit, is_claim_of, is_drain_of, is_settling_of, is_settling, is_yes, is_grant, is_grant_to}
+use Rattle.history.specs.MoveTable.{MoveTable, region_count, to_fill, reads}
+use Rattle.history.specs.State.{State, opening, unsettled, all_or_more, state_after, reply_to, Allows, IsStep}
+use Rattle.history.specs.History.{state_of, AreSteps, IsLegal, IsReached, IsOrderly, IsSplit, is_settling_of, is_settling, is_grant, is_grant_to}
 use Rattle.history.specs.declared.event.Event.{Event}
 use Rattle.history.specs.declared.event.Event.TheVariants.{Claim, Look, Drain, Complete, Settle, Poll, Copy}
 use Rattle.history.specs.declared.reply.Reply.{Reply}
-use Rattle.history.specs.declared.reply.Reply.TheVariants.{Yes, No, Open, Outside, Claimed, Filled, Last, NotLast, Done, All, More}
+use Rattle.history.specs.declared.reply.Reply.TheVariants.{All, More}
 use Rattle.history.specs.declared.entry.Entry.{Entry}
 use Rattle.history.proofs.Counting.{count_by-cons, count_by_zero, count_by_none}
 use Rattle.history.proofs.Pairs.{flag_inside}
 use Rattle.history.proofs.Logs.{state_from-append, AreSteps-front, AreSteps-rest, drained_from, settled_from, settled_after, claimed_from, claimed_after, pending_from}
-use Rattle.history.proofs.Reaches.{MayClaim, grant_tells, step_reached, steps_reached, legal_reached}
+use Rattle.history.proofs.Reaches.{MayClaim, grant_tells, step_reached, legal_reached}
 
 -- the step that an entry stands for
 pub step_at : (m : MoveTable) (workers : ℕ) (log before after : List Entry) (e : Entry) → IsLegal m workers log → IsSplit log before e after
@@ -64,7 +64,7 @@ at_place m k c lt = get_or-range_with_len 0 (region_count m) k c lt ∙ zero_plu
     zero_plus : (n : ℕ) → 0 + n ≡ n
     zero_plus n = omega arith
 
-all_settled : (m : MoveTable) (now : State) → unsettled m now ≡ 0 → (r : ℕ) → to_fill m r ≡ true → now.settled r ≡ true
+pub all_settled : (m : MoveTable) (now : State) → unsettled m now ≡ 0 → (r : ℕ) → to_fill m r ≡ true → now.settled r ≡ true
 all_settled m now none r fills =
     let lt : r < region_count m = flag_inside m.fill r fills in
     let z : (to_fill m (get_or (range_with_len 0 (region_count m)) r 0) && not (now.settled (get_or (range_with_len 0 (region_count m)) r 0))) ≡ false =
@@ -72,7 +72,7 @@ all_settled m now none r fills =
     let z' : (to_fill m r && not (now.settled r)) ≡ false = rw (at_place m r 0 lt) at z in
     not-false (now.settled r) (rw fills at z')
 
-none_unsettled : (m : MoveTable) (now : State) → ((r : ℕ) → to_fill m r ≡ true → now.settled r ≡ true) → unsettled m now ≡ 0
+pub none_unsettled : (m : MoveTable) (now : State) → ((r : ℕ) → to_fill m r ≡ true → now.settled r ≡ true) → unsettled m now ≡ 0
 none_unsettled m now all = count_by_none (λ q. to_fill m q && not (now.settled q)) (range_with_len 0 (region_count m)) (λ k c lt. go (get_or (range_with_len 0 (region_count m)) k c) (cases_Bool (to_fill m (get_or (range_with_len 0 (region_count m)) k c))))
   where
     go : (q : ℕ) → (to_fill m q ≡ true) ⊎ (to_fill m q ≡ false) → (to_fill m q && not (now.settled q)) ≡ false

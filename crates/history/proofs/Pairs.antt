@@ -1,13 +1,13 @@
 -- Tables of moves: their order, their sources, and what a table that may be handed in keeps.
-use Rattle.std.proofs.Common.{◌≡◌, ◌≢◌, ℕ, zero, suc, ◌+◌, ◌-◌, ◌<◌, ◌≤◌, Bool, true, false, cond, List, [], ◌∷◌, ◌++◌, length, get_or, take, Option, Some, None, refl, sym, ap, ◌∙◌, inl, inr, ◌⊎◌, subst, arith}
-use Rattle.std.specs.Prelude.{◌==◌, ◌&&◌, ◌||◌, not, nat_lt, IsTrue, slice_index_or, All, AllPairs, count_by, filter}
+use Rattle.std.proofs.Common.{◌≡◌, ℕ, zero, suc, ◌+◌, ◌-◌, ◌<◌, ◌≤◌, Bool, true, false, cond, List, [], ◌∷◌, ◌++◌, length, get_or, take, Some, refl, sym, ap, ◌∙◌, inl, inr, ◌⊎◌, subst, arith}
+use Rattle.std.specs.Prelude.{◌==◌, ◌&&◌, nat_lt, IsTrue, slice_index_or, AllPairs, count_by, filter}
 use Rattle.std.specs.List.{list_any}
-use Rattle.std.proofs.lemmas.Bool.{or_parts, or_cases, or_left, or_right, and_from, and_left, and_right, cases_Bool, cases_eq, cases_lt, cases_order, both_ways, and_parts, and_cases, eq-eqb, ne_eqb, eqb-true, eqb-false, lt-ltb, le-ltb, ltb-true, ltb-false, false≢true, false_from_ne_true}
+use Rattle.std.proofs.lemmas.Bool.{or_parts, or_cases, or_left, or_right, and_from, cases_Bool, cases_eq, cases_lt, cases_order, both_ways, and_parts, eq-eqb, ne_eqb, eqb-true, lt-ltb, ltb-true, false≢true, false_from_ne_true}
 use Rattle.std.proofs.lemmas.List.{get_or_default, get_or_past}
 use Rattle.std.proofs.lemmas.List.Folds.{Any-from_list_any, list_any_at}
 use Rattle.std.proofs.lemmas.List.Sums.{count_by_more_yes, count_by_more_no}
 use Rattle.history.proofs.Counting.{count_by-cons}
-use Rattle.history.specs.MoveTable.{MoveTable, region_count, to_fill, is_pair, reads, has_source, readers_of, is_before, Slides, IsMoveTable, IsNextSource, pairs_before}
+use Rattle.history.specs.MoveTable.{MoveTable, region_count, to_fill, is_pair, reads, has_source, is_before, Slides, IsMoveTable, IsNextSource, pairs_before}
 
 -- the order of pairs, as a fact
 abbrev pub IsBefore : ℕ × ℕ → ℕ × ℕ → Type 0

@@ -1,14 +1,14 @@
 -- What holds in each state to which a legal history leads.
-use Rattle.std.proofs.Common.{◌≡◌, ◌≢◌, ℕ, zero, suc, ◌+◌, ◌<◌, ◌≤◌, Bool, true, false, List, [], ◌∷◌, length, get_or, Option, Some, None, refl, sym, ap, ◌∙◌, subst, inl, inr, ◌⊎◌, arith}
-use Rattle.std.specs.Prelude.{is_none, if◌then◌else◌, IsTrue, ◌==◌, ◌&&◌, ◌||◌, not}
+use Rattle.std.proofs.Common.{◌≡◌, ◌≢◌, ℕ, true, false, List, [], ◌∷◌, get_or, Option, Some, None, refl, sym, ap, ◌∙◌, subst, inl, inr, ◌⊎◌}
+use Rattle.std.specs.Prelude.{is_none, if◌then◌else◌, IsTrue, ◌==◌, ◌&&◌, not}
 use Rattle.std.proofs.lemmas.Bool.{cases_Bool, and_parts, and_left, and_right, or_cases, or_right, eqb-true, cases_eq, eq-eqb, ne_eqb, false≢true}
-use Rattle.history.specs.MoveTable.{MoveTable, region_count, to_fill, reads}
+use Rattle.history.specs.MoveTable.{MoveTable, to_fill, reads}
 use Rattle.history.specs.State.{State, opening, is_pending, readers_left, may_claim, state_after, claimed_by, reply_to, IsStep}
 use Rattle.history.specs.History.{state_from, state_of, AreSteps, IsLegal, IsReached, is_claim_of, is_yes}
 use Rattle.history.specs.declared.event.Event.{Event}
 use Rattle.history.specs.declared.event.Event.TheVariants.{Claim, Look, Drain, Complete, Settle, Poll, Copy}
 use Rattle.history.specs.declared.reply.Reply.{Reply}
-use Rattle.history.specs.declared.reply.Reply.TheVariants.{Yes, No, Open, Outside, Claimed, Filled, Last, NotLast, Done, All, More}
+use Rattle.history.specs.declared.reply.Reply.TheVariants.{Yes, No}
 use Rattle.history.specs.declared.entry.Entry.{Entry}
 use Rattle.history.proofs.Counting.{count_by_zero}
 use Rattle.history.proofs.Pairs.{placed}
@@ -25,7 +25,7 @@ none_from_is_none None e = refl
 none_from_is_none (Some v) e = absurd (false≢true e)
 
 -- where no reader is left, no reading is pending
-nobody_left : (m : MoveTable) (now : State) (s : ℕ) → readers_left m now s ≡ 0 → (d : ℕ) → is_pending m now d s ≡ false
+pub nobody_left : (m : MoveTable) (now : State) (s : ℕ) → readers_left m now s ≡ 0 → (d : ℕ) → is_pending m now d s ≡ false
 nobody_left m now s none d = go (cases_Bool (reads m d s))
   where
     go : (reads m d s ≡ true) ⊎ (reads m d s ≡ false) → is_pending m now d s ≡ false
@@ -81,6 +81,7 @@ claim_reached m now worker r before may =
       filled_claimed = λ q filled none. still q filled none (choice_cases q r (Some worker) (now.claimed q));
       settled_filled = before.settled_filled;
       drained_reads = before.drained_reads;
+      drained_claimed = λ d s drained none. begun d s drained none (choice_cases d r (Some worker) (now.claimed d));
       claimed_read = λ d s by own. idle d s by own (choice_cases s r (Some worker) (now.claimed s));
       filled_drained = before.filled_drained;
     }
@@ -96,6 +97,12 @@ claim_reached m now worker r before may =
         → ⊥
     still q filled none (inl h) = let f : Some worker ≡ None = sym h.1 ∙ none in cc
     still q filled none (inr h) = before.filled_claimed q filled (sym h.1 ∙ none)
+
+    begun : (d s : ℕ) → IsTrue (now.drained d s) → (if d == r then Some worker else now.claimed d) ≡ None
+        → ((d ≡ r) × ((if d == r then Some worker else now.claimed d) ≡ Some worker)) ⊎ ((d ≢ r) × ((if d == r then Some worker else now.claimed d) ≡ now.claimed d))
+        → ⊥
+    begun d s drained none (inl h) = let f : Some worker ≡ None = sym h.1 ∙ none in cc
+    begun d s drained none (inr h) = before.drained_claimed d s drained (sym h.1 ∙ none)
 
     idle : (d s by : ℕ) → (if s == r then Some worker else now.claimed s) ≡ Some by
         → ((s ≡ r) × ((if s == r then Some worker else now.claimed s) ≡ Some worker)) ⊎ ((s ≢ r) × ((if s == r then Some worker else now.claimed s) ≡ now.claimed s))
@@ -117,10 +124,18 @@ step_reached m now worker (Drain d s) reply before step =
       filled_claimed = before.filled_claimed;
       settled_filled = before.settled_filled;
       drained_reads = λ e t drained. reads' e t (or_cases (e == d && t == s) (now.drained e t) drained);
+      drained_claimed = λ e t drained none. begun e t none (or_cases (e == d && t == s) (now.drained e t) drained);
       claimed_read = λ e t by own. pending_after m now worker (Drain d s) reply e t (before.claimed_read e t by own);
       filled_drained = λ e t filled. pending_after m now worker (Drain d s) reply e t (before.filled_drained e t filled);
     }
   where
+    begun : (e t : ℕ) → now.claimed e ≡ None → ((e == d && t == s) ≡ true) ⊎ (now.drained e t ≡ true) → ⊥
+    begun e t none (inr h) = before.drained_claimed e t h none
+    begun e t none (inl h) =
+        let f : now.claimed e ≡ now.claimed d = ap now.claimed (eqb-true e d (and_parts (e == d) (t == s) h).0) in
+        let g : now.claimed d ≡ Some worker = step.allowed.0.0 in
+        cc
+
     reads' : (e t : ℕ) → ((e == d && t == s) ≡ true) ⊎ (now.drained e t ≡ true) → IsTrue (reads m e t)
     reads' e t (inr h) = before.drained_reads e t h
     reads' e t (inl h) =
@@ -132,6 +147,7 @@ step_reached m now worker (Complete d) reply before step =
       filled_claimed = λ r filled none. claimed' r none (or_cases (r == d) (now.filled r) filled);
       settled_filled = λ r settled. or_right (r == d) (now.filled r) (before.settled_filled r settled);
       drained_reads = before.drained_reads;
+      drained_claimed = before.drained_claimed;
       claimed_read = before.claimed_read;
       filled_drained = λ r s filled. idle r s (or_cases (r == d) (now.filled r) filled);
     }
@@ -149,6 +165,7 @@ step_reached m now worker (Settle d) reply before step =
       filled_claimed = before.filled_claimed;
       settled_filled = λ r settled. filled' r (or_cases (r == d) (now.settled r) settled);
       drained_reads = before.drained_reads;
+      drained_claimed = before.drained_claimed;
       claimed_read = before.claimed_read;
       filled_drained = before.filled_drained;
     }
@@ -157,13 +174,14 @@ step_reached m now worker (Settle d) reply before step =
     filled' r (inr h) = before.settled_filled r h
     filled' r (inl h) = rw (eqb-true r d h) step.allowed.1
 
-opening_reached : (m : MoveTable) → IsReached m opening
+pub opening_reached : (m : MoveTable) → IsReached m opening
 opening_reached m =
     record {
       claimed_to_fill = λ r by own. absurd (let f : Some by ≡ None = sym own in cc);
       filled_claimed = λ r e. absurd (false≢true e);
       settled_filled = λ r e. absurd (false≢true e);
       drained_reads = λ d s e. absurd (false≢true e);
+      drained_claimed = λ d s e. absurd (false≢true e);
       claimed_read = λ d s by own. absurd (let f : Some by ≡ None = sym own in cc);
       filled_drained = λ d s e. absurd (false≢true e);
     }

@@ -1,11 +1,11 @@
 -- Worked rows of docs/SCHEDULER.md, computed from the definitions.
-use Rattle.std.proofs.Common.{◌≡◌, ℕ, Bool, true, false, List, [], ◌∷◌, refl}
+use Rattle.std.proofs.Common.{◌≡◌, true, false, List, [], ◌∷◌, refl}
 use Rattle.history.specs.MoveTable.{MoveTable, table_of, readers_of}
 use Rattle.history.specs.State.{State, opening, state_after, reply_to}
 use Rattle.history.specs.declared.event.Event.{Event}
 use Rattle.history.specs.declared.event.Event.TheVariants.{Claim, Look, Drain, Complete, Settle, Poll}
 use Rattle.history.specs.declared.reply.Reply.{Reply}
-use Rattle.history.specs.declared.reply.Reply.TheVariants.{Yes, No, Open, Outside, Claimed, Filled, Last, NotLast, Done, All, More}
+use Rattle.history.specs.declared.reply.Reply.TheVariants.{Yes, No, Outside, Claimed, Last, NotLast, Done, All, More}
 
 -- what the definitions answer to these calls of one worker, one after another
 abbrev replies_from : MoveTable → State → List Event → List Reply

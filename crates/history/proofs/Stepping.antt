@@ -1,21 +1,21 @@
 -- The steps of a scheduler, on what it keeps.
-use Rattle.std.proofs.Common.{◌≡◌, ◌≢◌, ℕ, zero, suc, ◌+◌, ◌-◌, ◌<◌, ◌≤◌, Bool, true, false, List, [], ◌∷◌, length, get_or, set, Option, Some, None, Ok, Err, Result, refl, sym, ap, ◌∙◌, inl, inr, ◌⊎◌, subst, arith}
+use Rattle.std.proofs.Common.{◌≡◌, ℕ, ◌+◌, ◌-◌, ◌<◌, ◌≤◌, Bool, true, false, List, length, get_or, Option, Some, None, Ok, Err, refl, sym, ap, ◌∙◌, inl, inr, ◌⊎◌, subst, arith}
 use Rattle.std.proofs.Math.Path.{fun_ext}
 use Rattle.std.specs.Prelude.{◌==◌, ◌&&◌, ◌||◌, not, if◌then◌else◌, IsTrue, slice_index, slice_index_or, slice_set, count_by}
-use Rattle.std.specs.List.{list_any, range_with_len}
+use Rattle.std.specs.List.{range_with_len}
 use Rattle.std.proofs.Math.ListN.{length-set}
 use Rattle.std.proofs.lemmas.List.{get_or_default, get_or-set_same, get_or-set_other, get_or_past}
 use Rattle.std.proofs.lemmas.List.FromFn.{length-range_with_len, get_or-range_with_len}
-use Rattle.std.proofs.lemmas.Bool.{both_ways, not-true, cases_Bool, cases_eq, cases_lt, and_parts, and_from, and_left, and_right, or_right, eq-eqb, ne_eqb, eqb-true, false≢true, false_from_ne_true}
-use Rattle.history.specs.MoveTable.{MoveTable, IsMoveTable, region_count, to_fill, is_pair, reads, readers_of, has_source}
-use Rattle.history.specs.State.{State, all_or_more, is_pending, readers_left, unsettled, may_claim, claimed_by, state_after, Allows, IsStep, IsFilling, reply_to}
+use Rattle.std.proofs.lemmas.Bool.{not-true, cases_Bool, cases_eq, cases_lt, and_parts, and_from, and_left, and_right, eq-eqb, ne_eqb, eqb-true, false≢true, false_from_ne_true}
+use Rattle.history.specs.MoveTable.{MoveTable, IsMoveTable, region_count, to_fill, reads, readers_of, has_source}
+use Rattle.history.specs.State.{State, all_or_more, is_pending, readers_left, unsettled, may_claim, state_after, Allows, IsFilling}
 use Rattle.history.specs.Progress.{claimant_of, is_filled, is_settled}
-use Rattle.history.specs.Scheduler.{SchedulerView, state_in, is_flagged, sources_left, AreCounts, IsKept, Steps, IsPendingAt}
+use Rattle.history.specs.Scheduler.{SchedulerView, state_in, is_flagged, sources_left, IsKept, Steps, IsPendingAt}
 use Rattle.history.specs.declared.event.Event.{Event}
-use Rattle.history.specs.declared.event.Event.TheVariants.{Claim, Look, Drain, Complete, Settle, Poll, Copy}
+use Rattle.history.specs.declared.event.Event.TheVariants.{Claim, Drain, Complete, Settle}
 use Rattle.history.specs.declared.event.Illegal.{Illegal}
 use Rattle.history.specs.declared.reply.Reply.{Reply}
-use Rattle.history.specs.declared.reply.Reply.TheVariants.{Yes, No, Last, NotLast, Done, All}
+use Rattle.history.specs.declared.reply.Reply.TheVariants.{Yes, Last, NotLast, Done, All}
 use Rattle.history.specs.declared.progress.Progress.{Progress}
 use Rattle.history.specs.declared.progress.Progress.TheVariants.{Unclaimed, Filling, Completed, Settled}
 use Rattle.history.proofs.Counting.{count_by_same, count_by_one_less, count_by_zero, count_by_none, count_by_fewer}

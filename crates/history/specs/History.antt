@@ -1,7 +1,8 @@
-use Rattle.std.specs.Prelude.{◌≡◌, ◌≢◌, ℕ, ◌<◌, ◌≤◌, Bool, true, false, ◌&&◌, ◌==◌, ◌↔◌, IsTrue, Some, None, List, [], ◌∷◌, ◌++◌, count_by}
+use Rattle.std.specs.Prelude.{◌≡◌, ◌≢◌, ℕ, ◌+◌, ◌<◌, ◌≤◌, Bool, true, false, ◌&&◌, ◌==◌, ◌↔◌, IsTrue, Some, None, List, [], ◌∷◌, ◌++◌, count_by, filter}
 use Rattle.std.specs.List.{list_any}
 use Rattle.history.specs.MoveTable.{MoveTable, to_fill, reads}
-use Rattle.history.specs.State.{State, opening, is_pending, state_after, IsStep}
+use Rattle.history.specs.State.{State, opening, is_pending, readers_left, unsettled, state_after, IsStep}
+use Rattle.history.specs.Scheduler.{sources_left}
 use Rattle.history.specs.declared.event.Event.{Event}
 use Rattle.history.specs.declared.event.Event.TheVariants.{Claim, Drain, Complete, Settle}
 use Rattle.history.specs.declared.reply.Reply.{Reply}
@@ -28,6 +29,17 @@ AreSteps m workers now (e ∷ es) =
 -- a legal history, oldest call first, begins at the opening
 abbrev pub IsLegal : MoveTable → ℕ → List Entry → Type 0
 IsLegal m workers log = AreSteps m workers opening log
+
+abbrev pub entry : ℕ → Event → Reply → Entry
+entry worker event reply = record { worker = worker; event = event; reply = reply }
+
+-- one worker's own calls in a history
+abbrev pub calls_by : ℕ → List Entry → List Entry
+calls_by worker log = filter (λ e. e.worker == worker) log
+
+-- the history begins with these calls
+abbrev pub BeginsWith : List Entry → List Entry → Type 0
+BeginsWith log seen = (later : List Entry) × (log ≡ seen ++ later)
 
 abbrev pub is_claim_of : ℕ → Event → Bool
 is_claim_of r (Claim q) = r == q
@@ -85,7 +97,35 @@ pub record IsReached (m : MoveTable) (now : State) : Type 0 where
   pub filled_claimed : (r : ℕ) → IsTrue (now.filled r) → now.claimed r ≢ None
   pub settled_filled : (r : ℕ) → IsTrue (now.settled r) → IsTrue (now.filled r)
   pub drained_reads : (d s : ℕ) → IsTrue (now.drained d s) → IsTrue (reads m d s)
+  -- a pair is drained only once its destination is claimed
+  pub drained_claimed : (d s : ℕ) → IsTrue (now.drained d s) → now.claimed d ≢ None
   -- a region is claimed only once nobody has to read it any more
   pub claimed_read : (d s worker : ℕ) → now.claimed s ≡ Some worker → is_pending m now d s ≡ false
   -- a region is filled only once it has drained all that it reads
   pub filled_drained : (d s : ℕ) → IsTrue (now.filled d) → is_pending m now d s ≡ false
+
+-- Two states say the same of a region, and of what it reads.
+pub record AgreeOn (d : ℕ) (one other : State) : Type 0 where
+  pub claimed : one.claimed d ≡ other.claimed d
+  pub filled : one.filled d ≡ other.filled d
+  pub settled : one.settled d ≡ other.settled d
+  pub drained : (s : ℕ) → one.drained d s ≡ other.drained d s
+
+-- Of the regions that the worker claimed, its own calls tell all. Of any other they tell nothing.
+pub record TellsOwn (worker : ℕ) (own now : State) : Type 0 where
+  pub claimed : (d : ℕ) → now.claimed d ≡ Some worker → AgreeOn d own now
+  pub others : (d : ℕ) → now.claimed d ≢ Some worker → AgreeOn d own opening
+
+-- How the counts go down, one at a time, and what none left means.
+pub record CountsDown (m : MoveTable) (now : State) : Type 0 where
+  pub few : (s : ℕ) → readers_left m now s ≤ 2
+  pub no_reader : (d s : ℕ) → readers_left m now s ≡ 0 → is_pending m now d s ≡ false
+  pub no_source : (d s : ℕ) → sources_left m now d ≡ 0 → is_pending m now d s ≡ false
+  pub none_left : (d : ℕ) → ((s : ℕ) → is_pending m now d s ≡ false) → sources_left m now d ≡ 0
+  -- a drain, at its two ends and at any other region
+  pub readers : (worker d s : ℕ) (reply : Reply) → IsTrue (is_pending m now d s) → readers_left m now s ≡ readers_left m (state_after now worker (Drain d s) reply) s + 1
+  pub readers_of_others : (worker d s q : ℕ) (reply : Reply) → IsTrue (is_pending m now d s) → q ≢ s → readers_left m (state_after now worker (Drain d s) reply) q ≡ readers_left m now q
+  pub sources : (worker d s : ℕ) (reply : Reply) → IsTrue (is_pending m now d s) → sources_left m now d ≡ sources_left m (state_after now worker (Drain d s) reply) d + 1
+  pub sources_of_others : (worker d s q : ℕ) (reply : Reply) → IsTrue (is_pending m now d s) → q ≢ d → sources_left m (state_after now worker (Drain d s) reply) q ≡ sources_left m now q
+  -- a settling
+  pub unsettled_one : (worker d : ℕ) (reply : Reply) → IsTrue (to_fill m d) → now.settled d ≡ false → unsettled m now ≡ unsettled m (state_after now worker (Settle d) reply) + 1

@@ -3,3 +3,13 @@ pub mod State
 pub mod History
 pub mod Progress
 pub mod Scheduler
+pub mod Slide
+pub mod ImageMoves
+pub mod WordMachine
+pub mod Schedule
+pub mod Book
+pub mod ScheduleText
+pub mod Reading
+pub mod Verb
+pub mod ReplyText
+pub mod ReadSchedule

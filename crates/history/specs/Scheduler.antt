@@ -1,4 +1,4 @@
-use Rattle.std.specs.Prelude.{◌≡◌, ℕ, ◌<◌, Bool, true, false, ◌&&◌, ◌||◌, ◌==◌, not, IsTrue, Some, List, [], ◌∷◌, length, slice_index, slice_index_or, count_by, Result, MatchResult}
+use Rattle.std.specs.Prelude.{◌≡◌, ℕ, ◌<◌, Bool, false, ◌&&◌, ◌||◌, ◌==◌, not, IsTrue, Some, List, [], ◌∷◌, length, slice_index, slice_index_or, count_by, Result, MatchResult}
 use Rattle.history.specs.MoveTable.{MoveTable, IsMoveTable, region_count, to_fill, is_pair}
 use Rattle.history.specs.State.{State, readers_left, unsettled, Allows, IsStep}
 use Rattle.history.specs.Progress.{claimant_of, is_filled, is_settled}

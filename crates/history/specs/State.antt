@@ -1,4 +1,4 @@
-use Rattle.std.specs.Prelude.{◌≡◌, ℕ, ◌<◌, ◌≤◌, Bool, true, false, not, ◌&&◌, ◌||◌, ◌==◌, if◌then◌else◌, is_none, is_some, IsTrue, Option, Some, None, List, count_by}
+use Rattle.std.specs.Prelude.{◌≡◌, ℕ, ◌<◌, ◌≤◌, Bool, false, not, ◌&&◌, ◌||◌, ◌==◌, if◌then◌else◌, is_none, is_some, IsTrue, Option, Some, None, count_by}
 use Rattle.std.specs.List.{range_with_len}
 use Rattle.history.specs.MoveTable.{MoveTable, region_count, to_fill, reads}
 use Rattle.history.specs.declared.event.Event.{Event}
@@ -30,6 +30,10 @@ readers_left m now s = count_by (λ pair. s == pair.1 && not (now.drained pair.0
 -- how many regions to be filled aren't settled
 abbrev pub unsettled : MoveTable → State → ℕ
 unsettled m now = count_by (λ r. to_fill m r && not (now.settled r)) (range_with_len 0 (region_count m))
+
+-- every region to be filled is settled
+abbrev pub AllAreSettled : MoveTable → State → Type 0
+AllAreSettled m now = (r : ℕ) → IsTrue (to_fill m r) → IsTrue (now.settled r)
 
 -- the worker claimed the region, and hasn't filled it
 abbrev pub IsFilling : State → ℕ → ℕ → Type 0

@@ -1,4 +1,5 @@
 ghost use Rattle.std.specs.Prelude.{◌≡◌, ℕ, ◌+◌, ◌<◌, ◌≤◌, ◌↔◌, ◌==◌, length, All, AllPairs, take, count_by, slice_index_or, SomeIff, IsTrue, IfOk, OnOk, true, false};
+ghost use Rattle.history.specs.State.{opening, unsettled};
 ghost use Rattle.history.specs.MoveTable.{MoveTable, IsMoveTable, Slides, table_of, is_before, has_source, region_count, pairs_before};
 
 use crate::moves::Moves;
@@ -39,8 +40,8 @@ impl GivenMoves {
         Some(GivenMoves { fill, pairs })
     }
 
-    /// The same table as these moves tell.
-    pub(crate) fn copy_of<M: Moves>(alloc: Global, moves: &M) -> Result<GivenMoves, AllocError>
+    /// The same table as these moves tell, in room of its own.
+    pub fn copy_of<M: Moves>(alloc: Global, moves: &M) -> Result<GivenMoves, AllocError>
         ensures { IfOk result (λ given. given ≡ M.table moves.now) }
     {
         let regions = moves.regions();
@@ -56,11 +57,12 @@ impl GivenMoves {
         &self.pairs
     }
 
-    /// How many regions are to be filled.
-    pub(crate) fn fill_count(&self) -> usize
-        ensures { result ≡ count_by (λ fills. fills) self.now.fill }
+    /// How many regions are to be filled. At the opening none of them is settled.
+    pub fn fill_count(&self) -> usize
+        ensures flags { result ≡ count_by (λ fills. fills) self.now.fill }
+        ensures opening { result ≡ unsettled self.now opening }
     {
-        self.fill.iter().filter(|fills| **fills).count()
+        count_set(&self.fill)
     }
 
     /// The place of the first pair that isn't before this one.
@@ -154,6 +156,13 @@ fn have_two_readers_at_most(pairs: &[(u32, u32)]) -> bool
         }
     }
     true
+}
+
+/// How many of the flags are set.
+fn count_set(flags: &[bool]) -> usize
+    ensures { result ≡ count_by (λ flag. flag) flags.now }
+{
+    flags.iter().filter(|flag| **flag).count()
 }
 
 /// Of each region, whether it is to be filled.

@@ -9,30 +9,67 @@
 //!   table of plain data. `GivenMoves` is a table that is handed in.
 //! - `Scheduler::step` answers `Ok` exactly where the step relation allows the event, with its reply
 //!   and its state; `Illegal` leaves the scheduler as it was.
-//! - `legal_histories_are_orderly` and `what_legal_histories_keep` have no body. Their contracts say
-//!   what every legal history of any number of workers keeps.
+//! - `legal_histories_are_orderly`, `what_legal_histories_keep`, `what_own_calls_tell`,
+//!   `how_counts_go_down` and `pairs_slide_down` have no body. Their contracts say what every legal
+//!   history of any number of workers keeps, and every table of moves.
+//!
+//! - `Book` is a scheduler that keeps the list of its calls, a legal history that leads to its state.
+//!   `LockedBoard` is one under a lock, for workers in any thread.
+//! - The moves of a plan of a heap (`summary::Plan`) are the table of its image.
+//! - `drained_before_written` has no body. Its contract is about the word machine, the scheduler with
+//!   a heap: in every list that it allows, each copy finds each word as it was at the start, and once
+//!   all regions are filled the heap is that of the moved words.
+//! - `Schedule` is a history in which a reply may be left open. `write_schedule` gives its text, and
+//!   `read_schedule` reads it or names the least malformed line.
 //!
 //! `specs/MoveTable.antt` defines tables of moves, `specs/State.antt` the state and the step,
-//! `specs/History.antt` legal histories and what is said of them. The contracts are proved. Only
-//! tested: that `new` finds memory where there is some.
+//! `specs/History.antt` legal histories and what is said of them, `specs/Slide.antt` and
+//! `specs/WordMachine.antt` the word machine, `specs/ScheduleText.antt` and `specs/ReadSchedule.antt`
+//! the text of a schedule. The contracts are proved. Only tested: that memory is found where there is
+//! some, and that a call of a `LockedBoard` does what `Book::apply` does.
 #![tactic(auto)]
 
+mod book;
+mod call_fault;
 mod entry;
 mod event;
+mod event_text;
 mod given_moves;
 mod laws;
+mod line;
+mod line_text;
+mod locked_board;
 mod moves;
+mod plan_moves;
 mod progress;
+mod reading;
 mod reply;
+mod reply_text;
+mod schedule;
+mod schedule_reading;
+mod schedule_text;
 mod scheduler;
+mod tallies;
+mod verb;
 
+pub use book::Book;
+pub use call_fault::CallFault;
 pub use entry::Entry;
 pub use event::{Event, Illegal};
 pub use given_moves::GivenMoves;
-pub use laws::{legal_histories_are_orderly, what_legal_histories_keep};
+pub use laws::{
+    drained_before_written, how_counts_go_down, legal_histories_are_orderly, pairs_slide_down,
+    what_legal_histories_keep, what_own_calls_tell,
+};
+pub use line::Line;
+pub use locked_board::LockedBoard;
 pub use moves::Moves;
 pub use reply::Reply;
+pub use schedule::Schedule;
+pub use schedule_reading::read_schedule;
+pub use schedule_text::write_schedule;
 pub use scheduler::Scheduler;
+pub use tallies::{count_readers, count_sources};
 
 #[cfg(test)]
 mod tests;

@@ -1,14 +1,15 @@
-ghost use Rattle.std.specs.Prelude.{◌≡◌, ℕ, ◌+◌, ◌<◌, ◌≤◌, ◌↔◌, ◌==◌, length, slice_index_or, count_by, take, IsTrue, IfOk, OnErr, Some, true, false, IfSome, IfNone, slice_index};
+ghost use Rattle.std.specs.Prelude.{◌≡◌, ℕ, ◌+◌, ◌<◌, ◌≤◌, ◌↔◌, ◌==◌, length, slice_index_or, count_by, take, IsTrue, IfOk, OnErr, Some, true, false, IfSome, OnSome, IfNone, slice_index};
 ghost use Rattle.history.specs.MoveTable.{region_count, to_fill, has_source, readers_of, reads};
-ghost use Rattle.history.specs.State.{all_or_more, unsettled, may_claim, opening, readers_left, is_pending, Allows, IsStep, IsFilling};
+ghost use Rattle.history.specs.State.{all_or_more, unsettled, may_claim, opening, readers_left, is_pending, Allows, IsStep, IsFilling, AllAreSettled};
 ghost use Rattle.history.specs.Progress.{claimant_of, is_filled, is_settled};
-ghost use Rattle.history.specs.Scheduler.{state_in, IsPendingAt, AreTallies, Steps};
+ghost use Rattle.history.specs.Scheduler.{state_in, IsPendingAt, Steps};
 
 use crate::event::{Event, Illegal};
 use crate::given_moves::GivenMoves;
 use crate::moves::Moves;
 use crate::progress::Progress;
 use crate::reply::Reply;
+use crate::tallies::{count_readers, count_sources};
 use std::alloc::{AllocError, Global};
 use std::marker::Model;
 
@@ -52,8 +53,8 @@ impl Scheduler {
         let regions = moves.regions() as usize;
         let drained = vec![in alloc; false; moves.pairs().len()]?;
         let progress = vec![in alloc; Progress::Unclaimed; regions]?;
-        let readers_left = readers_by(alloc, &moves)?;
-        let sources_left = sources_by(alloc, &moves)?;
+        let readers_left = count_readers(alloc, &moves)?;
+        let sources_left = count_sources(alloc, &moves)?;
         let unsettled = moves.fill_count();
         Ok(Scheduler {
             workers,
@@ -86,6 +87,37 @@ impl Scheduler {
             Event::Poll => self.poll(worker),
             Event::Copy(destination, words) => self.copy(worker, destination, words),
         }
+    }
+
+    /// Whether the event is allowed in the present state.
+    pub fn allows(&self, worker: u32, event: Event) -> bool
+        ensures { IsTrue result ↔ Allows self.now.moves (state_in self.now) worker event }
+    {
+        match event {
+            Event::Claim(region) => region < self.moves.regions(),
+            Event::Look(region) => region < self.moves.regions(),
+            Event::Drain(destination, source) => self.may_drain(worker, destination, source),
+            Event::Complete(destination) => self.may_complete(worker, destination),
+            Event::Settle(destination) => self.is_at(destination, Progress::Completed(worker)),
+            Event::Poll => true,
+            Event::Copy(destination, words) => {
+                self.is_at(destination, Progress::Filling(worker)) && words >= 1
+            }
+        }
+    }
+
+    /// How many workers there are.
+    pub fn workers(&self) -> u32
+        ensures { result ≡ self.now.workers }
+    {
+        self.workers
+    }
+
+    /// Whether all regions to be filled are settled.
+    pub fn is_done(&self) -> bool
+        ensures { IsTrue result ↔ AllAreSettled self.now.moves (state_in self.now) }
+    {
+        self.unsettled == 0
     }
 
     fn claim(&mut self, worker: u32, region: u32) -> Result<Reply, Illegal>
@@ -220,9 +252,24 @@ impl Scheduler {
             && self.readers_left_of(region) == 0
     }
 
+    fn may_drain(&self, worker: u32, destination: u32, source: u32) -> bool
+        ensures { IsTrue result ↔ Allows self.now.moves (state_in self.now) worker (Event.Drain destination source) }
+    {
+        self.is_at(destination, Progress::Filling(worker))
+            && self.pending_place(destination, source).is_some()
+    }
+
+    fn may_complete(&self, worker: u32, destination: u32) -> bool
+        ensures { IsTrue result ↔ Allows self.now.moves (state_in self.now) worker (Event.Complete destination) }
+    {
+        self.is_at(destination, Progress::Filling(worker))
+            && self.sources_left[destination as usize] == 0
+    }
+
     /// The place of the pair, if it stands in the moves and isn't drained.
     fn pending_place(&self, destination: u32, source: u32) -> Option<usize>
         ensures found { IfSome result (λ at. IsPendingAt self.now destination source at) }
+        ensures pending { OnSome result (IsTrue (is_pending self.now.moves (state_in self.now) destination source)) }
         ensures none { IfNone result (is_pending self.now.moves (state_in self.now) destination source ≡ false) }
     {
         let at = self.moves.first_from(destination, source);
@@ -235,26 +282,4 @@ impl Scheduler {
             None
         }
     }
-}
-
-/// Of each region, how many others read it.
-fn readers_by(alloc: Global, moves: &GivenMoves) -> Result<Vec<usize>, AllocError>
-    ensures { IfOk result (λ counts. AreTallies moves.now (λ pair. pair.1) moves.now.pairs counts.items) }
-{
-    let mut counts = vec![in alloc; 0; moves.regions() as usize]?;
-    for &(_, source) in moves.pairs() {
-        counts[source as usize] += 1;
-    }
-    Ok(counts)
-}
-
-/// Of each region, how many others it reads.
-fn sources_by(alloc: Global, moves: &GivenMoves) -> Result<Vec<usize>, AllocError>
-    ensures { IfOk result (λ counts. AreTallies moves.now (λ pair. pair.0) moves.now.pairs counts.items) }
-{
-    let mut counts = vec![in alloc; 0; moves.regions() as usize]?;
-    for &(destination, _) in moves.pairs() {
-        counts[destination as usize] += 1;
-    }
-    Ok(counts)
 }

@@ -1,9 +1,14 @@
 //! Worked rows, with replies known from outside, and each public call once.
+use crate::call_fault::CallFault;
 use crate::event::{Event, Illegal};
 use crate::given_moves::GivenMoves;
+use crate::locked_board::LockedBoard;
 use crate::moves::Moves;
 use crate::reply::Reply;
+use crate::schedule_reading::read_schedule;
+use crate::schedule_text::write_schedule;
 use crate::scheduler::Scheduler;
+use heap_image::Fault;
 use std::alloc::{AllocError, Global};
 use std::test::Fail;
 
@@ -112,5 +117,64 @@ fn a_table_tells_what_was_handed_in(rt: HostRuntime) -> Result<(), Fail> {
     assert_eq!(rt; table.next_source(0, 0), Some(1));
     assert_eq!(rt; table.next_source(0, 2), Some(3));
     assert_eq!(rt; table.next_source(1, 4), None);
+    Ok(())
+}
+
+#[test]
+fn a_locked_board_keeps_its_calls(rt: HostRuntime) -> Result<(), Fail> {
+    let moves = given(rt.alloc(), &[true, true], &[(0, 1)])?.ok_or("a table")?;
+    let board = LockedBoard::new(rt.alloc(), &moves, 2)?;
+    let rows = [
+        (0, Event::Claim(1), Ok(Reply::No)),
+        (0, Event::Claim(0), Ok(Reply::Yes)),
+        (1, Event::Copy(0, 8), Err(CallFault::Illegal)),
+        (0, Event::Copy(0, 8), Ok(Reply::Done)),
+        (0, Event::Drain(0, 1), Ok(Reply::Last)),
+        (1, Event::Look(1), Ok(Reply::Open(0))),
+        (2, Event::Poll, Err(CallFault::Illegal)),
+        (0, Event::Complete(0), Ok(Reply::Done)),
+        (0, Event::Settle(0), Ok(Reply::More)),
+    ];
+    for (worker, event, answer) in rows {
+        assert_eq!(rt; board.call(worker, event, &rt), answer);
+    }
+    assert!(rt; !board.done(&rt));
+    let text = write_schedule(rt.alloc(), &board.into_schedule())?;
+    let lines = "schedule 1 2\n0 claim 1 no\n0 claim 0 yes\n0 copy 0 8 ok\n0 drain 0 1 last\n\
+                 1 look 1 open0\n0 complete 0 ok\n0 settle 0 more\n";
+    assert_eq!(rt; text.as_slice(), lines.as_bytes());
+    Ok(())
+}
+
+#[test]
+fn the_least_malformed_line_is_named(rt: HostRuntime) -> Result<(), Fail> {
+    let rows = [
+        ("", 1),
+        ("schedule 1 0\n", 1),
+        ("schedule 1 65\n", 1),
+        ("schedule 2 1\n", 1),
+        ("schedule 1  1\n", 1),
+        ("schedule 01 1\n", 1),
+        ("schedule 1 1", 1),
+        ("schedule 1 1\n1 poll ?\n", 2),
+        ("schedule 1 1\n0 copy 0 0 ok\n", 2),
+        ("schedule 1 1\n0 claim 0 open0\n", 2),
+        ("schedule 1 1\n0 claim 4294967296 ?\n", 2),
+        ("schedule 1 1\n 0 poll ?\n", 2),
+        ("schedule 1 1\n0 poll\n", 2),
+        ("schedule 1 1\n\n", 2),
+        ("schedule 1 1\n0 claim 1 yes\n0 poll\n", 3),
+    ];
+    for (text, line) in rows {
+        let read = read_schedule(rt.alloc(), text.as_bytes());
+        assert_eq!(rt; read.err(), Some(Fault::Schedule(line)));
+    }
+    let schedule = read_schedule(
+        rt.alloc(),
+        b"schedule 1 1\n0 claim 4294967295 ?\n0 poll all\n",
+    )?;
+    assert!(rt; schedule.workers() == 1 && schedule.len() == 2 && !schedule.is_empty());
+    assert_eq!(rt; schedule.line(0), (0, Event::Claim(4_294_967_295), None));
+    assert_eq!(rt; schedule.line(1), (0, Event::Poll, Some(Reply::All)));
     Ok(())
 }

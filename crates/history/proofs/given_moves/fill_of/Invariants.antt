@@ -1,5 +1,4 @@
-use Rattle.std.proofs.Common.{◌≡◌, ℕ, take}
-use Rattle.history.specs.MoveTable.{MoveTable}
+use Rattle.std.proofs.Common.{◌≡◌, take}
 use Rattle.history.proofs.given_moves.fill_of.Given as goal
 
 abbrev pub invariant-loop-region : goal.invariant-loop-region

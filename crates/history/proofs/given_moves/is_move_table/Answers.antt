@@ -1,6 +1,5 @@
-use Rattle.std.proofs.Common.{◌≡◌, ◌≤◌, ℕ, length, refl, sym, ap, ◌∙◌, arith, rules}
+use Rattle.std.proofs.Common.{sym, ◌∙◌, rules}
 use Rattle.std.proofs.lemmas.Bool.{both_ways}
-use Rattle.history.specs.MoveTable.{IsMoveTable}
 use Rattle.history.proofs.given_moves.is_move_table.Goals as goal
 use Rattle.history.proofs.given_moves.is_move_table.Goals.{then-are_ascending, else-are_ascending}
 

@@ -1,4 +1,4 @@
-use Rattle.std.proofs.Common.{◌≡◌, ◌≤◌, ◌+◌, ℕ, List, refl, sym, ap, ◌∙◌, arith}
+use Rattle.std.proofs.Common.{◌≡◌, ℕ, sym, ap, ◌∙◌, arith}
 use Rattle.history.specs.MoveTable.{MoveTable, region_count, pairs_before}
 use Rattle.history.proofs.Pairs.{pairs_before-opening, pairs_before-whole}
 use Rattle.history.proofs.given_moves.pairs_of.Goals as goal

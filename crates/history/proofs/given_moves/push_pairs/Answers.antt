@@ -1,5 +1,5 @@
-use Rattle.std.proofs.Common.{◌≡◌, ◌<◌, ◌≤◌, ◌+◌, ◌-◌, ◌++◌, ◌∷◌, [], ℕ, List, refl, sym, ap, ◌∙◌, arith}
-use Rattle.history.specs.MoveTable.{MoveTable, region_count, pairs_before}
+use Rattle.std.proofs.Common.{◌≤◌, ◌++◌, ◌∷◌, [], ℕ, List, sym, ap, ◌∙◌, arith}
+use Rattle.history.specs.MoveTable.{MoveTable, region_count}
 use Rattle.history.proofs.Pairs.{pairs_before-source, pairs_before-region}
 use Rattle.history.proofs.given_moves.push_pairs.Goals as goal
 

@@ -1,4 +1,4 @@
-use Rattle.std.proofs.Common.{◌≡◌, ℕ, ◌-◌}
+use Rattle.std.proofs.Common.{◌≡◌, ◌-◌}
 use Rattle.history.specs.MoveTable.{pairs_before, region_count}
 use Rattle.history.proofs.given_moves.push_pairs.Given as goal
 

@@ -1,5 +1,5 @@
 use Rattle.std.proofs.Common.{◌≡◌, sym, subst}
-use Rattle.history.specs.MoveTable.{MoveTable, IsMoveTable}
+use Rattle.history.specs.MoveTable.{IsMoveTable}
 use Rattle.history.proofs.given_moves.GivenMoves.copy_of.Goals as goal
 
 pub invariant_of-result : goal.invariant_of-result

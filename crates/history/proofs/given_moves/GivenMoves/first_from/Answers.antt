@@ -1,4 +1,4 @@
-use Rattle.std.proofs.Common.{of_calls, rules, ◌≡◌, ◌<◌, ℕ, List, length, get_or, true, false, sym, ap, ◌∙◌, subst, arith}
+use Rattle.std.proofs.Common.{of_calls, rules, ◌≡◌, ℕ, List, sym, ap, ◌∙◌, subst, arith}
 use Rattle.std.proofs.lemmas.Fn.{always_returns_same}
 use Rattle.history.specs.MoveTable.{MoveTable, is_before}
 use Rattle.history.proofs.Pairs.{IsAscending, IsBefore_partitions}

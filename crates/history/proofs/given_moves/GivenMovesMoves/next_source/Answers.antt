@@ -1,6 +1,5 @@
-use Rattle.std.proofs.Common.{Some, ◌≡◌, ◌<◌, ◌≤◌, ℕ, List, length, get_or, true, false, refl, sym, ap, ◌∙◌, subst, arith}
-use Rattle.std.specs.Prelude.{slice_index_or, nat_lt}
-use Rattle.std.proofs.lemmas.Bool.{ltb-true, ltb-false}
+use Rattle.std.proofs.Common.{Some, ◌≡◌, ◌≤◌, length, refl, sym, ap, ◌∙◌, subst}
+use Rattle.std.proofs.lemmas.Bool.{ltb-false}
 use Rattle.history.specs.MoveTable.{MoveTable, IsMoveTable, IsNextSource}
 use Rattle.history.proofs.Pairs.{IsAscending, IsFirstFrom, next_past, next_other, next_here, slide_of}
 use Rattle.history.proofs.given_moves.GivenMovesMoves.next_source.Goals as goal

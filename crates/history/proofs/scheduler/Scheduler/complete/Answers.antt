@@ -1,14 +1,12 @@
-use Rattle.std.proofs.Common.{◌≡◌, ◌<◌, ◌≤◌, ◌+◌, ◌-◌, ℕ, List, length, get_or, true, false, refl, sym, ap, ◌∙◌, subst, arith, Some, None, inl, inr, ◌⊎◌, ◌≢◌}
-use Rattle.std.specs.Prelude.{slice_index, slice_index_or, IsTrue, ◌==◌, if◌then◌else◌}
+use Rattle.std.proofs.Common.{◌≡◌, ◌<◌, length, ◌∙◌, arith}
+use Rattle.std.specs.Prelude.{slice_index, slice_index_or}
 use Rattle.std.proofs.lemmas.List.{get_or_default}
-use Rattle.std.proofs.lemmas.Bool.{both_ways, ne_eqb}
-use Rattle.history.specs.MoveTable.{MoveTable, region_count}
-use Rattle.history.specs.State.{State, is_pending, readers_left, IsFilling}
-use Rattle.history.specs.Progress.{claimant_of, is_filled, is_settled}
-use Rattle.history.specs.Scheduler.{SchedulerView, state_in, IsKept, IsPendingAt, sources_left}
-use Rattle.history.specs.declared.progress.Progress.TheVariants.{Unclaimed, Filling, Completed, Settled}
+use Rattle.std.proofs.lemmas.Bool.{both_ways}
+use Rattle.history.specs.MoveTable.{region_count}
+use Rattle.history.specs.Scheduler.{SchedulerView, state_in, IsKept, sources_left}
+use Rattle.history.specs.declared.progress.Progress.TheVariants.{Unclaimed, Filling}
 use Rattle.history.specs.declared.event.Event.TheVariants.{Complete}
-use Rattle.history.proofs.Stepping.{refused, none_left, begun_inside, filling_of, Completes, completes}
+use Rattle.history.proofs.Stepping.{refused, none_left, begun_inside, filling_of, completes}
 use Rattle.history.proofs.scheduler.Scheduler.complete.Goals as goal
 use Rattle.history.proofs.scheduler.Scheduler.complete.Goals.{then-not-is_at-via-then-not-is_at, then-not-is_at-via-else-not-is_at+then-index-gt0}
 

@@ -1,16 +1,13 @@
-use Rattle.std.proofs.Common.{◌≡◌, ◌<◌, ◌≤◌, ◌+◌, ◌-◌, ℕ, List, length, get_or, true, false, refl, sym, ap, ◌∙◌, subst, arith, Some, None, inl, inr, ◌⊎◌, ◌≢◌}
-use Rattle.std.specs.Prelude.{slice_index, slice_index_or, IsTrue, ◌==◌, if◌then◌else◌}
+use Rattle.std.proofs.Common.{◌≡◌, ◌-◌, ℕ, refl, ap, ◌∙◌, inl, inr, ◌⊎◌, ◌≢◌}
+use Rattle.std.specs.Prelude.{slice_index, slice_index_or, ◌==◌, if◌then◌else◌}
 use Rattle.std.proofs.lemmas.List.{get_or_default}
-use Rattle.std.proofs.lemmas.Bool.{both_ways, ne_eqb}
-use Rattle.history.specs.MoveTable.{MoveTable, region_count}
-use Rattle.history.specs.State.{State, is_pending, readers_left, IsFilling}
-use Rattle.history.specs.Progress.{claimant_of, is_filled, is_settled}
-use Rattle.history.specs.Scheduler.{SchedulerView, state_in, IsKept, IsPendingAt, sources_left}
-use Rattle.history.specs.declared.progress.Progress.TheVariants.{Unclaimed, Filling, Completed, Settled}
-use Rattle.history.specs.declared.event.Event.TheVariants.{Drain}
+use Rattle.std.proofs.lemmas.Bool.{ne_eqb}
+use Rattle.history.specs.Progress.{claimant_of, is_filled}
+use Rattle.history.specs.Scheduler.{SchedulerView, IsKept, IsPendingAt}
+use Rattle.history.specs.declared.progress.Progress.TheVariants.{Unclaimed, Filling}
 use Rattle.history.specs.declared.reply.Reply.{Reply}
 use Rattle.history.specs.declared.reply.Reply.TheVariants.{Last, NotLast}
-use Rattle.history.proofs.Stepping.{refused, IsOpen, open_of, Drains, drains}
+use Rattle.history.proofs.Stepping.{IsOpen, open_of, Drains, drains}
 use Rattle.history.proofs.scheduler.Scheduler.drain.Goals as goal
 use Rattle.history.proofs.scheduler.Scheduler.drain.Goals.{then-left-eq0, else-left-eq0}
 

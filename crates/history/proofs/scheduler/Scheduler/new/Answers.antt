@@ -1,4 +1,4 @@
-use Rattle.std.proofs.Common.{◌≡◌, ℕ, List, length, replicate, false, refl, sym, ap, ◌∙◌}
+use Rattle.std.proofs.Common.{◌≡◌, ℕ, List, length, replicate, false, ap, ◌∙◌}
 use Rattle.history.specs.MoveTable.{region_count}
 use Rattle.history.specs.Scheduler.{SchedulerView}
 use Rattle.history.specs.declared.progress.Progress.TheVariants.{Unclaimed}
@@ -10,7 +10,7 @@ invariant_of-result g c =
     let v : SchedulerView = record { workers = c.args.workers; moves = c.in_ok-moves.moves; flags = c.in_ok-drained.drained.items; progress = c.in_ok-progress.progress.items } in
     let flags : c.in_ok-drained.drained.items ≡ replicate (length v.moves.pairs) false = c.in_ok-drained.ensures.items_if_clones_equal (λ y h. h) ∙ ap (λ (ps : List (ℕ × ℕ)). replicate (length ps) false) c.pairs.ensures in
     let progress : c.in_ok-progress.progress.items ≡ replicate (region_count v.moves) Unclaimed = c.in_ok-progress.ensures.items_if_clones_equal (λ y h. h) ∙ ap (λ (n : ℕ). replicate n Unclaimed) c.regions-regions.ensures.number in
-    let all : IsOpening v c.in_ok-readers_left.readers_left.items c.in_ok-sources_left.sources_left.items c.fill_count-unsettled.result = opening_kept v c.in_ok-readers_left.readers_left.items c.in_ok-sources_left.sources_left.items c.fill_count-unsettled.result c.regions-regions.ensures.lawful flags progress c.in_ok-readers_left.ensures c.in_ok-sources_left.ensures c.fill_count-unsettled.ensures in
+    let all : IsOpening v c.in_ok-readers_left.readers_left.items c.in_ok-sources_left.sources_left.items c.fill_count-unsettled.result = opening_kept v c.in_ok-readers_left.readers_left.items c.in_ok-sources_left.sources_left.items c.fill_count-unsettled.result c.regions-regions.ensures.lawful flags progress c.in_ok-readers_left.ensures c.in_ok-sources_left.ensures c.fill_count-unsettled.ensures.flags in
     all.kept
 
 pub returns-clause-opening : goal.returns-clause-opening
@@ -18,5 +18,5 @@ returns-clause-opening g c =
     let v : SchedulerView = record { workers = c.args.workers; moves = c.in_ok-moves.moves; flags = c.in_ok-drained.drained.items; progress = c.in_ok-progress.progress.items } in
     let flags : c.in_ok-drained.drained.items ≡ replicate (length v.moves.pairs) false = c.in_ok-drained.ensures.items_if_clones_equal (λ y h. h) ∙ ap (λ (ps : List (ℕ × ℕ)). replicate (length ps) false) c.pairs.ensures in
     let progress : c.in_ok-progress.progress.items ≡ replicate (region_count v.moves) Unclaimed = c.in_ok-progress.ensures.items_if_clones_equal (λ y h. h) ∙ ap (λ (n : ℕ). replicate n Unclaimed) c.regions-regions.ensures.number in
-    let all : IsOpening v c.in_ok-readers_left.readers_left.items c.in_ok-sources_left.sources_left.items c.fill_count-unsettled.result = opening_kept v c.in_ok-readers_left.readers_left.items c.in_ok-sources_left.sources_left.items c.fill_count-unsettled.result c.regions-regions.ensures.lawful flags progress c.in_ok-readers_left.ensures c.in_ok-sources_left.ensures c.fill_count-unsettled.ensures in
+    let all : IsOpening v c.in_ok-readers_left.readers_left.items c.in_ok-sources_left.sources_left.items c.fill_count-unsettled.result = opening_kept v c.in_ok-readers_left.readers_left.items c.in_ok-sources_left.sources_left.items c.fill_count-unsettled.result c.regions-regions.ensures.lawful flags progress c.in_ok-readers_left.ensures c.in_ok-sources_left.ensures c.fill_count-unsettled.ensures.flags in
     all.state

@@ -1,14 +1,8 @@
-use Rattle.std.proofs.Common.{◌≡◌, ◌<◌, ◌≤◌, ◌+◌, ◌-◌, ℕ, List, length, get_or, true, false, refl, sym, ap, ◌∙◌, subst, arith, Some, None, inl, inr, ◌⊎◌, ◌≢◌}
-use Rattle.std.specs.Prelude.{slice_index, slice_index_or, IsTrue, ◌==◌, if◌then◌else◌}
-use Rattle.std.proofs.lemmas.List.{get_or_default}
-use Rattle.std.proofs.lemmas.Bool.{both_ways, ne_eqb}
-use Rattle.history.specs.MoveTable.{MoveTable, region_count}
-use Rattle.history.specs.State.{State, is_pending, readers_left, IsFilling}
-use Rattle.history.specs.Progress.{claimant_of, is_filled, is_settled}
-use Rattle.history.specs.Scheduler.{SchedulerView, state_in, IsKept, IsPendingAt, sources_left}
-use Rattle.history.specs.declared.progress.Progress.TheVariants.{Unclaimed, Filling, Completed, Settled}
-use Rattle.history.specs.declared.event.Event.TheVariants.{Settle}
-use Rattle.history.proofs.Stepping.{refused, completed_of, Settles, settles}
+use Rattle.std.proofs.Common.{◌≡◌}
+use Rattle.std.specs.Prelude.{slice_index_or}
+use Rattle.history.specs.Scheduler.{SchedulerView, IsKept}
+use Rattle.history.specs.declared.progress.Progress.TheVariants.{Unclaimed, Completed}
+use Rattle.history.proofs.Stepping.{settles}
 use Rattle.history.proofs.scheduler.Scheduler.settle.Goals as goal
 
 pub overflow_sub-self : goal.overflow_sub-self

@@ -4,7 +4,7 @@ use Rattle.std.proofs.lemmas.List.{get_or_default}
 use Rattle.history.specs.MoveTable.{MoveTable, IsMoveTable, region_count, Slides}
 use Rattle.history.specs.Scheduler.{AreTallies}
 use Rattle.history.proofs.Openings.{AreTallies-more, tally_le}
-use Rattle.history.proofs.scheduler.sources_by.Goals as goal
+use Rattle.history.proofs.tallies.count_sources.Goals as goal
 
 pub overflow_add-index_mut : goal.overflow_add-index_mut
 overflow_add-index_mut c =

@@ -1,0 +1,5 @@
+use Rattle.history.proofs.DrainedBefore.{drained_before}
+use Rattle.history.proofs.laws.drained_before_written.Goals as goal
+
+pub returns : goal.returns
+returns c = drained_before

@@ -1,0 +1,5 @@
+use Rattle.history.proofs.Countdown.{counts_down}
+use Rattle.history.proofs.laws.how_counts_go_down.Goals as goal
+
+pub returns : goal.returns
+returns c = counts_down

@@ -1,0 +1,5 @@
+use Rattle.history.proofs.Own.{own_calls}
+use Rattle.history.proofs.laws.what_own_calls_tell.Goals as goal
+
+pub returns : goal.returns
+returns c = own_calls

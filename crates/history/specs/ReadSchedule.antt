@@ -1,0 +1,31 @@
+-- Which line of a text is malformed.
+use Rattle.std.specs.Prelude.{◌≡◌, ◌≢◌, ℕ, ◌+◌, ◌≤◌, Bool, ◌&&◌, ◌⊎◌, IsTrue, List, [], ◌++◌, length}
+use Rattle.history.specs.Schedule.{IsSchedule, is_line}
+use Rattle.history.specs.ScheduleText.{line_text, header_text, schedule_text}
+use Rattle.history.specs.Verb.{has_numbers}
+use Rattle.history.specs.declared.line.Line.{Line}
+
+-- a line of so many workers whose numbers a text may have
+abbrev pub is_text_line : ℕ → Line → Bool
+is_text_line workers line = is_line workers line && has_numbers line.event
+
+-- the text doesn't begin with a first line
+pub record IsBadHeader (bytes : List ℕ) (line : ℕ) : Type 0 where
+  pub first : line ≡ 1
+  pub none : (workers : ℕ) (rest : List ℕ) → 1 ≤ workers → workers ≤ 64 → bytes ≢ header_text workers ++ rest
+
+-- The text begins with that of a schedule of all lines before this one, and what follows, which is something, doesn't
+-- begin with a line.
+pub record IsBadLine (bytes : List ℕ) (line : ℕ) : Type 0 where
+  pub workers : ℕ
+  pub lines : List Line
+  pub rest : List ℕ
+  pub before : IsSchedule (record { workers = workers; lines = lines })
+  pub is : bytes ≡ schedule_text (record { workers = workers; lines = lines }) ++ rest
+  pub some : rest ≢ []
+  pub number : line ≡ length lines + 2
+  pub none : (next : Line) (after : List ℕ) → IsTrue (is_text_line workers next) → rest ≢ line_text next ++ after
+
+-- the least malformed line, counted from 1
+abbrev pub IsMalformedAt : List ℕ → ℕ → Type 0
+IsMalformedAt bytes line = IsBadHeader bytes line ⊎ IsBadLine bytes line

@@ -1,0 +1,139 @@
+-- The word machine: the scheduler's steps with a heap, for words that slide down.
+use Rattle.std.specs.Prelude.{◌≡◌, ◌≢◌, ℕ, zero, suc, ◌+◌, ◌-◌, ◌*◌, ◌/◌, ◌%◌, ◌<◌, ◌≤◌, min, ◌==◌, nat_lt, if◌then◌else◌, IsTrue, Option, Some, None, List, [], ◌∷◌}
+use Rattle.history.specs.MoveTable.{MoveTable, reads, to_fill}
+use Rattle.history.specs.State.{State, opening, state_after, IsStep}
+use Rattle.history.specs.declared.event.Event.{Event}
+use Rattle.history.specs.declared.event.Event.TheVariants.{Claim, Look, Drain, Complete, Settle, Poll, Copy}
+use Rattle.history.specs.declared.entry.Entry.{Entry}
+
+-- Which word goes where, and what becomes of it. The address a lies in the region a / size.
+pub record Slide : Type 0 where
+  pub size : ℕ
+  -- each word below it is to be written
+  pub top : ℕ
+  -- the old place of the word that goes to this new place; a filler's word has none
+  pub origin : ℕ → Option ℕ
+  -- what the word at this old place is written as
+  pub carried : ℕ → ℕ → ℕ
+  -- the word of a filler at this place
+  pub filler : ℕ → ℕ
+
+-- Words slide down, and the table of moves knows each region that takes words from another one.
+pub record IsSlideOf (m : MoveTable) (p : Slide) : Type 0 where
+  pub sized : 0 < p.size
+  pub down : (a x : ℕ) → a < p.top → p.origin a ≡ Some x → a ≤ x
+  pub told : (a x : ℕ) → a < p.top → p.origin a ≡ Some x → a / p.size ≢ x / p.size → IsTrue (reads m (a / p.size) (x / p.size))
+  pub filled : (a : ℕ) → a < p.top → IsTrue (to_fill m (a / p.size))
+
+-- the word for a place, of a heap as it stands
+abbrev pub word_from : Slide → (ℕ → ℕ) → ℕ → Option ℕ → ℕ
+word_from p heap a None = p.filler a
+word_from p heap a (Some x) = p.carried x (heap x)
+
+abbrev pub word_for : Slide → (ℕ → ℕ) → ℕ → ℕ
+word_for p heap a = word_from p heap a (p.origin a)
+
+-- the heap once each word below the top is written, and those above it still stand
+abbrev pub moved_heap : Slide → (ℕ → ℕ) → ℕ → ℕ
+moved_heap p start a = if nat_lt a p.top then word_for p start a else start a
+
+-- how many words of the region are to be written
+abbrev pub words_of : Slide → ℕ → ℕ
+words_of p d = min p.size (p.top - d * p.size)
+
+-- What the scheduler knows, the heap, and how many words of each region are written.
+pub record Machine : Type 0 where
+  pub known : State
+  pub heap : ℕ → ℕ
+  pub written : ℕ → ℕ
+
+abbrev pub machine_at_first : (ℕ → ℕ) → Machine
+machine_at_first start = record { known = opening; heap = start; written = λ r. 0 }
+
+-- the lowest unwritten word of d
+abbrev pub next_place : Slide → ℕ → Machine → ℕ
+next_place p d w = d * p.size + w.written d
+
+-- that word is written, from where its origin stands now
+abbrev pub write_one : Slide → ℕ → Machine → Machine
+write_one p d w =
+    record {
+      known = w.known;
+      heap = λ b. if b == next_place p d w then word_for p w.heap b else w.heap b;
+      written = λ r. if r == d then w.written r + 1 else w.written r;
+    }
+
+-- the n lowest unwritten words of d, ascending
+abbrev pub write_words : Slide → ℕ → ℕ → Machine → Machine
+write_words p d zero w = w
+write_words p d (suc n) w = write_one p d (write_words p d n w)
+
+abbrev pub IsWritten : Slide → Machine → ℕ → Type 0
+IsWritten p w a = a % p.size < w.written (a / p.size)
+
+-- all words that go from s to d are written
+abbrev pub IsCopiedOut : Slide → Machine → ℕ → ℕ → Type 0
+IsCopiedOut p w d s = (a x : ℕ) → a < p.top → a / p.size ≡ d → p.origin a ≡ Some x → x / p.size ≡ s → IsWritten p w a
+
+-- what the words ask for, where the scheduler allows the event
+abbrev pub AllowsWords : Slide → Machine → Event → Type 0
+AllowsWords p w (Claim r) = Unit {0}
+AllowsWords p w (Look r) = Unit {0}
+AllowsWords p w (Drain d s) = IsCopiedOut p w d s
+AllowsWords p w (Complete d) = w.written d ≡ words_of p d
+AllowsWords p w (Settle d) = Unit {0}
+AllowsWords p w Poll = Unit {0}
+AllowsWords p w (Copy d n) = w.written d + n ≤ words_of p d
+
+-- the words after the event: only a copy writes any
+abbrev pub copied : Slide → Machine → Event → Machine
+copied p w (Claim r) = w
+copied p w (Look r) = w
+copied p w (Drain d s) = w
+copied p w (Complete d) = w
+copied p w (Settle d) = w
+copied p w Poll = w
+copied p w (Copy d n) = write_words p d n w
+
+abbrev pub machine_after : Slide → Machine → Entry → Machine
+machine_after p w e =
+    record {
+      known = state_after w.known e.worker e.event e.reply;
+      heap = (copied p w e.event).heap;
+      written = (copied p w e.event).written;
+    }
+
+abbrev pub machine_from : Slide → Machine → List Entry → Machine
+machine_from p w [] = w
+machine_from p w (e ∷ es) = machine_from p (machine_after p w e) es
+
+-- the call is a step of the scheduler, and the words allow it
+abbrev pub IsMachineStep : MoveTable → Slide → ℕ → Machine → Entry → Type 0
+IsMachineStep m p workers w e =
+    (e.worker < workers)
+    × IsStep m w.known e.worker e.event e.reply (state_after w.known e.worker e.event e.reply)
+    × AllowsWords p w e.event
+
+-- each call is a step from where those before it lead to
+abbrev pub AreMachineSteps : MoveTable → Slide → ℕ → Machine → List Entry → Type 0
+AreMachineSteps m p workers w [] = Unit {0}
+AreMachineSteps m p workers w (e ∷ es) = IsMachineStep m p workers w e × AreMachineSteps m p workers (machine_after p w e) es
+
+-- as each word is written, its origin stands as it did at the start
+abbrev pub Finds : Slide → (ℕ → ℕ) → Machine → Event → Type 0
+Finds p start w (Copy d n) =
+    (k x : ℕ) → k < n → p.origin (d * p.size + w.written d + k) ≡ Some x → (write_words p d k w).heap x ≡ start x
+Finds p start w (Claim r) = Unit {0}
+Finds p start w (Look r) = Unit {0}
+Finds p start w (Drain d s) = Unit {0}
+Finds p start w (Complete d) = Unit {0}
+Finds p start w (Settle d) = Unit {0}
+Finds p start w Poll = Unit {0}
+
+abbrev pub AllFind : Slide → (ℕ → ℕ) → Machine → List Entry → Type 0
+AllFind p start w [] = Unit {0}
+AllFind p start w (e ∷ es) = Finds p start w e.event × AllFind p start (machine_after p w e) es
+
+-- all regions that are to be filled are filled
+abbrev pub AllFilled : MoveTable → State → Type 0
+AllFilled m now = (r : ℕ) → IsTrue (to_fill m r) → IsTrue (now.filled r)

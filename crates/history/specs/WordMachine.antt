@@ -1,0 +1,47 @@
+-- The word machine over an image, and what every list that it allows keeps.
+use Rattle.std.specs.Prelude.{◌≡◌, ℕ, Bool, not, ◌&&◌, if◌then◌else◌, List}
+use Rattle.std.specs.List.{list_any}
+use Rattle.heap_image.specs.HeapImage.{HeapImage, region_words, word_at}
+use Rattle.summary.specs.NewAddresses.{new_top}
+use Rattle.summary.specs.WordMoves.{origin}
+use Rattle.summary.specs.Fillers.{filler_word}
+use Rattle.summary.specs.Compaction.{is_reference_of, is_deferred, redirected, moved_word}
+use Rattle.history.specs.Slide.{Slide, Machine, machine_at_first, machine_from, AreMachineSteps, AllFind, AllFilled}
+use Rattle.history.specs.ImageMoves.{image_table}
+use Rattle.history.specs.declared.entry.Entry.{Entry}
+
+module _ (image : HeapImage) where
+  -- q is a reference of a live object that isn't deferred
+  abbrev pub is_redirected : ℕ → Bool
+  is_redirected q = list_any (λ a. is_reference_of image a q && not (is_deferred image a)) image.live
+
+  -- How the image's words slide: each goes to its new place, its reference redirected as it is written unless its object
+  -- is deferred.
+  abbrev pub image_slide : Slide
+  image_slide =
+      record {
+        size = region_words image;
+        top = new_top image;
+        origin = origin image;
+        carried = λ q word. if is_redirected q then redirected image word else word;
+        filler = filler_word image;
+      }
+
+  -- the machine at the start: nothing has happened, and the heap is the image's
+  abbrev pub machine_start : Machine
+  machine_start = machine_at_first (word_at image)
+
+  -- the machine after these calls
+  abbrev pub machine_of : List Entry → Machine
+  machine_of log = machine_from image_slide machine_start log
+
+  -- the machine of this image allows the list, with its replies
+  abbrev pub IsAllowed : ℕ → List Entry → Type 0
+  IsAllowed workers log = AreMachineSteps (image_table image) image_slide workers machine_start log
+
+-- What the machine keeps over a list of calls.
+pub record IsDrainedBeforeWritten (image : HeapImage) (log : List Entry) : Type 0 where
+  -- each copy finds each word that it takes as it was at the start
+  pub finds : AllFind (image_slide image) (word_at image) (machine_start image) log
+  -- once all regions to be filled are filled, the heap is that of the moved words
+  pub moved : AllFilled (image_table image) (machine_of image log).known → (a : ℕ) → (machine_of image log).heap a ≡ moved_word image a

@@ -1,0 +1,76 @@
+//! Lines of a schedule read from their text.
+
+ghost use Rattle.std.specs.Prelude.{◌≡◌, ◌≢◌, ◌≤◌, ◌++◌, List, ℕ, IsTrue, MatchOption};
+ghost use Rattle.history.specs.Schedule.{is_event, is_line};
+ghost use Rattle.history.specs.ScheduleText.{line_text, header_text};
+ghost use Rattle.history.specs.ReadSchedule.{is_text_line};
+ghost use Rattle.history.specs.declared.line.Line.{Line};
+
+use crate::event::Event;
+use crate::event_text::event;
+use crate::line::Line;
+use crate::reading::{number_to, word};
+use crate::reply_text::told;
+
+/// The line of one of these workers whose text stands in front, and the bytes behind it.
+pub(crate) fn line(workers: u32, bytes: &[u8]) -> Option<(Line, &[u8])>
+    requires { workers ≤ 64 }
+    ensures { MatchOption result
+        ((line : Line) (rest : List ℕ) → IsTrue (is_text_line workers line) → bytes.now ≢ line_text line ++ rest)
+        (λ parts. IsTrue (is_line workers parts.0) × (bytes.now ≡ line_text parts.0 ++ parts.1.now)) }
+{
+    let (worker, after_worker) = number_to(bytes, b' ')?;
+    let (event, after_event) = event(after_worker)?;
+    let (reply, rest) = word(after_event, b'\n')?;
+    let reply = told(event, reply)?;
+    if worker >= workers || !is_event(event) {
+        return None;
+    }
+    let line = Line {
+        worker,
+        event,
+        reply,
+    };
+    Some((line, rest))
+}
+
+/// Whether a schedule may have this event: a copy is of some words.
+fn is_event(event: Event) -> bool
+    ensures { result ≡ is_event event }
+{
+    match event {
+        Event::Copy(_, words) => words >= 1,
+        _ => true,
+    }
+}
+
+/// The number of workers that the first line in front tells, and the bytes behind it.
+pub(crate) fn header(bytes: &[u8]) -> Option<(u32, &[u8])>
+    ensures { MatchOption result
+        ((workers : ℕ) (rest : List ℕ) → 1 ≤ workers → workers ≤ 64 → bytes.now ≢ header_text workers ++ rest)
+        (λ parts. (1 ≤ parts.0) × (parts.0 ≤ 64) × (bytes.now ≡ header_text parts.0 ++ parts.1.now)) }
+{
+    let bytes = match bytes {
+        [
+            b's',
+            b'c',
+            b'h',
+            b'e',
+            b'd',
+            b'u',
+            b'l',
+            b'e',
+            b' ',
+            b'1',
+            b' ',
+            rest @ ..,
+        ] => rest,
+        _ => return None,
+    };
+    let (workers, rest) = number_to(bytes, b'\n')?;
+    if workers >= 1 && workers <= 64 {
+        Some((workers, rest))
+    } else {
+        None
+    }
+}

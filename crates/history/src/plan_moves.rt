@@ -1,0 +1,31 @@
+//! The moves of a plan.
+
+use crate::moves::Moves;
+use summary::Plan;
+
+/// The moves of the image of which the plan was made. None takes longer than a plan's query.
+impl Moves for Plan {
+    ghost use Rattle.history.specs.ImageMoves.{image_table};
+
+    ghost table = { image_table };
+
+    fn regions(&self) -> u32 {
+        Plan::regions(self)
+    }
+
+    fn to_fill(&self, region: u32) -> bool {
+        region < self.fill_regions()
+    }
+
+    fn count(&self, source: u32) -> u32 {
+        self.region(source).count
+    }
+
+    fn next_source(&self, destination: u32, from: u32) -> Option<u32> {
+        if from >= Plan::regions(self) {
+            return None;
+        }
+        self.reads_from(destination, from.max(destination + 1))
+            .next()
+    }
+}

@@ -1,0 +1,76 @@
+ghost use Rattle.std.specs.Prelude.{◌≡◌, ◌<◌, ◌≤◌, ◌↔◌, Some, [], IsTrue, length, slice_get};
+ghost use Rattle.history.specs.Schedule.{IsSchedule, is_line};
+
+use crate::event::Event;
+use crate::line::Line;
+use crate::reply::Reply;
+use std::marker::Model;
+
+/// A number of workers, 1 to 64, and what they called, oldest first. Each line has a worker below
+/// that number, and a reply that its event may have, or none.
+#[derive(Drop)]
+pub struct Schedule {
+    workers: u32,
+    lines: Vec<Line>,
+}
+
+impl Model for Schedule {
+    ghost use Rattle.history.specs.Schedule.{ScheduleView, IsSchedule};
+
+    ghost Value = { ScheduleView };
+
+    ghost view = { λ s. record { workers = s.workers; lines = s.lines.items } };
+
+    ghost invariant = { λ s. IsSchedule (record { workers = s.workers; lines = s.lines.items }) };
+}
+
+impl Schedule {
+    /// The schedule of these workers and lines.
+    pub(crate) fn of_lines(workers: u32, lines: Vec<Line>) -> Schedule
+        requires { IsSchedule (record { workers = workers; lines = lines.items }) }
+        ensures { result ≡ record { workers = workers; lines = lines.items } }
+    {
+        Schedule { workers, lines }
+    }
+
+    /// How many workers there are.
+    pub fn workers(&self) -> u32
+        ensures value { result ≡ self.now.workers }
+        ensures formed { IsSchedule self.now }
+    {
+        self.workers
+    }
+
+    /// How many lines there are. The line that tells the workers isn't counted.
+    pub fn len(&self) -> usize
+        ensures { result ≡ length self.now.lines }
+    {
+        self.lines.len()
+    }
+
+    /// Whether there are no lines.
+    pub fn is_empty(&self) -> bool
+        ensures { IsTrue result ↔ (self.now.lines ≡ []) }
+    {
+        self.lines.is_empty()
+    }
+
+    /// The worker, the event and the reply of a line, counted from 0. No reply stands for whatever
+    /// the reply is.
+    pub fn line(&self, i: usize) -> (u32, Event, Option<Reply>)
+        requires { i < length self.now.lines }
+        ensures line { slice_get self.now.lines i ≡ Some (record { worker = result.0; event = result.1; reply = result.2 }) }
+        ensures formed { IsTrue (is_line self.now.workers (record { worker = result.0; event = result.1; reply = result.2 })) }
+    {
+        let line = self.lines[i];
+        (line.worker, line.event, line.reply)
+    }
+
+    /// All lines.
+    pub(crate) fn lines(&self) -> &[Line]
+        ensures lines { result.now ≡ self.now.lines }
+        ensures formed { IsSchedule self.now }
+    {
+        &self.lines
+    }
+}

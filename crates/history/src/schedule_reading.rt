@@ -1,0 +1,33 @@
+//! Schedules read from their text.
+
+ghost use Rattle.std.specs.Prelude.{◌≡◌, ◌⊎◌, ℕ, IfOk, IfErr};
+ghost use Rattle.heap_image.specs.declared.fault.Fault.{Fault};
+ghost use Rattle.history.specs.ScheduleText.{schedule_text};
+ghost use Rattle.history.specs.ReadSchedule.{IsMalformedAt};
+
+use crate::line_text::{header, line};
+use crate::schedule::Schedule;
+use heap_image::Fault;
+use std::alloc::Global;
+
+/// The schedule whose text these bytes are. Fault 14 names line 1 where the bytes don't begin with a
+/// first line, or else the first line, counted from 1, that isn't one of a schedule; fault 11 comes
+/// where memory was refused.
+pub fn read_schedule(alloc: Global, bytes: &[u8]) -> Result<Schedule, Fault>
+    ensures ok { IfOk result (λ schedule. bytes.now ≡ schedule_text schedule) }
+    ensures fault { IfErr result (λ fault. (fault ≡ Fault.Memory) ⊎ ((line : ℕ) × (fault ≡ Fault.Schedule line) × IsMalformedAt bytes.now line)) }
+{
+    let Some((workers, behind_header)) = header(bytes) else {
+        return Err(Fault::Schedule(1));
+    };
+    let mut lines = Vec::new(alloc);
+    let mut rest = behind_header;
+    while !rest.is_empty() {
+        let Some((next, behind)) = line(workers, rest) else {
+            return Err(Fault::Schedule(lines.len() as u64 + 2));
+        };
+        lines.push(next)?;
+        rest = behind;
+    }
+    Ok(Schedule::of_lines(workers, lines))
+}

@@ -1,0 +1,79 @@
+//! Schedules as text.
+
+ghost use Rattle.std.specs.Prelude.{◌≡◌, ◌++◌, IfOk, OnOk, flat_map, take, string_bytes};
+ghost use Rattle.history.specs.ScheduleText.{line_text, header_text, schedule_text};
+
+use crate::event::Event;
+use crate::line::Line;
+use crate::reply::Reply;
+use crate::schedule::Schedule;
+use std::alloc::{AllocError, Global};
+use std::fmt;
+
+impl fmt::Display for Event {
+    ghost use Rattle.std.specs.Prelude.{Some};
+    ghost use Rattle.history.specs.ScheduleText.{event_text};
+
+    ghost output = { λ event. Some (event_text event) };
+
+    fn fmt<W: fmt::Write>(&self, f: &mut fmt::Formatter<W>) -> fmt::Result {
+        match *self {
+            Event::Claim(r) => write!(f, "claim {r}"),
+            Event::Look(r) => write!(f, "look {r}"),
+            Event::Drain(d, s) => write!(f, "drain {d} {s}"),
+            Event::Complete(d) => write!(f, "complete {d}"),
+            Event::Settle(d) => write!(f, "settle {d}"),
+            Event::Poll => write!(f, "poll"),
+            Event::Copy(d, n) => write!(f, "copy {d} {n}"),
+        }
+    }
+}
+
+impl fmt::Display for Reply {
+    ghost use Rattle.std.specs.Prelude.{Some};
+    ghost use Rattle.history.specs.ScheduleText.{reply_text};
+
+    ghost output = { λ reply. Some (reply_text reply) };
+
+    fn fmt<W: fmt::Write>(&self, f: &mut fmt::Formatter<W>) -> fmt::Result {
+        match *self {
+            Reply::Yes => write!(f, "yes"),
+            Reply::No => write!(f, "no"),
+            Reply::Open(n) => write!(f, "open{n}"),
+            Reply::Outside(n) => write!(f, "out{n}"),
+            Reply::Claimed => write!(f, "claimed"),
+            Reply::Filled => write!(f, "filled"),
+            Reply::Last => write!(f, "last"),
+            Reply::NotLast => write!(f, "notlast"),
+            Reply::Done => write!(f, "ok"),
+            Reply::All => write!(f, "all"),
+            Reply::More => write!(f, "more"),
+        }
+    }
+}
+
+/// The text of a schedule.
+pub fn write_schedule(alloc: Global, schedule: &Schedule) -> Result<Vec<u8>, AllocError>
+    ensures { IfOk result (λ text. text.items ≡ schedule_text schedule.now) }
+{
+    let mut text = String::new(alloc);
+    writeln!(text, "schedule 1 {}", schedule.workers())?;
+    for line in schedule.lines() {
+        write_line(&mut text, line)?;
+    }
+    Ok(text.into_bytes())
+}
+
+fn write_line(text: &mut String, line: &Line) -> Result<(), AllocError>
+    ensures { OnOk result (string_bytes text.new ≡ string_bytes text.old ++ line_text line.now) }
+{
+    let Line {
+        worker,
+        event,
+        reply,
+    } = *line;
+    match reply {
+        Some(reply) => writeln!(text, "{worker} {event} {reply}"),
+        None => writeln!(text, "{worker} {event} ?"),
+    }
+}

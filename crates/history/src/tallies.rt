@@ -1,0 +1,28 @@
+ghost use Rattle.std.specs.Prelude.{IfOk};
+ghost use Rattle.history.specs.Scheduler.{AreTallies};
+
+use crate::given_moves::GivenMoves;
+use crate::moves::Moves;
+use std::alloc::{AllocError, Global};
+
+/// Of each region, how many others read it. Linear in the number of pairs.
+pub fn count_readers(alloc: Global, moves: &GivenMoves) -> Result<Vec<usize>, AllocError>
+    ensures { IfOk result (λ counts. AreTallies moves.now (λ pair. pair.1) moves.now.pairs counts.items) }
+{
+    let mut counts = vec![in alloc; 0; moves.regions() as usize]?;
+    for &(_, source) in moves.pairs() {
+        counts[source as usize] += 1;
+    }
+    Ok(counts)
+}
+
+/// Of each region, how many others it reads. Linear in the number of pairs.
+pub fn count_sources(alloc: Global, moves: &GivenMoves) -> Result<Vec<usize>, AllocError>
+    ensures { IfOk result (λ counts. AreTallies moves.now (λ pair. pair.0) moves.now.pairs counts.items) }
+{
+    let mut counts = vec![in alloc; 0; moves.regions() as usize]?;
+    for &(destination, _) in moves.pairs() {
+        counts[destination as usize] += 1;
+    }
+    Ok(counts)
+}
