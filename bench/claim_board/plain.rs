@@ -1,0 +1,84 @@
+//! The same fills as `fills.rt.txt`, on a board of atomics without proofs.
+use std::sync::atomic::{AtomicU64, Ordering::SeqCst};
+use std::thread;
+use std::time::Instant;
+
+const REGIONS: u32 = 16_384;
+const ROUNDS: usize = 300;
+
+struct Board {
+    words: Vec<AtomicU64>,
+    remaining: AtomicU64,
+}
+
+struct Moves {
+    fill: Vec<bool>,
+    pairs: Vec<(u32, u32)>,
+}
+
+impl Moves {
+    fn next_source(&self, destination: u32, from: u32) -> Option<u32> {
+        let at = self.pairs.partition_point(|pair| *pair < (destination, from));
+        let &(d, s) = self.pairs.get(at)?;
+        if d == destination { Some(s) } else { None }
+    }
+}
+
+fn moves() -> Moves {
+    let fill = vec![true; REGIONS as usize];
+    let pairs = (0..REGIONS).step_by(2).map(|region| (region, region + 1)).collect();
+    Moves { fill, pairs }
+}
+
+fn board(moves: &Moves) -> Board {
+    let mut readers = vec![0u64; moves.fill.len()];
+    for &(_, source) in &moves.pairs {
+        readers[source as usize] += 1;
+    }
+    Board {
+        words: readers.into_iter().map(AtomicU64::new).collect(),
+        remaining: AtomicU64::new(moves.fill.iter().filter(|fills| **fills).count() as u64),
+    }
+}
+
+fn fill(board: &Board, moves: &Moves, region: u32) -> u64 {
+    if board.words[region as usize].compare_exchange(0, 8, SeqCst, SeqCst).is_err() {
+        return 0;
+    }
+    let mut steps = 1;
+    if let Some(source) = moves.next_source(region, 0) {
+        let _last = board.words[source as usize].fetch_sub(1, SeqCst) == 1;
+        steps += 1;
+    }
+    board.words[region as usize].fetch_or(4, SeqCst);
+    let _all = board.remaining.fetch_sub(1, SeqCst) == 1;
+    steps
+}
+
+fn work(board: &Board, moves: &Moves, from: u32, to: u32) -> u64 {
+    (from..to).map(|region| fill(board, moves, region)).sum()
+}
+
+fn main() {
+    let moves = moves();
+    for threads in [1u32, 2, 4] {
+        let mut least = u128::MAX;
+        let mut steps = 0;
+        for _ in 0..ROUNDS {
+            let board = board(&moves);
+            let start = Instant::now();
+            steps = thread::scope(|scope| {
+                let part = REGIONS / threads;
+                let others: Vec<_> = (1..threads)
+                    .map(|k| {
+                        let (board, moves) = (&board, &moves);
+                        scope.spawn(move || work(board, moves, k * part, (k + 1) * part))
+                    })
+                    .collect();
+                work(&board, &moves, 0, part) + others.into_iter().map(|one| one.join().unwrap()).sum::<u64>()
+            });
+            least = least.min(start.elapsed().as_nanos());
+        }
+        println!("{threads} {least} {steps}");
+    }
+}

@@ -1,0 +1,6 @@
+use Rattle.history.specs.declared.event.Event.TheVariants.{Poll}
+use Rattle.claim_board.specs.Rule.{poll_reply}
+use Rattle.claim_board.proofs.board.Board.meet.Given as goal
+
+abbrev pub ghosts-see : goal.ghosts-see
+ghosts-see a = record { moves = a.words.now.key.moves; workers = a.words.now.key.workers; event = Poll; reply = poll_reply }

@@ -1,0 +1,73 @@
+-- What a board and a pass show.
+use Rattle.std.specs.Prelude.{◌≡◌, ℕ, suc, List, [], ◌∷◌}
+use Rattle.atomic_table.specs.Seated.{TableId}
+use Rattle.history.specs.declared.event.Event.{Event}
+use Rattle.history.specs.declared.reply.Reply.{Reply}
+use Rattle.history.specs.declared.entry.Entry.{Entry}
+use Rattle.history.specs.MoveTable.{MoveTable}
+use Rattle.history.specs.History.{BeginsWith, calls_by}
+use Rattle.claim_board.specs.declared.board.Board.{Board}
+use Rattle.claim_board.specs.declared.pass.Pass.{Pass}
+use Rattle.claim_board.specs.Callers.{Caller}
+use Rattle.claim_board.specs.Views.{worker_of, seen_of, mine_of}
+use Rattle.claim_board.specs.Rule.{Extends}
+
+abbrev pub moves : Board → MoveTable
+moves b = b.table.shared.key.moves
+
+abbrev pub worker_count : Board → ℕ
+worker_count b = b.table.shared.key.workers
+
+-- which board it is
+abbrev pub identity : Board → TableId
+identity b = b.table.shared.table_id
+
+abbrev pub board_of : Pass → TableId
+board_of p = p.place.table_id
+
+abbrev pub worker : Pass → ℕ
+worker p = worker_of p.place.me.0
+
+-- the history that the pass has seen
+abbrev pub seen : Pass → List Entry
+seen p = seen_of p.place.me.0
+
+-- its own calls in it
+abbrev pub mine : Pass → List Entry
+mine p = mine_of p.place.me.0
+
+abbrev pub caller : Pass → Caller
+caller p = record { board = board_of p; worker = worker p; mine = mine p }
+
+-- It is the same worker of the same board. To a legal history that begins with all that it had seen, and of whose calls its own are those that it had made, this call was added.
+pub record Appends (b : Board) (old new : Pass) (event : Event) (reply : Reply) : Type 0 where
+  pub board : board_of new ≡ board_of old
+  pub worker : Rattle.claim_board.specs.Boards.worker new ≡ Rattle.claim_board.specs.Boards.worker old
+  pub history : Extends (moves b) (worker_count b) (Rattle.claim_board.specs.Boards.worker old) (seen old) (mine old) event reply (seen new) (mine new)
+
+-- the same worker of the same board, with the same calls of its own
+abbrev pub Stays : Pass → Pass → Type 0
+Stays old new = (board_of new ≡ board_of old) × (worker new ≡ worker old) × (mine new ≡ mine old)
+
+-- the pass of a worker that has done nothing
+abbrev pub IsNew : TableId → ℕ → Pass → Type 0
+IsNew board k p = (board_of p ≡ board) × (worker p ≡ k) × (seen p ≡ []) × (mine p ≡ [])
+
+-- the passes of the workers from k on
+abbrev pub ArePassesFrom : TableId → ℕ → List Pass → Type 0
+ArePassesFrom board k [] = Unit {0}
+ArePassesFrom board k (p ∷ ps) = IsNew board k p × ArePassesFrom board (suc k) ps
+
+-- one pass for each worker, that has done nothing
+abbrev pub ArePasses : TableId → List Pass → Type 0
+ArePasses board ps = ArePassesFrom board 0 ps
+
+-- the passes are of this board
+abbrev pub AllOf : TableId → List Pass → Type 0
+AllOf board [] = Unit {0}
+AllOf board (p ∷ ps) = (board_of p ≡ board) × AllOf board ps
+
+-- the history begins with what each pass has seen, and its calls of that worker are the pass's own
+abbrev pub AllStand : List Entry → List Pass → Type 0
+AllStand log [] = Unit {0}
+AllStand log (p ∷ ps) = (BeginsWith log (seen p) × (calls_by (worker p) log ≡ mine p)) × AllStand log ps

@@ -1,0 +1,9 @@
+-- What a drain answers, as a reply.
+use Rattle.history.specs.declared.reply.Reply.{Reply}
+use Rattle.history.specs.declared.reply.Reply.TheVariants.{Last as LastReply, NotLast as NotLastReply}
+use Rattle.claim_board.specs.declared.drained.Drained.{Drained}
+use Rattle.claim_board.specs.declared.drained.Drained.TheVariants.{Last, NotLast}
+
+abbrev pub reply_of : Drained → Reply
+reply_of Last = LastReply
+reply_of NotLast = NotLastReply

@@ -1,0 +1,8 @@
+-- What a finished board shows.
+use Rattle.std.specs.Prelude.{List}
+use Rattle.history.specs.declared.entry.Entry.{Entry}
+use Rattle.claim_board.specs.declared.finished.Finished.{Finished}
+
+-- the whole history
+abbrev pub history : Finished → List Entry
+history f = f.last.value.me.0.told

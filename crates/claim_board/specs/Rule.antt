@@ -1,0 +1,119 @@
+-- The rule of the board's table, and what a step tells.
+use Rattle.std.specs.Prelude.{◌≡◌, ℕ, suc, ◌+◌, ◌%◌, ◌<◌, cond, ◌||◌, ◌==◌, List, [], ◌∷◌, ◌++◌, length, slice_index, is_some, nat_lt}
+use mathlib.Core.Option.{some}
+use lib.ListN.{get_elem?}
+use Rattle.atomic_table.specs.Table.{State as Table, Me, Step}
+use Rattle.history.specs.declared.event.Event.{Event}
+use Rattle.history.specs.declared.reply.Reply.{Reply}
+use Rattle.history.specs.declared.reply.Reply.TheVariants.{Yes, No, Open, Outside, Claimed, Filled, Last, NotLast, Done, All, More}
+use Rattle.history.specs.declared.entry.Entry.{Entry}
+use Rattle.history.specs.MoveTable.{MoveTable, IsMoveTable, to_fill, region_count}
+use Rattle.history.specs.State.{State, readers_left, unsettled}
+use Rattle.history.specs.History.{entry, calls_by, state_of, BeginsWith, IsLegal}
+use Rattle.claim_board.specs.declared.key.Key.{Key}
+use Rattle.claim_board.specs.declared.view.View.{View}
+use Rattle.claim_board.specs.Views.{fresh, rest_of, head_of, times_held, total, AllFit, ViewFits, IsPassView, worker_of, seen_of, mine_of}
+
+-- the word of a region: its readers left, and 16 more if it isn't to be filled; 8 once it is claimed, 12 once it is filled
+abbrev pub word_of : MoveTable → State → ℕ → ℕ
+word_of m now r = cond (is_some (now.claimed r)) (cond (now.filled r) 12 8) (readers_left m now r + cond (to_fill m r) 0 16)
+
+-- There is one legal history. The words are what it says, and each seat has seen a beginning of it.
+pub record Kept (m : MoveTable) (workers : ℕ) (words : List ℕ) (views : List View) : Type 0 where
+  pub table : IsMoveTable m
+  pub log : List Entry
+  pub legal : IsLegal m workers log
+  pub size : length words ≡ suc (region_count m)
+  pub each_word : (r : ℕ) → r < region_count m → slice_index words r ≡ word_of m (state_of log) r
+  -- the last word is the remaining one
+  pub remaining : slice_index words (region_count m) ≡ unsettled m (state_of log)
+  pub each_view : (by : ℕ) (v : View) → get_elem? views by ≡ some v → ViewFits workers log v
+  -- each worker stands in one seat
+  pub once : (x : ℕ) → total (λ v. times_held x v.holds) views ≡ cond (nat_lt x workers) 1 0
+  pub counted : total (λ v. length v.holds) views ≡ workers
+
+abbrev pub kept : Key → Table ℕ View → Type 0
+kept k table = Kept k.moves k.workers table.words table.views
+
+abbrev pub all_workers : Key → View
+all_workers k = record { told = []; holds = fresh 0 k.workers }
+
+abbrev pub others_of : View → View
+others_of v = record { told = v.told; holds = rest_of v.holds }
+
+abbrev pub first_of : View → View
+first_of v = record { told = v.told; holds = head_of v.holds }
+
+-- There is a legal history that begins with all that was seen, and of whose calls this worker's are those that it made. To that history the call was added.
+pub record Extends (m : MoveTable) (workers worker : ℕ) (seen mine : List Entry) (event : Event) (reply : Reply) (seen' mine' : List Entry) : Type 0 where
+  pub before : List Entry
+  pub begins : BeginsWith before seen
+  pub legal_before : IsLegal m workers before
+  pub calls : calls_by worker before ≡ mine
+  pub seen_is : seen' ≡ before ++ entry worker event reply ∷ []
+  pub mine_is : mine' ≡ mine ++ entry worker event reply ∷ []
+  pub legal : IsLegal m workers seen'
+  pub seen_calls : calls_by worker seen' ≡ mine'
+
+-- of one pass: what a step that adds an entry tells
+abbrev pub added : MoveTable → ℕ → Event → (ℕ → Reply) → Step ℕ → Me ℕ View → ℕ → Me ℕ View → Type 0
+added m workers event reply s v found after =
+    IsPassView after.0 × (worker_of after.0 ≡ worker_of v.0) × (after.1 ≡ v.1)
+    × Extends m workers (worker_of v.0) (seen_of v.0) (mine_of v.0) event (reply found) (seen_of after.0) (mine_of after.0)
+
+-- what each step answers, by the word that it found
+abbrev pub claim_reply : ℕ → Reply
+claim_reply found = cond (found == 0) Yes No
+
+abbrev pub drain_reply : ℕ → Reply
+drain_reply found = cond ((found == 1) || (found == 17)) Last NotLast
+
+abbrev pub complete_reply : ℕ → Reply
+complete_reply found = Done
+
+abbrev pub settle_reply : ℕ → Reply
+settle_reply found = cond (found == 1) All More
+
+abbrev pub poll_reply : ℕ → Reply
+poll_reply found = cond (found == 0) All More
+
+abbrev pub look_reply : ℕ → Reply
+look_reply found = cond (found == 12) Filled (cond (found == 8) Claimed (cond (nat_lt found 16) (Open found) (Outside (found % 16))))
+
+-- a seat of no worker
+abbrev pub nobody : View
+nobody = record { told = []; holds = [] }
+
+-- what the seat has seen, for another
+abbrev pub note_of : View → View
+note_of v = record { told = seen_of v; holds = [] }
+
+-- the seat, once it was told
+abbrev pub informed : View → View → View
+informed v w = record { told = w.told; holds = v.holds }
+
+-- the seat with the workers of the other
+abbrev pub gathered : View → View → View
+gathered v w = record { told = v.told; holds = v.holds ++ w.holds }
+
+-- The pass has seen all of a legal history, which begins with what it had seen and was told of.
+pub record Sees (m : MoveTable) (workers worker : ℕ) (told seen mine seen' mine' : List Entry) : Type 0 where
+  pub begins : BeginsWith seen' seen
+  pub heard : BeginsWith seen' told
+  pub legal : IsLegal m workers seen'
+  pub mine_is : mine' ≡ mine
+  pub seen_calls : calls_by worker seen' ≡ mine
+
+abbrev pub sees : MoveTable → ℕ → Step ℕ → Me ℕ View → ℕ → Me ℕ View → Type 0
+sees m workers s v found after =
+    IsPassView after.0 × (worker_of after.0 ≡ worker_of v.0) × (after.1 ≡ v.1)
+    × Sees m workers (worker_of v.0) v.0.told (seen_of v.0) (mine_of v.0) (seen_of after.0) (mine_of after.0)
+
+-- the pass has seen what it was told of
+abbrev pub takes_told : Step ℕ → Me ℕ View → ℕ → Me ℕ View → Type 0
+takes_told s v found after =
+    IsPassView after.0 × (worker_of after.0 ≡ worker_of v.0) × (after.1 ≡ v.1) × (seen_of after.0 ≡ v.0.told) × (mine_of after.0 ≡ mine_of v.0) × (calls_by (worker_of v.0) v.0.told ≡ mine_of v.0)
+
+-- The seat has seen all of a legal history, in which all its workers' calls stand. The number found is that of the regions that aren't settled.
+abbrev pub surveys : MoveTable → ℕ → Step ℕ → Me ℕ View → ℕ → Me ℕ View → Type 0
+surveys m workers s v found after = IsLegal m workers after.0.told × AllFit workers after.0.told v.0.holds × (found ≡ unsettled m (state_of after.0.told))

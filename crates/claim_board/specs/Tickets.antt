@@ -1,0 +1,70 @@
+-- What a ticket, and what came from it, say of the caller that claimed it.
+use Rattle.std.specs.Prelude.{◌≡◌, ◌≢◌, ℕ, ◌<◌, ◌≤◌, false, IsTrue, Some}
+use Rattle.atomic_table.specs.Seated.{TableId}
+use Rattle.history.specs.declared.event.Event.{Event}
+use Rattle.history.specs.declared.event.Event.TheVariants.{Claim, Look, Drain, Complete, Settle, Poll, Copy}
+use Rattle.history.specs.MoveTable.{MoveTable, region_count, reads}
+use Rattle.history.specs.State.{is_pending, IsFilling}
+use Rattle.history.specs.Scheduler.{sources_left}
+use Rattle.claim_board.specs.declared.ticket.Ticket.{Ticket}
+use Rattle.claim_board.specs.declared.closed.Closed.{Closed}
+use Rattle.claim_board.specs.declared.written.Written.{Written}
+use Rattle.claim_board.specs.declared.done.Done.{Done}
+use Rattle.claim_board.specs.Views.{worker_of}
+use Rattle.claim_board.specs.Callers.{Caller, own}
+
+-- the board that granted the ticket, and the worker that claimed it
+abbrev pub board_of : Ticket → TableId
+board_of t = t.from.value.table_id
+
+abbrev pub claimant_of : Ticket → ℕ
+claimant_of t = worker_of t.from.value.me.0
+
+-- nothing was opened from it, and its right isn't out
+abbrev pub IsUnused : Ticket → Type 0
+IsUnused t = (t.next ≡ 0) × (t.right_is_out ≡ false)
+
+-- The caller claimed the ticket's region, and hasn't completed it. No source from `next` on is drained for it, and `left` counts the sources that aren't.
+pub record IsTicketOf (m : MoveTable) (c : Caller) (t : Ticket) : Type 0 where
+  pub board : board_of t ≡ c.board
+  pub worker : claimant_of t ≡ c.worker
+  pub inside : t.region < region_count m
+  pub filling : IsFilling (own c) c.worker t.region
+  pub unsettled : (own c).settled t.region ≡ false
+  pub ahead : (s : ℕ) → t.next ≤ s → (own c).drained t.region s ≡ false
+  pub left : t.left ≡ sources_left m (own c) t.region
+
+-- The reading came from the ticket, which counts its pair as undrained.
+pub record IsClosedOf (m : MoveTable) (c : Caller) (t : Ticket) (x : Closed) : Type 0 where
+  pub board : board_of x.ticket.value ≡ board_of t
+  pub worker : claimant_of x.ticket.value ≡ claimant_of t
+  pub destination : x.destination ≡ t.region
+  pub opened : x.source < t.next
+  pub undrained : IsTrue (is_pending m (own c) x.destination x.source)
+
+-- the right came from the ticket
+pub record IsWrittenOf (t : Ticket) (x : Written) : Type 0 where
+  pub board : board_of x.ticket.value ≡ board_of t
+  pub worker : claimant_of x.ticket.value ≡ claimant_of t
+  pub region : x.region ≡ t.region
+
+-- The caller has completed the region, and not settled it.
+pub record IsDoneOf (c : Caller) (d : Done) : Type 0 where
+  pub board : d.from.value.table_id ≡ c.board
+  pub claimed : (own c).claimed d.region ≡ Some c.worker
+  pub filled : IsTrue ((own c).filled d.region)
+  pub unsettled : (own c).settled d.region ≡ false
+
+-- all sources below the ticket's `next` are drained
+abbrev pub IsSwept : MoveTable → Caller → Ticket → Type 0
+IsSwept m c t = (s : ℕ) → s < t.next → IsTrue (reads m t.region s) → IsTrue ((own c).drained t.region s)
+
+-- the event changes nothing of the region
+abbrev pub Spares : ℕ → Event → Type 0
+Spares r (Claim q) = r ≢ q
+Spares r (Look q) = Unit {0}
+Spares r (Drain d s) = r ≢ d
+Spares r (Complete d) = r ≢ d
+Spares r (Settle d) = r ≢ d
+Spares r Poll = Unit {0}
+Spares r (Copy d n) = Unit {0}

@@ -1,0 +1,76 @@
+-- What seats know.
+use Rattle.std.specs.Prelude.{◌≡◌, ℕ, zero, suc, ◌+◌, ◌<◌, cond, ◌==◌, List, [], ◌∷◌}
+use Rattle.history.specs.declared.entry.Entry.{Entry}
+use Rattle.history.specs.History.{calls_by, BeginsWith}
+use Rattle.claim_board.specs.declared.view.Hold.{Hold}
+use Rattle.claim_board.specs.declared.view.View.{View}
+
+abbrev pub hold : ℕ → List Entry → List Entry → Hold
+hold w seen mine = record { worker = w; seen = seen; mine = mine }
+
+-- the seat of one worker's pass
+abbrev pub pass_view : ℕ → List Entry → List Entry → View
+pass_view w seen mine = record { told = []; holds = hold w seen mine ∷ [] }
+
+-- the workers from k on, n of them
+abbrev pub fresh : ℕ → ℕ → List Hold
+fresh k zero = []
+fresh k (suc n) = hold k [] [] ∷ fresh (suc k) n
+
+abbrev pub rest_of : List Hold → List Hold
+rest_of [] = []
+rest_of (h ∷ hs) = hs
+
+abbrev pub head_of : List Hold → List Hold
+head_of [] = []
+head_of (h ∷ hs) = h ∷ []
+
+-- how often the seat stands for the worker x
+abbrev pub times_held : ℕ → List Hold → ℕ
+times_held x [] = 0
+times_held x (h ∷ hs) = cond (h.worker == x) 1 0 + times_held x hs
+
+-- f of each view, added up
+abbrev pub total : (View → ℕ) → List View → ℕ
+total f [] = 0
+total f (v ∷ vs) = f v + total f vs
+
+-- The log begins with what was seen, and its calls of this worker are those that it made
+pub record HoldFits (n : ℕ) (log : List Entry) (h : Hold) : Type 0 where
+  pub below : h.worker < n
+  pub begins : BeginsWith log h.seen
+  pub calls : calls_by h.worker log ≡ h.mine
+  pub seen_calls : calls_by h.worker h.seen ≡ h.mine
+
+abbrev pub AllFit : ℕ → List Entry → List Hold → Type 0
+AllFit n log [] = Unit {0}
+AllFit n log (h ∷ hs) = HoldFits n log h × AllFit n log hs
+
+abbrev pub ViewFits : ℕ → List Entry → View → Type 0
+ViewFits n log v = BeginsWith log v.told × AllFit n log v.holds
+
+-- of the first worker that the seat stands for
+abbrev pub worker_in : List Hold → ℕ
+worker_in [] = 0
+worker_in (h ∷ hs) = h.worker
+
+abbrev pub seen_in : List Hold → List Entry
+seen_in [] = []
+seen_in (h ∷ hs) = h.seen
+
+abbrev pub mine_in : List Hold → List Entry
+mine_in [] = []
+mine_in (h ∷ hs) = h.mine
+
+abbrev pub worker_of : View → ℕ
+worker_of v = worker_in v.holds
+
+abbrev pub seen_of : View → List Entry
+seen_of v = seen_in v.holds
+
+abbrev pub mine_of : View → List Entry
+mine_of v = mine_in v.holds
+
+-- the seat stands for one worker
+abbrev pub IsPassView : View → Type 0
+IsPassView v = v ≡ pass_view (worker_of v) (seen_of v) (mine_of v)

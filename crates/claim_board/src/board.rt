@@ -1,0 +1,23 @@
+ghost use Rattle.std.specs.Prelude.{◌≡◌, ◌<◌, suc};
+ghost use Rattle.history.specs.MoveTable.{IsMoveTable, region_count};
+ghost use Rattle.history.specs.Scheduler.{AreTallies};
+
+use crate::key::Key;
+use crate::rule::Law;
+use crate::view::View;
+use atomic_table::Table;
+use std::alloc::Global;
+
+/// A word for each region, by which workers claim it, and one that counts the regions to be filled
+/// that aren't settled. Threads share it by `&Board`; each calls it with a pass of its own.
+#[derive(Drop)]
+pub struct Board {
+    pub(crate) table: Table<u8, View, Key, Law, Global>,
+    /// Of each region, how many others it reads.
+    pub(crate) sources: Vec<usize>,
+    pub(crate) workers: u32,
+    ghost manned: { (0 < workers) × (workers ≡ table.shared.key.workers) },
+    ghost lawful: { IsMoveTable table.shared.key.moves },
+    ghost sized: { table.shared.table_id.words ≡ suc (region_count table.shared.key.moves) },
+    ghost counted: { AreTallies table.shared.key.moves (λ pair. pair.0) table.shared.key.moves.pairs sources.items },
+}

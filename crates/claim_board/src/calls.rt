@@ -1,0 +1,161 @@
+//! The six calls of a board. Each is one atomic step on one word, taken once.
+ghost use Rattle.std.specs.Prelude.{◌≡◌, ℕ, ◌<◌, true, IfSome, is_some, if◌then◌else◌};
+ghost use Rattle.history.specs.declared.event.Event.TheVariants.{Claim, Look, Drain, Complete, Settle, Poll};
+ghost use Rattle.history.specs.declared.reply.Reply.TheVariants.{Yes, No, All, More, Done as Completed};
+ghost use Rattle.history.specs.MoveTable.{region_count};
+ghost use Rattle.claim_board.specs.Rule.{look_reply, drain_reply};
+ghost use Rattle.claim_board.specs.Boards.{moves, identity, board_of, caller, Appends};
+ghost use Rattle.claim_board.specs.Drains.{reply_of};
+ghost use Rattle.claim_board.specs.Tickets.{IsUnused, IsTicketOf, IsClosedOf, IsWrittenOf, IsDoneOf};
+
+use crate::board::Board;
+use crate::closed::Closed;
+use crate::done::Done;
+use crate::drained::Drained;
+use crate::pass::Pass;
+use crate::steps;
+use crate::ticket::Ticket;
+use crate::written::Written;
+use history::{Reply, how_counts_go_down, pairs_slide_down, what_own_calls_tell};
+use std::marker::Brand;
+use std::snapshot::Snapshot;
+
+/// The word of a completed region.
+const COMPLETED: u64 = 12;
+/// What the word of a region that isn't to be filled has more than its readers.
+const OUTSIDE: u64 = 16;
+
+/// How a region stands, by its word.
+fn standing(found: u64) -> Reply
+    ensures { result ≡ look_reply found }
+{
+    if found == COMPLETED {
+        Reply::Filled
+    } else if found == steps::CLAIMED {
+        Reply::Claimed
+    } else if found < OUTSIDE {
+        Reply::Open(found as u32)
+    } else {
+        Reply::Outside((found % OUTSIDE) as u32)
+    }
+}
+
+/// Whether a drain was the last one of its source, by the word that it found.
+fn drained(found: u64) -> Drained
+    ensures { reply_of result ≡ drain_reply found }
+{
+    if found == 1 || found == OUTSIDE + 1 {
+        Drained::Last
+    } else {
+        Drained::NotLast
+    }
+}
+
+impl Board {
+    /// Claims a region. The answer is Some exactly if it is to be filled, nobody claimed it, and
+    /// nobody has still to read it; nobody will have to read it later either. None changes nothing.
+    pub fn claim(&self, pass: &mut Pass, region: u32) -> Option<Ticket>
+        requires board { board_of pass.old ≡ identity self.now }
+        requires region { region < region_count (moves self.now) }
+        ensures entry { Appends self.now pass.old pass.new (Claim region) (if is_some result then Yes else No) }
+        ensures ticket { IfSome result (λ t. (t.region ≡ region) × IsUnused t × IsTicketOf (moves self.now) (caller pass.new) t) }
+    {
+        what_own_calls_tell();
+        let found = steps::claim::<Brand>(&self.table.shared, &mut pass.place, region as usize);
+        if found == 0 {
+            Some(Ticket {
+                region,
+                next: 0,
+                left: self.sources[region as usize],
+                right_is_out: false,
+                from: Snapshot::of(&pass.place),
+            })
+        } else {
+            None
+        }
+    }
+
+    /// How a region stands at this moment: claimed, filled, or how many others have still to read it.
+    pub fn look(&self, pass: &mut Pass, region: u32) -> Reply
+        requires board { board_of pass.old ≡ identity self.now }
+        requires region { region < region_count (moves self.now) }
+        ensures { Appends self.now pass.old pass.new (Look region) result }
+    {
+        standing(steps::look::<Brand>(&self.table.shared, &mut pass.place, region as usize))
+    }
+
+    /// Tells that all words that the ticket's region takes from a source are copied. The answer is
+    /// `Last` if nobody has to read the source any more.
+    pub fn drain(&self, pass: &mut Pass, ticket: &mut Ticket, closed: Closed) -> Drained
+        requires board { board_of pass.old ≡ identity self.now }
+        requires ticket { IsTicketOf (moves self.now) (caller pass.old) ticket.old }
+        requires closed { IsClosedOf (moves self.now) (caller pass.old) ticket.old closed }
+        ensures entry { Appends self.now pass.old pass.new (Drain closed.destination closed.source) (reply_of result) }
+        ensures ticket { IsTicketOf (moves self.now) (caller pass.new) ticket.new }
+        ensures same { (ticket.new.region ≡ ticket.old.region) × (ticket.new.next ≡ ticket.old.next) × (ticket.new.right_is_out ≡ ticket.old.right_is_out) × (ticket.new.from ≡ ticket.old.from) }
+    {
+        how_counts_go_down();
+        pairs_slide_down();
+        let Closed {
+            destination,
+            source,
+            ticket: _,
+        } = closed;
+        ticket.left -= 1;
+        drained(steps::drain::<Brand>(
+            &self.table.shared,
+            &mut pass.place,
+            destination as usize,
+            source as usize,
+        ))
+    }
+
+    /// Tells that all words of the ticket's region are written.
+    pub fn complete(&self, pass: &mut Pass, ticket: Ticket, written: Written) -> Done
+        requires board { board_of pass.old ≡ identity self.now }
+        requires ticket { IsTicketOf (moves self.now) (caller pass.old) ticket }
+        requires none_left { ticket.left ≡ 0 }
+        requires written { IsWrittenOf ticket written }
+        ensures entry { Appends self.now pass.old pass.new (Complete ticket.region) Completed }
+        ensures done { (result.region ≡ ticket.region) × IsDoneOf (caller pass.new) result }
+    {
+        how_counts_go_down();
+        let Ticket {
+            region,
+            next: _,
+            left: _,
+            right_is_out: _,
+            from,
+        } = ticket;
+        let Written {
+            region: _,
+            ticket: _,
+        } = written;
+        steps::complete::<Brand>(&self.table.shared, &mut pass.place, region as usize);
+        Done { region, from }
+    }
+
+    /// Tells that the worker is done with the region. The answer is true if now all regions to be
+    /// filled are settled.
+    pub fn settle(&self, pass: &mut Pass, done: Done) -> bool
+        requires board { board_of pass.old ≡ identity self.now }
+        requires done { IsDoneOf (caller pass.old) done }
+        ensures { Appends self.now pass.old pass.new (Settle done.region) (if result then All else More) }
+    {
+        let Done { region, from: _ } = done;
+        steps::settle::<Brand>(
+            &self.table.shared,
+            &mut pass.place,
+            self.sources.len(),
+            region as usize,
+        ) == 1
+    }
+
+    /// Whether all regions to be filled are settled.
+    pub fn poll(&self, pass: &mut Pass) -> bool
+        requires { board_of pass.old ≡ identity self.now }
+        ensures { Appends self.now pass.old pass.new Poll (if result then All else More) }
+    {
+        steps::poll::<Brand>(&self.table.shared, &mut pass.place, self.sources.len()) == 0
+    }
+}

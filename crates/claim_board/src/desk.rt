@@ -1,0 +1,123 @@
+ghost use Rattle.std.specs.Prelude.{◌≡◌, ℕ, ◌<◌, IsOk, IfOk, IfErr, IfSome, OnOk, is_some, if◌then◌else◌};
+ghost use Rattle.history.specs.declared.event.Event.TheVariants.{Claim, Look, Drain, Complete, Settle, Poll};
+ghost use Rattle.history.specs.declared.reply.Reply.TheVariants.{Yes, No, All, More, Done as Completed};
+ghost use Rattle.heap_image.specs.declared.fault.Fault.{Fault};
+ghost use Rattle.history.specs.MoveTable.{MoveTable, region_count};
+ghost use Rattle.claim_board.specs.Callers.{Caller, Gains};
+ghost use Rattle.claim_board.specs.Drains.{reply_of};
+ghost use Rattle.claim_board.specs.Tickets.{IsUnused, IsTicketOf, IsClosedOf, IsWrittenOf, IsDoneOf};
+
+use crate::closed::Closed;
+use crate::done::Done;
+use crate::drained::Drained;
+use crate::ticket::Ticket;
+use crate::written::Written;
+use heap_image::Fault;
+use history::Reply;
+use std::sync::Wait;
+
+/// What a fill asks of the scheduler: the six event calls, and a note of the words that it copied.
+/// A `Board` is one, and a recorder of calls under a lock can be.
+pub trait Desk {
+    /// What a worker calls with.
+    type Seat;
+
+    /// The moves by which the desk grants regions.
+    ghost moves: { Self → MoveTable };
+
+    /// The seat is one of this desk.
+    ghost serves: { Self → Self.Seat → Type 0 };
+
+    /// Whether a seat tells its own calls. Where the list of calls stands under a lock, it can't.
+    ghost tells: { Type 0 };
+
+    /// Which worker calls from the seat, and its own calls so far.
+    ghost caller: { Self.Seat → Caller };
+
+    /// The faults that a call may answer.
+    ghost may_fail: { Fault → Type 0 };
+
+    /// As `Board::claim`.
+    fn claim<W: Wait>(
+        &self,
+        seat: &mut Self::Seat,
+        region: u32,
+        wait: &W,
+    ) -> Result<Option<Ticket>, Fault>
+        requires seat { serves self.now seat.old }
+        requires region { region < region_count (moves self.now) }
+        ensures seat { serves self.now seat.new }
+        ensures gains { IfOk result (λ answer. tells → Gains (caller seat.old) (caller seat.new) (Claim region) (if is_some answer then Yes else No)) }
+        ensures ticket { IfOk result (λ answer. IfSome answer (λ t. (t.region ≡ region) × IsUnused t × (tells → IsTicketOf (moves self.now) (caller seat.new) t))) }
+        ensures fault { IfErr result may_fail };
+
+    /// As `Board::look`.
+    fn look<W: Wait>(&self, seat: &mut Self::Seat, region: u32, wait: &W) -> Result<Reply, Fault>
+        requires seat { serves self.now seat.old }
+        requires region { region < region_count (moves self.now) }
+        ensures seat { serves self.now seat.new }
+        ensures gains { IfOk result (λ answer. tells → Gains (caller seat.old) (caller seat.new) (Look region) answer) }
+        ensures fault { IfErr result may_fail };
+
+    /// As `Board::drain`.
+    fn drain<W: Wait>(
+        &self,
+        seat: &mut Self::Seat,
+        ticket: &mut Ticket,
+        closed: Closed,
+        wait: &W,
+    ) -> Result<Drained, Fault>
+        requires seat { serves self.now seat.old }
+        requires ticket { tells → IsTicketOf (moves self.now) (caller seat.old) ticket.old }
+        requires closed { tells → IsClosedOf (moves self.now) (caller seat.old) ticket.old closed }
+        ensures seat { serves self.now seat.new }
+        ensures gains { IfOk result (λ answer. tells → Gains (caller seat.old) (caller seat.new) (Drain closed.destination closed.source) (reply_of answer)) }
+        ensures ticket { OnOk result (tells → IsTicketOf (moves self.now) (caller seat.new) ticket.new) }
+        ensures same { (ticket.new.region ≡ ticket.old.region) × (ticket.new.next ≡ ticket.old.next) × (ticket.new.right_is_out ≡ ticket.old.right_is_out) × (ticket.new.from ≡ ticket.old.from) }
+        ensures fault { IfErr result may_fail };
+
+    /// As `Board::complete`.
+    fn complete<W: Wait>(
+        &self,
+        seat: &mut Self::Seat,
+        ticket: Ticket,
+        written: Written,
+        wait: &W,
+    ) -> Result<Done, Fault>
+        requires seat { serves self.now seat.old }
+        requires ticket { tells → IsTicketOf (moves self.now) (caller seat.old) ticket }
+        requires none_left { tells → ticket.left ≡ 0 }
+        requires written { tells → IsWrittenOf ticket written }
+        ensures seat { serves self.now seat.new }
+        ensures gains { OnOk result (tells → Gains (caller seat.old) (caller seat.new) (Complete ticket.region) Completed) }
+        ensures done { IfOk result (λ d. (d.region ≡ ticket.region) × (tells → IsDoneOf (caller seat.new) d)) }
+        ensures fault { IfErr result may_fail };
+
+    /// As `Board::settle`.
+    fn settle<W: Wait>(&self, seat: &mut Self::Seat, done: Done, wait: &W) -> Result<bool, Fault>
+        requires seat { serves self.now seat.old }
+        requires done { tells → IsDoneOf (caller seat.old) done }
+        ensures seat { serves self.now seat.new }
+        ensures gains { IfOk result (λ answer. tells → Gains (caller seat.old) (caller seat.new) (Settle done.region) (if answer then All else More)) }
+        ensures fault { IfErr result may_fail };
+
+    /// As `Board::poll`.
+    fn poll<W: Wait>(&self, seat: &mut Self::Seat, wait: &W) -> Result<bool, Fault>
+        requires seat { serves self.now seat.old }
+        ensures seat { serves self.now seat.new }
+        ensures gains { IfOk result (λ answer. tells → Gains (caller seat.old) (caller seat.new) Poll (if answer then All else More)) }
+        ensures fault { IfErr result may_fail };
+
+    /// Notes that so many words of the ticket's region are written. It is no call of the seat's.
+    fn copied<W: Wait>(
+        &self,
+        seat: &mut Self::Seat,
+        ticket: &Ticket,
+        words: u32,
+        wait: &W,
+    ) -> Result<(), Fault>
+        requires seat { serves self.now seat.old }
+        ensures seat { serves self.now seat.new }
+        ensures unchanged { OnOk result (tells → caller seat.new ≡ caller seat.old) }
+        ensures fault { IfErr result may_fail };
+}

@@ -1,0 +1,65 @@
+//! How a board is finished.
+ghost use Rattle.std.specs.Prelude.{◌≡◌, suc, List, vec_len, IsSome, IfSome, ◌↔◌};
+ghost use Rattle.history.specs.declared.entry.Entry.{Entry};
+ghost use Rattle.history.specs.MoveTable.{region_count};
+ghost use Rattle.history.specs.State.{unsettled};
+ghost use Rattle.history.specs.History.{IsLegal, state_of};
+ghost use Rattle.claim_board.specs.Rule.{surveys};
+ghost use Rattle.claim_board.specs.Boards.{moves, worker_count, identity, AllOf, AllStand};
+ghost use Rattle.claim_board.specs.Finishes.{history};
+ghost use Rattle.atomic_table.specs.Table.{step};
+ghost use mathlib.Core.Option.{none};
+
+use crate::board::Board;
+use crate::finished::Finished;
+use crate::pass::Pass;
+use crate::rule::{About, Gather, Surveys};
+use crate::steps::{Place, Words};
+use std::marker::Brand;
+use std::snapshot::Snapshot;
+
+/// How many regions to be filled aren't settled. The seat sees all that has happened.
+fn survey<E: About>(words: &Words, seat: &mut Place, remaining: usize) -> u64
+    requires seat { seat.old.table_id ≡ words.now.table_id }
+    requires size { words.now.table_id.words ≡ suc (region_count words.now.key.moves) }
+    requires remaining { remaining ≡ region_count words.now.key.moves }
+    requires about { (E.moves ≡ words.now.key.moves) × (E.workers ≡ words.now.key.workers) }
+    ensures { surveys E.moves E.workers (step words.now.table_id.slots remaining 0 0 none) seat.old.me result seat.new.me }
+{
+    words.load::<Surveys<E>>(seat, remaining)
+}
+
+impl Board {
+    /// Ends the board and its passes. The answer is Some exactly if no pass of the board is missing
+    /// and all regions to be filled are settled. All that the passes did stands in one legal
+    /// history, which begins with what each had seen, and which `Finished` keeps.
+    pub fn finish(self, mut passes: Vec<Pass>) -> Option<Finished>
+        requires { AllOf (identity self) passes.items }
+        ensures { (h : List Entry) × IsLegal (moves self) (worker_count self) h × AllStand h passes.items
+            × (IsSome result ↔ ((vec_len passes ≡ worker_count self) × (unsettled (moves self) (state_of h) ≡ 0)))
+            × IfSome result (λ f. history f ≡ h) }
+    {
+        let Board {
+            table,
+            sources,
+            workers,
+        } = self;
+        let count = passes.len();
+        let Some(first) = passes.pop() else {
+            return None;
+        };
+        let Pass { mut place } = first;
+        while let Some(pass) = passes.pop() {
+            let Pass { place: other } = pass;
+            table.shared.join_seat::<Gather>(&mut place, other);
+        }
+        let unsettled = survey::<Brand>(&table.shared, &mut place, sources.len());
+        if count == workers as usize && unsettled == 0 {
+            Some(Finished {
+                last: Snapshot::of(&place),
+            })
+        } else {
+            None
+        }
+    }
+}

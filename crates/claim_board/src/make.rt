@@ -1,0 +1,93 @@
+//! How a board is made.
+ghost use Rattle.std.specs.Prelude.{◌≡◌, ℕ, ◌+◌, ◌<◌, ◌≤◌, suc, [], vec_len, IfOk, slice_index, cond};
+ghost use Rattle.history.specs.MoveTable.{IsMoveTable, region_count};
+ghost use Rattle.history.specs.State.{opening, unsettled};
+ghost use Rattle.claim_board.specs.Views.{fresh};
+ghost use Rattle.claim_board.specs.Rule.{word_of};
+ghost use Rattle.claim_board.specs.Boards.{moves as moves_of, worker_count, identity, ArePasses};
+
+use crate::board::Board;
+use crate::key::Key;
+use crate::pass::Pass;
+use crate::rule::Deal;
+use crate::steps::{Place, Words};
+use atomic_table::Table;
+use history::{GivenMoves, Moves, count_readers, count_sources, how_counts_go_down};
+use std::alloc::{AllocError, Global};
+
+/// The word of a region at the opening, by its readers.
+fn opening_word(readers: usize, fill: bool) -> u64
+    requires { readers ≤ 2 }
+    ensures { result ≡ readers + cond fill 0 16 }
+{
+    if fill {
+        readers as u64
+    } else {
+        readers as u64 + 16
+    }
+}
+
+/// The words at the opening, one a region, and last the number of regions to be filled.
+fn opening_words(alloc: Global, moves: &GivenMoves) -> Result<Vec<u64>, AllocError>
+    ensures lawful { IfOk result (λ _. IsMoveTable moves.now) }
+    ensures size { IfOk result (λ v. vec_len v ≡ suc (region_count moves.now)) }
+    ensures words { IfOk result (λ v. (r : ℕ) → r < region_count moves.now → slice_index v.items r ≡ word_of moves.now opening r) }
+    ensures remaining { IfOk result (λ v. slice_index v.items (region_count moves.now) ≡ unsettled moves.now opening) }
+{
+    how_counts_go_down();
+    let readers = count_readers(alloc, moves)?;
+    let regions = moves.regions();
+    let mut words = Vec::new(alloc);
+    for region in 0..regions {
+        words.push(opening_word(readers[region as usize], moves.to_fill(region)))?;
+    }
+    words.push(moves.fill_count() as u64)?;
+    Ok(words)
+}
+
+/// A pass for each worker.
+fn deal(
+    alloc: Global,
+    words: &Words,
+    mut place: Place,
+    workers: u32,
+) -> Result<Vec<Pass>, AllocError>
+    requires place { (place.table_id ≡ words.now.table_id) × (0 < words.now.table_id.words) × (0 < workers) × (place.me ≡ (record { told = []; holds = fresh 0 workers }, [])) }
+    ensures { IfOk result (λ v. (vec_len v ≡ workers) × ArePasses words.now.table_id v.items) }
+{
+    let mut passes = Vec::new(alloc);
+    for _ in 1..workers {
+        let one = words.split_seat::<Deal>(&mut place);
+        passes.push(Pass { place: one })?;
+    }
+    passes.push(Pass { place })?;
+    Ok(passes)
+}
+
+impl Board {
+    /// A board of these moves, and a pass for each of 1 to 64 workers, which has seen nothing.
+    /// `AllocError` if there is no memory for its words.
+    pub fn new<M: Moves>(
+        alloc: Global,
+        moves: &M,
+        workers: u32,
+    ) -> Result<(Board, Vec<Pass>), AllocError>
+        requires { (1 ≤ workers) × (workers ≤ 64) }
+        ensures moves { IfOk result (λ made. moves_of made.0 ≡ M.table moves.now) }
+        ensures workers { IfOk result (λ made. worker_count made.0 ≡ workers) }
+        ensures passes { IfOk result (λ made. (vec_len made.1 ≡ workers) × ArePasses (identity made.0) made.1.items) }
+    {
+        let moves = GivenMoves::copy_of(alloc, moves)?;
+        let words = opening_words(alloc, &moves)?;
+        let sources = count_sources(alloc, &moves)?;
+        let key = Key { moves, workers };
+        let (table, place) = Table::of_words(alloc, words.as_slice(), &key)?;
+        let passes = deal(alloc, &table.shared, place, workers)?;
+        let board = Board {
+            table,
+            sources,
+            workers,
+        };
+        Ok((board, passes))
+    }
+}

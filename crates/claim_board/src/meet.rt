@@ -1,0 +1,59 @@
+//! How two passes meet.
+ghost use Rattle.std.specs.Prelude.{◌≡◌, suc};
+ghost use Rattle.history.specs.MoveTable.{region_count};
+ghost use Rattle.history.specs.History.{IsLegal, BeginsWith, calls_by};
+ghost use Rattle.claim_board.specs.Rule.{sees, takes_told};
+ghost use Rattle.claim_board.specs.Views.{seen_of};
+ghost use Rattle.claim_board.specs.Told.{IsToldView};
+ghost use Rattle.claim_board.specs.Boards.{moves, worker_count, identity, board_of, worker, seen, mine, Stays};
+ghost use Rattle.atomic_table.specs.Table.{step};
+ghost use mathlib.Core.Option.{none};
+
+use crate::board::Board;
+use crate::pass::Pass;
+use crate::rule::{About, Note, Sees, Takes};
+use crate::steps::{Place, Words};
+use std::marker::Brand;
+
+/// The seat sees all that has happened.
+fn see<E: About>(words: &Words, seat: &mut Place)
+    requires seat { seat.old.table_id ≡ words.now.table_id }
+    requires size { words.now.table_id.words ≡ suc (region_count words.now.key.moves) }
+    requires about { (E.moves ≡ words.now.key.moves) × (E.workers ≡ words.now.key.workers) }
+    requires told { IsToldView seat.old.me.0 }
+    ensures { (seat.new.table_id ≡ seat.old.table_id) × sees E.moves E.workers (step words.now.table_id.slots 0 0 0 none) seat.old.me 0 seat.new.me }
+{
+    words.load::<Sees<E>>(seat, 0);
+}
+
+/// The seat sees what it was told of.
+fn take_told(words: &Words, seat: &mut Place)
+    requires seat { seat.old.table_id ≡ words.now.table_id }
+    requires size { words.now.table_id.words ≡ suc (region_count words.now.key.moves) }
+    requires told { IsToldView seat.old.me.0 }
+    requires longer { BeginsWith seat.old.me.0.told (seen_of seat.old.me.0) }
+    ensures { (seat.new.table_id ≡ seat.old.table_id) × takes_told (step words.now.table_id.slots 0 0 0 none) seat.old.me 0 seat.new.me }
+{
+    words.load::<Takes>(seat, 0);
+}
+
+impl Board {
+    /// Two workers tell each other what they have seen. It is no event. Afterwards both have seen
+    /// one legal history, which begins with what each had seen.
+    pub fn meet(&self, a: &mut Pass, b: &mut Pass)
+        requires boards { (board_of a.old ≡ identity self.now) × (board_of b.old ≡ identity self.now) }
+        ensures stay { Stays a.old a.new × Stays b.old b.new }
+        ensures same { seen b.new ≡ seen a.new }
+        ensures begins { BeginsWith (seen a.new) (seen a.old) × BeginsWith (seen a.new) (seen b.old) }
+        ensures legal { IsLegal (moves self.now) (worker_count self.now) (seen a.new) }
+        ensures calls { (calls_by (worker a.old) (seen a.new) ≡ mine a.old) × (calls_by (worker b.old) (seen a.new) ≡ mine b.old) }
+    {
+        let words = &self.table.shared;
+        let from_a = words.split_seat::<Note>(&mut a.place);
+        words.join_seat::<Note>(&mut b.place, from_a);
+        see::<Brand>(words, &mut b.place);
+        let from_b = words.split_seat::<Note>(&mut b.place);
+        words.join_seat::<Note>(&mut a.place, from_b);
+        take_told(words, &mut a.place);
+    }
+}

@@ -1,0 +1,38 @@
+ghost use Rattle.std.specs.Prelude.{◌≡◌};
+
+use crate::ticket::Ticket;
+use crate::written::Written;
+use std::snapshot::Snapshot;
+
+/// The right to write a region, of which its ticket has one. It must be spent.
+pub struct Right {
+    pub(crate) region: u32,
+    /// The ticket that it came from, for proofs alone.
+    pub(crate) ticket: Snapshot<Ticket>,
+}
+
+impl Right {
+    /// The region to be written.
+    pub fn region(&self) -> u32
+        ensures { result ≡ self.now.region }
+    {
+        self.region
+    }
+
+    /// Ends the writing: all words of the region are written.
+    pub fn written(self) -> Written
+        ensures region { result.region ≡ self.region }
+        ensures from { result.ticket ≡ self.ticket }
+    {
+        let Right { region, ticket } = self;
+        Written { region, ticket }
+    }
+
+    /// Ends it with no event. The region is never settled.
+    pub fn give_up(self) {
+        let Right {
+            region: _,
+            ticket: _,
+        } = self;
+    }
+}

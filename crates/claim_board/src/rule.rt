@@ -1,0 +1,130 @@
+//! The rule of the table, and what each step tells.
+use crate::key::Key;
+use crate::view::View;
+use atomic_table::{Join, Play, Split, TableRule};
+use std::marker::{Brand, PhantomData};
+
+/// The words are what one legal history says.
+pub struct Law;
+
+impl TableRule<u8, View, Key> for Law {
+    ghost use Rattle.claim_board.specs.Rule.{kept, all_workers};
+
+    ghost holds = { kept };
+
+    ghost first = { all_workers };
+}
+
+/// The entry that a step adds.
+pub trait About {
+    ghost use Rattle.std.specs.Prelude.{ℕ};
+    ghost use Rattle.history.specs.MoveTable.{MoveTable};
+    ghost use Rattle.history.specs.declared.event.Event.{Event};
+    ghost use Rattle.history.specs.declared.reply.Reply.{Reply};
+
+    ghost moves: { MoveTable };
+
+    ghost workers: { ℕ };
+
+    ghost event: { Event };
+
+    /// Of the word that the step finds.
+    ghost reply: { ℕ → Reply };
+}
+
+impl About for Brand {
+    ghost use Rattle.std.specs.Prelude.{[]};
+    ghost use Rattle.history.specs.declared.event.Event.TheVariants.{Poll};
+    ghost use Rattle.history.specs.declared.reply.Reply.TheVariants.{More};
+
+    ghost moves = { record { fill = []; pairs = [] } };
+
+    ghost workers = { 0 };
+
+    ghost event = { Poll };
+
+    ghost reply = { λ _. More };
+}
+
+/// The step adds one entry.
+pub struct Adds<E> {
+    about: PhantomData<E>,
+}
+
+impl<E: About> Play<u8, View> for Adds<E> {
+    ghost use Rattle.claim_board.specs.Rule.{added};
+
+    ghost then = { added E.moves E.workers E.event E.reply };
+}
+
+/// The first of the workers goes to a seat of its own.
+pub struct Deal;
+
+impl Split<View> for Deal {
+    ghost use Rattle.claim_board.specs.Rule.{others_of, first_of};
+
+    ghost left = { others_of };
+
+    ghost right = { first_of };
+}
+
+/// What a seat has seen goes to another seat.
+pub struct Note;
+
+impl Split<View> for Note {
+    ghost use Rattle.claim_board.specs.Rule.{note_of};
+
+    ghost left = { λ v. v };
+
+    ghost right = { note_of };
+}
+
+impl Join<View> for Note {
+    ghost use Rattle.claim_board.specs.Rule.{informed, nobody};
+
+    ghost both = { informed };
+
+    ghost spent = { nobody };
+}
+
+/// The workers of two seats go to one.
+pub struct Gather;
+
+impl Join<View> for Gather {
+    ghost use Rattle.claim_board.specs.Rule.{gathered, nobody};
+
+    ghost both = { gathered };
+
+    ghost spent = { nobody };
+}
+
+/// All of the history is seen.
+pub struct Sees<E> {
+    about: PhantomData<E>,
+}
+
+impl<E: About> Play<u8, View> for Sees<E> {
+    ghost use Rattle.claim_board.specs.Rule.{sees};
+
+    ghost then = { sees E.moves E.workers };
+}
+
+/// What the seat was told of is seen.
+pub struct Takes;
+
+impl Play<u8, View> for Takes {
+    ghost use Rattle.claim_board.specs.Rule.{takes_told};
+
+    ghost then = { takes_told };
+}
+
+/// All of the history is seen, with the number of regions that aren't settled.
+pub struct Surveys<E> {
+    about: PhantomData<E>,
+}
+
+impl<E: About> Play<u8, View> for Surveys<E> {
+    ghost use Rattle.claim_board.specs.Rule.{surveys};
+
+    ghost then = { surveys E.moves E.workers };
+}
