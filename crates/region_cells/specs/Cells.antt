@@ -1,0 +1,35 @@
+-- What the cells of an image keep.
+use Rattle.std.specs.Prelude.{◌≡◌, ℕ, ◌≤◌, List, [], ◌∷◌, map}
+use Rattle.std.specs.List.{range_with_len}
+use Rattle.std.specs.Vec.{vec_capacity}
+use Rattle.heap_image.specs.HeapImage.{HeapImage, IsValid, region_count}
+use Rattle.heap_image.specs.declared.image.ImageParts.{ImageParts}
+use Rattle.summary.specs.RegionData.{fill_count}
+use Rattle.region_cells.specs.Views.{ImageRegion}
+
+-- the image of which these are places; an empty one where there are none
+abbrev pub image_in : List ImageRegion → HeapImage
+image_in [] = record { region_log = 0; allowance = 0; words = []; live = [] }
+image_in (place ∷ places) = place.image
+
+module _ (image : HeapImage) where
+  abbrev pub place_of : ℕ → ImageRegion
+  place_of r = record { image = image; region = r }
+
+  -- the places of the cells: one for each region, in order
+  abbrev pub places : List ImageRegion
+  places = map place_of (range_with_len 0 (region_count image))
+
+  -- the parts of the image but its regions, for which there is room
+  pub record AreOtherParts (parts : ImageParts) : Type 0 where
+    pub region_log : parts.region_log ≡ image.region_log
+    pub allowance : parts.allowance ≡ image.allowance
+    pub live : parts.live.items ≡ image.live
+    pub empty : parts.regions.items ≡ []
+    pub room : region_count image ≤ vec_capacity parts.regions
+
+  pub record AreCells (slots : List ImageRegion) (fill_regions : ℕ) (parts : ImageParts) : Type 0 where
+    pub valid : IsValid image
+    pub slots_are : slots ≡ places
+    pub fill : fill_regions ≡ fill_count image
+    pub parts_are : AreOtherParts parts

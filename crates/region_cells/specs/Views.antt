@@ -1,0 +1,25 @@
+-- What contracts see of a region that is read, written or put back.
+use Rattle.std.specs.Prelude.{ℕ, List}
+use Rattle.heap_image.specs.HeapImage.{HeapImage, block_of}
+use Rattle.claim_board.specs.declared.opening.Opening.{Opening}
+use Rattle.claim_board.specs.declared.right.Right.{Right}
+
+-- a region, by its number, of an image
+pub record ImageRegion : Type 0 where
+  pub image : HeapImage
+  pub region : ℕ
+
+-- a region of an image that is read by this opening
+pub record Reading : Type 0 where
+  pub image : HeapImage
+  pub opening : Opening
+
+-- the words that are read
+abbrev pub source_words : Reading → List ℕ
+source_words s = block_of s.image s.opening.source
+
+-- a region of an image that is written by this right, and its words so far
+pub record Writing : Type 0 where
+  pub image : HeapImage
+  pub right : Right
+  pub words : List ℕ

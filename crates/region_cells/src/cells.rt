@@ -1,0 +1,194 @@
+//! `Cells`: the regions of a heap, each read by many or written by one.
+ghost use Rattle.std.specs.Prelude.{◌≡◌, ℕ, ◌+◌, ◌<◌, ◌≤◌, ◌∷◌, [], ◌++◌, length, map, IfOk, IfErr, vec_len};
+ghost use Rattle.std.specs.List.{range_with_len};
+ghost use Rattle.std.specs.Vec.{vec_capacity};
+ghost use Rattle.heap_image.specs.HeapImage.{IsValid, region_words, region_count, block_of};
+ghost use Rattle.heap_image.specs.declared.fault.Fault.TheVariants.{Overwritten};
+ghost use Rattle.region_cells.specs.Blocks.{moved_block};
+ghost use Rattle.region_cells.specs.Cells.{places};
+
+use crate::kept::{Kept, Place};
+use crate::slots::{WRITING, hold, is_full, is_original, left_in, original};
+use crate::source::Source;
+use crate::target::Target;
+use claim_board::{Opening, Right};
+use counted_slot::{Counted, ONE_READER, PRESENT, TAKEN};
+use heap_image::{Fault, Image, ImageParts};
+use raw_region::Region;
+use std::alloc::Global;
+use std::marker::Model;
+use std::snapshot::Snapshot;
+use std::sync::Wait;
+use summary::Plan;
+use summary::laws::compaction::blocks_of_regions;
+use summary::laws::region_data::regions_to_fill;
+
+/// The regions of an image, each in a cell of its own, which many may read or one may write.
+///
+/// A contract sees cells as the image that they were made of, as it was then.
+#[derive(Drop)]
+pub struct Cells {
+    slots: Vec<Counted<Kept>>,
+    fill_regions: u32,
+    // All but the regions, for which there is room.
+    parts: ImageParts,
+}
+
+impl Model for Cells {
+    ghost use Rattle.heap_image.specs.HeapImage.{HeapImage};
+    ghost use Rattle.region_cells.specs.Cells.{image_in, AreCells};
+
+    ghost Value = { HeapImage };
+
+    ghost view = { λ c. image_in c.slots.items };
+
+    ghost invariant = { λ c. AreCells (image_in c.slots.items) c.slots.items c.fill_regions c.parts };
+}
+
+impl Cells {
+    /// The cells of an image, each with its region as it was at the start.
+    ///
+    /// Takes the memory for the cells and for what [`into_regions`](Cells::into_regions) gives. Where it is refused, the
+    /// image comes back unchanged.
+    pub fn of(alloc: Global, image: Image, plan: &Plan) -> Result<Cells, Image>
+        requires same { plan.now ≡ image }
+        ensures cells { IfOk result (λ cells. cells ≡ image) }
+        ensures refused { IfErr result (λ back. back ≡ image) }
+    {
+        let count = image.regions() as usize;
+        let Ok(mut slots) = Vec::with_capacity(alloc, count) else {
+            return Err(image);
+        };
+        let Ok(room) = Vec::with_capacity(alloc, count) else {
+            return Err(image);
+        };
+        let first = Place::first(&image);
+        let parts = image.into_parts();
+        put_all(&mut slots, parts.regions, first);
+        Ok(Cells {
+            slots,
+            fill_regions: plan.fill_regions(),
+            parts: ImageParts {
+                regions: room,
+                ..parts
+            },
+        })
+    }
+
+    /// Opens the region of `opening` to read.
+    ///
+    /// Fault 15 comes if a writer has the region, had it, or gave it up. The opening is given up then. Waits only while
+    /// other readers change the count of those that read.
+    pub fn read<R: Wait>(&self, opening: Opening, wait: &R) -> Result<Source<'_>, Fault>
+        requires { opening.source < region_count self.now }
+        ensures image { IfOk result (λ source. source.image ≡ self.now) }
+        ensures opening { IfOk result (λ source. source.opening ≡ opening) }
+        ensures fault { IfErr result (λ fault. fault ≡ Overwritten opening.source) }
+    {
+        let region = opening.source();
+        let slot = self.slot(region);
+        for _ in wait.forever() {
+            let seen = slot.load();
+            if !is_original(seen) {
+                opening.give_up();
+                return Err(Fault::Overwritten(region));
+            }
+            if is_full(seen) {
+                continue;
+            }
+            let (found, hand) = slot.turn(seen, seen + ONE_READER);
+            if found == seen {
+                return Source::new(hand, opening);
+            }
+            hand.done();
+        }
+        unreachable!()
+    }
+
+    /// Takes the region of `right` out to write it.
+    ///
+    /// Fault 15 comes, at once, if the region is being read, or a writer has it, had it, or gave it up. The right is
+    /// given up then.
+    pub fn write<R: Wait>(&self, right: Right, wait: &R) -> Result<Target<'_>, Fault>
+        requires { right.region < region_count self.now }
+        ensures image { IfOk result (λ target. target.image ≡ self.now) }
+        ensures right { IfOk result (λ target. target.right ≡ right) }
+        ensures words { IfOk result (λ target. target.words ≡ block_of self.now right.region) }
+        ensures length { IfOk result (λ target. length target.words ≡ region_words self.now) }
+        ensures fault { IfErr result (λ fault. fault ≡ Overwritten right.region) }
+    {
+        let region = right.region();
+        let slot = self.slot(region);
+        let (found, hand) = slot.turn(PRESENT, TAKEN);
+        if found != PRESENT {
+            hand.done();
+            right.give_up();
+            return Err(Fault::Overwritten(region));
+        }
+        let kept = hand.put(Kept::Spoiled, WRITING);
+        Target::new(hold(wait, slot), Snapshot::of(self), kept, right)
+    }
+
+    /// Ends the cells, and gives the parts of the image once all regions to fill have moved: each region has its moved
+    /// words, and the live list is still the old one.
+    ///
+    /// Fault 15 names the least region that is to be filled and hasn't moved, or isn't to be filled and isn't as it was
+    /// at the start. The image is gone then.
+    pub fn into_regions(self) -> Result<ImageParts, Fault>
+        ensures regions { IfOk result (λ parts. parts.regions.items ≡ map (moved_block self) (range_with_len 0 (region_count self))) }
+        ensures live { IfOk result (λ parts. parts.live.items ≡ self.live) }
+        ensures numbers { IfOk result (λ parts. (parts.region_log ≡ self.region_log) × (parts.allowance ≡ self.allowance)) }
+        ensures fault { IfErr result (λ fault. (r : ℕ) × (r < region_count self) × (fault ≡ Overwritten r)) }
+    {
+        blocks_of_regions();
+        regions_to_fill();
+        let Cells {
+            slots,
+            fill_regions,
+            mut parts,
+        } = self;
+        for (r, slot) in slots.into_iter().enumerate() {
+            let r = r as u32;
+            let Some(region) = left_in(slot, r < fill_regions) else {
+                return Err(Fault::Overwritten(r));
+            };
+            add(&mut parts.regions, region);
+        }
+        Ok(parts)
+    }
+
+    fn slot(&self, region: u32) -> &Counted<Kept>
+        requires { region < region_count self.now }
+        ensures place { result.now ≡ record { image = self.now; region = region } }
+        ensures valid { IsValid self.now }
+    {
+        &self.slots[region as usize]
+    }
+}
+
+/// Puts each region into a slot of its own.
+fn put_all(slots: &mut Vec<Counted<Kept>>, regions: Vec<Region>, first: Place)
+    requires valid { IsValid first.image }
+    requires first { first.region ≡ 0 }
+    requires regions { regions.items ≡ map (block_of first.image) (range_with_len 0 (region_count first.image)) }
+    requires empty { slots.old.items ≡ [] }
+    requires room { vec_len regions ≤ vec_capacity slots.old }
+    ensures { slots.new.items ≡ places first.image }
+{
+    let mut place = first;
+    for region in regions {
+        add(slots, original(region, &place));
+        place.step();
+    }
+}
+
+/// Pushes where there is room.
+fn add<T: Drop>(items: &mut Vec<T>, item: T)
+    requires { vec_len items.old < vec_capacity items.old }
+    ensures items { items.new.items ≡ items.old.items ++ item ∷ [] }
+    ensures capacity { vec_capacity items.old ≤ vec_capacity items.new }
+{
+    if items.push(item).is_err() {
+        unreachable!();
+    }
+}
