@@ -1,0 +1,9 @@
+pub mod Blocks
+pub mod Cleared
+pub mod Late
+pub mod Writing
+pub mod Slides
+pub mod Targets
+pub mod Redirects
+pub mod Steps
+pub mod Gaps

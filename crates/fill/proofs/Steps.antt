@@ -1,0 +1,141 @@
+-- A region as its objects are redirected, one after another.
+use Rattle.std.proofs.Common.{◌≡◌, ℕ, ◌+◌, ◌-◌, ◌≤◌, ◌<◌, inl, inr, true, false, List, length, get_or, set, sym, ◌∙◌, ap, subst, arith, max, eqb}
+use Rattle.std.proofs.lemmas.Bool.{cases_lt, true≢false, eqb-true, eq-eqb}
+use Rattle.std.proofs.lemmas.List.{get_or_default}
+use Rattle.std.proofs.lemmas.List.Folds.{list_any_at, Any-from_list_any}
+use Rattle.std.specs.Prelude.{MatchOption, Option, Some, None}
+use Rattle.mark_bitmap.specs.Bits.{NoneFrom, IsFirstFrom}
+use Rattle.mark_bitmap.specs.Marks.{is_begin}
+use Rattle.heap_image.specs.HeapImage.{HeapImage, HasLiveList, word_at, size_at, references_at, reference_at, is_null_or_live}
+use Rattle.summary.specs.NewAddresses.{new_address}
+use Rattle.summary.specs.WordMoves.{slid}
+use Rattle.summary.specs.Compaction.{moved_word, redirected, is_deferred}
+use Rattle.fill.specs.Splits.{IsSplit, Shows}
+use Rattle.fill.specs.Filling.{copied_word}
+use Rattle.fill.specs.Objects.{IsObject, IsNextObject, IsPastObjects, IsPassed}
+use Rattle.fill.proofs.Writing.{split_skip, split_set, split_all}
+use Rattle.fill.proofs.Redirects.{slid-ordered, moved-object, moved-header, moved-rest, moved-reference, moved-deferred, moved-between, new_address-is, object_size}
+
+module _ (image : HeapImage) (sound : HasLiveList image) where
+  abbrev m : ℕ → ℕ
+  m = moved_word image
+
+  abbrev c : ℕ → ℕ
+  c = copied_word image
+
+  pub word-copied : (a j : ℕ) → IsObject image a → j < size_at image a → c (new_address image a + j) ≡ word_at image (a + j)
+  word-copied a j o = subst (λ (n : ℕ). j < size_at image n → c (new_address image n + j) ≡ word_at image (n + j)) o.is (λ k. (moved-object image sound o.index j o.inside k).0)
+
+  header-same : (a : ℕ) → IsObject image a → c (new_address image a) ≡ m (new_address image a)
+  header-same a o = subst (λ (n : ℕ). c (new_address image n) ≡ m (new_address image n)) o.is (moved-header image sound o.index o.inside)
+
+  rest-same : (a j : ℕ) → IsObject image a → references_at image a < j → j < size_at image a → c (new_address image a + j) ≡ m (new_address image a + j)
+  rest-same a j o = subst (λ (n : ℕ). references_at image n < j → j < size_at image n → c (new_address image n + j) ≡ m (new_address image n + j)) o.is (λ k l. moved-rest image sound o.index j o.inside k l)
+
+  late-same : (a j : ℕ) → IsObject image a → is_deferred image a ≡ true → j < size_at image a → c (new_address image a + j) ≡ m (new_address image a + j)
+  late-same a j o = subst (λ (n : ℕ). is_deferred image n ≡ true → j < size_at image n → c (new_address image n + j) ≡ m (new_address image n + j)) o.is (λ k l. moved-deferred image sound o.index j o.inside l k)
+
+  reference-moves : (a f : ℕ) → IsObject image a → is_deferred image a ≡ false → f < references_at image a
+      → (c (new_address image a + 1 + f) ≡ reference_at image a f) × (m (new_address image a + 1 + f) ≡ redirected image (reference_at image a f))
+  reference-moves a f o = subst (λ (n : ℕ). is_deferred image n ≡ false → f < references_at image n
+      → (c (new_address image n + 1 + f) ≡ reference_at image n f) × (m (new_address image n + 1 + f) ≡ redirected image (reference_at image n f))) o.is (λ k l. moved-reference image sound o.index f o.inside l k)
+
+  pub reference-sound : (a f : ℕ) → IsObject image a → f < references_at image a → is_null_or_live image (reference_at image a f) ≡ true
+  reference-sound a f o = subst (λ (n : ℕ). f < references_at image n → is_null_or_live image (reference_at image n f) ≡ true) o.is (λ l. sound.references o.index 0 o.inside f l)
+
+  -- ---- within an object
+
+  pub header-read : (a start at : ℕ) (xs : List ℕ) → IsObject image a → at ≡ new_address image a → start ≤ at → at < start + length xs → IsSplit m c start xs at → get_or xs (at - start) 0 ≡ word_at image a
+  header-read a start at xs o e low high h =
+      let size = object_size image sound a o in
+      let k : start + (at - start) ≡ new_address image a + 0 = omega arith in
+      let z : a + 0 ≡ a = omega arith in
+      h.above (at - start) (omega arith) (omega arith) ∙ ap c k ∙ word-copied a 0 o size.0 ∙ ap (word_at image) z
+
+  pub object-begin : (a start at : ℕ) (xs : List ℕ) → IsObject image a → at ≡ new_address image a → IsSplit m c start xs at → IsSplit m c start xs (at + 1)
+  object-begin a start at xs o e h = split_skip m c start xs at (at + 1) h (omega arith) (λ p l n k.
+      let same : p ≡ new_address image a = omega arith in
+      ap c same ∙ header-same a o ∙ ap m (sym same))
+
+  pub reference-read : (a f start at : ℕ) (xs : List ℕ) → IsObject image a → is_deferred image a ≡ false → at ≡ new_address image a → start ≤ at → at + size_at image a ≤ start + length xs → f < references_at image a
+      → IsSplit m c start xs (at + 1 + f) → get_or xs (at - start + 1 + f) 0 ≡ reference_at image a f
+  reference-read a f start at xs o early e low high few h =
+      let size = object_size image sound a o in
+      let less : references_at image a < size_at image a = size.2 in
+      let k : start + (at - start + 1 + f) ≡ new_address image a + 1 + f = omega arith in
+      h.above (at - start + 1 + f) (omega arith) (omega arith) ∙ ap c k ∙ (reference-moves a f o early few).0
+
+  pub object-step : (a f start at w : ℕ) (xs : List ℕ) → IsObject image a → is_deferred image a ≡ false → at ≡ new_address image a → start ≤ at → at + size_at image a ≤ start + length xs → f < references_at image a
+      → w ≡ redirected image (reference_at image a f) → IsSplit m c start xs (at + 1 + f) → IsSplit m c start (set xs (at - start + 1 + f) w) (at + 1 + (f + 1))
+  object-step a f start at w xs o early e low high few is h =
+      let size = object_size image sound a o in
+      let less : references_at image a < size_at image a = size.2 in
+      let p : ℕ = at + 1 + f in
+      let k : p ≡ new_address image a + 1 + f = omega arith in
+      let i : p - start ≡ at - start + 1 + f = omega arith in
+      let q : p + 1 ≡ at + 1 + (f + 1) = omega arith in
+      let step = split_set m c start xs p w h (omega arith) (omega arith) (is ∙ sym ((reference-moves a f o early few).1) ∙ ap m (sym k)) in
+      subst (IsSplit m c start (set xs (at - start + 1 + f) w)) q (subst (λ (j : ℕ). IsSplit m c start (set xs j w) (p + 1)) i step)
+
+  pub object-done : (a start at : ℕ) (xs : List ℕ) → IsObject image a → at ≡ new_address image a → IsSplit m c start xs (at + 1 + references_at image a) → IsSplit m c start xs (at + size_at image a)
+  object-done a start at xs o e h =
+      let size = object_size image sound a o in
+      let less : references_at image a < size_at image a = size.2 in
+      split_skip m c start xs (at + 1 + references_at image a) (at + size_at image a) h (omega arith) (λ p l n k.
+      let j : ℕ = p - new_address image a in
+      let same : p ≡ new_address image a + j = omega arith in
+      ap c same ∙ rest-same a j o (omega arith) (omega arith) ∙ ap m (sym same))
+
+  pub object-late : (a start at : ℕ) (xs : List ℕ) → IsObject image a → is_deferred image a ≡ true → at ≡ new_address image a → IsSplit m c start xs at → IsSplit m c start xs (at + size_at image a)
+  object-late a start at xs o late e h = split_skip m c start xs at (at + size_at image a) h (omega arith) (λ p l n k.
+      let j : ℕ = p - new_address image a in
+      let same : p ≡ new_address image a + j = omega arith in
+      ap c same ∙ late-same a j o late (omega arith) ∙ ap m (sym same))
+
+  -- ---- from object to object
+
+  pub next-place : (from a : ℕ) → IsNextObject image from a → slid image from ≤ new_address image a
+  next-place from a n = let to = new_address-is image sound a n.object in let up = slid-ordered image from a n.after in omega arith
+
+  pub region-next : (from a start : ℕ) (xs : List ℕ) → IsPassed image from → IsNextObject image from a → IsSplit m c start xs (slid image from) → IsSplit m c start xs (new_address image a)
+  region-next from a start xs passed n h = split_skip m c start xs (slid image from) (new_address image a) h (next-place from a n) (λ p l less k. moved-between image sound from p passed (λ b u up.
+      let to = new_address-is image sound a n.object in
+      let goes = new_address-is image sound b u in
+      let far = slid-ordered image a b (n.first b u up) in
+      omega arith) l)
+
+  pub region-last : (from start : ℕ) (xs : List ℕ) → IsPassed image from → IsPastObjects image from → IsSplit m c start xs (slid image from) → Shows m start xs
+  region-last from start xs passed none h =
+      let end : ℕ = max (slid image from) (start + length xs) in
+      split_all m c start xs end (split_skip m c start xs (slid image from) end h (omega arith) (λ p l less k. moved-between image sound from p passed (λ b u up. (let before = none b u in let no : ⊥ = omega arith in absurd no)) l)) (omega arith)
+
+  pub region-header : (from a start at : ℕ) (xs : List ℕ) → IsPassed image from → IsNextObject image from a → IsSplit m c start xs (slid image from) → at ≡ new_address image a → start ≤ slid image from → at < start + length xs
+      → IsSplit m c start xs at × (get_or xs (at - start) 0 ≡ word_at image a) × (start ≤ at)
+  region-header from a start at xs passed n h e low high =
+      let up = next-place from a n in
+      let on = subst (IsSplit m c start xs) (sym e) (region-next from a start xs passed n h) in
+      let behind : start ≤ at = omega arith in
+      (on, header-read a start at xs n.object e behind high on, behind)
+
+-- an object begins where the marks say so
+begin-object : (image : HeapImage) (a : ℕ) → is_begin image a ≡ true → IsObject image a
+begin-object image a h =
+    let at = Any-from_list_any (λ b. eqb b a) image.live h in
+    record { index = at.0; inside = at.2; is = get_or_default image.live at.0 0 at.1 at.2 ∙ at.3 ∙ eqb-true at.1 a at.4 }
+
+object-marked : (image : HeapImage) (b : ℕ) → IsObject image b → is_begin image b ≡ true
+object-marked image b o = list_any_at (λ x. eqb x b) image.live o.index 0 o.inside (eq-eqb (get_or image.live o.index 0) b o.is)
+
+pub next-from_begin : (image : HeapImage) (from : ℕ) (o : Option ℕ) → MatchOption o (NoneFrom (is_begin image) from) (IsFirstFrom (is_begin image) from) → MatchOption o (IsPastObjects image from) (IsNextObject image from)
+next-from_begin image from None none = λ b o. elim (cases_lt b from) [
+  | inl less ↦ less
+  | inr up ↦ absurd (true≢false (sym (object-marked image b o) ∙ none b up))
+]
+next-from_begin image from (Some a) found = record {
+  object = begin-object image a found.passes;
+  after = found.behind;
+  first = λ b o up. elim (cases_lt b a) [
+    | inl less ↦ absurd (true≢false (sym (object-marked image b o) ∙ found.least b up less))
+    | inr more ↦ more
+  ];
+}

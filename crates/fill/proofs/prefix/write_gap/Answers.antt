@@ -1,0 +1,75 @@
+use Rattle.std.proofs.Common.{◌≡◌, ◌+◌, ◌-◌, ◌≤◌, ◌<◌, ◌||◌, ℕ, List, length, set, replicate, inl, inr, eqb, sym, ◌∙◌, ap, subst, arith, true, false, length-set}
+use Rattle.std.proofs.lemmas.Bool.{cases_eq}
+use Rattle.heap_image.specs.Header.{filler_header}
+use Rattle.heap_image.specs.HeapImage.{HeapImage, HasLiveList, heap_words, word_at, is_live_word}
+use Rattle.summary.specs.NewAddresses.{prefix_end}
+use Rattle.summary.proofs.Addresses.{prefix_end-le}
+use Rattle.raw_region.specs.Region.{with_words}
+use Rattle.fill.specs.Splits.{IsSplit}
+use Rattle.fill.specs.Filling.{copied_word}
+use Rattle.fill.proofs.Writing.{split_set}
+use Rattle.fill.proofs.Gaps.{copied-first, copied-rest, copied-behind, split_zero}
+use Rattle.fill.proofs.prefix.write_gap.Goals as goal
+
+pub overflow_cast-end : goal.overflow_cast-end
+overflow_cast-end c =
+    let image : HeapImage = c.args.guide.now in
+    let low = prefix_end-le image c.prefix_end-prefix_end.ensures.valid.live_list in
+    let few : heap_words image ≤ 4194304 = c.prefix_end-prefix_end.ensures.valid.limits.few_words in
+    let up : c.args.end ≤ prefix_end image = c.requires.in_prefix in
+    omega arith
+
+pub returns-then-begins_gap-clause-split : goal.returns-then-begins_gap-clause-split
+returns-then-begins_gap-clause-split c =
+    let image : HeapImage = c.args.guide.now in
+    let sound : HasLiveList image = c.prefix_end-prefix_end.ensures.valid.live_list in
+    let r = c.requires in
+    let start : ℕ = c.args.span.start in
+    let at : ℕ = c.args.at in
+    let stop : ℕ = c.args.stop in
+    let xs : List ℕ = c.args.target.now.words in
+    let w : ℕ = c.filler.result in
+    let low : start ≤ at = r.low in
+    let less : at < stop = omega arith in
+    let part : stop ≤ c.args.end = r.part in
+    let high : stop ≤ start + length xs = omega (arith, r.high, r.words, r.span) in
+    let begins : (eqb at 0 || is_live_word image (at - 1)) ≡ true = sym c.begins_gap.ensures ∙ c.if-begins_gap.true in
+    let header : copied_word image at ≡ filler_header (c.args.end - at) = copied-first image sound at c.args.end (omega arith) r.in_prefix r.dead r.ends begins in
+    let one = split_set (copied_word image) (word_at image) start xs at w r.split low (omega arith) (c.filler.ensures ∙ sym header) in
+    let long = length-set xs (at - start) w in
+    let two = split_zero image sound start (set xs (at - start) w) (at + 1) (stop - at - 1) one (omega arith) (omega arith) (λ q l m. copied-behind image sound at c.args.end q r.in_prefix r.dead (omega arith) (omega arith)) in
+    let i : at + 1 - start ≡ at - start + 1 = omega arith in
+    let p : at + 1 + (stop - at - 1) ≡ stop = omega arith in
+    subst (λ (ys : List ℕ). IsSplit (copied_word image) (word_at image) start ys stop) (sym (ap (λ t. t.words) c.fill.ensures.value ∙ ap (λ (t : List ℕ). with_words t (c.args.at - c.args.span.start + 1) (replicate (c.args.stop - c.args.at - 1) 0)) (ap (λ t. t.words) c.set.ensures.value)))
+    (subst (λ (j : ℕ). IsSplit (copied_word image) (word_at image) start (with_words (set xs (at - start) w) j (replicate (stop - at - 1) 0)) stop) i
+    (subst (IsSplit (copied_word image) (word_at image) start (with_words (set xs (at - start) w) (at + 1 - start) (replicate (stop - at - 1) 0))) p two))
+
+pub returns-else-begins_gap-clause-split : goal.returns-else-begins_gap-clause-split
+returns-else-begins_gap-clause-split c =
+    let image : HeapImage = c.args.guide.now in
+    let sound : HasLiveList image = c.prefix_end-prefix_end.ensures.valid.live_list in
+    let r = c.requires in
+    let start : ℕ = c.args.span.start in
+    let at : ℕ = c.args.at in
+    let stop : ℕ = c.args.stop in
+    let xs : List ℕ = c.args.target.now.words in
+    let low : start ≤ at = r.low in
+    let less : at < stop = omega arith in
+    let part : stop ≤ c.args.end = r.part in
+    let up : c.args.end ≤ prefix_end image = r.in_prefix in
+    let high : stop ≤ start + length xs = omega (arith, r.high, r.words, r.span) in
+    let rest : (eqb at 0 || is_live_word image (at - 1)) ≡ false = sym c.begins_gap.ensures ∙ c.if-begins_gap.false in
+    let zeros = λ (q : ℕ) (l : at ≤ q) (m : q < at + (stop - at)). (
+    let out : copied_word image q ≡ 0 = elim (cases_eq q at) [
+      | inl same ↦ ap (copied_word image) same ∙ copied-rest image sound at (omega arith) (r.dead at (omega arith) (omega arith)) rest
+      | inr other ↦ copied-behind image sound at c.args.end q up r.dead (omega arith) (omega arith)
+    ] in out) in
+    let two = split_zero image sound start xs at (stop - at) r.split low (omega arith) zeros in
+    let p : at + (stop - at) ≡ stop = omega arith in
+    subst (λ (ys : List ℕ). IsSplit (copied_word image) (word_at image) start ys stop) (sym (ap (λ t. t.words) c.fill-else-begins_gap.ensures.value))
+    (subst (IsSplit (copied_word image) (word_at image) start (with_words xs (at - start) (replicate (stop - at) 0))) p two)
+
+pub begins_gap-requires : goal.begins_gap-requires
+begins_gap-requires c =
+    let low = prefix_end-le c.args.guide.now c.prefix_end-prefix_end.ensures.valid.live_list in
+    omega (arith, c.requires.in_prefix, c.requires.ordered, c.requires.part)

@@ -1,0 +1,42 @@
+-- The words of a heap between the moves and the end of a collection.
+use Rattle.std.specs.Prelude.{ℕ, ◌+◌, ◌-◌, Bool, false, ◌&&◌, nat_lt, nat_le, if◌then◌else◌, List, ◌++◌, length, take, replicate, map, Option, Some, None}
+use Rattle.std.specs.List.{list_any, range_with_len}
+use Rattle.heap_image.specs.Header.{references_of}
+use Rattle.heap_image.specs.HeapImage.{HeapImage, heap_words, region_count}
+use Rattle.summary.specs.Compaction.{moved_word, redirected}
+use Rattle.summary.specs.RegionData.{addresses, deferred}
+use Rattle.summary.specs.Updates.{is_late_reference}
+
+-- the words, with 0 from this address up
+abbrev pub cleared : ℕ → List ℕ → List ℕ
+cleared top words = take top words ++ replicate (length words - top) 0
+
+module _ (image : HeapImage) where
+  -- the regions of the heap, each with its moved words
+  abbrev pub moved_regions : List (List ℕ)
+  moved_regions = map (λ r. map (moved_word image) (addresses image r)) (range_with_len 0 (region_count image))
+
+  -- the moved words, with the references redirected that the test passes
+  abbrev pub redirected_where : (ℕ → Bool) → ℕ → ℕ
+  redirected_where test p = if test p then redirected image (moved_word image p) else moved_word image p
+
+  -- the words of the heap, with the references redirected that the test passes
+  abbrev pub words_where : (ℕ → Bool) → List ℕ
+  words_where test = map (redirected_where test) (range_with_len 0 (heap_words image))
+
+  -- the words of the heap once the references of the deferred objects are redirected
+  abbrev pub updated_words : List ℕ
+  updated_words = words_where (is_late_reference image)
+
+  -- p is one of the references of the moved object at x
+  abbrev pub is_reference_behind : ℕ → ℕ → Bool
+  is_reference_behind x p = nat_lt x p && nat_le p (x + references_of (moved_word image x))
+
+  -- p is one of the references of the deferred object that begins there, if one does
+  abbrev pub is_late_behind : Option ℕ → ℕ → Bool
+  is_late_behind None p = false
+  is_late_behind (Some x) p = is_reference_behind x p
+
+  -- p is a reference of a deferred object that begins in one of the first d regions
+  abbrev pub is_late_before : ℕ → ℕ → Bool
+  is_late_before d p = list_any (λ e. is_late_behind (deferred image e) p) (range_with_len 0 d)

@@ -1,0 +1,6 @@
+pub mod Heap
+pub mod Splits
+pub mod Filling
+pub mod Runs
+pub mod Objects
+pub mod Hands

@@ -1,0 +1,154 @@
+//! What tells a fill where words go.
+ghost use Rattle.std.specs.Prelude.{◌≡◌, ◌+◌, ◌-◌, ◌<◌, ◌≤◌, ◌==◌, ◌||◌, IsTrue, MatchOption, Some};
+ghost use Rattle.heap_image.specs.HeapImage.{IsValid, heap_words, region_words, region_count, start_of, is_live_word, is_null_or_live};
+ghost use Rattle.summary.specs.NewAddresses.{prefix_end, new_address, new_top};
+ghost use Rattle.summary.specs.WordMoves.{slid};
+ghost use Rattle.summary.specs.RegionData.{source};
+ghost use Rattle.summary.specs.Compaction.{redirected};
+ghost use Rattle.fill.specs.Runs.{IsNextRun};
+ghost use Rattle.fill.specs.Objects.{IsObject, IsNextObject, IsPastObjects};
+
+use crate::reference;
+use crate::runs::{Run, Span};
+use mark_bitmap::Marks;
+use std::marker::Model;
+use summary::Plan;
+use summary::laws::new_addresses::objects_keep_their_order;
+use summary::laws::readers::sources_in_a_row;
+use summary::laws::region_data::region_data_by_words;
+
+/// The plan and the marks of one image.
+///
+/// A contract sees them as that image.
+pub(crate) struct Guide<'a> {
+    plan: &'a Plan,
+    marks: &'a Marks,
+}
+
+impl<'a> Model for Guide<'a> {
+    ghost use Rattle.std.specs.Prelude.{◌≡◌};
+    ghost use Rattle.heap_image.specs.HeapImage.{HeapImage};
+
+    ghost Value = { HeapImage };
+
+    ghost view = { λ g. g.plan.now };
+
+    ghost invariant = { λ g. g.marks.now ≡ g.plan.now };
+}
+
+impl<'a> Guide<'a> {
+    pub(crate) fn new(plan: &'a Plan, marks: &'a Marks) -> Guide<'a>
+        requires { marks.now ≡ plan.now }
+        ensures { result ≡ plan.now }
+    {
+        Guide { plan, marks }
+    }
+
+    /// The prefix end.
+    #[inline]
+    pub(crate) fn prefix_end(&self) -> u64
+        ensures value { result ≡ prefix_end self.now }
+        ensures valid { IsValid self.now }
+    {
+        self.plan.prefix_end()
+    }
+
+    /// The addresses of region `r`.
+    pub(crate) fn span(&self, r: u32) -> Span
+        requires { r < region_count self.now }
+        ensures start { result.start ≡ start_of self.now r }
+        ensures end { result.end ≡ start_of self.now r + region_words self.now }
+        ensures inside { start_of self.now r + region_words self.now ≤ heap_words self.now }
+        ensures valid { IsValid self.now }
+    {
+        let words = 1 << self.plan.region_log();
+        let start = u64::from(r) * words;
+        Span {
+            start,
+            end: start + words,
+        }
+    }
+
+    /// Where the first live word at or above the start of region `r` goes, which is not a region of the prefix.
+    pub(crate) fn destination(&self, r: u32) -> u64
+        requires inside { r < region_count self.now }
+        requires behind_prefix { prefix_end self.now ≤ start_of self.now r }
+        ensures { result ≡ slid self.now (start_of self.now r) }
+    {
+        let _prefix_end = self.plan.prefix_end();
+        self.plan.region(r).destination
+    }
+
+    /// Where the first live word behind region `r` goes, which is not a region of the prefix.
+    pub(crate) fn behind(&self, r: u32) -> u64
+        requires inside { r < region_count self.now }
+        requires behind_prefix { prefix_end self.now ≤ start_of self.now r }
+        ensures { result ≡ slid self.now (start_of self.now r + region_words self.now) }
+    {
+        let _prefix_end = self.plan.prefix_end();
+        region_data_by_words();
+        let data = self.plan.region(r);
+        self.destination(r) + u64::from(data.partial) + u64::from(data.live)
+    }
+
+    /// The region from which the first word of region `d` comes.
+    pub(crate) fn source(&self, d: u32) -> u32
+        requires inside { d < region_count self.now }
+        requires behind_prefix { prefix_end self.now ≤ start_of self.now d }
+        requires to_fill { start_of self.now d < new_top self.now }
+        ensures { source self.now d ≡ Some result }
+    {
+        let _prefix_end = self.plan.prefix_end();
+        sources_in_a_row();
+        match self.plan.region(d).source {
+            Some(s) => s,
+            None => unreachable!(),
+        }
+    }
+
+    /// The first run of live words at or after `from`, cut at `to`.
+    #[inline]
+    pub(crate) fn next_run(&self, from: u64, to: u64) -> Run
+        requires { from ≤ to }
+        ensures { IsNextRun self.now from to result.begin result.end }
+    {
+        Run::next(self.marks, from, to)
+    }
+
+    /// The first live object that begins at or after `from`.
+    #[inline]
+    pub(crate) fn next_object(&self, from: u64) -> Option<u64>
+        ensures { MatchOption result (IsPastObjects self.now from) (IsNextObject self.now from) }
+    {
+        self.marks.next_begin(from)
+    }
+
+    /// Whether a filler begins at `at`, if the word there is dead.
+    pub(crate) fn begins_gap(&self, at: u64) -> bool
+        requires { at ≤ heap_words self.now }
+        ensures { result ≡ ((at == 0) || is_live_word self.now (at - 1)) }
+    {
+        at == 0 || self.marks.live_words(at - 1, at) == 1
+    }
+
+    /// The new address of a live object.
+    #[inline]
+    pub(crate) fn new_address(&self, a: u64) -> u64
+        requires { IsObject self.now a }
+        ensures value { result ≡ new_address self.now a }
+        ensures down { result ≤ a }
+    {
+        let _prefix_end = self.plan.prefix_end();
+        objects_keep_their_order();
+        self.plan.new_address(self.marks, a)
+    }
+
+    /// A reference, as it is once its object has moved: null stays null.
+    #[inline]
+    pub(crate) fn redirected(&self, reference: u64) -> u64
+        requires { IsTrue (is_null_or_live self.now reference) }
+        ensures { result ≡ redirected self.now reference }
+    {
+        reference::redirected(self.plan, self.marks, reference)
+    }
+}

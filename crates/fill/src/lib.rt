@@ -1,0 +1,32 @@
+//! What a worker does to one region, and what is left to do once all regions are filled.
+//!
+//! Live words move in runs: a run is a longest row of live words, found by the mark bits 64 at a time, and moved by one
+//! call. A region behind the dense prefix takes its own words first, then those of each other source, ascending; then
+//! the references of the objects that lie wholly in it are redirected in place. A region of the prefix keeps its live
+//! words and gets fillers in its gaps.
+//!
+//! An object whose new words cross the end of the region in which they begin is deferred: it is moved with its old
+//! references. [`update_deferred`] redirects them once all regions are filled, and [`clear_above`] makes the words from
+//! the new top up 0.
+//!
+//! **Proved**, for every valid image: a region that is filled has its moved words, word for word; [`update_deferred`]
+//! and then [`clear_above`] make the words of the compaction from the moved ones; no call reads or writes outside its
+//! regions, and each returns. **Not said**: how fast a call is. The crate has no call for a whole fill yet, with its
+//! events of the scheduler.
+#![tactic(auto)]
+
+mod clear;
+mod deferred;
+mod guide;
+mod heap;
+mod moves;
+mod prefix;
+mod redirect;
+mod reference;
+mod runs;
+mod sources;
+#[cfg(test)]
+mod tests;
+
+pub use clear::clear_above;
+pub use deferred::update_deferred;

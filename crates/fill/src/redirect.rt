@@ -1,0 +1,94 @@
+//! The references of a region that is filled.
+ghost use Rattle.std.specs.Prelude.{◌≡◌, ℕ, ◌+◌, ◌<◌, ◌≤◌, false, length};
+ghost use Rattle.heap_image.specs.HeapImage.{heap_words, region_words, region_count, start_of, word_at, size_at};
+ghost use Rattle.summary.specs.NewAddresses.{prefix_end, new_address, new_top};
+ghost use Rattle.summary.specs.WordMoves.{slid, reads};
+ghost use Rattle.summary.specs.Compaction.{is_deferred, moved_word};
+ghost use Rattle.region_cells.specs.Blocks.{moved_block};
+ghost use Rattle.fill.specs.Splits.{IsSplit, Shows};
+ghost use Rattle.fill.specs.Filling.{copied_word, written_to};
+ghost use Rattle.fill.specs.Objects.{IsObject};
+ghost use Rattle.fill.specs.Hands.{SameHand};
+
+use crate::guide::Guide;
+use crate::moves::first_from;
+use crate::runs::Span;
+use heap_image::header::{references, size};
+use region_cells::Target;
+
+/// Redirects the references of the live object `a`, whose new words lie wholly in the target from its address `at` on.
+fn redirect_object(guide: &Guide<'_>, target: &mut Target<'_>, span: Span, a: u64, at: u64)
+    requires object { IsObject guide.now a }
+    requires place { at ≡ new_address guide.now a }
+    requires early { is_deferred guide.now a ≡ false }
+    requires target { target.old.image ≡ guide.now }
+    requires words { length target.old.words ≡ region_words guide.now }
+    requires span { span.end ≡ span.start + region_words guide.now }
+    requires in_heap { span.end ≤ heap_words guide.now }
+    requires low { span.start ≤ at }
+    requires high { at + size_at guide.now a ≤ span.end }
+    requires split { IsSplit (moved_word guide.now) (copied_word guide.now) span.start target.old.words at }
+    ensures split { IsSplit (moved_word guide.now) (copied_word guide.now) span.start target.new.words
+        (at + size_at guide.now a) }
+    ensures length { length target.new.words ≡ region_words guide.now }
+    ensures hand { SameHand target.old target.new }
+{
+    let _prefix_end = guide.prefix_end();
+    let first = (at - span.start) as usize;
+    let header = target.get(first);
+    for f in 0..references(header) as usize {
+        let reference = target.get(first + 1 + f);
+        target.set(first + 1 + f, guide.redirected(reference));
+    }
+}
+
+/// Redirects the references of the live objects that lie wholly in the region `d` once they are moved. The words from
+/// the old address `first` on go to the start of the region.
+pub(crate) fn redirect_region(guide: &Guide<'_>, target: &mut Target<'_>, d: u32, first: u64)
+    requires inside { d < region_count guide.now }
+    requires first { slid guide.now first ≡ start_of guide.now d }
+    requires in_heap { first ≤ heap_words guide.now }
+    requires target { target.old.image ≡ guide.now }
+    requires words { length target.old.words ≡ region_words guide.now }
+    requires copied { Shows (copied_word guide.now) (start_of guide.now d) target.old.words }
+    ensures moved { Shows (moved_word guide.now) (start_of guide.now d) target.new.words }
+    ensures length { length target.new.words ≡ region_words guide.now }
+    ensures hand { SameHand target.old target.new }
+{
+    let span = guide.span(d);
+    let mut from = first;
+    while let Some(a) = guide.next_object(from) {
+        let at = guide.new_address(a);
+        if at >= span.end {
+            break;
+        }
+        let header = target.get((at - span.start) as usize);
+        let words = u64::from(size(header));
+        if at + words <= span.end {
+            redirect_object(guide, target, span, a, at);
+        }
+        from = a + words;
+    }
+}
+
+/// Redirects the references of the live objects that lie wholly in the region `d` behind the prefix. What comes from
+/// the regions below `from` is copied, so that the region is written up to `to`, and nothing comes from the others.
+pub(crate) fn redirect_moved(guide: &Guide<'_>, target: &mut Target<'_>, d: u32, from: u32, to: u64)
+    requires behind_prefix { prefix_end guide.now ≤ start_of guide.now d }
+    requires to_fill { start_of guide.now d < new_top guide.now }
+    requires inside { d < region_count guide.now }
+    requires target { target.old.image ≡ guide.now }
+    requires words { length target.old.words ≡ region_words guide.now }
+    requires own { d < from }
+    requires within { from ≤ region_count guide.now }
+    requires last { (t : ℕ) → from ≤ t → t < region_count guide.now → reads guide.now d t ≡ false }
+    requires place { to ≡ written_to guide.now (start_of guide.now d) (start_of guide.now from) }
+    requires split { IsSplit (copied_word guide.now) (word_at guide.now) (start_of guide.now d) target.old.words to }
+    ensures moved { target.new.words ≡ moved_block guide.now d }
+    ensures hand { SameHand target.old target.new }
+{
+    let start = guide.span(d).start;
+    let s = guide.source(d);
+    let first = first_from(guide, guide.span(s), guide.destination(s), start);
+    redirect_region(guide, target, d, first);
+}

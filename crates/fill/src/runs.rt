@@ -1,0 +1,39 @@
+//! Runs of addresses.
+ghost use Rattle.std.specs.Prelude.{◌≡◌, ◌≤◌};
+ghost use Rattle.fill.specs.Runs.{IsNextRun};
+
+use mark_bitmap::Marks;
+
+/// The addresses from `start` up to `end`, itself not included.
+#[derive(Debug, Clone, Copy)]
+pub(crate) struct Span {
+    pub(crate) start: u64,
+    pub(crate) end: u64,
+}
+
+/// Addresses of live words that stand together, from `begin` up to `end`, itself not included.
+#[derive(Debug, Clone, Copy)]
+pub(crate) struct Run {
+    pub(crate) begin: u64,
+    pub(crate) end: u64,
+}
+
+impl Run {
+    /// The first run of live words at or after `from`, cut at `to`.
+    #[inline]
+    pub(crate) fn next(marks: &Marks, from: u64, to: u64) -> Run
+        requires { from ≤ to }
+        ensures { IsNextRun marks.now from to result.begin result.end }
+    {
+        let Some(first) = marks.next_live(from) else {
+            return Run { begin: to, end: to };
+        };
+        if first >= to {
+            return Run { begin: to, end: to };
+        }
+        Run {
+            begin: first,
+            end: marks.next_dead(first).min(to),
+        }
+    }
+}
