@@ -1,0 +1,46 @@
+-- How far the words of an image are those of the compaction of another, and what is known of that compaction.
+use Rattle.std.specs.Prelude.{◌≡◌, ℕ, zero, suc, ◌+◌, ◌<◌, ◌≤◌, ◌≢◌, if◌then◌else◌, IsTrue, true, slice_range}
+use Rattle.heap_image.specs.HeapImage.{HeapImage, IsValid, HasSoundHeader, heap_words, word_at, size_at, references_at, reference_at, end_of, is_null_or_live, is_live_word, last_end}
+use Rattle.summary.specs.LiveObjects.{object_count, object_at}
+use Rattle.summary.specs.NewAddresses.{prefix_end, new_address, new_end_of, new_top}
+use Rattle.summary.specs.WordMoves.{slid}
+use Rattle.summary.specs.Compaction.{is_reference_of, redirected, object_image, compact}
+
+-- from one address up to another, the words of `after` are those of the compaction of `before`
+pub record AreCompacted (before after : HeapImage) (from to : ℕ) : Type 0 where
+  pub alike : (p : ℕ) → from ≤ p → p < to → word_at after p ≡ word_at (compact before) p
+
+-- a is the least address there at which they are not
+pub record IsFirstOther (before after : HeapImage) (from to a : ℕ) : Type 0 where
+  pub behind : from ≤ a
+  pub inside : a < to
+  pub differs : word_at after a ≢ word_at (compact before) a
+  pub least : (p : ℕ) → from ≤ p → p < a → word_at after p ≡ word_at (compact before) p
+
+-- a live object begins at a, and the compaction has it at `place`
+pub record IsPlaced (image : HeapImage) (a place : ℕ) : Type 0 where
+  pub valid : IsValid image
+  pub sound : HasSoundHeader image a
+  pub references : (f : ℕ) → f < references_at image a → IsTrue (is_null_or_live image (reference_at image a f))
+  pub inside : place + size_at image a ≤ heap_words image
+  pub words : (j : ℕ) → j < size_at image a
+      → word_at (compact image) (place + j) ≡ (if is_reference_of image a (a + j) then redirected image (word_at image (a + j)) else word_at image (a + j))
+
+-- where the last of the first so many ends, or 0 where there is none
+unfoldable pub behind : (ℕ → ℕ) → ℕ → ℕ
+behind end zero = 0
+behind end (suc i) = end i
+
+-- the laws of where the live objects go, for one image
+pub record AreKnown (image : HeapImage) : Type 0 where
+  pub valid : IsValid image
+  pub below_end : prefix_end image ≤ last_end image
+  pub owner : (q : ℕ) → is_live_word image q ≡ true → (i : ℕ) × (i < object_count image) × (object_at image i ≤ q) × (q < end_of image (object_at image i))
+  pub live : (i q : ℕ) → i < object_count image → object_at image i ≤ q → q < end_of image (object_at image i) → is_live_word image q ≡ true
+  pub ordered : (i k : ℕ) → i < k → k < object_count image → end_of image (object_at image i) ≤ object_at image k
+  pub counted : (i j : ℕ) → i < object_count image → j < size_at image (object_at image i) → new_address image (object_at image i) + j ≡ slid image (object_at image i + j)
+  pub apart : (i k : ℕ) → i < k → k < object_count image → new_end_of image (object_at image i) ≤ new_address image (object_at image k)
+  pub below : (i : ℕ) → i < object_count image → new_end_of image (object_at image i) ≤ new_top image
+  pub covered : (p : ℕ) → prefix_end image ≤ p → p < new_top image → (i : ℕ) × (i < object_count image) × (new_address image (object_at image i) ≤ p) × (p < new_end_of image (object_at image i))
+  pub top : new_top image ≤ heap_words image
+  pub object : (i : ℕ) → i < object_count image → slice_range (compact image).words (new_address image (object_at image i)) (new_end_of image (object_at image i)) ≡ object_image image (object_at image i)

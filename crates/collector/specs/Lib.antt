@@ -1,0 +1,4 @@
+pub mod Difference
+pub mod Verdict
+pub mod Compared
+pub mod Ready

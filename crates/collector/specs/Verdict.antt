@@ -1,0 +1,21 @@
+-- The first difference between an image and the one that it should be.
+use Rattle.std.specs.Prelude.{◌≡◌}
+use Rattle.heap_image.specs.HeapImage.{HeapImage, heap_words, word_at}
+use Rattle.summary.specs.LiveObjects.{object_count, object_at}
+use Rattle.collector.specs.Difference.{IsLeastDifference}
+use Rattle.collector.specs.declared.verdict.Verdict.{Verdict}
+use Rattle.collector.specs.declared.verdict.Verdict.TheVariants.{Same, Shape, Word, Live}
+
+-- two images are alike in all but their words and their live addresses
+pub record HaveSameShape (wanted found : HeapImage) : Type 0 where
+  pub region_log : found.region_log ≡ wanted.region_log
+  pub words : heap_words found ≡ heap_words wanted
+  pub allowance : found.allowance ≡ wanted.allowance
+  pub live : object_count found ≡ object_count wanted
+
+-- The first difference decides: that of the shapes, or else the least of the words, or else the least of the live list.
+abbrev pub IsVerdict : HeapImage → HeapImage → Verdict → Type 0
+IsVerdict wanted found Same = found ≡ wanted
+IsVerdict wanted found Shape = ¬ (HaveSameShape wanted found)
+IsVerdict wanted found (Word a) = HaveSameShape wanted found × IsLeastDifference (word_at wanted) (word_at found) (heap_words wanted) a
+IsVerdict wanted found (Live i) = HaveSameShape wanted found × (found.words ≡ wanted.words) × IsLeastDifference (object_at wanted) (object_at found) (object_count wanted) i

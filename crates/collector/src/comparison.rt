@@ -1,0 +1,236 @@
+//! `Comparison`: an image beside the compaction of another.
+ghost use Rattle.std.specs.Prelude.{◌≡◌, ◌+◌, ◌<◌, ◌≤◌, ◌↔◌, IsTrue, MatchOption, Contains};
+ghost use Rattle.heap_image.specs.HeapImage.{heap_words, word_at, size_at, references_at, is_null_or_live};
+ghost use Rattle.summary.specs.LiveObjects.{object_count, object_at};
+ghost use Rattle.summary.specs.NewAddresses.{new_address, new_top};
+ghost use Rattle.summary.specs.Fillers.{IsDeadRun};
+ghost use Rattle.summary.specs.Compaction.{redirected, compact};
+ghost use Rattle.collector.specs.Difference.{AreAlike, IsLeastDifference};
+ghost use Rattle.collector.specs.Compared.{AreCompacted, IsFirstOther, IsPlaced, AreKnown};
+ghost use Rattle.collector.specs.Verdict.{IsVerdict, HaveSameShape};
+
+use crate::difference::{first_nonzero, first_unlike};
+use crate::verdict::Verdict;
+use heap_image::{Image, header};
+use mark_bitmap::Marks;
+use summary::Plan;
+use summary::laws::compaction::{blocks_of_regions, compaction_by_objects};
+use summary::laws::dense_prefix::{fillers_by_runs, prefix_end_is_greatest};
+use summary::laws::live_words::words_of_objects;
+use summary::laws::new_addresses::{
+    new_address_by_counting, no_gaps_above_the_prefix, objects_keep_their_order,
+};
+use summary::laws::region_data::regions_to_fill;
+
+/// An image, beside the one whose compaction it should be.
+#[derive(Drop)]
+pub(crate) struct Comparison<'a> {
+    before: &'a Image,
+    after: &'a Image,
+    marks: &'a Marks,
+    plan: &'a Plan,
+    ghost marks_of: { marks.now ≡ before.now },
+    ghost plan_of: { plan.now ≡ before.now },
+    ghost room: { heap_words after.now ≡ heap_words before.now },
+}
+
+impl Comparison<'_> {
+    /// The first difference between `after` and the compaction of `before`, whose marks and plan these are.
+    pub(crate) fn verdict(before: &Image, after: &Image, marks: &Marks, plan: &Plan) -> Verdict
+        requires marks { marks.now ≡ before.now }
+        requires plan { plan.now ≡ before.now }
+        ensures { IsVerdict (compact before.now) after.now result }
+    {
+        blocks_of_regions();
+        if !have_same_shape(before, after) {
+            return Verdict::Shape;
+        }
+        let comparison = Comparison {
+            before,
+            after,
+            marks,
+            plan,
+        };
+        if let Some(a) = comparison.other_word() {
+            return Verdict::Word(a);
+        }
+        match comparison.other_live() {
+            Some(i) => Verdict::Live(i),
+            None => Verdict::Same,
+        }
+    }
+
+    /// The least address whose word is not the compaction's.
+    fn other_word(&self) -> Option<u64>
+        ensures { MatchOption result
+            (AreCompacted self.now.before.now self.now.after.now 0 (heap_words self.now.before.now))
+            (IsFirstOther self.now.before.now self.now.after.now 0 (heap_words self.now.before.now)) }
+    {
+        objects_are_placed(self.before);
+        let mut next = 0;
+        for &a in self.before.live() {
+            let place = self.plan.new_address(self.marks, a);
+            if let Some(p) = self.other_in_gap(next, place) {
+                return Some(p);
+            }
+            if let Some(p) = self.other_in_object(a, place) {
+                return Some(p);
+            }
+            next = place + object_words(self.before, a);
+        }
+        self.other_above(next)
+    }
+
+    /// In the dead words before an object, which become a filler.
+    fn other_in_gap(&self, from: u64, to: u64) -> Option<u64>
+        requires ordered { from ≤ to }
+        requires inside { to ≤ heap_words self.now.before.now }
+        requires run { from < to → IsDeadRun self.now.before.now from to }
+        ensures { MatchOption result (AreCompacted self.now.before.now self.now.after.now from to)
+            (IsFirstOther self.now.before.now self.now.after.now from to) }
+    {
+        fillers_by_runs();
+        let _words = self.before.len();
+        if from == to {
+            return None;
+        }
+        if self.after.word(from) != header::filler((to - from) as u32) {
+            return Some(from);
+        }
+        let j = first_nonzero(self.after, from + 1, to - from - 1)?;
+        Some(from + 1 + j)
+    }
+
+    /// In the words of the object that was at `a`.
+    fn other_in_object(&self, a: u64, place: u64) -> Option<u64>
+        requires { IsPlaced self.now.before.now a place }
+        ensures { MatchOption result
+            (AreCompacted self.now.before.now self.now.after.now place (place + size_at self.now.before.now a))
+            (IsFirstOther self.now.before.now self.now.after.now place (place + size_at self.now.before.now a)) }
+    {
+        if self.after.word(place) != self.before.word(a) {
+            return Some(place);
+        }
+        if let Some(p) = self.other_reference(a, place) {
+            return Some(p);
+        }
+        self.other_data(a, place)
+    }
+
+    /// In the references of the object that was at `a`.
+    fn other_reference(&self, a: u64, place: u64) -> Option<u64>
+        requires { IsPlaced self.now.before.now a place }
+        ensures { MatchOption result
+            (AreCompacted self.now.before.now self.now.after.now
+            (place + 1) (place + 1 + references_at self.now.before.now a))
+            (IsFirstOther self.now.before.now self.now.after.now
+            (place + 1) (place + 1 + references_at self.now.before.now a)) }
+    {
+        for f in 0..object_references(self.before, a) {
+            if self.after.word(place + 1 + f) != self.redirected(self.before.word(a + 1 + f)) {
+                return Some(place + 1 + f);
+            }
+        }
+        None
+    }
+
+    /// In the words behind the references of the object that was at `a`.
+    fn other_data(&self, a: u64, place: u64) -> Option<u64>
+        requires { IsPlaced self.now.before.now a place }
+        ensures { MatchOption result
+            (AreCompacted self.now.before.now self.now.after.now
+            (place + 1 + references_at self.now.before.now a) (place + size_at self.now.before.now a))
+            (IsFirstOther self.now.before.now self.now.after.now
+            (place + 1 + references_at self.now.before.now a) (place + size_at self.now.before.now a)) }
+    {
+        let done = 1 + object_references(self.before, a);
+        let left = object_words(self.before, a) - done;
+        let j = first_unlike(self.after, place + done, self.before, a + done, left)?;
+        Some(place + done + j)
+    }
+
+    /// From the new top up, where all words are 0.
+    fn other_above(&self, top: u64) -> Option<u64>
+        requires above { new_top self.now.before.now ≤ top }
+        requires inside { top ≤ heap_words self.now.before.now }
+        ensures { MatchOption result
+            (AreCompacted self.now.before.now self.now.after.now top (heap_words self.now.before.now))
+            (IsFirstOther self.now.before.now self.now.after.now top (heap_words self.now.before.now)) }
+    {
+        compaction_by_objects();
+        let j = first_nonzero(self.after, top, self.before.len() - top)?;
+        Some(top + j)
+    }
+
+    /// A reference after the compaction.
+    fn redirected(&self, word: u64) -> u64
+        requires { IsTrue (is_null_or_live self.now.before.now word) }
+        ensures { result ≡ redirected self.now.before.now word }
+    {
+        let _words = self.before.len();
+        objects_keep_their_order();
+        if word == 0 {
+            0
+        } else {
+            self.plan.new_address(self.marks, word - 1) + 1
+        }
+    }
+
+    /// The least index at which the live list is not the compaction's.
+    fn other_live(&self) -> Option<u64>
+        requires { object_count self.now.after.now ≡ object_count self.now.before.now }
+        ensures { MatchOption result
+            (AreAlike (λ i. new_address self.now.before.now (object_at self.now.before.now i))
+            (object_at self.now.after.now) (object_count self.now.before.now))
+            (IsLeastDifference (λ i. new_address self.now.before.now (object_at self.now.before.now i))
+            (object_at self.now.after.now) (object_count self.now.before.now)) }
+    {
+        let found = self.after.live();
+        for (i, &a) in self.before.live().iter().enumerate() {
+            if found[i] != self.plan.new_address(self.marks, a) {
+                return Some(i as u64);
+            }
+        }
+        None
+    }
+}
+
+/// Where the live objects of an image go. It does nothing: its contract is what is known of that.
+fn objects_are_placed(image: &Image)
+    ensures { AreKnown image.now }
+{
+    let _valid = image.len();
+    prefix_end_is_greatest();
+    words_of_objects();
+    new_address_by_counting();
+    objects_keep_their_order();
+    no_gaps_above_the_prefix();
+    regions_to_fill();
+    compaction_by_objects();
+}
+
+/// Whether two images are alike in all but their words and their live addresses.
+fn have_same_shape(before: &Image, after: &Image) -> bool
+    ensures { IsTrue result ↔ HaveSameShape before.now after.now }
+{
+    after.region_log() == before.region_log()
+        && after.len() == before.len()
+        && after.allowance() == before.allowance()
+        && after.live().len() == before.live().len()
+}
+
+/// The size in words of the object at `a`.
+fn object_words(image: &Image, a: u64) -> u64
+    requires { a < heap_words image.now }
+    ensures { result ≡ size_at image.now a }
+{
+    u64::from(header::size(image.word(a)))
+}
+
+/// The number of references of the object at `a`.
+fn object_references(image: &Image, a: u64) -> u64
+    requires { a < heap_words image.now }
+    ensures { result ≡ references_at image.now a }
+{
+    u64::from(header::references(image.word(a)))
+}

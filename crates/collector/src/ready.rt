@@ -1,0 +1,155 @@
+//! `Ready`: the regions that are ready to be filled, of one worker.
+ghost use Rattle.std.specs.Prelude.{◌≡◌, ◌<◌, ◌++◌, [], ◌∷◌, ◌↔◌, length, true, false, IsTrue, IfOk, IfSome, Contains};
+ghost use Rattle.collector.specs.Ready.{Queue};
+
+use crossbeam_deque::protocol::{Outcome, Protocol};
+use crossbeam_deque::{Steal, Stealer, Worker};
+use std::alloc::{AllocError, Global};
+use std::collections::LinkedList;
+use std::marker::Model;
+
+/// What a pass of the deque knows: whether it is the owner's, and then the numbers that were pushed. No value is made.
+pub struct Pushed {
+    pub owner: bool,
+    pub numbers: LinkedList<u32>,
+}
+
+/// The rule of the deque.
+struct InOrder;
+
+impl Protocol<u32, Pushed> for InOrder {
+    ghost use Rattle.std.specs.Prelude.{true, false, []};
+    ghost use Rattle.collector.specs.Ready.{pushed_so_far, HoldsTheRest};
+
+    ghost holds = { HoldsTheRest };
+
+    ghost first = { pushed_so_far [] };
+
+    ghost guest = { record { owner = false; numbers = [] } };
+}
+
+struct Push;
+
+impl Outcome<u32, Pushed> for Push {
+    ghost then = { λ view numbers next. next ≡ record { owner = view.owner; numbers = view.numbers ++ numbers } };
+}
+
+struct Pop;
+
+impl Outcome<u32, Pushed> for Pop {
+    ghost use Rattle.std.specs.Prelude.{All, Contains};
+
+    ghost then = { λ view numbers next. (next ≡ view) × All (Contains view.numbers) numbers };
+}
+
+struct Take;
+
+impl Outcome<u32, Pushed> for Take {
+    ghost then = { λ view _ next. next ≡ view };
+}
+
+/// The numbers of the regions that one worker has found ready, first in first out. The worker pushes and pops, and
+/// others steal through a [`Thief`].
+///
+/// A contract sees the room and the numbers that were pushed so far, also those that were taken again.
+#[derive(Drop)]
+pub struct Ready {
+    deque: Worker<u32, Global, Pushed, InOrder>,
+    room: usize,
+    pushed: usize,
+}
+
+impl Model for Ready {
+    ghost use Rattle.crossbeam_deque.specs.Handles.{worker_view, worker_flavor, worker_capacity, worker_index};
+    ghost use Rattle.collector.specs.Ready.{Queue, IsQueue};
+
+    ghost Value = { Queue };
+
+    ghost view = { λ q. record { room = q.room; pushed = (worker_view q.deque).numbers } };
+
+    ghost invariant = { λ q. IsQueue q.room q.pushed (worker_view q.deque) (worker_flavor q.deque)
+        (worker_capacity q.deque) (worker_index q.deque) };
+}
+
+impl Ready {
+    /// An empty queue with room for as many pushes, which is reserved now. The error is that memory is refused.
+    pub fn new(alloc: Global, room: usize) -> Result<Ready, AllocError>
+        ensures { IfOk result (λ queue. queue ≡ record { room = room; pushed = [] }) }
+    {
+        let deque = Worker::fifo_as(alloc, room)?;
+        Ok(Ready {
+            deque,
+            room,
+            pushed: 0,
+        })
+    }
+
+    /// Queues a number, and answers whether there was room: fewer numbers than the room were pushed before. Where there
+    /// was none, nothing changes. Takes no memory.
+    pub fn push(&mut self, r: u32) -> bool
+        ensures room { self.new.room ≡ self.old.room }
+        ensures answer { IsTrue result ↔ length self.old.pushed < self.old.room }
+        ensures queued { result ≡ true → self.new.pushed ≡ self.old.pushed ++ r ∷ [] }
+        ensures refused { result ≡ false → self.new.pushed ≡ self.old.pushed }
+    {
+        if self.pushed == self.room {
+            return false;
+        }
+        match self.deque.push_as::<Push>(r) {
+            Ok(()) => {
+                self.pushed += 1;
+                true
+            }
+            Err(_) => unreachable!(),
+        }
+    }
+
+    /// Takes the first number that is left, if there is one.
+    pub fn pop(&mut self) -> Option<u32>
+        ensures same { self.new ≡ self.old }
+        ensures pushed { IfSome result (λ r. Contains self.old.pushed r) }
+    {
+        self.deque.pop_as::<Pop>()
+    }
+
+    /// The number of a region to try next: the first that is left here, or else one stolen from the other workers in
+    /// turn, from the worker behind this one round to the one before it.
+    ///
+    /// `thieves` has a handle for each worker's queue, by the workers' numbers; this one's own is not used.
+    pub fn take(&mut self, thieves: &[Thief], worker: usize) -> Option<u32>
+        requires { worker < length thieves.now }
+        ensures { self.new ≡ self.old }
+    {
+        if let Some(r) = self.pop() {
+            return Some(r);
+        }
+        let lower = &thieves[..worker];
+        let higher = &thieves[worker + 1..];
+        higher
+            .iter()
+            .chain(lower.iter())
+            .find_map(|thief| thief.steal().success())
+    }
+
+    /// A handle by which others take numbers. The error is that memory is refused.
+    pub fn thief(&self) -> Result<Thief, AllocError> {
+        Ok(Thief {
+            deque: self.deque.stealer()?,
+        })
+    }
+}
+
+/// Takes numbers of another worker's queue, from any thread.
+#[derive(Drop)]
+pub struct Thief {
+    deque: Stealer<u32, Global, Pushed, InOrder>,
+}
+
+impl Thief {
+    /// Takes the first number that is left. `Empty` says that there was none at one moment; `Retry` says that, or that
+    /// someone else took a number meanwhile.
+    pub fn steal(&self) -> Steal<u32> {
+        let mut pass = self.deque.pass();
+        self.deque.steal_as::<Take>(&mut pass)
+    }
+}

@@ -1,0 +1,34 @@
+//! `verify`.
+ghost use Rattle.std.specs.Prelude.{◌≡◌, ◌↔◌, IfOk, IfErr};
+ghost use Rattle.heap_image.specs.declared.fault.Fault.TheVariants.{Memory};
+ghost use Rattle.summary.specs.Compaction.{compact};
+ghost use Rattle.collector.specs.Verdict.{IsVerdict};
+ghost use Rattle.collector.specs.declared.verdict.Verdict.TheVariants.{Same};
+
+use crate::comparison::Comparison;
+use crate::verdict::Verdict;
+use heap_image::{Fault, Image};
+use mark_bitmap::Marks;
+use std::alloc::Global;
+use std::thread::Threads;
+use summary::Plan;
+
+/// Whether `after` is the compaction of `before`, and if not, the first difference: that of the shapes, or else of the
+/// words, or else of the live addresses.
+///
+/// Takes linear time, and no copy of the heap: the marks and the plan of `before` are all the memory that it takes.
+/// The only error is `Fault::Memory`, where memory is refused.
+pub fn verify(
+    alloc: Global,
+    before: &Image,
+    after: &Image,
+    threads: &(impl Threads + Sync),
+) -> Result<Verdict, Fault>
+    ensures verdict { IfOk result (λ verdict. IsVerdict (compact before.now) after.now verdict) }
+    ensures same { IfOk result (λ verdict. verdict ≡ Same ↔ after.now ≡ compact before.now) }
+    ensures fault { IfErr result (λ fault. fault ≡ Memory) }
+{
+    let marks = Marks::of(alloc, before)?;
+    let plan = Plan::of(alloc, before, &marks, threads)?;
+    Ok(Comparison::verdict(before, after, &marks, &plan))
+}
