@@ -1,3 +1,4 @@
-pub mod TranscriptLemmas
-pub mod BoardLemmas
+pub mod Tallying
+pub mod Sweeping
+pub mod Totals
 pub mod CommandLineLemmas

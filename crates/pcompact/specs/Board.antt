@@ -8,7 +8,10 @@ use Rattle.pcompact.specs.Report.{report_of}
 abbrev pub three_regions : MoveTable
 three_regions = record { fill = true ∷ true ∷ true ∷ []; pairs = (0, 1) ∷ (1, 2) ∷ [] }
 
+-- the report of some legal history of two workers
+abbrev pub IsReportOf : MoveTable → List ℕ → Type 0
+IsReportOf m text = (calls : List Entry) × IsLegal m 2 calls × (text ≡ report_of m calls)
+
 -- the report of some legal history of two workers over the three regions
 abbrev pub IsBoardText : List ℕ → Type 0
-IsBoardText text =
-    (calls : List Entry) × IsLegal three_regions 2 calls × (text ≡ report_of 3 calls)
+IsBoardText text = IsReportOf three_regions text

@@ -1,5 +1,5 @@
 use Rattle.std.specs.Prelude.{ℕ}
-use Rattle.pcompact.specs.declared.fault.Fault.TheVariants.{Memory}
+use Rattle.heap_image.specs.declared.fault.Fault.TheVariants.{Memory}
 use Rattle.pcompact.specs.declared.failure.Failure.{Failure}
 use Rattle.pcompact.specs.declared.failure.Failure.TheVariants.{Usage, Fault}
 

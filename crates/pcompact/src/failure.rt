@@ -1,8 +1,8 @@
 ghost use Rattle.std.specs.Prelude.{◌≡◌};
-ghost use Rattle.pcompact.specs.declared.fault.Fault.TheVariants.{Memory};
+ghost use Rattle.heap_image.specs.declared.fault.Fault.TheVariants.{Memory};
 ghost use Rattle.pcompact.specs.declared.failure.Failure.TheVariants.{Fault};
 
-use crate::fault::Fault;
+use heap_image::Fault;
 use std::alloc::AllocError;
 
 /// Why the program ends with a status other than 0.
@@ -33,5 +33,13 @@ impl From<AllocError> for Failure {
 
     fn from(_refused: AllocError) -> Failure {
         Failure::Fault(Fault::Memory)
+    }
+}
+
+impl From<Fault> for Failure {
+    ghost from_gives = { λ fault failure. failure ≡ Fault fault };
+
+    fn from(fault: Fault) -> Failure {
+        Failure::Fault(fault)
     }
 }

@@ -1,21 +1,22 @@
 //! The whole program, over the writers that it is handed.
-ghost use Rattle.std.specs.Prelude.{◌≡◌, ◌≤◌, ◌∷◌, [], ℕ, List, MatchResult, OnOk};
+ghost use Rattle.std.specs.Prelude.{◌≡◌, ◌≤◌, ◌∷◌, [], ℕ, List, MatchResult, IfOk, OnOk};
 ghost use Rattle.std.specs.Prelude.{codes, string_bytes};
 ghost use Rattle.std.specs.Io.KnownBytes.{Appends};
 ghost use Rattle.pcompact.specs.Board.{IsBoardText};
 ghost use Rattle.pcompact.specs.CommandLine.{AreWords};
 ghost use Rattle.pcompact.specs.Failure.{out_of_memory, status_of};
+ghost use Rattle.pcompact.specs.Summary.{IsSummary};
 
 use crate::command_line::Request;
 use crate::failure::Failure;
-use crate::fault::Fault;
+use crate::summarize::summarize;
 use crate::{board, command_line};
-use std::alloc::Global;
-use std::io;
+use heap_image::{Fault, FromRead};
 use std::io::Write;
 use std::rt::Files;
 use std::sync::Wait;
 use std::thread::Threads;
+use std::{fs, io};
 
 /// Runs the program on the words after its name, and answers the exit status.
 ///
@@ -24,13 +25,13 @@ use std::thread::Threads;
 /// fault 13. A failed write to `err` changes nothing.
 ///
 /// `host` opens files and allocates, `threads` starts threads and `wait` waits for them: no
-/// command of today opens a file, starts a thread or waits.
-pub fn run<H: Files + AllocGlobal, T: Threads, L: Wait, A: Write, B: Write>(
+/// command of today waits.
+pub fn run<H: Files + AllocGlobal, T: Threads + Sync, L: Wait, A: Write, B: Write>(
     host: &H,
     words: &[String],
     out: &mut A,
     err: &mut B,
-    _threads: &T,
+    threads: &T,
     _wait: &L,
 ) -> u8
     ensures status { result ≤ 2 }
@@ -43,24 +44,43 @@ pub fn run<H: Files + AllocGlobal, T: Threads, L: Wait, A: Write, B: Write>(
         → (text : List ℕ) × IsBoardText text
         × Appends (A.contents out.old) (A.contents out.new) text }
 {
-    let text = match answer(host.alloc(), words) {
+    let text = match answer(host, words, threads) {
         Ok(text) => text,
         Err(failure) => return tell(&failure, err),
     };
     match show(text.as_str(), out) {
         Ok(()) => 0,
-        Err(_) => tell(&Failure::Fault(Fault::InputOrOutput), err),
+        Err(_) => tell(&Failure::Fault(Fault::Io), err),
     }
 }
 
 /// What the words ask for, as the text for standard output.
-fn answer(alloc: Global, words: &[String]) -> Result<String, Failure>
+fn answer<H: Files + AllocGlobal, T: Threads + Sync>(
+    host: &H,
+    words: &[String],
+    threads: &T,
+) -> Result<String, Failure>
     ensures { AreWords words.now (codes "board" ∷ []) → MatchResult result
         (λ text. IsBoardText (string_bytes text)) (λ failure. failure ≡ out_of_memory) }
 {
-    match command_line::read(alloc, words)? {
-        Request::Board => Ok(board::board(alloc)?),
+    match command_line::read(host.alloc(), words)? {
+        Request::Board => Ok(board::board(host.alloc(), threads)?),
+        Request::Summary(image) => Ok(summary_of(host, image, threads)?),
         Request::Show(text) => Ok(text),
+    }
+}
+
+/// What `summary` prints of the image in a file. A file that can't be opened is fault 13.
+fn summary_of<H: Files + AllocGlobal, T: Threads + Sync>(
+    host: &H,
+    name: &str,
+    threads: &T,
+) -> Result<String, Fault>
+    ensures { IfOk result (λ text. IsSummary (string_bytes text)) }
+{
+    match fs::open(host, name) {
+        Ok(file) => summarize(host.alloc(), &mut FromRead::new(file), threads),
+        Err(_) => Err(Fault::Io),
     }
 }
 

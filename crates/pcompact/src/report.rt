@@ -1,34 +1,40 @@
 //! The text that `board` prints.
-ghost use Rattle.std.specs.Prelude.{◌≡◌, IfOk, string_bytes};
-ghost use Rattle.pcompact.specs.Report.{lines_of, report_of};
+ghost use Rattle.std.specs.Prelude.{◌≡◌, ◌+◌, ◌≤◌, IfOk, string_bytes, length};
+ghost use Rattle.pcompact.specs.Report.{lines_of};
+ghost use Rattle.pcompact.specs.Tallies.{claims_in, completions_in};
 
-use crate::transcript::Transcript;
+use crate::tally::Tally;
 use std::alloc::{AllocError, Global};
 
-/// A line for each of so many regions, with its claims and completions, and `all settled` where a
-/// settling was answered that all are.
-pub fn report(alloc: Global, regions: u32, transcript: &Transcript) -> Result<String, AllocError>
-    ensures { IfOk result (λ text. string_bytes text ≡ report_of regions transcript.now.calls) }
-{
-    let mut text = lines(alloc, regions, transcript)?;
-    if transcript.is_all_settled() {
-        text.push_str("all settled\n")?;
-    }
-    Ok(text)
-}
-
-/// The lines of the regions.
-fn lines(alloc: Global, regions: u32, transcript: &Transcript) -> Result<String, AllocError>
-    ensures { IfOk result (λ text. string_bytes text ≡ lines_of regions transcript.now.calls) }
+/// A line for each of so many regions, with the claims and completions of both workers.
+pub fn lines(
+    alloc: Global,
+    regions: u32,
+    first: &[Tally],
+    second: &[Tally],
+) -> Result<String, AllocError>
+    requires first { regions ≤ length first.now }
+    requires second { regions ≤ length second.now }
+    ensures { IfOk result (λ text. string_bytes text ≡ lines_of regions
+        (λ r. claims_in first.now r + claims_in second.now r)
+        (λ r. completions_in first.now r + completions_in second.now r)) }
 {
     let mut text = String::new(alloc);
     for region in 0..regions {
-        let claims = transcript.claims(region);
-        let completions = transcript.completions(region);
+        let one = first[region as usize];
+        let other = second[region as usize];
+        let claims = sum(one.claims, other.claims);
+        let completions = sum(one.completions, other.completions);
         writeln!(
             text,
             "region {region} claims {claims} completions {completions}"
         )?;
     }
     Ok(text)
+}
+
+fn sum(one: u32, other: u32) -> u64
+    ensures { result ≡ one + other }
+{
+    u64::from(one) + u64::from(other)
 }

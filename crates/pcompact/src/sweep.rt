@@ -1,69 +1,89 @@
 //! A worker's way over the regions.
-ghost use Rattle.std.specs.Prelude.{◌≡◌, ◌<◌, ℕ, IsTrue, OnOk};
-ghost use Rattle.std.specs.List.{list_any};
-ghost use Rattle.history.specs.MoveTable.{IsMoveTable, region_count};
-ghost use Rattle.pcompact.specs.Transcript.{asks_for, KeepsCalls};
+ghost use Rattle.std.specs.Prelude.{◌≡◌, ◌<◌, [], IfOk};
+ghost use Rattle.history.specs.MoveTable.{region_count};
+ghost use Rattle.claim_board.specs.Boards.{moves as moves_of, identity, board_of, worker, mine, caller};
+ghost use Rattle.claim_board.specs.Tickets.{IsUnused, IsTicketOf};
+ghost use Rattle.pcompact.specs.Tallies.{Adds, AreTallies};
 
-use crate::transcript::Transcript;
-use history::{Event, Moves, Reply};
-use std::alloc::AllocError;
+use crate::tally::Tally;
+use claim_board::{Board, Pass, Ticket, one_more_source_is_drained, swept_tickets_have_none_left};
+use history::Moves;
+use std::alloc::{AllocError, Global};
+
+/// A worker after its sweep.
+#[derive(Drop)]
+pub struct Swept {
+    /// Its hold on the board.
+    pub pass: Pass,
+    /// What it did, region by region.
+    pub tallies: Vec<Tally>,
+}
 
 /// One sweep of a worker over all regions: it claims each, and fills each that it is granted.
 pub fn sweep<M: Moves>(
-    transcript: &mut Transcript,
+    alloc: Global,
+    board: &Board,
     moves: &M,
-    worker: u32,
-) -> Result<(), AllocError>
-    requires worker { worker < transcript.old.scheduler.workers }
-    requires moves { transcript.old.scheduler.moves ≡ M.table moves.now }
-    ensures moves { transcript.new.scheduler.moves ≡ transcript.old.scheduler.moves }
-    ensures workers { transcript.new.scheduler.workers ≡ transcript.old.scheduler.workers }
-    ensures asked { OnOk result ((region : ℕ) → region < region_count (M.table moves.now)
-        → IsTrue (list_any (asks_for worker region) transcript.new.calls)) }
-    ensures kept { KeepsCalls transcript.old.calls transcript.new.calls }
+    mut pass: Pass,
+) -> Result<Swept, AllocError>
+    requires board { board_of pass ≡ identity board.now }
+    requires moves { M.table moves.now ≡ moves_of board.now }
+    requires new { mine pass ≡ [] }
+    ensures board { IfOk result (λ swept. board_of swept.pass ≡ identity board.now) }
+    ensures worker { IfOk result (λ swept. worker swept.pass ≡ worker pass) }
+    ensures tallies { IfOk result (λ swept.
+        AreTallies (region_count (moves_of board.now)) (mine swept.pass) swept.tallies.items) }
 {
+    let mut tallies = Vec::new(alloc);
     for region in 0..moves.regions() {
-        if claim(transcript, worker, region)? {
-            fill(transcript, moves, worker, region)?;
+        let tally = visit(board, moves, &mut pass, region);
+        tallies.push(tally)?;
+    }
+    Ok(Swept { pass, tallies })
+}
+
+/// The worker claims the region, and fills it if it is granted.
+fn visit<M: Moves>(board: &Board, moves: &M, pass: &mut Pass, region: u32) -> Tally
+    requires board { board_of pass.old ≡ identity board.now }
+    requires moves { M.table moves.now ≡ moves_of board.now }
+    requires region { region < region_count (moves_of board.now) }
+    ensures board { board_of pass.new ≡ board_of pass.old }
+    ensures worker { worker pass.new ≡ worker pass.old }
+    ensures tally { Adds region result (mine pass.old) (mine pass.new) }
+{
+    match board.claim(pass, region) {
+        Some(ticket) => {
+            fill(board, moves, pass, ticket);
+            Tally {
+                claims: 1,
+                completions: 1,
+            }
         }
+        None => Tally {
+            claims: 0,
+            completions: 0,
+        },
     }
-    Ok(())
 }
 
-/// The worker claims the region. Whether it is granted.
-fn claim(transcript: &mut Transcript, worker: u32, region: u32) -> Result<bool, AllocError>
-    requires worker { worker < transcript.old.scheduler.workers }
-    requires region { region < region_count transcript.old.scheduler.moves }
-    ensures moves { transcript.new.scheduler.moves ≡ transcript.old.scheduler.moves }
-    ensures workers { transcript.new.scheduler.workers ≡ transcript.old.scheduler.workers }
-    ensures asked { OnOk result (IsTrue (list_any (asks_for worker region) transcript.new.calls)) }
-    ensures kept { KeepsCalls transcript.old.calls transcript.new.calls }
-{
-    let reply = transcript.call(worker, Event::Claim(region))?;
-    Ok(reply == Some(Reply::Yes))
-}
-
-/// The events of a region's fill, after its claim: it drains each other source, completes the
+/// The calls of a region's fill, after its claim: it drains each other source, completes the
 /// region and settles it.
-fn fill<M: Moves>(
-    transcript: &mut Transcript,
-    moves: &M,
-    worker: u32,
-    region: u32,
-) -> Result<(), AllocError>
-    requires worker { worker < transcript.old.scheduler.workers }
-    requires region { region < region_count (M.table moves.now) }
-    requires lawful { IsMoveTable (M.table moves.now) }
-    ensures moves { transcript.new.scheduler.moves ≡ transcript.old.scheduler.moves }
-    ensures workers { transcript.new.scheduler.workers ≡ transcript.old.scheduler.workers }
-    ensures kept { KeepsCalls transcript.old.calls transcript.new.calls }
+fn fill<M: Moves>(board: &Board, moves: &M, pass: &mut Pass, mut ticket: Ticket)
+    requires board { board_of pass.old ≡ identity board.now }
+    requires moves { M.table moves.now ≡ moves_of board.now }
+    requires unused { IsUnused ticket }
+    requires ticket { IsTicketOf (moves_of board.now) (caller pass.old) ticket }
+    ensures board { board_of pass.new ≡ board_of pass.old }
+    ensures worker { worker pass.new ≡ worker pass.old }
+    ensures tally { Adds ticket.region (record { claims = 0; completions = 1 }) (mine pass.old) (mine pass.new) }
 {
-    let mut from = 0;
-    while let Some(source) = moves.next_source(region, from) {
-        transcript.call(worker, Event::Drain(region, source))?;
-        from = source + 1;
+    swept_tickets_have_none_left();
+    one_more_source_is_drained();
+    let _regions = moves.regions();
+    while let Some(opening) = ticket.open(moves) {
+        board.drain(pass, &mut ticket, opening.close());
     }
-    transcript.call(worker, Event::Complete(region))?;
-    transcript.call(worker, Event::Settle(region))?;
-    Ok(())
+    let right = ticket.right().unwrap();
+    let done = board.complete(pass, ticket, right.written());
+    board.settle(pass, done);
 }

@@ -1,12 +1,12 @@
 //! The program on words: its status, and what it writes to standard output and standard error.
 use crate::program;
-use std::io;
 use std::io::{Error, ErrorKind, Write};
 use std::process::Abort;
 use std::rt::Files;
 use std::sync::Wait;
 use std::test::Fail;
 use std::thread::Threads;
+use std::{fs, io};
 
 const BOARD: &str = "\
 region 0 claims 1 completions 1
@@ -21,8 +21,9 @@ Full collection of a heap image by parallel sliding compaction
 Usage: pcompact <COMMAND>
 
 Commands:
-  board  Schedules two workers over three regions, and counts their claims and completions
-  help   Print this message or the help of the given subcommand(s)
+  board    Schedules two workers over three regions, and counts their claims and completions
+  summary  Prints what a collection of a heap image will do, region by region
+  help     Print this message or the help of the given subcommand(s)
 
 Options:
   -h, --help     Print help
@@ -43,11 +44,23 @@ Options:
   -h, --help  Print help
 ";
 
+const SUMMARY_HELP: &str = "\
+Prints what a collection of a heap image will do, region by region
+
+Usage: pcompact summary <IMAGE>
+
+Arguments:
+  <IMAGE>  A file with a heap image
+
+Options:
+  -h, --help  Print help
+";
+
 const VERSION: &str = "pcompact 0.1.0\n";
 
 const NO_COMMAND: &str = "\
 error: 'pcompact' requires a subcommand but one was not provided
-  [subcommands: board, help]
+  [subcommands: board, summary, help]
 
 Usage: pcompact <COMMAND>
 
@@ -78,6 +91,73 @@ Usage: pcompact board
 For more information, try '--help'.
 ";
 
+const NO_IMAGE: &str = "\
+error: the following required arguments were not provided:
+  <IMAGE>
+
+Usage: pcompact summary <IMAGE>
+
+For more information, try '--help'.
+";
+
+/// The numbers behind the front of the base heap's image: its words, and then its live addresses.
+const BASE: [u64; 36] = [
+    0x0100_0002_0000_0003,
+    6,
+    21,
+    999,
+    999,
+    0x0100_0001_0000_0004,
+    13,
+    107,
+    108,
+    999,
+    999,
+    999,
+    0x0100_0001_0000_0002,
+    1,
+    999,
+    999,
+    999,
+    999,
+    999,
+    999,
+    0x0100_0008_0000_000A,
+    21,
+    0,
+    6,
+    13,
+    1,
+    0,
+    21,
+    6,
+    129,
+    999,
+    999,
+    0,
+    5,
+    12,
+    20,
+];
+
+/// The first 32 bytes of that image: region log 3, 4 live objects, 32 words, and an allowance of 0.
+const BASE_FRONT: &[u8; 32] = b"PCHEAP01\x03\0\0\0\x04\0\0\0\x20\0\0\0\0\0\0\0\0\0\0\0\0\0\0\0";
+
+/// A file of the tests, in the folder where they run.
+const IMAGE: &str = "summary_test.image";
+
+const BASE_SUMMARY: &str = "\
+prefix 0 top 19
+       0        0        6        0        0        0
+       1        1        2        6        1        1
+       2        0        4        9        1        3
+       3        6        0       13        2        -
+";
+
+const FAULT_5: &str = "pcompact: fault 5 truncated body\n";
+
+const FAULT_10: &str = "pcompact: fault 10 trailing bytes\n";
+
 const FAULT_13: &str = "pcompact: fault 13 input or output\n";
 
 /// A device that takes so many bytes and then fails, and whose flush may fail.
@@ -107,7 +187,7 @@ impl Write for Device {
 }
 
 /// Runs the program on these words, with these devices.
-fn run_on<R: Files + AllocGlobal + Threads + Wait, A: Write, B: Write>(
+fn run_on<R: Files + AllocGlobal + Threads + Wait + Sync, A: Write, B: Write>(
     rt: &R,
     texts: &[&str],
     out: &mut A,
@@ -121,7 +201,7 @@ fn run_on<R: Files + AllocGlobal + Threads + Wait, A: Write, B: Write>(
 }
 
 /// Asserts what a run on these words answers, and writes to standard output and standard error.
-fn assert_run<R: Files + AllocGlobal + Threads + Wait + Abort>(
+fn assert_run<R: Files + AllocGlobal + Threads + Wait + Abort + Sync>(
     rt: &R,
     texts: &[&str],
     status: u8,
@@ -157,6 +237,7 @@ fn help_and_version_are_shown(rt: HostRuntime) -> Result<(), Fail> {
     assert_run(&rt, &["-h"], 0, HELP, "")?;
     assert_run(&rt, &["help"], 0, HELP, "")?;
     assert_run(&rt, &["board", "--help"], 0, BOARD_HELP, "")?;
+    assert_run(&rt, &["summary", "-h"], 0, SUMMARY_HELP, "")?;
     assert_run(&rt, &["--version"], 0, VERSION, "")?;
     assert_run(&rt, &["-V"], 0, VERSION, "")
 }
@@ -166,14 +247,40 @@ fn words_that_are_no_command_are_refused(rt: HostRuntime) -> Result<(), Fail> {
     assert_run(&rt, &[], 2, "", NO_COMMAND)?;
     assert_run(&rt, &["sweep"], 2, "", UNKNOWN_COMMAND)?;
     assert_run(&rt, &["--quiet"], 2, "", UNKNOWN_OPTION)?;
+    assert_run(&rt, &["summary"], 2, "", NO_IMAGE)?;
     assert_run(&rt, &["board", "twice"], 2, "", EXTRA_WORD)
+}
+
+/// Asserts what `summary` answers of a file with these bytes, which is removed again.
+fn assert_summary<R: Files + AllocGlobal + Threads + Wait + Abort + Sync>(
+    rt: &R,
+    image: &[u8],
+    status: u8,
+    out: &str,
+    err: &str,
+) -> Result<(), Fail> {
+    fs::write(rt, IMAGE, image)?;
+    assert_run(rt, &["summary", IMAGE], status, out, err)?;
+    fs::remove_file(rt, IMAGE)?;
+    Ok(())
+}
+
+#[test]
+fn summary_prints_the_plan_or_the_fault(rt: HostRuntime) -> Result<(), Fail> {
+    let mut image = Vec::from_slice(rt.alloc(), BASE_FRONT)?;
+    for number in BASE {
+        image.extend_from_slice(&number.to_le_bytes())?;
+    }
+    assert_summary(&rt, image.as_slice(), 0, BASE_SUMMARY, "")?;
+    image.push(0)?;
+    assert_summary(&rt, image.as_slice(), 1, "", FAULT_10)?;
+    assert_summary(&rt, BASE_FRONT, 1, "", FAULT_5)?;
+    assert_run(&rt, &["summary", IMAGE], 1, "", FAULT_13)
 }
 
 #[test]
 fn later_commands_are_unknown(rt: HostRuntime) -> Result<(), Fail> {
-    for name in [
-        "summary", "collect", "record", "replay", "verify", "upgrade",
-    ] {
+    for name in ["collect", "record", "replay", "verify", "upgrade"] {
         let mut out = Vec::new(rt.alloc());
         let mut err = Vec::new(rt.alloc());
         assert_eq!(rt;

@@ -1,12 +1,15 @@
-use Rattle.std.proofs.Common.{◌≡◌, ◌∙◌, ap₂, codes, rules}
+use Rattle.std.proofs.Common.{◌≡◌, ◌∙◌, ap, ap₂}
 use Rattle.std.proofs.lemmas.Result.{IfOk-weaker}
-use Rattle.clap.specs.Words.{app_of, new_app, shape_of, with_subcommand}
-use Rattle.pcompact.specs.CommandLine.{program}
+use Rattle.clap.specs.Words.{App, app_of, with_subcommand}
+use Rattle.pcompact.specs.CommandLine.{board_command, program, summary_command}
 use Rattle.pcompact.proofs.command_line.command.Goals as goal
 
 pub returns : goal.returns
 returns c =
-    let board_is : shape_of c.about-board.result ≡ (new_app (codes "board")).top = search rules in
-    let program_is : app_of c.subcommand_required.result ≡ program = search rules in
-    IfOk-weaker c.subcommand.result _ _
-    (λ command added. added.shape (search rules) ∙ ap₂ with_subcommand program_is board_is) c.subcommand.ensures
+    let top_is = λ (sub : App). sub.top in
+    let with_board : app_of c.in_ok-subcommand.field-0 ≡ with_subcommand program board_command.top =
+    c.in_ok-subcommand.ensures.shape c.board.ensures.local
+    ∙ ap₂ with_subcommand c.in_ok-program.ensures (ap top_is c.board.ensures.app) in
+    IfOk-weaker c.subcommand-2.result _ _
+    (λ command added. added.shape c.in_ok-summary.ensures.local
+    ∙ ap₂ with_subcommand with_board (ap top_is c.in_ok-summary.ensures.app)) c.subcommand-2.ensures

@@ -1,15 +1,17 @@
 use Rattle.std.proofs.Common.{◌≡◌, ◌-◌}
-use Rattle.pcompact.specs.Transcript.{KeepsCalls}
-use Rattle.history.specs.MoveTable.{region_count}
+use Rattle.claim_board.specs.Boards.{moves, board_of, worker, mine, caller}
+use Rattle.claim_board.specs.Tickets.{IsTicketOf, IsSwept}
+use Rattle.pcompact.specs.Tallies.{Adds, none}
 use Rattle.pcompact.proofs.sweep.fill.Given as goal
 
--- the moves, the number of workers and the calls stay
-abbrev pub invariant-loop-source : goal.invariant-loop-source
-invariant-loop-source g l =
-    (l.transcript.scheduler.moves ≡ l.fn.transcript.scheduler.moves)
-    × (l.transcript.scheduler.workers ≡ l.fn.transcript.scheduler.workers)
-    × KeepsCalls l.fn.transcript.calls l.transcript.calls
+abbrev pub invariant-loop-opening : goal.invariant-loop-opening
+invariant-loop-opening g l = (board_of l.pass ≡ board_of l.initial.pass)
+    × (worker l.pass ≡ worker l.initial.pass)
+    × IsTicketOf (moves l.board) (caller l.pass) l.ticket
+    × (l.ticket.region ≡ l.fn.ticket.region)
+    × (l.ticket.right_is_out ≡ l.fn.ticket.right_is_out)
+    × IsSwept (moves l.board) (caller l.pass) l.ticket
+    × Adds l.ticket.region none (mine l.fn.pass) (mine l.pass)
 
--- the regions from here on
-abbrev pub decreases-loop-source : goal.decreases-loop-source
-decreases-loop-source g l = region_count (g.M.Moves.table l.moves) - l.from
+abbrev pub decreases-loop-opening : goal.decreases-loop-opening
+decreases-loop-opening g l = 4294967296 - l.ticket.next

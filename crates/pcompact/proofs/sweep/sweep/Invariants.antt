@@ -1,15 +1,14 @@
-use Rattle.std.proofs.Common.{◌≡◌, ◌<◌, ℕ, IsTrue}
-use Rattle.std.specs.List.{list_any}
-use Rattle.pcompact.specs.Transcript.{KeepsCalls, asks_for}
-use Rattle.history.specs.MoveTable.{region_count}
+use Rattle.std.proofs.Common.{◌≡◌, ◌≤◌, ℕ}
+use Rattle.std.specs.Prelude.{count_by}
+use Rattle.history.specs.History.{is_grant}
+use Rattle.claim_board.specs.Boards.{board_of, worker, mine}
+use Rattle.pcompact.specs.Tallies.{AreTallies, completes}
 use Rattle.pcompact.proofs.sweep.sweep.Given as goal
 
--- the moves, the number of workers and the calls stay, the sweep goes over all regions, and it
--- asked for those before this one
+-- what was done in the regions so far, and nothing in the others
 abbrev pub invariant-loop-region : goal.invariant-loop-region
-invariant-loop-region g l =
-    (l.transcript.scheduler.moves ≡ l.fn.transcript.scheduler.moves)
-    × (l.transcript.scheduler.workers ≡ l.fn.transcript.scheduler.workers)
-    × (l.region-end ≡ region_count (g.M.Moves.table l.moves))
-    × KeepsCalls l.fn.transcript.calls l.transcript.calls
-    × ((region : ℕ) → region < l.region → IsTrue (list_any (asks_for l.worker region) l.transcript.calls))
+invariant-loop-region g l = (board_of l.pass ≡ board_of l.fn.pass)
+    × (worker l.pass ≡ worker l.fn.pass)
+    × AreTallies l.region (mine l.pass) l.tallies.items
+    × ((r : ℕ) → l.region ≤ r → count_by (is_grant r) (mine l.pass) ≡ 0)
+    × ((r : ℕ) → l.region ≤ r → count_by (completes r) (mine l.pass) ≡ 0)
