@@ -35,6 +35,7 @@ mod entry;
 mod event;
 mod event_text;
 mod given_moves;
+mod image_laws;
 mod laws;
 mod line;
 mod line_text;
@@ -57,6 +58,7 @@ pub use call_fault::CallFault;
 pub use entry::Entry;
 pub use event::{Event, Illegal};
 pub use given_moves::GivenMoves;
+pub use image_laws::moves_of_images;
 pub use laws::{
     drained_before_written, how_counts_go_down, legal_histories_are_orderly, pairs_slide_down,
     what_legal_histories_keep, what_own_calls_tell,
