@@ -9,3 +9,4 @@ pub mod Meets
 pub mod Gathers
 pub mod Spends
 pub mod Sweeps
+pub mod Grants
