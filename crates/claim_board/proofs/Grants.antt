@@ -23,13 +23,13 @@ read_later law m n w r before later log legal is d =
     let at : log ≡ before ++ e ∷ later = is ∙ append_assoc before (e ∷ []) later in
     ap (λ (l : List Entry). is_pending m (state_of l) d r) at
     ∙ (law m n log legal).stays_read before later [] e r d
-        (at ∙ ap (λ (l : List Entry). before ++ e ∷ l) (sym (append-nil later)))
-        (ap (λ (b : Bool). b && true) (eq-eqb r r refl))
+    (at ∙ ap (λ (l : List Entry). before ++ e ∷ l) (sym (append-nil later)))
+    (ap (λ (b : Bool). b && true) (eq-eqb r r refl))
 
 pub granted : Orderly → (m : MoveTable) (n w r : ℕ) (seen mine seen' mine' : List Entry) → Extends m n w seen mine (Claim r) Yes seen' mine' → IsGranted m n r seen'
 granted law m n w r seen mine seen' mine' x =
     record {
       now = read_later law m n w r x.before [] seen' x.legal (x.seen_is ∙ sym (append-nil (x.before ++ entry w (Claim r) Yes ∷ [])));
       later = λ log legal begins d.
-      read_later law m n w r x.before begins.0 log legal (begins.1 ∙ ap (λ (l : List Entry). l ++ begins.0) x.seen_is) d;
+          read_later law m n w r x.before begins.0 log legal (begins.1 ∙ ap (λ (l : List Entry). l ++ begins.0) x.seen_is) d;
     }

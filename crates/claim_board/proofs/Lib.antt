@@ -10,3 +10,4 @@ pub mod Gathers
 pub mod Spends
 pub mod Sweeps
 pub mod Grants
+pub mod Alls
