@@ -9,3 +9,5 @@ pub mod Meets
 pub mod Gathers
 pub mod Spends
 pub mod Sweeps
+pub mod Grants
+pub mod Alls

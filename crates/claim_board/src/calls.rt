@@ -4,8 +4,9 @@ ghost use Rattle.history.specs.declared.event.Event.TheVariants.{Claim, Look, Dr
 ghost use Rattle.history.specs.declared.reply.Reply.TheVariants.{Yes, No, All, More, Done as Completed};
 ghost use Rattle.history.specs.MoveTable.{region_count};
 ghost use Rattle.claim_board.specs.Rule.{look_reply, drain_reply};
-ghost use Rattle.claim_board.specs.Boards.{moves, identity, board_of, caller, Appends};
+ghost use Rattle.claim_board.specs.Boards.{moves, worker_count, identity, board_of, caller, seen, Appends};
 ghost use Rattle.claim_board.specs.Drains.{reply_of};
+ghost use Rattle.claim_board.specs.Grants.{IsGranted};
 ghost use Rattle.claim_board.specs.Tickets.{IsUnused, IsTicketOf, IsClosedOf, IsWrittenOf, IsDoneOf};
 
 use crate::board::Board;
@@ -16,7 +17,9 @@ use crate::pass::Pass;
 use crate::steps;
 use crate::ticket::Ticket;
 use crate::written::Written;
-use history::{Reply, how_counts_go_down, pairs_slide_down, what_own_calls_tell};
+use history::{
+    Reply, how_counts_go_down, legal_histories_are_orderly, pairs_slide_down, what_own_calls_tell,
+};
 use std::marker::Brand;
 use std::snapshot::Snapshot;
 
@@ -59,8 +62,10 @@ impl Board {
         requires region { region < region_count (moves self.now) }
         ensures entry { Appends self.now pass.old pass.new (Claim region) (if is_some result then Yes else No) }
         ensures ticket { IfSome result (λ t. (t.region ≡ region) × IsUnused t × IsTicketOf (moves self.now) (caller pass.new) t) }
+        ensures granted { IfSome result (λ _. IsGranted (moves self.now) (worker_count self.now) region (seen pass.new)) }
     {
         what_own_calls_tell();
+        legal_histories_are_orderly();
         let found = steps::claim::<Brand>(&self.table.shared, &mut pass.place, region as usize);
         if found == 0 {
             Some(Ticket {

@@ -15,6 +15,8 @@ use std::test::Fail;
 use std::thread;
 use std::thread::Threads;
 
+mod stress;
+
 /// A board over moves that were handed in, and its passes.
 struct Setting {
     moves: GivenMoves,
@@ -23,7 +25,6 @@ struct Setting {
     ghost same: { moves_of board ≡ moves },
 }
 
-#[tactic(auto, using(crate::proofs::Gathers::are_all))]
 fn start(alloc: Global, fill: &[bool], pairs: &[(u32, u32)], workers: u32) -> Result<Setting, Fail>
     requires { (1 ≤ workers) × (workers ≤ 64) }
     ensures { IfOk result (λ s. AllOf (identity s.board) s.passes.items) }
@@ -31,6 +32,14 @@ fn start(alloc: Global, fill: &[bool], pairs: &[(u32, u32)], workers: u32) -> Re
     let fill = Vec::from_slice(alloc, fill)?;
     let pairs = Vec::from_slice(alloc, pairs)?;
     let moves = GivenMoves::new(fill, pairs).ok_or("a table")?;
+    Ok(set_up(alloc, moves, workers)?)
+}
+
+#[tactic(auto, using(crate::proofs::Gathers::are_all))]
+fn set_up(alloc: Global, moves: GivenMoves, workers: u32) -> Result<Setting, AllocError>
+    requires { (1 ≤ workers) × (workers ≤ 64) }
+    ensures { IfOk result (λ s. AllOf (identity s.board) s.passes.items) }
+{
     let (board, passes) = Board::new(alloc, &moves, workers)?;
     Ok(Setting {
         moves,
@@ -62,18 +71,20 @@ fn put(board: &Board, passes: &mut Vec<Pass>, pass: Pass) -> Result<(), AllocErr
     Ok(())
 }
 
-/// What a fill met: all words after each step, what was left of the ticket at first, and what each
-/// drain and the settling answered.
+/// What a fill met: all words after each step, where they are asked for, what was left of the ticket
+/// at first, and what each drain and the settling answered.
 #[derive(Drop)]
 struct Log {
+    has_words: bool,
     words: Vec<u64>,
     left: Vec<usize>,
     drains: Vec<Drained>,
     settles: Vec<bool>,
 }
 
-fn no_log(alloc: Global) -> Log {
+fn no_log(alloc: Global, has_words: bool) -> Log {
     Log {
+        has_words,
         words: Vec::new(alloc),
         left: Vec::new(alloc),
         drains: Vec::new(alloc),
@@ -83,6 +94,9 @@ fn no_log(alloc: Global) -> Log {
 
 /// Notes all words. What finds no room is left out.
 fn note(board: &Board, log: &mut Log) {
+    if !log.has_words {
+        return;
+    }
     for i in 0..=board.sources.len() {
         let _ = log.words.push(board.table.shared.peek(i));
     }
@@ -117,6 +131,22 @@ fn fill(board: &Board, moves: &GivenMoves, pass: &mut Pass, region: u32, log: &m
     true
 }
 
+/// All words of the base heap's board at first and after each step, where each region is settled
+/// before the next one is claimed.
+const ONE_BY_ONE: [[u64; 5]; 11] = [
+    [0, 1, 1, 18, 3],
+    [8, 1, 1, 18, 3],
+    [8, 0, 1, 18, 3],
+    [12, 0, 1, 18, 2],
+    [12, 8, 1, 18, 2],
+    [12, 8, 0, 18, 2],
+    [12, 8, 0, 17, 2],
+    [12, 12, 0, 17, 1],
+    [12, 12, 8, 17, 1],
+    [12, 12, 8, 16, 1],
+    [12, 12, 12, 16, 0],
+];
+
 #[test]
 fn one_pass_fills_the_base_heap(rt: HostRuntime) -> Result<(), Fail> {
     let pairs = [(0, 1), (1, 2), (1, 3), (2, 3)];
@@ -126,7 +156,7 @@ fn one_pass_fills_the_base_heap(rt: HostRuntime) -> Result<(), Fail> {
         mut passes,
     } = start(rt.alloc(), &[true, true, true, false], &pairs, 1)?;
     let mut pass = take(&board, &mut passes)?;
-    let mut log = no_log(rt.alloc());
+    let mut log = no_log(rt.alloc(), true);
     assert!(rt; moves.regions() == 4);
     note(&board, &mut log);
     assert!(rt; !fill(&board, &moves, &mut pass, 1, &mut log));
@@ -140,20 +170,7 @@ fn one_pass_fills_the_base_heap(rt: HostRuntime) -> Result<(), Fail> {
     assert!(rt; !fill(&board, &moves, &mut pass, 3, &mut log));
     assert_eq!(rt; board.look(&mut pass, 3), Reply::Outside(0));
     assert_eq!(rt; board.look(&mut pass, 0), Reply::Filled);
-    let words = [
-        [0, 1, 1, 18, 3],
-        [8, 1, 1, 18, 3],
-        [8, 0, 1, 18, 3],
-        [12, 0, 1, 18, 2],
-        [12, 8, 1, 18, 2],
-        [12, 8, 0, 18, 2],
-        [12, 8, 0, 17, 2],
-        [12, 12, 0, 17, 1],
-        [12, 12, 8, 17, 1],
-        [12, 12, 8, 16, 1],
-        [12, 12, 12, 16, 0],
-    ];
-    assert!(rt; log.words.iter().eq(words.iter().flatten()));
+    assert!(rt; log.words.iter().eq(ONE_BY_ONE.iter().flatten()));
     let answers = [
         Drained::Last,
         Drained::Last,

@@ -1,14 +1,23 @@
-use Rattle.std.proofs.Common.{◌≡◌, ℕ, ◌<◌, nat_eq, cond, length, refl, sym, ap, ◌∙◌, subst, eq-eqb}
+use Rattle.std.proofs.Common.{◌≡◌, ℕ, ◌<◌, cond, length, refl, sym, ap, ◌∙◌, subst, eq-eqb}
 use Rattle.std.proofs.lemmas.List.{get_or_default}
 use Rattle.history.specs.declared.event.Event.TheVariants.{Claim}
 use Rattle.history.specs.declared.reply.Reply.{Reply}
 use Rattle.history.specs.declared.reply.Reply.TheVariants.{Yes, No}
 use Rattle.history.specs.State.{IsFilling}
 use Rattle.history.specs.History.{state_of}
-use Rattle.claim_board.specs.Rule.{Extends}
+use Rattle.claim_board.specs.declared.key.Key.{Key}
+use Rattle.claim_board.specs.declared.view.View.{View}
+use Rattle.claim_board.specs.Rule.{Extends, claim_reply}
 use Rattle.claim_board.specs.Views.{worker_of, seen_of, mine_of}
 use Rattle.claim_board.proofs.Spends.{claimed_now, all_left}
+use Rattle.claim_board.proofs.Grants.{granted}
 use Rattle.claim_board.proofs.board.Board.claim.Goals as goal
+
+-- The word found was 0, so the step granted the region.
+answered : (k : Key) (v u : View) (r found : ℕ) → found ≡ 0 → Extends k.moves k.workers (worker_of v) (seen_of v) (mine_of v) (Claim r) (claim_reply found) (seen_of u) (mine_of u)
+    → Extends k.moves k.workers (worker_of v) (seen_of v) (mine_of v) (Claim r) Yes (seen_of u) (mine_of u)
+answered k v u r found none x =
+    subst (λ (reply : Reply). Extends k.moves k.workers (worker_of v) (seen_of v) (mine_of v) (Claim r) reply (seen_of u) (mine_of u)) (ap (λ b. cond b Yes No) (eq-eqb found 0 none)) x
 
 pub returns-then-found-eq0-clause-ticket : goal.returns-then-found-eq0-clause-ticket
 returns-then-found-eq0-clause-ticket c =
@@ -18,10 +27,7 @@ returns-then-found-eq0-clause-ticket c =
     let u = c.claim-found.new.seat.me.0 in
     let r = c.args.region in
     let counted = c.args.self.now.counted in
-    let answer : cond (nat_eq c.claim-found.result 0) Yes No ≡ Yes = ap (λ b. cond b Yes No) (eq-eqb c.claim-found.result 0 c.if-found-eq0.true) in
-    let x : Extends k.moves k.workers (worker_of v) (seen_of v) (mine_of v) (Claim r) Yes (seen_of u) (mine_of u) =
-    subst (λ (reply : Reply). Extends k.moves k.workers (worker_of v) (seen_of v) (mine_of v) (Claim r) reply (seen_of u) (mine_of u)) answer e.3 in
-    let now = claimed_now c.what_own_calls_tell.ensures k.moves k.workers (worker_of v) r (seen_of v) (mine_of v) (seen_of u) (mine_of u) x in
+    let now = claimed_now c.what_own_calls_tell.ensures k.moves k.workers (worker_of v) r (seen_of v) (mine_of v) (seen_of u) (mine_of u) (answered k v u r c.claim-found.result c.if-found-eq0.true e.3) in
     let inside : r < length c.args.self.now.sources.items = rw counted.all c.requires.region in (
       refl,
       (refl, refl),
@@ -35,3 +41,11 @@ returns-then-found-eq0-clause-ticket c =
         left = c.index.ensures ∙ (get_or_default c.args.self.now.sources.items r c.index.result.now 0 inside ∙ (counted.each r c.requires.region ∙ all_left k.moves r (state_of (mine_of u)) now.undrained));
       },
     )
+
+pub returns-then-found-eq0-clause-granted : goal.returns-then-found-eq0-clause-granted
+returns-then-found-eq0-clause-granted c =
+    let k = c.args.self.now.table.shared.key in
+    let v = c.args.pass.now.place.me.0 in
+    let u = c.claim-found.new.seat.me.0 in
+    granted c.legal_histories_are_orderly.ensures k.moves k.workers (worker_of v) c.args.region (seen_of v) (mine_of v) (seen_of u) (mine_of u)
+    (answered k v u c.args.region c.claim-found.result c.if-found-eq0.true c.claim-found.ensures.added.3)
