@@ -6,3 +6,4 @@ pub mod Told
 pub mod Finishes
 pub mod Tickets
 pub mod Drains
+pub mod Recorders
