@@ -2,7 +2,7 @@
 use Rattle.std.proofs.Common.{◌≡◌, ◌≢◌, ℕ, ◌+◌, ◌<◌, ◌≤◌, Bool, true, false, cond, Some, refl, sym, ap, ◌∙◌, subst, inl, inr, ◌⊎◌, true≢false, eq-eqb, ne_eqb, arith}
 use native.Mathlib.Decide.{dec_le}
 use Rattle.std.proofs.Math.Path.{fun_ext}
-use Rattle.std.specs.Prelude.{◌&&◌, ◌||◌, ◌==◌, not, count_by, IsTrue}
+use Rattle.std.specs.Prelude.{◌&&◌, ◌||◌, ◌==◌, not, count_by, IsTrue, option_map}
 use Rattle.std.proofs.lemmas.Bool.{cases_Bool, and_left, and_right, or_right, eqb-true}
 use Rattle.history.specs.declared.event.Event.{Event}
 use Rattle.history.specs.declared.event.Event.TheVariants.{Claim, Look, Drain, Complete, Settle, Poll, Copy}
@@ -47,8 +47,8 @@ same_left m r one other a = ap (λ (f : ℕ × ℕ → Bool). count_by f m.pairs
 pub leaves_tickets : (m : MoveTable) (old new : Caller) (t : Ticket) (event : Event) (reply : Reply) → IsTicketOf m old t → Gains old new event reply → Spares t.region event → IsTicketOf m new t
 leaves_tickets m old new t event reply is g apart =
     record {
-      board = is.board ∙ sym g.board;
-      worker = is.worker ∙ sym g.worker;
+      board = is.board ∙ ap Some (sym g.board);
+      worker = is.worker ∙ ap Some (sym g.worker);
       inside = is.inside;
       filling = (a.claimed ∙ (is.filling.0 ∙ ap Some (sym g.worker)), a.filled ∙ is.filling.1);
       unsettled = a.settled ∙ is.unsettled;
@@ -63,8 +63,8 @@ leaves_tickets m old new t event reply is g apart =
 pub opened_more : (m : MoveTable) (c : Caller) (t t' : Ticket) → t'.region ≡ t.region → t'.left ≡ t.left → t'.from ≡ t.from → t.next ≤ t'.next → IsTicketOf m c t → IsTicketOf m c t'
 opened_more m c t t' region left from next is =
     record {
-      board = ap (λ f. f.value.table_id) from ∙ is.board;
-      worker = ap (λ f. Rattle.claim_board.specs.Views.worker_of f.value.me.0) from ∙ is.worker;
+      board = ap (λ f. option_map (λ place. place.value.table_id) f) from ∙ is.board;
+      worker = ap (λ f. option_map (λ place. Rattle.claim_board.specs.Views.worker_of place.value.me.0) f) from ∙ is.worker;
       inside = subst (λ (r : ℕ). r < region_count m) (sym region) is.inside;
       filling = subst (IsFilling (own c) c.worker) (sym region) is.filling;
       unsettled = ap (own c).settled region ∙ is.unsettled;

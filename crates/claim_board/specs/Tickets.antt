@@ -1,5 +1,5 @@
 -- What a ticket, and what came from it, say of the caller that claimed it.
-use Rattle.std.specs.Prelude.{◌≡◌, ◌≢◌, ℕ, ◌<◌, ◌≤◌, false, IsTrue, Some}
+use Rattle.std.specs.Prelude.{◌≡◌, ◌≢◌, ℕ, ◌<◌, ◌≤◌, false, IsTrue, Option, Some, option_map}
 use Rattle.atomic_table.specs.Seated.{TableId}
 use Rattle.history.specs.declared.event.Event.{Event}
 use Rattle.history.specs.declared.event.Event.TheVariants.{Claim, Look, Drain, Complete, Settle, Poll, Copy}
@@ -13,12 +13,12 @@ use Rattle.claim_board.specs.declared.done.Done.{Done}
 use Rattle.claim_board.specs.Views.{worker_of}
 use Rattle.claim_board.specs.Callers.{Caller, own}
 
--- the board that granted the ticket, and the worker that claimed it
-abbrev pub board_of : Ticket → TableId
-board_of t = t.from.value.table_id
+-- the board that granted the ticket, and the worker that claimed it. A recorder's ticket tells neither
+abbrev pub board_of : Ticket → Option TableId
+board_of t = option_map (λ place. place.value.table_id) t.from
 
-abbrev pub claimant_of : Ticket → ℕ
-claimant_of t = worker_of t.from.value.me.0
+abbrev pub claimant_of : Ticket → Option ℕ
+claimant_of t = option_map (λ place. worker_of place.value.me.0) t.from
 
 -- nothing was opened from it, and its right isn't out
 abbrev pub IsUnused : Ticket → Type 0
@@ -26,8 +26,8 @@ IsUnused t = (t.next ≡ 0) × (t.right_is_out ≡ false)
 
 -- The caller claimed the ticket's region, and hasn't completed it. No source from `next` on is drained for it, and `left` counts the sources that aren't.
 pub record IsTicketOf (m : MoveTable) (c : Caller) (t : Ticket) : Type 0 where
-  pub board : board_of t ≡ c.board
-  pub worker : claimant_of t ≡ c.worker
+  pub board : board_of t ≡ Some c.board
+  pub worker : claimant_of t ≡ Some c.worker
   pub inside : t.region < region_count m
   pub filling : IsFilling (own c) c.worker t.region
   pub unsettled : (own c).settled t.region ≡ false
@@ -50,7 +50,7 @@ pub record IsWrittenOf (t : Ticket) (x : Written) : Type 0 where
 
 -- The caller has completed the region, and not settled it.
 pub record IsDoneOf (c : Caller) (d : Done) : Type 0 where
-  pub board : d.from.value.table_id ≡ c.board
+  pub board : option_map (λ place. place.value.table_id) d.from ≡ Some c.board
   pub claimed : (own c).claimed d.region ≡ Some c.worker
   pub filled : IsTrue ((own c).filled d.region)
   pub unsettled : (own c).settled d.region ≡ false

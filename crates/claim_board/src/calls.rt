@@ -73,7 +73,7 @@ impl Board {
                 next: 0,
                 left: self.sources[region as usize],
                 right_is_out: false,
-                from: Snapshot::of(&pass.place),
+                from: Some(Snapshot::of(&pass.place)),
             })
         } else {
             None

@@ -6,8 +6,8 @@ use std::snapshot::Snapshot;
 /// A completed region that isn't settled. It must be spent: by `Board::settle`, or given up.
 pub struct Done {
     pub(crate) region: u32,
-    /// The seat that claimed it, for proofs alone.
-    pub(crate) from: Snapshot<Place>,
+    /// The pass that claimed it, for proofs alone. What a recorder completed has none.
+    pub(crate) from: Option<Snapshot<Place>>,
 }
 
 impl Done {

@@ -12,7 +12,8 @@
 //!   `seen`. `Board::meet` and `Board::finish` bring what passes have seen together.
 //! - `Ticket`, `Opening`, `Closed`, `Right`, `Written` and `Done` can't be dropped. Each is made in one
 //!   way and is spent in one of the ways that its page names, or given up.
-//! - `Desk` is what a fill asks of a scheduler. `Board` is one.
+//! - `Desk` is what a fill asks of a scheduler. `Board` is one, and so is `Recorder`, a board under a
+//!   lock that keeps its calls for a schedule.
 //! - `other_calls_leave_tickets`, `one_more_source_is_drained` and `swept_tickets_have_none_left` do
 //!   nothing. Their contracts are what a caller needs who keeps a ticket over several calls.
 //!
@@ -37,6 +38,8 @@ mod make;
 mod meet;
 mod opening;
 mod pass;
+mod recorder;
+mod recording;
 mod right;
 mod rule;
 mod steps;
@@ -56,9 +59,12 @@ pub use laws::{
 };
 pub use opening::Opening;
 pub use pass::Pass;
+pub use recorder::Recorder;
 pub use right::Right;
 pub use ticket::Ticket;
 pub use written::Written;
 
+#[cfg(test)]
+mod recorder_tests;
 #[cfg(test)]
 mod tests;

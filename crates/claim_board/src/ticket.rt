@@ -11,8 +11,8 @@ pub struct Ticket {
     pub(crate) next: u32,
     pub(crate) left: usize,
     pub(crate) right_is_out: bool,
-    /// The seat that claimed it, for proofs alone.
-    pub(crate) from: Snapshot<Place>,
+    /// The pass that claimed it, for proofs alone. A recorder's ticket has none.
+    pub(crate) from: Option<Snapshot<Place>>,
 }
 
 impl Ticket {

@@ -1,4 +1,4 @@
-use Rattle.std.proofs.Common.{◌≡◌, ℕ, ◌<◌, cond, length, refl, sym, ap, ◌∙◌, subst, eq-eqb}
+use Rattle.std.proofs.Common.{◌≡◌, ℕ, ◌<◌, nat_eq, cond, length, Some, refl, sym, ap, ◌∙◌, subst, eq-eqb}
 use Rattle.std.proofs.lemmas.List.{get_or_default}
 use Rattle.history.specs.declared.event.Event.TheVariants.{Claim}
 use Rattle.history.specs.declared.reply.Reply.{Reply}
@@ -32,8 +32,8 @@ returns-then-found-eq0-clause-ticket c =
       refl,
       (refl, refl),
       record {
-        board = ap (λ p. p.table_id) c.of.ensures;
-        worker = ap (λ p. worker_of p.me.0) c.of.ensures;
+        board = ap (λ p. Some p.table_id) c.of.ensures;
+        worker = ap (λ p. Some (worker_of p.me.0)) c.of.ensures;
         inside = c.requires.region;
         filling = subst (λ (w : ℕ). IsFilling (state_of (mine_of u)) w r) (sym e.1) now.filling;
         unsettled = now.unsettled;

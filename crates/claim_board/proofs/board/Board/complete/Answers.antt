@@ -19,7 +19,7 @@ returns-clause-done c =
     let now = completed_now k.moves k.workers (worker_of v) c.args.ticket.region (seen_of v) (mine_of v) (seen_of u) (mine_of u) e.3 t.filling t.unsettled in (
       refl,
       record {
-        board = t.board ∙ sym c.complete.ensures.table;
+        board = t.board ∙ ap Some (sym c.complete.ensures.table);
         claimed = now.claimed ∙ ap Some (sym e.1);
         filled = now.filled;
         unsettled = now.unsettled;

@@ -1,4 +1,4 @@
-use Rattle.std.proofs.Common.{ℕ, sym, ◌∙◌, subst}
+use Rattle.std.proofs.Common.{ℕ, Some, sym, ap, ◌∙◌, subst}
 use Rattle.std.specs.Prelude.{not}
 use Rattle.std.proofs.lemmas.Bool.{and_parts}
 use Rattle.history.specs.State.{IsFilling}
@@ -41,8 +41,8 @@ returns-clause-ticket c =
     let now = drained_now c.how_counts_go_down.ensures k.moves c.args.self.now.lawful k.workers (worker_of v) c.args.closed.destination r c.args.closed.source c.args.ticket.now.next c.args.ticket.now.left (drain_reply c.drain.result)
     (seen_of v) (mine_of v) (seen_of u) (mine_of u) e.3 x.destination x.opened x.undrained was in
     record {
-      board = t.board ∙ sym c.drain.ensures.table;
-      worker = t.worker ∙ sym e.1;
+      board = t.board ∙ ap Some (sym c.drain.ensures.table);
+      worker = t.worker ∙ ap Some (sym e.1);
       inside = t.inside;
       filling = subst (λ (w : ℕ). IsFilling (state_of (mine_of u)) w r) (sym e.1) now.filling;
       unsettled = now.unsettled;
