@@ -19,3 +19,7 @@ mod Texts
 mod EventTexts
 mod LineTexts
 mod ScheduleTexts
+mod CopiedOut
+mod Machines
+mod Ledgers
+mod Following

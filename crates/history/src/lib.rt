@@ -31,12 +31,14 @@
 
 mod book;
 mod call_fault;
+mod checking;
 mod entry;
 mod event;
 mod event_text;
 mod given_moves;
 mod image_laws;
 mod laws;
+mod ledger;
 mod line;
 mod line_text;
 mod locked_board;
@@ -55,6 +57,7 @@ mod verb;
 
 pub use book::Book;
 pub use call_fault::CallFault;
+pub use checking::check;
 pub use entry::Entry;
 pub use event::{Event, Illegal};
 pub use given_moves::GivenMoves;
