@@ -1,0 +1,98 @@
+//! The compaction in place: LISP2 with mark bits and block counts, by one thread.
+use crate::image::{self, Fault, Header, Image};
+use crate::marks::{Bits, Ranks};
+use std::fs::File;
+
+/// Shorter rows of words are moved word by word.
+const LONG: usize = 16;
+
+pub fn run(from: &str, to: &str) -> Result<(), Fault> {
+    let (from, to) = (File::open(from)?, File::create(to)?);
+    let mut image = image::read(from)?;
+    let (prefix, top) = collect(&mut image);
+    image::write(&image, to)?;
+    println!("prefix {prefix} top {top} filled {}", top.div_ceil(image.region_words()));
+    Ok(())
+}
+
+/// Collects in place, and tells the prefix end and the new top.
+fn collect(image: &mut Image) -> (usize, usize) {
+    let mut bits = Bits::new(image.words.len());
+    for &a in &image.live {
+        bits.insert_run(a as usize, a as usize + image.header(a).size());
+    }
+    let prefix = prefix_end(image, &bits);
+    if prefix > 0 {
+        // With all words below it marked, the rank of an address below the prefix end is the address.
+        bits.insert_run(0, prefix);
+    }
+    let ranks = Ranks::of(bits);
+    let top = slide(image, &ranks, prefix);
+    image.words[top..].fill(0);
+    (prefix, top)
+}
+
+fn prefix_end(image: &Image, bits: &Bits) -> usize {
+    let region = image.region_words();
+    let end = image.live.last().map_or(0, |&a| a as usize + image.header(a).size());
+    let mut dead = 0;
+    let mut prefix = 0;
+    for start in (0..end - end % region).step_by(region) {
+        dead += (region - bits.count(start, start + region)) as u64;
+        if dead > image.allowance {
+            break;
+        }
+        prefix = start + region;
+    }
+    prefix
+}
+
+/// Moves all objects down, redirects their references, and answers the new top.
+fn slide(image: &mut Image, ranks: &Ranks, prefix: usize) -> usize {
+    let Image { words, live, .. } = image;
+    let mut top = 0;
+    for a in live {
+        let to = ranks.rank(*a) as usize;
+        if top < to {
+            write_filler(&mut words[top..to]);
+        }
+        top = to + move_object(words, *a as usize, to, ranks);
+        *a = to as u64;
+    }
+    if top < prefix {
+        write_filler(&mut words[top..prefix]);
+    }
+    top.max(prefix)
+}
+
+fn write_filler(words: &mut [u64]) {
+    words[0] = Header::filler(words.len()).0;
+    words[1..].fill(0);
+}
+
+/// Moves one object down and answers its size.
+fn move_object(words: &mut [u64], from: usize, to: usize, ranks: &Ranks) -> usize {
+    let header = Header(words[from]);
+    words[to] = header.0;
+    let data = 1 + header.references();
+    for f in 1..data {
+        words[to + f] = match words[from + f] {
+            0 => 0,
+            reference => 1 + ranks.rank(reference - 1),
+        };
+    }
+    if to < from {
+        move_data(words, from + data, to + data, header.size() - data);
+    }
+    header.size()
+}
+
+fn move_data(words: &mut [u64], from: usize, to: usize, n: usize) {
+    if n < LONG {
+        for i in 0..n {
+            words[to + i] = words[from + i];
+        }
+    } else {
+        words.copy_within(from..from + n, to);
+    }
+}
