@@ -7,3 +7,4 @@ pub mod Finishes
 pub mod Tickets
 pub mod Drains
 pub mod Grants
+pub mod Others
