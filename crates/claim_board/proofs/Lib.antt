@@ -11,3 +11,4 @@ pub mod Spends
 pub mod Sweeps
 pub mod Grants
 pub mod Alls
+pub mod Others

@@ -19,14 +19,14 @@ use Rattle.claim_board.proofs.Premises.{Counts}
 use Rattle.claim_board.proofs.Logs.{state_snoc, tested}
 
 -- what the caller's own calls tell after one more
-gained : (old new : Caller) (event : Event) (reply : Reply) → Gains old new event reply → own new ≡ state_after (own old) old.worker event reply
+pub gained : (old new : Caller) (event : Event) (reply : Reply) → Gains old new event reply → own new ≡ state_after (own old) old.worker event reply
 gained old new event reply g = ap state_of g.mine ∙ state_snoc opening old.mine (entry old.worker event reply)
 
 same : (r : ℕ) (st : State) → AgreeOn r st st
 same r st = record { claimed = refl; filled = refl; settled = refl; drained = λ s. refl }
 
 -- an event that spares a region leaves it as it was
-spared : (r w : ℕ) (st : State) (event : Event) (reply : Reply) → Spares r event → AgreeOn r (state_after st w event reply) st
+pub spared : (r w : ℕ) (st : State) (event : Event) (reply : Reply) → Spares r event → AgreeOn r (state_after st w event reply) st
 spared r w st (Claim q) Yes apart = record { claimed = ap (λ (b : Bool). cond b (Some w) (st.claimed r)) (ne_eqb r q apart); filled = refl; settled = refl; drained = λ s. refl }
 spared r w st (Claim q) reply apart = same r st
 spared r w st (Look q) reply apart = same r st

@@ -8,3 +8,4 @@ pub mod Tickets
 pub mod Drains
 pub mod Grants
 pub mod Recorders
+pub mod Others

@@ -15,6 +15,8 @@ use std::test::Fail;
 use std::thread;
 use std::thread::Threads;
 
+mod memory;
+mod rows;
 mod stress;
 
 /// A board over moves that were handed in, and its passes.
@@ -93,12 +95,16 @@ fn no_log(alloc: Global, has_words: bool) -> Log {
 }
 
 /// Notes all words. What finds no room is left out.
-fn note(board: &Board, log: &mut Log) {
-    if !log.has_words {
-        return;
-    }
+fn note_words(board: &Board, words: &mut Vec<u64>) {
     for i in 0..=board.sources.len() {
-        let _ = log.words.push(board.table.shared.peek(i));
+        let _ = words.push(board.table.shared.peek(i));
+    }
+}
+
+/// Notes all words in the log, where it asks for them.
+fn note(board: &Board, log: &mut Log) {
+    if log.has_words {
+        note_words(board, &mut log.words);
     }
 }
 

@@ -2,11 +2,12 @@
 ghost use Rattle.std.specs.Prelude.{◌≡◌, ◌<◌, ◌≤◌, All, IfOk};
 ghost use Rattle.claim_board.specs.Boards.{moves as moves_of, identity, board_of, AllOf};
 
-use super::{Log, Setting, fill, no_log, set_up};
+use super::{Log, Setting, TURNS, fill, no_log, set_up};
 use crate::board::Board;
 use crate::pass::Pass;
 use history::{GivenMoves, Moves};
 use std::alloc::{AllocError, Global};
+use std::sync::atomic::{AtomicU64, Ordering};
 use std::test::Fail;
 use std::thread;
 use std::thread::Threads;
@@ -89,6 +90,17 @@ fn sweep(board: &Board, moves: &GivenMoves, pass: &mut Pass, log: &mut Log, fill
     }
 }
 
+/// Waits until so many workers have begun, so that they all claim at the same time.
+fn begin(begun: &AtomicU64, workers: u64) {
+    begun.fetch_add(1, Ordering::SeqCst);
+    for _ in 0..TURNS {
+        if begun.load(Ordering::SeqCst) >= workers {
+            return;
+        }
+        thread::yield_now();
+    }
+}
+
 /// Sweeps until all regions are settled.
 fn work(alloc: Global, board: &Board, moves: &GivenMoves, mut pass: Pass) -> Worker
     requires { (board_of pass ≡ identity board.now) × (moves_of board.now ≡ moves.now) }
@@ -118,7 +130,16 @@ fn work_all<R: Threads + Sync>(
     requires passes { All (λ p. board_of p ≡ identity board.now) passes.items }
     ensures { IfOk result (λ v. All (λ w. board_of w.pass ≡ identity board.now) v.items) }
 {
-    thread::map_vec(rt, passes, &|pass| work(alloc, board, moves, pass))
+    let workers = passes.len() as u64;
+    let begun = AtomicU64::new(0);
+    thread::map_vec(
+        rt,
+        passes,
+        &|pass| {
+            begin(&begun, workers);
+            work(alloc, board, moves, pass)
+        },
+    )
 }
 
 /// What the workers of a round did, taken together.
