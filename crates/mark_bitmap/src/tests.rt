@@ -1,4 +1,6 @@
 //! Heaps whose marks are known.
+mod seeded;
+
 use crate::Marks;
 use heap_image::{Image, decode};
 use std::alloc::{AllocError, Global};
@@ -12,6 +14,9 @@ const DEAD: u64 = 999;
 
 /// The first eight bytes of an image.
 const MAGIC: u64 = 0x3130_5041_4548_4350;
+
+/// An address and a size.
+type Object = (u64, u64);
 
 /// The image with these words and live addresses.
 fn image_of(alloc: Global, region_log: u64, words: &[u64], live: &[u64]) -> Result<Image, Fail> {
@@ -41,7 +46,7 @@ fn plain_image(
     alloc: Global,
     region_log: u64,
     len: u64,
-    objects: &[(u64, u64)],
+    objects: &[Object],
 ) -> Result<Image, Fail> {
     let words: Vec<u64> = (0..len).map(|a| plain_word(objects, a)).collect(alloc)?;
     let live: Vec<u64> = objects.iter().map(|object| object.0).collect(alloc)?;
@@ -49,7 +54,7 @@ fn plain_image(
 }
 
 /// The word at address `a` of such a heap.
-fn plain_word(objects: &[(u64, u64)], a: u64) -> u64 {
+fn plain_word(objects: &[Object], a: u64) -> u64 {
     for (begin, size) in objects {
         if a == *begin {
             return 1 << 56 | *size;

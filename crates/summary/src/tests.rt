@@ -1,6 +1,8 @@
 //! Heaps whose plans are known.
 ghost use Rattle.std.specs.Prelude.{◌≡◌};
 
+mod seeded;
+
 use crate::Plan;
 use heap_image::{Image, decode};
 use mark_bitmap::Marks;
@@ -19,6 +21,46 @@ type Object = (u64, u64);
 
 /// The objects of the base heap: 32 words in regions of 8.
 const BASE: [Object; 4] = [(0, 3), (5, 4), (12, 2), (20, 10)];
+
+/// The report of the base heap with no allowance.
+const SLID_REPORT: &str = concat!(
+    "       0        0        6        0        0        0\n",
+    "       1        1        2        6        1        1\n",
+    "       2        0        4        9        1        3\n",
+    "       3        6        0       13        2        -\n"
+);
+
+/// The report of the base heap whose first region stays.
+const PREFIX_REPORT: &str = concat!(
+    "       0        0        6        0        0        -\n",
+    "       1        1        2        8        0        1\n",
+    "       2        0        4       11        1        3\n",
+    "       3        6        0       15        2        -\n"
+);
+
+/// The report of the base heap of which nothing moves.
+const STAYED_REPORT: &str = concat!(
+    "       0        0        6        0        0        -\n",
+    "       1        1        2        8        0        -\n",
+    "       2        0        4       16        0        -\n",
+    "       3        6        0       24        0        3\n"
+);
+
+/// The report of one object of four regions.
+const WHOLE_REPORT: &str = concat!(
+    "       0        0        8        0        0        -\n",
+    "       1        8        0        8        0        -\n",
+    "       2        8        0       16        0        -\n",
+    "       3        8        0       24        0        -\n"
+);
+
+/// The report of one object of 20 words at 1.
+const CROSSING_REPORT: &str = concat!(
+    "       0        0        7        0        0        0\n",
+    "       1        8        0        7        1        1\n",
+    "       2        5        0       15        1        2\n",
+    "       3        0        0       20        0        -\n"
+);
 
 /// The image with this region log, number of words and allowance, whose objects have no references and only zeros behind
 /// their headers.
@@ -127,52 +169,109 @@ fn blocks_and_whole_heaps(rt: HostRuntime) -> Result<(), Fail> {
     assert!(rt; slides_to(&rt, alloc, (3, 32, 0), &[(0, 32)], &[32, 32, 4, 0])?);
     assert!(rt; slides_to(&rt, alloc, (3, 8, 0), &small, &[0, 7, 1, 0, 1, 2])?);
     assert!(rt; slides_to(&rt, alloc, (3, 8, 1), &small, &[8, 8, 1, 0, 2, 3])?);
-    let long = [(10, 700), (900, 3)];
-    assert!(rt; slides_to(&rt, alloc, (9, 1024, 0), &long, &[0, 703, 2, 0, 700])?);
+    let one_region = [(0, 1), (130, 2), (300, 4), (511, 1)];
+    assert!(rt; slides_to(&rt, alloc, (9, 512, 0), &one_region, &[0, 8, 1, 0, 1, 3, 7])?);
+    let two_regions = [(10, 700), (900, 3)];
+    assert!(rt; slides_to(&rt, alloc, (9, 1024, 0), &two_regions, &[0, 703, 2, 0, 700])?);
     Ok(())
 }
 
-#[test]
-fn report_of_an_object_over_three_regions(rt: HostRuntime) -> Result<(), Fail> {
-    let image = image_of(rt.alloc(), (3, 32, 0), [(1, 20)].as_slice())?;
-    let marks = Marks::of(rt.alloc(), &image)?;
-    let plan = Plan::of(rt.alloc(), &image, &marks, &rt)?;
-    assert_eq!(rt;
-        plan.report(rt.alloc())?.as_str(),
-        concat!(
-            "       0        0        7        0        0        0\n",
-            "       1        8        0        7        1        1\n",
-            "       2        5        0       15        1        2\n",
-            "       3        0        0       20        0        -\n"
-        )
-    );
-    Ok(())
+/// The plan of such a heap.
+fn plan_of(
+    threads: &(impl Threads + Sync),
+    alloc: Global,
+    sizes: (u64, u64, u64),
+    objects: &[Object],
+) -> Result<Plan, Fail> {
+    let image = image_of(alloc, sizes, objects)?;
+    let marks = Marks::of(alloc, &image)?;
+    Ok(Plan::of(alloc, &image, &marks, threads)?)
 }
 
-#[test]
-fn deferred_addresses_of_the_base_heap(rt: HostRuntime) -> Result<(), Fail> {
-    let image = image_of(rt.alloc(), (3, 32, 2), BASE.as_slice())?;
-    let marks = Marks::of(rt.alloc(), &image)?;
-    let plan = Plan::of(rt.alloc(), &image, &marks, &rt)?;
-    let mut deferred = Vec::new(rt.alloc());
+/// Whether this is the report of such a heap.
+fn is_reported(
+    threads: &(impl Threads + Sync),
+    alloc: Global,
+    sizes: (u64, u64, u64),
+    objects: &[Object],
+    expected: &str,
+) -> Result<bool, Fail> {
+    let plan = plan_of(threads, alloc, sizes, objects)?;
+    Ok(plan.report(alloc)?.as_str() == expected)
+}
+
+/// Whether these are the deferred addresses of the regions.
+fn defers(plan: &Plan, expected: &[Option<u64>]) -> bool {
     for d in 0..plan.regions() {
-        deferred.push(plan.deferred(d))?;
+        if expected.get(d as usize) != Some(&plan.deferred(d)) {
+            return false;
+        }
     }
-    assert_eq!(rt;
-        deferred.as_slice(),
-        [Some(5), Some(11), None, None].as_slice()
-    );
+    true
+}
+
+/// Whether these are the regions that region `d` reads.
+fn reads(plan: &Plan, d: u32, expected: &[u32]) -> bool {
+    d < plan.regions() && plan.reads(d).eq(expected.iter().copied())
+}
+
+#[test]
+fn reports_of_the_base_heap(rt: HostRuntime) -> Result<(), Fail> {
+    let alloc = rt.alloc();
+    assert!(rt; is_reported(&rt, alloc, (3, 32, 0), &BASE, SLID_REPORT)?);
+    assert!(rt; is_reported(&rt, alloc, (3, 32, 1), &BASE, SLID_REPORT)?);
+    assert!(rt; is_reported(&rt, alloc, (3, 32, 2), &BASE, PREFIX_REPORT)?);
+    assert!(rt; is_reported(&rt, alloc, (3, 32, u64::MAX), &BASE, STAYED_REPORT)?);
+    Ok(())
+}
+
+#[test]
+fn reports_of_long_objects(rt: HostRuntime) -> Result<(), Fail> {
+    let alloc = rt.alloc();
+    assert!(rt; is_reported(&rt, alloc, (3, 32, 5), &[(0, 32)], WHOLE_REPORT)?);
+    assert!(rt; is_reported(&rt, alloc, (3, 32, 0), &[(1, 20)], CROSSING_REPORT)?);
+    Ok(())
+}
+
+#[test]
+fn deferred_addresses(rt: HostRuntime) -> Result<(), Fail> {
+    let alloc = rt.alloc();
+    let slid = plan_of(&rt, alloc, (3, 32, 0), &BASE)?;
+    assert!(rt; defers(&slid, &[Some(7), Some(9), None, None]));
+    let with_prefix = plan_of(&rt, alloc, (3, 32, 2), &BASE)?;
+    assert!(rt; defers(&with_prefix, &[Some(5), Some(11), None, None]));
+    let whole = plan_of(&rt, alloc, (3, 32, 0), &[(0, 32)])?;
+    assert!(rt; defers(&whole, &[Some(0), None, None, None]));
+    Ok(())
+}
+
+#[test]
+fn an_object_over_three_regions(rt: HostRuntime) -> Result<(), Fail> {
+    let alloc = rt.alloc();
+    assert!(rt; slides_to(&rt, alloc, (3, 32, 0), &[(1, 20)], &[0, 20, 3, 0])?);
+    let plan = plan_of(&rt, alloc, (3, 32, 0), &[(1, 20)])?;
+    assert!(rt; defers(&plan, &[Some(0), None, None, None]));
+    assert!(rt; reads(&plan, 0, &[0, 1]));
+    assert!(rt; reads(&plan, 1, &[1, 2]));
+    assert!(rt; reads(&plan, 2, &[2]));
+    assert!(rt; reads(&plan, 3, &[]));
     Ok(())
 }
 
 #[test]
 fn one_region_of_the_base_heap(rt: HostRuntime) -> Result<(), Fail> {
-    let image = image_of(rt.alloc(), (3, 32, 0), BASE.as_slice())?;
-    let marks = Marks::of(rt.alloc(), &image)?;
-    let plan = Plan::of(rt.alloc(), &image, &marks, &rt)?;
+    let plan = plan_of(&rt, rt.alloc(), (3, 32, 0), &BASE)?;
     assert_eq!(rt; (plan.regions(), plan.region_log()), (4, 3));
     assert_eq!(rt; plan.region(1).source, Some(1));
-    let rest: Vec<u32> = plan.reads_from(1, 2).collect(rt.alloc())?;
-    assert_eq!(rt; rest.as_slice(), [2, 3].as_slice());
+    assert!(rt; plan.reads_from(1, 2).eq([2, 3]));
+    Ok(())
+}
+
+#[test]
+fn the_second_half_of_a_large_heap(rt: HostRuntime) -> Result<(), Fail> {
+    let plan = plan_of(&rt, rt.alloc(), (9, 1024, 0), &[(10, 700), (900, 3)])?;
+    assert_eq!(rt; plan.regions(), 2);
+    let region = plan.region(1);
+    assert_eq!(rt; (region.partial, region.destination), (198, 502));
     Ok(())
 }

@@ -1,0 +1,119 @@
+//! Heaps made from seeds, whose marks are compared with plain searches and counts over their objects.
+ghost use Rattle.std.specs.Prelude.{◌≡◌, ◌≤◌};
+ghost use Rattle.heap_image.specs.HeapImage.{heap_words};
+
+use crate::Marks;
+use crate::tests::{Object, plain_image};
+use std::alloc::{AllocError, Global};
+use std::test::Fail;
+
+/// Numbers that look like chance, the same in each run.
+#[derive(Drop)]
+struct Seed(u64);
+
+impl Seed {
+    fn below(&mut self, bound: u64) -> u64 {
+        self.0 = self
+            .0
+            .wrapping_mul(6_364_136_223_846_793_005)
+            .wrapping_add(1_442_695_040_888_963_407);
+        (self.0 >> 33).checked_rem(bound).unwrap_or(0)
+    }
+}
+
+/// Objects in a heap of so many words: every second one of one word, and every other one without dead words before it.
+fn seeded_objects(alloc: Global, mut seed: Seed, len: u64) -> Result<Vec<Object>, AllocError> {
+    let mut objects = Vec::new(alloc);
+    let mut end: u64 = 0;
+    for i in 0..len {
+        let gap = if i % 3 == 0 { seed.below(len / 4) } else { 0 };
+        let size = if i % 2 == 0 {
+            1
+        } else {
+            seed.below(len / 3).wrapping_add(1)
+        };
+        let begin = end.wrapping_add(gap);
+        end = begin.wrapping_add(size);
+        if end > len {
+            break;
+        }
+        objects.push((begin, size))?;
+    }
+    Ok(objects)
+}
+
+fn is_begin(objects: &[Object], a: u64) -> bool {
+    objects.iter().any(|(begin, _)| *begin == a)
+}
+
+fn is_end(objects: &[Object], a: u64) -> bool {
+    objects.iter().any(|(begin, size)| begin.wrapping_add(*size) == a.wrapping_add(1))
+}
+
+fn is_live(objects: &[Object], a: u64) -> bool {
+    objects
+        .iter()
+        .any(|(begin, size)| *begin <= a && a - *begin < *size)
+}
+
+/// Whether the first addresses from this one on are those that a search finds.
+fn firsts_agree(marks: &Marks, objects: &[Object], from: u64, len: u64) -> bool {
+    marks.is_begin(from) == is_begin(objects, from)
+        && marks.is_end(from) == is_end(objects, from)
+        && marks.next_begin(from) == (from..len).find(|a| is_begin(objects, *a))
+        && marks.next_end(from) == (from..len).find(|a| is_end(objects, *a))
+        && marks.next_live(from) == (from..len).find(|a| is_live(objects, *a))
+        && Some(marks.next_dead(from)) == (from..=len).find(|a| !is_live(objects, *a))
+}
+
+/// Whether the counts of live words from this address on are those of one pass.
+fn counts_agree(marks: &Marks, objects: &[Object], from: u64, len: u64) -> bool
+    requires { len ≤ heap_words marks.now }
+{
+    let mut live: u64 = 0;
+    for to in from..len {
+        if marks.live_words(from, to) != live {
+            return false;
+        }
+        live = live.wrapping_add(u64::from(is_live(objects, to)));
+    }
+    true
+}
+
+/// Whether each object has its size.
+fn sizes_agree(marks: &Marks, objects: &[Object]) -> bool {
+    for (begin, size) in objects {
+        if !marks.is_begin(*begin) || marks.size_at(*begin) != *size {
+            return false;
+        }
+    }
+    true
+}
+
+/// Whether the marks of the heap that this seed makes are those that are searched and counted.
+fn seed_agrees(alloc: Global, seed: u64, (region_log, len): (u64, u64)) -> Result<bool, Fail> {
+    let objects = seeded_objects(alloc, Seed(seed), len)?;
+    let image = plain_image(alloc, region_log, len, objects.as_slice())?;
+    let marks = Marks::of(alloc, &image)?;
+    Ok(marks_agree(&marks, objects.as_slice(), image.len()))
+}
+
+fn marks_agree(marks: &Marks, objects: &[Object], len: u64) -> bool
+    requires { len ≤ heap_words marks.now }
+{
+    for from in 0..len {
+        if !firsts_agree(marks, objects, from, len) || !counts_agree(marks, objects, from, len) {
+            return false;
+        }
+    }
+    sizes_agree(marks, objects)
+}
+
+#[test]
+fn seeded_heaps_have_the_marks_that_are_counted(rt: HostRuntime) -> Result<(), Fail> {
+    for seed in 0..20 {
+        assert!(rt; seed_agrees(rt.alloc(), seed, (3, 24))?, "seed {seed}");
+        assert!(rt; seed_agrees(rt.alloc(), seed, (7, 384))?, "seed {seed}");
+    }
+    Ok(())
+}
