@@ -17,7 +17,7 @@ use Rattle.claim_board.proofs.Sweeps.{gained, spared, leaves_tickets}
 leaves_dones : (old new : Caller) (d : Done) (event : Event) (reply : Reply) → IsDoneOf old d → Gains old new event reply → Spares d.region event → IsDoneOf new d
 leaves_dones old new d event reply is g apart =
     record {
-      board = is.board ∙ sym g.board;
+      board = is.board ∙ ap Some (sym g.board);
       claimed = a.claimed ∙ (is.claimed ∙ ap Some (sym g.worker));
       filled = a.filled ∙ is.filled;
       unsettled = a.settled ∙ is.unsettled;
