@@ -75,4 +75,6 @@ pub use scheduler::Scheduler;
 pub use tallies::{count_readers, count_sources};
 
 #[cfg(test)]
+mod replay_tests;
+#[cfg(test)]
 mod tests;
