@@ -31,6 +31,7 @@
 
 mod book;
 mod call_fault;
+mod carrier;
 mod checking;
 mod entry;
 mod event;
@@ -42,9 +43,13 @@ mod line;
 mod line_text;
 mod locked_board;
 mod moves;
+mod origins;
 mod plan_moves;
 mod progress;
 mod reading;
+mod references;
+mod replayed;
+mod replaying;
 mod reply;
 mod reply_text;
 mod schedule;
@@ -67,6 +72,8 @@ pub use laws::{
 pub use line::Line;
 pub use locked_board::LockedBoard;
 pub use moves::Moves;
+pub use replayed::{End, Replayed};
+pub use replaying::replay;
 pub use reply::Reply;
 pub use schedule::Schedule;
 pub use schedule_reading::read_schedule;
