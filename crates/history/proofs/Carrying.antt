@@ -128,7 +128,6 @@ module _ (image : HeapImage) (valid : IsValid image) where
       subst (λ (n : ℕ). (g : ℕ) → g < references_at image n → is_null_or_live image (word_at image (n + 1 + g)) ≡ true) at (valid.live_list.references object.0 0 object.1) in
       ap (λ (n : ℕ). is_null_or_live image (word_at image n)) (sym is) ∙ all f few
 
-
   pub flags_first : (test : ℕ → ℕ → Bool) (flags : List Bool) → length flags ≡ heap_words image → ((q : ℕ) → q < heap_words image → slice_index_or flags q false ≡ false) → AreFlagsOf image test 0 flags
   flags_first test flags all none = record { all = all; each = none }
 
@@ -195,11 +194,13 @@ module _ (image : HeapImage) (valid : IsValid image) where
   -- a place to which no word goes is a dead one of the prefix
   pub nowhere : (p : ℕ) → p < new_top image → origin image p ≡ None → (p < prefix_end image) × (is_live_word image p ≡ false)
   nowhere p below none =
-      let low = nowhere-in_prefix image valid.live_list p below none in
-      (low, elim (cases_Bool (is_live_word image p)) [
-        | inr dead ↦ dead
-        | inl live ↦ absurd (let e : Some p ≡ None = sym (origin-live image valid.live_list p low live) ∙ none in cc)
-      ])
+      let low = nowhere-in_prefix image valid.live_list p below none in (
+        low,
+        elim (cases_Bool (is_live_word image p)) [
+          | inr dead ↦ dead
+          | inl live ↦ absurd (let e : Some p ≡ None = sym (origin-live image valid.live_list p low live) ∙ none in cc)
+        ],
+      )
 
   pub contains_at : (i : ℕ) → i < length image.live → Contains image.live (get_or image.live i 0)
   contains_at i inside = (i, inside, get_or_default image.live i (get_or image.live i 0) 0 inside)

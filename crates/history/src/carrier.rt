@@ -59,7 +59,12 @@ impl<'a> Carrier<'a> {
 
     /// The compacted image, from the heap in which all regions are filled: references of deferred
     /// objects are redirected, and words from the new top up are 0.
-    pub(crate) fn finish(&self, alloc: Global, image: &Image, heap: &[u64]) -> Result<Image, AllocError>
+    pub(crate) fn finish(
+        &self,
+        alloc: Global,
+        image: &Image,
+        heap: &[u64],
+    ) -> Result<Image, AllocError>
         requires kept { IsCarrier self.now }
         requires image { self.now.plan.now ≡ image.now }
         requires long { length heap.now ≡ heap_words image.now }

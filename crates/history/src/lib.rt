@@ -21,11 +21,13 @@
 //!   all regions are filled the heap is that of the moved words.
 //! - `Schedule` is a history in which a reply may be left open. `write_schedule` gives its text, and
 //!   `read_schedule` reads it or names the least malformed line.
+//! - `check` follows a schedule by the word machine without moving a word, and `replay` runs it on a
+//!   copy of the heap. Both name the least line that the machine doesn't allow.
 //!
 //! `specs/MoveTable.antt` defines tables of moves, `specs/State.antt` the state and the step,
 //! `specs/History.antt` legal histories and what is said of them, `specs/Slide.antt` and
 //! `specs/WordMachine.antt` the word machine, `specs/ScheduleText.antt` and `specs/ReadSchedule.antt`
-//! the text of a schedule. The contracts are proved. Only tested: that memory is found where there is
+//! the text of a schedule, `specs/Replay.antt` and `specs/Replayed.antt` what a replay finds. The contracts are proved. Only tested: that memory is found where there is
 //! some, and that a call of a `LockedBoard` does what `Book::apply` does.
 #![tactic(auto)]
 
