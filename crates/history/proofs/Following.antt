@@ -32,7 +32,7 @@ pub followed_first : (image : HeapImage) (v : ScheduleView) (ledger : Ledger) �
 followed_first image v ledger kept tells = record { kept = kept; log = []; taken = record { calls = tt; allowed = tt }; tells = tells }
 
 -- one line more
-pub followed_more : (image : HeapImage) (v : ScheduleView) (number : ℕ) (old new : Ledger) (line : Line) (e : Entry) → IsFollowed image v number old
+unfoldable pub followed_more : (image : HeapImage) (v : ScheduleView) (number : ℕ) (old new : Ledger) (line : Line) (e : Entry) → IsFollowed image v number old
     → take (suc number) v.lines ≡ take number v.lines ++ line ∷ [] → IsCallOf line e → Leads image v.workers old e new → IsLedger image v.workers new → IsFollowed image v (suc number) new
 followed_more image v number old new line e followed more call leads kept =
     let steps = leads (machine_of image followed.log) followed.tells in
@@ -70,7 +70,7 @@ refused_at image v items number ledger same followed inside refuses =
     }
 
 -- a line that the ledger takes
-pub followed_by : (image : HeapImage) (v : ScheduleView) (items : List Line) (number : ℕ) (old new : Ledger) (r : Reply) → items ≡ v.lines → IsFollowed image v number old → number < length items
+unfoldable pub followed_by : (image : HeapImage) (v : ScheduleView) (items : List Line) (number : ℕ) (old new : Ledger) (r : Reply) → items ≡ v.lines → IsFollowed image v number old → number < length items
     → IsCallOf (get_or items number no_line) (entry (get_or items number no_line).worker (get_or items number no_line).event r)
     → Leads image old.scheduler.workers old (entry (get_or items number no_line).worker (get_or items number no_line).event r) new
     → IsLedger image old.scheduler.workers new
@@ -84,7 +84,7 @@ followed_by image v items number old new r same followed inside call leads kept 
     (subst (λ (n : ℕ). Leads image n old e new) followed.kept.workers leads) (subst (λ (n : ℕ). IsLedger image n new) followed.kept.workers kept)
 
 -- all lines are taken
-pub followed_all : (image : HeapImage) (v : ScheduleView) (items : List Line) (number : ℕ) (ledger : Ledger) (done : Bool) → items ≡ v.lines → IsFollowed image v number ledger → length items ≤ number
+unfoldable pub followed_all : (image : HeapImage) (v : ScheduleView) (items : List Line) (number : ℕ) (ledger : Ledger) (done : Bool) → items ≡ v.lines → IsFollowed image v number ledger → length items ≤ number
     → IsTrue done ↔ AllAreSettled ledger.scheduler.moves (state_in ledger.scheduler) → IsChecked image v done
 followed_all image v items number ledger done same followed all tells =
     record {

@@ -23,3 +23,5 @@ mod CopiedOut
 mod Machines
 mod Ledgers
 mod Following
+mod Carrying
+mod Copies

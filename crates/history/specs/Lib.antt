@@ -15,3 +15,5 @@ pub mod ReplyText
 pub mod ReadSchedule
 pub mod Replay
 pub mod Ledger
+pub mod Carrier
+pub mod Replayed

@@ -10,6 +10,7 @@ ghost use Rattle.history.specs.Slide.{Machine, IsMachineStep, IsCopiedOut, Allow
 ghost use Rattle.history.specs.WordMachine.{image_slide, machine_start};
 ghost use Rattle.history.specs.Replay.{IsCallOf};
 ghost use Rattle.history.specs.Ledger.{IsLedger, Tells, Leads, RefusesLine, AreNoted, taken_up_to};
+ghost use Rattle.history.specs.Replayed.{places_of};
 ghost use Rattle.history.specs.declared.reply.Reply.{Reply};
 
 use crate::event::{Event, Illegal};
@@ -66,10 +67,23 @@ impl Ledger {
     }
 
     /// How many words of the region are written.
-    pub(crate) fn written(&self, region: u32) -> u32
+    fn written(&self, region: u32) -> u32
         ensures { result ≡ slice_index self.now.written.items region }
     {
         self.written.get(region as usize).copied().unwrap_or(0)
+    }
+
+    /// The first place that an event writes, and how many it writes, where the word machine allows it.
+    pub(crate) fn places(&self, plan: &Plan, event: Event) -> (u64, u32)
+        ensures { result ≡ places_of plan.now self.now event }
+    {
+        match event {
+            Event::Copy(region, words) => {
+                let start = u64::from(region) * (1 << plan.region_log());
+                (start + u64::from(self.written(region)), words)
+            }
+            _ => (0, 0),
+        }
     }
 
     /// One step of the word machine.

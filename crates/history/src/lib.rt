@@ -21,16 +21,19 @@
 //!   all regions are filled the heap is that of the moved words.
 //! - `Schedule` is a history in which a reply may be left open. `write_schedule` gives its text, and
 //!   `read_schedule` reads it or names the least malformed line.
+//! - `check` follows a schedule by the word machine without moving a word, and `replay` runs it on a
+//!   copy of the heap. Both name the least line that the machine doesn't allow.
 //!
 //! `specs/MoveTable.antt` defines tables of moves, `specs/State.antt` the state and the step,
 //! `specs/History.antt` legal histories and what is said of them, `specs/Slide.antt` and
 //! `specs/WordMachine.antt` the word machine, `specs/ScheduleText.antt` and `specs/ReadSchedule.antt`
-//! the text of a schedule. The contracts are proved. Only tested: that memory is found where there is
+//! the text of a schedule, `specs/Replay.antt` and `specs/Replayed.antt` what a replay finds. The contracts are proved. Only tested: that memory is found where there is
 //! some, and that a call of a `LockedBoard` does what `Book::apply` does.
 #![tactic(auto)]
 
 mod book;
 mod call_fault;
+mod carrier;
 mod checking;
 mod entry;
 mod event;
@@ -43,9 +46,13 @@ mod line;
 mod line_text;
 mod locked_board;
 mod moves;
+mod origins;
 mod plan_moves;
 mod progress;
 mod reading;
+mod references;
+mod replayed;
+mod replaying;
 mod reply;
 mod reply_text;
 mod schedule;
@@ -69,6 +76,8 @@ pub use laws::{
 pub use line::Line;
 pub use locked_board::LockedBoard;
 pub use moves::Moves;
+pub use replayed::{End, Replayed};
+pub use replaying::replay;
 pub use reply::Reply;
 pub use schedule::Schedule;
 pub use schedule_reading::read_schedule;
@@ -76,5 +85,7 @@ pub use schedule_text::write_schedule;
 pub use scheduler::Scheduler;
 pub use tallies::{count_readers, count_sources};
 
+#[cfg(test)]
+mod replay_tests;
 #[cfg(test)]
 mod tests;

@@ -13,8 +13,7 @@ returns c w tells =
     let up : c.taken_up_to.result ≡ taken_up_to image c.args.destination c.args.source = c.taken_up_to.ensures in
     let count : w.written c.args.destination ≡ c.from.result = tells.written c.args.destination ∙ (sym c.written.ensures ∙ sym c.from.ensures) in
     let out = copied_out image c.regions-regions.ensures.valid c.args.destination c.args.source w is in
-    let back = copied_up_to image c.regions-regions.ensures.valid c.args.destination c.args.source w is in
-    (
+    let back = copied_up_to image c.regions-regions.ensures.valid c.args.destination c.args.source w is in (
       λ h. out (let l : c.taken_up_to.result ≤ c.from.result = leb-true c.taken_up_to.result c.from.result h in omega arith),
       λ all. le-leb c.taken_up_to.result c.from.result (let l = back all in omega arith),
     )

@@ -1,0 +1,51 @@
+//! Where the words of places come from.
+
+ghost use Rattle.std.specs.Prelude.{◌≡◌, ◌<◌, false, IfOk};
+ghost use Rattle.heap_image.specs.HeapImage.{heap_words, is_live_word};
+ghost use Rattle.summary.specs.NewAddresses.{prefix_end};
+ghost use Rattle.summary.specs.Fillers.{filler_word};
+ghost use Rattle.history.specs.Carrier.{AreOrigins};
+
+use heap_image::header;
+use mark_bitmap::Marks;
+use std::alloc::{AllocError, Global};
+use summary::Plan;
+
+/// The origins of the places from the prefix end up to the new top.
+pub(crate) fn origins_of(alloc: Global, plan: &Plan, marks: &Marks) -> Result<Vec<u32>, AllocError>
+    requires { marks.now ≡ plan.now }
+    ensures { IfOk result (λ origins. AreOrigins plan.now origins.items) }
+{
+    let mut origins = Vec::new(alloc);
+    let mut from = plan.prefix_end();
+    while let Some(q) = marks.next_live(from) {
+        origins.push(q as u32)?;
+        from = q + 1;
+    }
+    Ok(origins)
+}
+
+/// Whether the word belongs to a live object.
+pub(crate) fn is_live(marks: &Marks, a: u64) -> bool
+    requires { a < heap_words marks.now }
+    ensures { result ≡ is_live_word marks.now a }
+{
+    // Its clause is that the image is valid.
+    let _block_words = marks.block_words();
+    marks.live_words(a, a + 1) == 1
+}
+
+/// The word of a filler of the dense prefix.
+pub(crate) fn filler_word(plan: &Plan, marks: &Marks, place: u64) -> u64
+    requires same { marks.now ≡ plan.now }
+    requires inside { place < prefix_end plan.now }
+    requires dead { is_live_word plan.now place ≡ false }
+    ensures { result ≡ filler_word plan.now place }
+{
+    let prefix_end = plan.prefix_end();
+    if place > 0 && !is_live(marks, place - 1) {
+        return 0;
+    }
+    let end = marks.next_live(place).unwrap_or(prefix_end).min(prefix_end);
+    header::filler((end - place) as u32)
+}

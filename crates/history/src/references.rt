@@ -1,0 +1,91 @@
+//! References of live objects: which words they are, and what becomes of them.
+
+ghost use Rattle.std.specs.Prelude.{◌≡◌, ◌+◌, ◌<◌, IsTrue, IfOk, length, Contains};
+ghost use Rattle.heap_image.specs.HeapImage.{is_null_or_live, word_at};
+ghost use Rattle.summary.specs.Compaction.{redirected, is_deferred};
+ghost use Rattle.summary.specs.Updates.{is_late_reference};
+ghost use Rattle.history.specs.WordMachine.{is_redirected};
+ghost use Rattle.history.specs.Carrier.{AreFlags, AreSet};
+
+use heap_image::{Image, header};
+use mark_bitmap::Marks;
+use std::alloc::{AllocError, Global};
+use summary::Plan;
+
+/// Of each word, whether it is a reference of an object that isn't deferred.
+pub(crate) fn early_references(
+    alloc: Global,
+    image: &Image,
+    plan: &Plan,
+    marks: &Marks,
+) -> Result<Vec<bool>, AllocError>
+    requires plan { plan.now ≡ image.now }
+    requires marks { marks.now ≡ image.now }
+    ensures { IfOk result (λ flags. AreFlags image.now (is_redirected image.now) flags.items) }
+{
+    let mut flags = vec![in alloc; false; image.len() as usize]?;
+    for a in image.live() {
+        let header = image.word(*a);
+        if !is_deferred(plan, marks, *a, header) {
+            set_behind(&mut flags, *a, header::references(header));
+        }
+    }
+    Ok(flags)
+}
+
+/// Of each place, whether a reference of a deferred object goes there.
+pub(crate) fn late_references(
+    alloc: Global,
+    image: &Image,
+    plan: &Plan,
+    marks: &Marks,
+) -> Result<Vec<bool>, AllocError>
+    requires plan { plan.now ≡ image.now }
+    requires marks { marks.now ≡ image.now }
+    ensures { IfOk result (λ flags. AreFlags image.now (is_late_reference image.now) flags.items) }
+{
+    let mut flags = vec![in alloc; false; image.len() as usize]?;
+    for a in image.live() {
+        let header = image.word(*a);
+        if is_deferred(plan, marks, *a, header) {
+            let begin = plan.new_address(marks, *a);
+            set_behind(&mut flags, begin, header::references(header));
+        }
+    }
+    Ok(flags)
+}
+
+/// A reference, as it is once its object has moved: null stays null.
+pub(crate) fn redirected(plan: &Plan, marks: &Marks, reference: u64) -> u64
+    requires same { marks.now ≡ plan.now }
+    requires sound { IsTrue (is_null_or_live plan.now reference) }
+    ensures { result ≡ redirected plan.now reference }
+{
+    let _prefix_end = plan.prefix_end();
+    if reference == 0 {
+        return 0;
+    }
+    plan.new_address(marks, reference - 1) + 1
+}
+
+/// Whether the live object with this header is deferred.
+fn is_deferred(plan: &Plan, marks: &Marks, a: u64, header: u64) -> bool
+    requires same { marks.now ≡ plan.now }
+    requires live { Contains plan.now.live a }
+    requires header { header ≡ word_at plan.now a }
+    ensures { result ≡ is_deferred plan.now a }
+{
+    let size = 1 << plan.region_log();
+    let begin = plan.new_address(marks, a);
+    let last = begin + u64::from(header::size(header)) - 1;
+    begin / size != last / size
+}
+
+/// Sets the flags of so many words behind this one.
+fn set_behind(flags: &mut [bool], begin: u64, number: u32)
+    requires { begin + number < length flags.old }
+    ensures { AreSet flags.old flags.new begin (begin + number) }
+{
+    let first = begin as usize + 1;
+    flags[first..first + number as usize].fill(true);
+}
