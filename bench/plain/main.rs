@@ -1,5 +1,5 @@
-//! What `bench/collect` measures `pcompact collect` beside: the same job in plain Rust, by one thread and without
-//! proofs; a copy of the image; the images; and the measuring of a process.
+//! What the benchmarks measure beside: the job of `pcompact collect` in plain Rust, by one thread and without proofs; a
+//! copy of an image; a move of words. It makes the images too, and measures a process.
 mod collection;
 mod generator;
 mod image;
@@ -7,13 +7,16 @@ mod marks;
 mod process;
 
 use std::fs::File;
+use std::hint::black_box;
 use std::io::{self, Read, Write};
 use std::process::exit;
+use std::time::Instant;
 
 const USAGE: &str = "usage:
   plain generate OUT --mib n --live percent --log n --references percent
   plain collect IMAGE OUT
   plain copy IMAGE OUT
+  plain move WORDS
   plain measure PROGRAM WORD ..";
 
 fn copy(from: &str, to: &str) -> io::Result<()> {
@@ -25,6 +28,14 @@ fn copy(from: &str, to: &str) -> io::Result<()> {
             n => writer.write_all(&buffer[..n])?,
         }
     }
+}
+
+/// Moves so many words down by one word at once, and tells the nanoseconds.
+fn move_words(count: usize) {
+    let mut words: Vec<u64> = (0..=count as u64).collect();
+    let start = Instant::now();
+    black_box(&mut words).copy_within(1.., 0);
+    println!("{} {}", start.elapsed().as_nanos(), black_box(&words)[count / 2]);
 }
 
 /// The number behind the word `name`.
@@ -50,6 +61,7 @@ fn run(words: &[String]) -> Option<Result<(), image::Fault>> {
         [command, out, rest @ ..] if command == "generate" => generate(out, rest),
         [command, from, to] if command == "collect" => Some(collection::run(from, to)),
         [command, from, to] if command == "copy" => Some(copy(from, to).map_err(image::Fault::from)),
+        [command, count] if command == "move" => Some(Ok(move_words(count.parse().ok()?))),
         [command, program, rest @ ..] if command == "measure" => Some(process::measure(program, rest)),
         _ => None,
     }
