@@ -1,5 +1,5 @@
 -- What a carrier tells: origins, references and fillers.
-use Rattle.std.proofs.Common.{◌≡◌, ℕ, zero, suc, ◌+◌, ◌-◌, ◌<◌, ◌≤◌, Bool, true, false, List, [], ◌∷◌, ◌++◌, length, get_or, take, min, ◌≢◌, Option, Some, None, Contains, refl, sym, ap, add-one, ◌∙◌, subst, inl, inr, ◌⊎◌, arith}
+use Rattle.std.proofs.Common.{◌≡◌, ℕ, ◌+◌, ◌-◌, ◌<◌, ◌≤◌, Bool, true, false, List, [], ◌∷◌, ◌++◌, length, get_or, take, min, ◌≢◌, Option, Some, None, Contains, refl, sym, ap, add-one, ◌∙◌, subst, inl, inr, arith}
 use Rattle.std.specs.Prelude.{◌==◌, MatchOption, ◌&&◌, ◌||◌, not, nat_lt, nat_le, slice_index, slice_index_or}
 use Rattle.std.specs.List.{list_any}
 use Rattle.std.specs.Option.{unwrap_or}
@@ -7,10 +7,10 @@ use Rattle.summary.specs.Fillers.{gap_at}
 use Rattle.summary.proofs.Fillers.{gap_at-run}
 use Rattle.std.proofs.Math.Seq.{take-suc, get_or-append_seam}
 use Rattle.std.proofs.Math.ListN.{length-append}
-use Rattle.std.proofs.lemmas.Bool.{cases_Bool, cases_lt, or_cases, and_parts, eqb-true, ltb-true, leb-true, false≢true, cond-true}
+use Rattle.std.proofs.lemmas.Bool.{cases_Bool, cases_lt, or_cases, and_parts, eqb-true, ltb-true, leb-true, cond-true}
 use Rattle.std.proofs.lemmas.List.{get_or_default, get_or_append_left}
 use Rattle.std.proofs.lemmas.List.Folds.{Any-from_list_any, list_any-append}
-use Rattle.heap_image.specs.HeapImage.{HeapImage, IsValid, HasLiveList, heap_words, size_at, references_at, word_at, is_live_word, is_null_or_live}
+use Rattle.heap_image.specs.HeapImage.{HeapImage, IsValid, heap_words, size_at, references_at, word_at, is_live_word, is_null_or_live}
 use Rattle.mark_bitmap.specs.Bits.{NoneFrom, IsFirstFrom}
 use Rattle.summary.specs.NewAddresses.{prefix_end, new_address, new_top}
 use Rattle.summary.specs.WordMoves.{origin, slid}

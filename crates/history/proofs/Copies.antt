@@ -1,8 +1,8 @@
 -- A copy of the word machine, as it is made in a list of words.
-use Rattle.std.proofs.Common.{◌≡◌, ◌≢◌, ℕ, zero, suc, Bool, ◌+◌, ◌-◌, ◌*◌, ◌/◌, ◌%◌, ◌<◌, ◌≤◌, min, true, false, List, [], ◌∷◌, ◌++◌, length, get_or, take, Option, Some, None, refl, sym, ap, ◌∙◌, subst, inl, inr, ◌⊎◌, arith}
-use Rattle.std.specs.Prelude.{◌==◌, if◌then◌else◌, slice_index, map, All, IsTrue, ◌↔◌}
+use Rattle.std.proofs.Common.{◌≡◌, ◌≢◌, ℕ, zero, suc, Bool, ◌+◌, ◌-◌, ◌*◌, ◌/◌, ◌%◌, ◌<◌, ◌≤◌, true, false, List, [], ◌∷◌, ◌++◌, length, get_or, take, Some, refl, sym, ap, ◌∙◌, subst, inl, inr, ◌⊎◌, arith}
+use Rattle.std.specs.Prelude.{slice_index, map, All, IsTrue, ◌↔◌}
 use Rattle.std.proofs.lemmas.Bool.{ne_eqb, cases_lt}
-use Rattle.std.proofs.lemmas.Nat.{div-mul-add, mod-mul-add, div-add-mod'}
+use Rattle.std.proofs.lemmas.Nat.{div-mul-add, mod-mul-add}
 use Rattle.std.proofs.lemmas.List.{map-append}
 use Rattle.heap_image.specs.HeapImage.{HeapImage, IsValid, heap_words, word_at, start_of}
 use Rattle.summary.specs.NewAddresses.{new_top}
@@ -12,7 +12,7 @@ use Rattle.history.specs.State.{State, opening, Allows, AllAreSettled}
 use Rattle.history.specs.Scheduler.{state_in}
 use Rattle.history.specs.History.{entry, IsLegal, IsReached}
 use Rattle.history.specs.Schedule.{ScheduleView, IsSchedule, is_line, line_of}
-use Rattle.history.specs.Slide.{Slide, IsSlideOf, Machine, next_place, write_one, write_words, word_for, words_of, IsWritten, AllowsWords, IsMachineStep, machine_after, copied}
+use Rattle.history.specs.Slide.{Slide, IsSlideOf, Machine, next_place, write_words, word_for, words_of, AllowsWords, machine_after, copied}
 use Rattle.history.specs.ImageMoves.{image_table}
 use Rattle.history.specs.WordMachine.{image_slide, machine_start, machine_of}
 use Rattle.history.specs.Replay.{IsCallOf, IsReplay}

@@ -1,5 +1,5 @@
 -- A schedule that is followed line by line.
-use Rattle.std.proofs.Common.{◌≡◌, ℕ, zero, suc, ◌+◌, ◌<◌, ◌≤◌, true, false, Bool, take_all, Option, Some, None, List, [], ◌∷◌, ◌++◌, length, get_or, take, drop, sym, ap, ◌∙◌, subst, arith}
+use Rattle.std.proofs.Common.{◌≡◌, ℕ, suc, ◌+◌, ◌<◌, ◌≤◌, Bool, take_all, None, List, [], ◌∷◌, ◌++◌, length, get_or, take, drop, sym, ap, ◌∙◌, subst, arith}
 use Rattle.std.specs.Prelude.{IsTrue, ◌↔◌}
 use Rattle.history.specs.declared.reply.Reply.{Reply}
 use Rattle.std.proofs.Math.Seq.{take-suc, drop-cons}
@@ -12,8 +12,7 @@ use Rattle.history.specs.ImageMoves.{image_table}
 use Rattle.history.specs.Schedule.{ScheduleView}
 use Rattle.history.specs.declared.event.Event.TheVariants.{Claim}
 use Rattle.history.specs.History.{entry}
-use Rattle.history.specs.Slide.{Machine, machine_after}
-use Rattle.history.specs.WordMachine.{image_slide, machine_start, machine_of}
+use Rattle.history.specs.WordMachine.{machine_start, machine_of}
 use Rattle.history.specs.Replay.{IsCallOf, IsReplay, IsRefusedAt, IsChecked}
 use Rattle.history.specs.Ledger.{IsLedger, Tells, Leads, RefusesLine}
 use Rattle.history.specs.declared.entry.Entry.{Entry}

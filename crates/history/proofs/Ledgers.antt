@@ -1,18 +1,17 @@
 -- Ledgers: one step more.
-use Rattle.std.proofs.Common.{◌≡◌, ◌≢◌, ℕ, zero, suc, ◌+◌, ◌-◌, ◌*◌, ◌/◌, ◌%◌, ◌^◌, ◌<◌, ◌≤◌, min, true, false, List, length, get_or, Option, Some, None, refl, sym, ap, ◌∙◌, subst, inl, inr, ◌⊎◌, arith}
-use Rattle.std.specs.Prelude.{◌==◌, if◌then◌else◌, slice_index, slice_set, IsTrue}
-use Rattle.std.proofs.lemmas.Bool.{eq-eqb, ne_eqb, cases_eq, cases_lt}
+use Rattle.std.proofs.Common.{◌≡◌, ◌≢◌, ℕ, zero, suc, ◌+◌, ◌*◌, ◌%◌, ◌^◌, ◌<◌, ◌≤◌, true, false, List, length, Option, Some, None, refl, sym, ap, ◌∙◌, subst, inl, inr, ◌⊎◌, arith}
+use Rattle.std.specs.Prelude.{◌==◌, if◌then◌else◌, slice_index, slice_set}
+use Rattle.std.proofs.lemmas.Bool.{eq-eqb, ne_eqb, cases_lt}
 use Rattle.std.proofs.lemmas.Nat.{div-add-mod', mul-le}
 use Rattle.std.proofs.lemmas.List.{get_or-set_other}
 use Rattle.std.proofs.lemmas.Grind.{get_or-set_at}
 use Rattle.heap_image.specs.HeapImage.{HeapImage, IsValid, heap_words, region_words, region_count}
-use Rattle.summary.specs.NewAddresses.{new_top}
 use Rattle.summary.proofs.Steps.{top-le}
-use Rattle.history.specs.MoveTable.{MoveTable, reads}
-use Rattle.history.specs.State.{State, opening, Allows, IsStep, state_after, reply_to}
+use Rattle.history.specs.MoveTable.{MoveTable}
+use Rattle.history.specs.State.{State, Allows, IsStep, state_after}
 use Rattle.history.specs.History.{entry}
-use Rattle.history.specs.Scheduler.{SchedulerView, state_in}
-use Rattle.history.specs.Slide.{Slide, Machine, words_of, write_words, copied, AllowsWords, IsMachineStep, machine_after}
+use Rattle.history.specs.Scheduler.{state_in}
+use Rattle.history.specs.Slide.{Slide, Machine, words_of, write_words, copied, AllowsWords, IsMachineStep}
 use Rattle.history.specs.ImageMoves.{image_table}
 use Rattle.history.specs.WordMachine.{image_slide}
 use Rattle.history.specs.Replay.{IsCallOf}

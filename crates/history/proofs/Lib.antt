@@ -25,3 +25,4 @@ mod Ledgers
 mod Following
 mod Carrying
 mod Copies
+mod TextLaws

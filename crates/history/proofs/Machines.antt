@@ -1,12 +1,11 @@
 -- Calls that the word machine allows, one after the other.
-use Rattle.std.proofs.Common.{◌≡◌, ℕ, List, [], ◌∷◌, ◌++◌, refl, ap, ◌∙◌, subst, sym}
+use Rattle.std.proofs.Common.{◌≡◌, ℕ, List, [], ◌∷◌, ◌++◌, refl}
 use Rattle.heap_image.specs.HeapImage.{HeapImage}
 use Rattle.history.specs.MoveTable.{MoveTable}
-use Rattle.history.specs.State.{State, opening}
-use Rattle.history.specs.History.{state_from, state_of, AreSteps, IsLegal}
+use Rattle.history.specs.History.{state_from, AreSteps}
 use Rattle.history.specs.Slide.{Slide, Machine, machine_after, machine_from, IsMachineStep, AreMachineSteps}
 use Rattle.history.specs.ImageMoves.{image_table}
-use Rattle.history.specs.WordMachine.{image_slide, machine_start, machine_of, IsAllowed}
+use Rattle.history.specs.WordMachine.{image_slide, machine_start, machine_of}
 use Rattle.history.specs.Replay.{IsCallOf, AreCallsOf, IsReplay}
 use Rattle.history.specs.declared.entry.Entry.{Entry}
 use Rattle.history.specs.declared.line.Line.{Line}

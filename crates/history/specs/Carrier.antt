@@ -1,5 +1,5 @@
 -- What carries each word to its place.
-use Rattle.std.specs.Prelude.{◌≡◌, ℕ, ◌+◌, ◌<◌, ◌≤◌, Bool, false, ◌||◌, ◌&&◌, nat_lt, nat_le, List, length, slice_index, slice_index_or, Some}
+use Rattle.std.specs.Prelude.{◌≡◌, ℕ, ◌+◌, ◌<◌, Bool, false, ◌||◌, ◌&&◌, nat_lt, nat_le, List, length, slice_index, slice_index_or, Some}
 use Rattle.heap_image.specs.HeapImage.{HeapImage, IsValid, heap_words}
 use Rattle.summary.specs.NewAddresses.{prefix_end, new_top}
 use Rattle.summary.specs.WordMoves.{origin}

@@ -1,6 +1,6 @@
 -- Which line of a text is malformed.
-use Rattle.std.specs.Prelude.{◌≡◌, ◌≢◌, ℕ, ◌+◌, ◌≤◌, Bool, ◌&&◌, ◌⊎◌, IsTrue, List, [], ◌++◌, length}
-use Rattle.history.specs.Schedule.{IsSchedule, is_line}
+use Rattle.std.specs.Prelude.{◌≡◌, ◌≢◌, ℕ, ◌+◌, ◌≤◌, Bool, ◌&&◌, ◌⊎◌, IsTrue, All, List, [], ◌++◌, length}
+use Rattle.history.specs.Schedule.{ScheduleView, is_line}
 use Rattle.history.specs.ScheduleText.{line_text, header_text, schedule_text}
 use Rattle.history.specs.Verb.{has_numbers}
 use Rattle.history.specs.declared.line.Line.{Line}
@@ -8,6 +8,12 @@ use Rattle.history.specs.declared.line.Line.{Line}
 -- a line of so many workers whose numbers a text may have
 abbrev pub is_text_line : ℕ → Line → Bool
 is_text_line workers line = is_line workers line && has_numbers line.event
+
+-- a schedule of lines that a text may have
+pub record IsTextSchedule (v : ScheduleView) : Type 0 where
+  pub some : 1 ≤ v.workers
+  pub few : v.workers ≤ 64
+  pub lines : All (λ line. IsTrue (is_text_line v.workers line)) v.lines
 
 -- the text doesn't begin with a first line
 pub record IsBadHeader (bytes : List ℕ) (line : ℕ) : Type 0 where
@@ -20,7 +26,7 @@ pub record IsBadLine (bytes : List ℕ) (line : ℕ) : Type 0 where
   pub workers : ℕ
   pub lines : List Line
   pub rest : List ℕ
-  pub before : IsSchedule (record { workers = workers; lines = lines })
+  pub before : IsTextSchedule (record { workers = workers; lines = lines })
   pub is : bytes ≡ schedule_text (record { workers = workers; lines = lines }) ++ rest
   pub some : rest ≢ []
   pub number : line ≡ length lines + 2

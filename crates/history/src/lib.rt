@@ -20,7 +20,9 @@
 //!   a heap: in every list that it allows, each copy finds each word as it was at the start, and once
 //!   all regions are filled the heap is that of the moved words.
 //! - `Schedule` is a history in which a reply may be left open. `write_schedule` gives its text, and
-//!   `read_schedule` reads it or names the least malformed line.
+//!   `read_schedule` reads it or names the least malformed line. `one_schedule_a_text` and
+//!   `malformed_is_no_schedule` have no body: two schedules with one text are the same, and a text
+//!   with a malformed line is no schedule's.
 //! - `check` follows a schedule by the word machine without moving a word, and `replay` runs it on a
 //!   copy of the heap. Both name the least line that the machine doesn't allow.
 //!
@@ -60,6 +62,7 @@ mod schedule_reading;
 mod schedule_text;
 mod scheduler;
 mod tallies;
+mod text_laws;
 mod verb;
 
 pub use book::Book;
@@ -84,6 +87,7 @@ pub use schedule_reading::read_schedule;
 pub use schedule_text::write_schedule;
 pub use scheduler::Scheduler;
 pub use tallies::{count_readers, count_sources};
+pub use text_laws::{malformed_is_no_schedule, one_schedule_a_text};
 
 #[cfg(test)]
 mod replay_tests;

@@ -1,7 +1,7 @@
 //! Lines of a schedule read from their text.
 
 ghost use Rattle.std.specs.Prelude.{◌≡◌, ◌≢◌, ◌≤◌, ◌++◌, List, ℕ, IsTrue, MatchOption};
-ghost use Rattle.history.specs.Schedule.{is_event, is_line};
+ghost use Rattle.history.specs.Schedule.{is_event};
 ghost use Rattle.history.specs.ScheduleText.{line_text, header_text};
 ghost use Rattle.history.specs.ReadSchedule.{is_text_line};
 ghost use Rattle.history.specs.declared.line.Line.{Line};
@@ -17,7 +17,7 @@ pub(crate) fn line(workers: u32, bytes: &[u8]) -> Option<(Line, &[u8])>
     requires { workers ≤ 64 }
     ensures { MatchOption result
         ((line : Line) (rest : List ℕ) → IsTrue (is_text_line workers line) → bytes.now ≢ line_text line ++ rest)
-        (λ parts. IsTrue (is_line workers parts.0) × (bytes.now ≡ line_text parts.0 ++ parts.1.now)) }
+        (λ parts. IsTrue (is_text_line workers parts.0) × (bytes.now ≡ line_text parts.0 ++ parts.1.now)) }
 {
     let (worker, after_worker) = number_to(bytes, b' ')?;
     let (event, after_event) = event(after_worker)?;

@@ -326,3 +326,25 @@ fn a_prefix_gets_its_fillers(rt: HostRuntime) -> Result<(), Fail> {
     assert!(rt; is_finished(rt.alloc(), all.ended, &WITH_PREFIX)?);
     Ok(())
 }
+
+/// Whether the recorded schedule is taken and replayed as it should be.
+fn comes_through(alloc: Global, threads: &(impl Threads + Sync)) -> Result<bool, Fault> {
+    let schedule = schedule_of(alloc, &LINES)?;
+    let plan = base_plan(alloc, threads)?;
+    let settled = check(alloc, &plan, &schedule)?;
+    let all = replayed(alloc, threads, &BASE, &schedule)?;
+    Ok(settled && is_finished(alloc, all.ended, &COMPACTED)?)
+}
+
+/// Run with each allocation refused in turn.
+#[test]
+fn refused_memory_is_told(rt: HostRuntime) {
+    let answers = [
+        comes_through(rt.alloc(), &rt),
+        comes_through(rt.alloc(), &rt),
+    ];
+    for answer in &answers {
+        assert!(rt; *answer == Ok(true) || *answer == Err(Fault::Memory));
+    }
+    assert!(rt; answers.contains(&Ok(true)));
+}

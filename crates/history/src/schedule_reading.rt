@@ -3,7 +3,7 @@
 ghost use Rattle.std.specs.Prelude.{◌≡◌, ◌⊎◌, ℕ, IfOk, IfErr};
 ghost use Rattle.heap_image.specs.declared.fault.Fault.{Fault};
 ghost use Rattle.history.specs.ScheduleText.{schedule_text};
-ghost use Rattle.history.specs.ReadSchedule.{IsMalformedAt};
+ghost use Rattle.history.specs.ReadSchedule.{IsTextSchedule, IsMalformedAt};
 
 use crate::line_text::{header, line};
 use crate::schedule::Schedule;
@@ -15,6 +15,7 @@ use std::alloc::Global;
 /// where memory was refused.
 pub fn read_schedule(alloc: Global, bytes: &[u8]) -> Result<Schedule, Fault>
     ensures ok { IfOk result (λ schedule. bytes.now ≡ schedule_text schedule) }
+    ensures formed { IfOk result IsTextSchedule }
     ensures fault { IfErr result (λ fault. (fault ≡ Fault.Memory) ⊎ ((line : ℕ) × (fault ≡ Fault.Schedule line) × IsMalformedAt bytes.now line)) }
 {
     let Some((workers, behind_header)) = header(bytes) else {

@@ -1,4 +1,4 @@
-use Rattle.std.proofs.Common.{◌≡◌, ◌+◌, refl, inr, add-one}
+use Rattle.std.proofs.Common.{◌+◌, refl, inr, add-one}
 use Rattle.history.proofs.Following.{followed_first, followed_by, followed_all, refused_at}
 use Rattle.history.proofs.checking.check.Goals as goal
 

@@ -1,6 +1,3 @@
-use Rattle.std.proofs.Common.{◌≡◌, take}
-use Rattle.history.specs.WordMachine.{machine_of}
-use Rattle.history.specs.Ledger.{IsLedger, Tells}
 use Rattle.history.proofs.Following.{IsFollowed}
 use Rattle.history.proofs.checking.check.Given as goal
 

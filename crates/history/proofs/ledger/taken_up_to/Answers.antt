@@ -1,6 +1,6 @@
-use Rattle.std.proofs.Common.{◌≡◌, ℕ, ◌+◌, ◌<◌, ◌≤◌, ap, arith}
+use Rattle.std.proofs.Common.{◌≡◌, ◌≤◌, ap, arith}
 use Rattle.heap_image.specs.HeapImage.{HeapImage, IsValid}
-use Rattle.summary.specs.RegionData.{region_data, destination, partial_words, own_words}
+use Rattle.summary.specs.RegionData.{destination, partial_words, own_words}
 use Rattle.summary.proofs.Regions.{data-le}
 use Rattle.summary.proofs.Telling.{destination-le}
 use Rattle.history.proofs.CopiedOut.{IsRead, is_read}

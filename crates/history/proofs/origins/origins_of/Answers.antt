@@ -1,4 +1,4 @@
-use Rattle.std.proofs.Common.{◌≡◌, ℕ, ◌+◌, List, ◌++◌, [], ◌∷◌, sym, ap, ◌∙◌, subst, arith}
+use Rattle.std.proofs.Common.{◌≡◌, ℕ, ◌+◌, List, ◌++◌, [], ◌∷◌, sym, subst, arith}
 use Rattle.heap_image.specs.HeapImage.{HeapImage, is_live_word}
 use Rattle.mark_bitmap.specs.Bits.{IsFirstFrom, NoneFrom}
 use Rattle.summary.specs.NewAddresses.{prefix_end}

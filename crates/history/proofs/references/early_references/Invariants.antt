@@ -1,7 +1,4 @@
-use Rattle.std.proofs.Common.{◌+◌}
-use Rattle.std.specs.Prelude.{◌&&◌, not, nat_lt, nat_le}
-use Rattle.heap_image.specs.HeapImage.{references_at}
-use Rattle.summary.specs.NewAddresses.{new_address}
+use Rattle.std.specs.Prelude.{◌&&◌, not}
 use Rattle.summary.specs.Compaction.{is_reference_of, is_deferred}
 use Rattle.history.proofs.Carrying.{AreFlagsOf}
 use Rattle.history.proofs.references.early_references.Given as goal

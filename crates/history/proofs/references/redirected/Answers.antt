@@ -1,4 +1,4 @@
-use Rattle.std.proofs.Common.{◌≡◌, ◌-◌, ℕ, arith}
+use Rattle.std.proofs.Common.{◌≡◌, ◌-◌, arith}
 use Rattle.heap_image.specs.HeapImage.{HeapImage}
 use Rattle.summary.specs.NewAddresses.{new_address}
 use Rattle.history.proofs.Carrying.{null_or_live, new_fits}

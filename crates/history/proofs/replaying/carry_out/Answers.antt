@@ -1,4 +1,4 @@
-use Rattle.std.proofs.Common.{◌≡◌, ℕ, ◌+◌, ◌<◌, ◌≤◌, ◌⊎◌, add-one, refl, sym, ap, ◌∙◌, subst, inr, Some}
+use Rattle.std.proofs.Common.{◌≡◌, ℕ, ◌+◌, ◌<◌, ◌≤◌, ◌⊎◌, add-one, refl, sym, subst, inr, Some}
 use Rattle.std.specs.Prelude.{slice_index}
 use Rattle.heap_image.specs.HeapImage.{HeapImage, IsValid, word_at}
 use Rattle.summary.specs.NewAddresses.{new_top}

@@ -1,11 +1,10 @@
-use Rattle.std.proofs.Common.{◌≡◌, ℕ, ◌<◌, Bool, true, false, List, length, sym, ap, ◌∙◌, subst, arith}
+use Rattle.std.proofs.Common.{◌≡◌, ℕ, ◌<◌, List, length, sym, ap, ◌∙◌, subst, arith}
 use Rattle.std.specs.Prelude.{slice_index, IsTrue, ◌↔◌}
 use Rattle.std.proofs.lemmas.Bool.{false≢true}
 use Rattle.std.proofs.lemmas.List.{with_items_is}
 use Rattle.heap_image.specs.HeapImage.{HeapImage, IsValid, heap_words}
 use Rattle.summary.specs.Compaction.{moved_word}
 use Rattle.history.specs.State.{AllAreSettled}
-use Rattle.history.specs.Schedule.{ScheduleView, IsSchedule}
 use Rattle.history.specs.ImageMoves.{image_table}
 use Rattle.history.specs.WordMachine.{machine_of}
 use Rattle.history.specs.Replayed.{IsCarriedOut, IsEndOf}

@@ -1,6 +1,5 @@
-use Rattle.std.proofs.Common.{◌≡◌, ℕ, ◌<◌, ◌≤◌, length, get_or, Some, None, true, false, sym, ap, ◌∙◌, arith}
-use Rattle.heap_image.specs.HeapImage.{heap_words, is_null_or_live}
-use Rattle.summary.specs.WordMoves.{origin}
+use Rattle.std.proofs.Common.{◌≡◌, ℕ, ◌<◌, length, get_or, true, false, sym, ap, ◌∙◌, arith}
+use Rattle.heap_image.specs.HeapImage.{is_null_or_live}
 use Rattle.std.proofs.lemmas.List.{get_or_default}
 use Rattle.history.proofs.Carrying.{origin_inside, nowhere, redirected_sound}
 use Rattle.history.proofs.carrier.Carrier.word.Goals as goal

@@ -1,8 +1,6 @@
-use Rattle.std.proofs.Common.{◌≡◌, ℕ, ◌≤◌, arith, sym, ◌∙◌, subst}
-use Rattle.std.specs.Prelude.{IsTrue, ◌↔◌}
+use Rattle.std.proofs.Common.{◌≡◌, ◌≤◌, arith, sym, ◌∙◌}
 use Rattle.std.proofs.lemmas.Bool.{leb-true, le-leb}
-use Rattle.history.specs.Slide.{Machine}
-use Rattle.history.specs.Ledger.{Tells, taken_up_to}
+use Rattle.history.specs.Ledger.{taken_up_to}
 use Rattle.history.proofs.CopiedOut.{IsRead, is_read, copied_out, copied_up_to}
 use Rattle.history.proofs.ledger.Ledger.is_copied_out.Goals as goal
 

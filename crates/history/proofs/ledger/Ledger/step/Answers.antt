@@ -1,11 +1,10 @@
-use Rattle.std.proofs.Common.{◌≡◌, ℕ, ◌+◌, ◌^◌, ◌<◌, ◌≤◌, List, length, sym, ap, ◌∙◌, subst, arith}
-use Rattle.std.specs.Prelude.{IsTrue, slice_index}
+use Rattle.std.proofs.Common.{◌≡◌, ℕ, ◌+◌, ◌^◌, ◌<◌, List, length, sym, ap, ◌∙◌, subst, arith}
+use Rattle.std.specs.Prelude.{slice_index}
 use Rattle.std.specs.Vec.{with_items}
 use Rattle.history.specs.declared.event.Event.TheVariants.{Copy}
 use Rattle.history.specs.declared.ledger.Ledger.{Ledger}
 use Rattle.std.proofs.lemmas.Bool.{false≢true}
 use Rattle.std.proofs.lemmas.List.{with_items_is}
-use Rattle.history.specs.State.{Allows}
 use Rattle.history.specs.Slide.{Machine, AllowsWords}
 use Rattle.history.specs.WordMachine.{image_slide}
 use Rattle.history.specs.Ledger.{Tells, AreNoted}
