@@ -204,9 +204,9 @@ fn comes_out_right<W: Wait>(alloc: Global, wait: &W) -> Result<bool, Fault> {
     Ok(text.as_slice() == BASE.as_bytes())
 }
 
-/// The script tests/allocations runs this with each allocation refused in turn.
+/// The script tests/crate-allocations runs this with each allocation refused in turn.
 #[test]
-fn refused_memory_is_fault_11(rt: HostRuntime) {
+fn refused_memory_is_told(rt: HostRuntime) {
     let answers = [
         comes_out_right(rt.alloc(), &rt),
         comes_out_right(rt.alloc(), &rt),

@@ -17,7 +17,7 @@ fn comes_through(alloc: Global) -> Result<bool, AllocError> {
     Ok(words.as_slice() == [0, 1, 1, 18, 3].as_slice() && passes.len() == 2)
 }
 
-/// The script tests/allocations runs this with each allocation refused in turn.
+/// The script tests/crate-allocations runs this with each allocation refused in turn.
 #[test]
 fn refused_memory_is_told(rt: HostRuntime) {
     let first = comes_through(rt.alloc());
