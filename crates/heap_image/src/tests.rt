@@ -211,7 +211,7 @@ fn comes_through(alloc: Global) -> Result<bool, Fault> {
     Ok(encode(alloc, &decoded)? == text && encode(alloc, &read)? == text)
 }
 
-/// The script tests/heap-image-allocations runs this with each allocation refused in turn.
+/// The script tests/crate-allocations runs this with each allocation refused in turn.
 #[test]
 fn refused_memory_is_told(rt: HostRuntime) {
     let answers = [comes_through(rt.alloc()), comes_through(rt.alloc())];
