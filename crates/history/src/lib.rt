@@ -52,6 +52,7 @@ mod schedule_text;
 mod scheduler;
 mod tallies;
 mod verb;
+mod whole_histories;
 
 pub use book::Book;
 pub use call_fault::CallFault;
@@ -72,6 +73,7 @@ pub use schedule_reading::read_schedule;
 pub use schedule_text::write_schedule;
 pub use scheduler::Scheduler;
 pub use tallies::{count_readers, count_sources};
+pub use whole_histories::settled_histories_have_each_once;
 
 #[cfg(test)]
 mod tests;
