@@ -64,6 +64,7 @@ mod scheduler;
 mod tallies;
 mod text_laws;
 mod verb;
+mod whole_histories;
 
 pub use book::Book;
 pub use call_fault::CallFault;
@@ -88,6 +89,7 @@ pub use schedule_text::write_schedule;
 pub use scheduler::Scheduler;
 pub use tallies::{count_readers, count_sources};
 pub use text_laws::{malformed_is_no_schedule, one_schedule_a_text};
+pub use whole_histories::settled_histories_have_each_once;
 
 #[cfg(test)]
 mod replay_tests;
