@@ -1,18 +1,20 @@
 //! What a worker does to one region, and what is left to do once all regions are filled.
 //!
-//! Live words move in runs: a run is a longest row of live words, found by the mark bits 64 at a time, and moved by one
-//! call. A region behind the dense prefix takes its own words first, then those of each other source, ascending; then
-//! the references of the objects that lie wholly in it are redirected in place. A region of the prefix keeps its live
-//! words and gets fillers in its gaps.
+//! [`fill_region`] takes the ticket of a region, writes the region's moved words, puts it back and completes it. Live
+//! words move in runs: a run is a longest row of live words, found by the mark bits 64 at a time, and moved by one call.
+//! A region behind the dense prefix takes its own words first, then those of each other source, ascending, and drains
+//! each of these; then the references of the objects that lie wholly in it are redirected in place. A region of the
+//! prefix keeps its live words and gets fillers in its gaps.
 //!
 //! An object whose new words cross the end of the region in which they begin is deferred: it is moved with its old
 //! references. [`update_deferred`] redirects them once all regions are filled, and [`clear_above`] makes the words from
 //! the new top up 0.
 //!
-//! **Proved**, for every valid image: a region that is filled has its moved words, word for word; [`update_deferred`]
-//! and then [`clear_above`] make the words of the compaction from the moved ones; no call reads or writes outside its
-//! regions, and each returns. **Not said**: how fast a call is. The crate has no call for a whole fill yet, with its
-//! events of the scheduler.
+//! **Proved**, for every valid image: a region that is filled has its moved words, word for word; its worker has made
+//! the drains of its other sources and its completion, and no other call, and has told of just those sources whose drain
+//! answered `Last`; [`update_deferred`] and then [`clear_above`] make the words of the compaction from the moved ones;
+//! no call reads or writes outside its regions, and each returns, if the desk and the cells do. **Only tested**: that a
+//! fill succeeds, and how many words are noted before each drain. **Not said**: how fast a call is.
 #![tactic(auto)]
 
 mod calls;
