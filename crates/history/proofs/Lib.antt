@@ -26,3 +26,4 @@ mod Following
 mod Carrying
 mod Copies
 mod TextLaws
+mod Replays
