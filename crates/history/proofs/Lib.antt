@@ -27,3 +27,4 @@ mod Carrying
 mod Copies
 mod TextLaws
 mod Whole
+mod Replays

@@ -24,7 +24,8 @@
 //!   `malformed_is_no_schedule` have no body: two schedules with one text are the same, and a text
 //!   with a malformed line is no schedule's.
 //! - `check` follows a schedule by the word machine without moving a word, and `replay` runs it on a
-//!   copy of the heap. Both name the least line that the machine doesn't allow.
+//!   copy of the heap. Both name the least line that the machine doesn't allow. `what_replays_keep` has
+//!   no body: the calls of a schedule that the machine takes are one legal history.
 //!
 //! `specs/MoveTable.antt` defines tables of moves, `specs/State.antt` the state and the step,
 //! `specs/History.antt` legal histories and what is said of them, `specs/Slide.antt` and
@@ -53,6 +54,7 @@ mod plan_moves;
 mod progress;
 mod reading;
 mod references;
+mod replay_laws;
 mod replayed;
 mod replaying;
 mod reply;
@@ -80,6 +82,7 @@ pub use laws::{
 pub use line::Line;
 pub use locked_board::LockedBoard;
 pub use moves::Moves;
+pub use replay_laws::what_replays_keep;
 pub use replayed::{End, Replayed};
 pub use replaying::replay;
 pub use reply::Reply;
