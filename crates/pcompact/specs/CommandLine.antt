@@ -1,5 +1,7 @@
-use Rattle.std.specs.Prelude.{◌≡◌, ℕ, true, List, map, String, codes, string_bytes}
+use Rattle.std.specs.Prelude.{◌≡◌, ℕ, pos, true, List, map, String, codes, Some, string_bytes}
+use Rattle.clap.specs.Walk.{Rule, Text}
 use Rattle.clap.specs.Words.{App, new_app, new_rule, with_rule, with_subcommand}
+use Rattle.clap.specs.declared.builder.value_parser.ValueParser.TheVariants.{Signed}
 
 module _ {A : Type 0} where
   -- the words have these texts
@@ -12,13 +14,36 @@ program = let plain = new_app (codes "pcompact") in record plain {
   top = record plain.top { no_binary_name = true; has_version = true; subcommand_required = true };
 }
 
+-- the name of a file, which must be given
+abbrev pub file_rule : Text → Rule
+file_rule id = record (new_rule id) { required = true }
+
+-- the option `--workers`, which must be given and takes a number of 32 bits
+abbrev pub workers_rule : Rule
+workers_rule = record (new_rule (codes "workers")) {
+  long = Some (codes "workers");
+  value_names = 1;
+  parser = Some (Signed (pos 0) (pos 4294967295));
+  required = true;
+}
+
 abbrev pub board_command : App
 board_command = new_app (codes "board")
 
--- `summary` wants the name of a file
 abbrev pub summary_command : App
-summary_command = with_rule (new_app (codes "summary")) (record (new_rule (codes "IMAGE")) { required = true })
+summary_command = with_rule (new_app (codes "summary")) (file_rule (codes "IMAGE"))
+
+abbrev pub collect_command : App
+collect_command = with_rule (with_rule (with_rule (new_app (codes "collect")) (file_rule (codes "IMAGE"))) (file_rule (codes "OUT"))) workers_rule
+
+abbrev pub verify_command : App
+verify_command = with_rule (with_rule (new_app (codes "verify")) (file_rule (codes "BEFORE"))) (file_rule (codes "AFTER"))
+
+abbrev pub replay_command : App
+replay_command = with_rule (with_rule (new_app (codes "replay")) (file_rule (codes "IMAGE"))) (file_rule (codes "SCHEDULE"))
 
 -- the program and its commands, as the reading of the words sees them
 abbrev pub commands : App
-commands = with_subcommand (with_subcommand program board_command.top) summary_command.top
+commands =
+    with_subcommand (with_subcommand (with_subcommand (with_subcommand (with_subcommand program
+    board_command.top) summary_command.top) collect_command.top) verify_command.top) replay_command.top

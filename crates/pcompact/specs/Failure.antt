@@ -1,12 +1,13 @@
 use Rattle.std.specs.Prelude.{ℕ}
 use Rattle.heap_image.specs.declared.fault.Fault.TheVariants.{Memory}
 use Rattle.pcompact.specs.declared.failure.Failure.{Failure}
-use Rattle.pcompact.specs.declared.failure.Failure.TheVariants.{Usage, Fault}
+use Rattle.pcompact.specs.declared.failure.Failure.TheVariants.{Usage, Fault, Differs}
 
 -- the exit status of a failure
 abbrev pub status_of : Failure → ℕ
 status_of (Usage text) = 2
 status_of (Fault fault) = 1
+status_of (Differs verdict) = 1
 
 -- the failure for want of memory
 abbrev pub out_of_memory : Failure

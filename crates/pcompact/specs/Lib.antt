@@ -5,3 +5,6 @@ pub mod Board
 pub mod Failure
 pub mod CommandLine
 pub mod Summary
+pub mod Verification
+pub mod Collection
+pub mod Replaying

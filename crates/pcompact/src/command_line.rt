@@ -1,77 +1,59 @@
 //! The command line: which words are which command.
-ghost use Rattle.std.specs.Prelude.{◌≡◌, ◌∷◌, [], codes, false, IfOk, MatchResult};
-ghost use Rattle.clap.specs.Words.{app_of, kind_of, subcommand_name_of};
-ghost use Rattle.clap.specs.declared.builder.command.Command.TheViews.{out-Command as fields_of};
-ghost use Rattle.pcompact.specs.CommandLine.{AreWords, board_command, commands, program, summary_command};
+ghost use Rattle.std.specs.Prelude.{◌≡◌, ◌∷◌, [], codes, MatchResult};
+ghost use Rattle.clap.specs.Words.{kind_of, subcommand_name_of};
+ghost use Rattle.pcompact.specs.CommandLine.{AreWords};
 ghost use Rattle.pcompact.specs.Failure.{out_of_memory};
 
+use crate::commands::command;
 use crate::failure::Failure;
 use clap::error::ErrorKind;
-use clap::{Arg, ArgMatches, Command, Error};
+use clap::{ArgMatches, Error};
 use std::alloc::{AllocError, Global};
 
-/// What the words ask for.
+/// What the words ask for. A file is given by its name.
 #[derive(Drop)]
 pub enum Request<'a> {
     /// The command `board`.
     Board,
-    /// The command `summary`, of the image in the file with this name.
+    /// The command `summary`, of the image in a file.
     Summary(&'a str),
+    /// The command `collect`.
+    Collect(Collection<'a>),
+    /// The command `verify`.
+    Verify(Comparison<'a>),
+    /// The command `replay`.
+    Replay(Replay<'a>),
     /// To show this text, help or the version, of whole lines.
     Show(String),
 }
 
-const ABOUT: &str = "Full collection of a heap image by parallel sliding compaction";
-
-const STATUSES: &str = "\
-Exit status:
-  0  the command did its work, or showed help or the version
-  1  a fault: standard error has one line, `pcompact: fault` and which one
-  2  the words are no command: standard error says why";
-
-/// The commands, with their texts.
-fn command<'a>(alloc: Global) -> Result<Command<'a>, AllocError>
-    ensures { IfOk result (λ command. app_of command ≡ commands) }
-{
-    program(alloc)?
-        .subcommand(board(alloc))?
-        .subcommand(summary(alloc)?)
+/// A collection of one file into another.
+#[derive(Drop)]
+pub struct Collection<'a> {
+    /// The file with the image.
+    pub image: &'a str,
+    /// The file for the compacted one.
+    pub out: &'a str,
+    /// How many workers share the work.
+    pub workers: u32,
 }
 
-/// The program, with no command yet.
-fn program<'a>(alloc: Global) -> Result<Command<'a>, AllocError>
-    ensures { IfOk result (λ command. app_of command ≡ program) }
-{
-    let named = Command::new(alloc, "pcompact").bin_name("pcompact")?;
-    Ok(
-        named
-            .version("0.1.0")
-            .about(ABOUT)
-            .after_help(STATUSES)
-            .no_binary_name(true)
-            .subcommand_required(true),
-    )
+/// A replay of one file's schedule on another's image.
+#[derive(Drop)]
+pub struct Replay<'a> {
+    /// The file with the image.
+    pub image: &'a str,
+    /// The file with the schedule.
+    pub schedule: &'a str,
 }
 
-fn board<'a>(alloc: Global) -> Command<'a>
-    ensures app { app_of result ≡ board_command }
-    ensures local { (fields_of result).has_globals ≡ false }
-{
-    Command::new(alloc, "board").about(
-        "Schedules two workers over three regions, and counts their claims and completions",
-    )
-}
-
-fn summary<'a>(alloc: Global) -> Result<Command<'a>, AllocError>
-    ensures app { IfOk result (λ command. app_of command ≡ summary_command) }
-    ensures local { IfOk result (λ command. (fields_of command).has_globals ≡ false) }
-{
-    let image = Arg::new(alloc, "IMAGE")
-        .help("A file with a heap image")
-        .required(true);
-    Command::new(alloc, "summary")
-        .about("Prints what a collection of a heap image will do, region by region")
-        .arg(image)
+/// A comparison of two files.
+#[derive(Drop)]
+pub struct Comparison<'a> {
+    /// The file with the image as it was.
+    pub before: &'a str,
+    /// The file with the image that should be its compaction.
+    pub after: &'a str,
 }
 
 /// Reads the words that follow the program's name.
@@ -89,17 +71,43 @@ pub fn read(alloc: Global, words: &[String]) -> Result<Request<'_>, Failure>
 fn requested<'a>(alloc: Global, matches: &ArgMatches<'a>) -> Result<Request<'a>, Failure>
     ensures { subcommand_name_of matches.now ≡ Some (codes "board") → result ≡ Ok Request.Board }
 {
-    match matches.subcommand() {
-        Some(("board", _)) => return Ok(Request::Board),
-        Some(("summary", given)) => {
-            if let Some(image) = given.get_str("IMAGE") {
-                return Ok(Request::Summary(image));
-            }
-        }
-        _ => {}
+    let request = match matches.subcommand() {
+        Some(("board", _)) => Some(Request::Board),
+        Some(("summary", given)) => given.get_str("IMAGE").map(Request::Summary),
+        Some(("collect", given)) => read_collection(given).map(Request::Collect),
+        Some(("verify", given)) => read_comparison(given).map(Request::Verify),
+        Some(("replay", given)) => read_replay(given).map(Request::Replay),
+        _ => None,
+    };
+    match request {
+        Some(request) => Ok(request),
+        None => Err(Failure::usage(alloc, "pcompact: no such command\n")?),
     }
-    let text = String::from_str(alloc, "pcompact: no such command\n")?;
-    Err(Failure::Usage(text))
+}
+
+/// What `collect` is given.
+fn read_collection<'a>(given: &ArgMatches<'a>) -> Option<Collection<'a>> {
+    Some(Collection {
+        image: given.get_str("IMAGE")?,
+        out: given.get_str("OUT")?,
+        workers: given.get_one("workers")?,
+    })
+}
+
+/// What `verify` is given.
+fn read_comparison<'a>(given: &ArgMatches<'a>) -> Option<Comparison<'a>> {
+    Some(Comparison {
+        before: given.get_str("BEFORE")?,
+        after: given.get_str("AFTER")?,
+    })
+}
+
+/// What `replay` is given.
+fn read_replay<'a>(given: &ArgMatches<'a>) -> Option<Replay<'a>> {
+    Some(Replay {
+        image: given.get_str("IMAGE")?,
+        schedule: given.get_str("SCHEDULE")?,
+    })
 }
 
 /// What the reading of the words answers in place of a command: help, the version, what is wrong

@@ -2,8 +2,9 @@ ghost use Rattle.std.specs.Prelude.{◌≡◌};
 ghost use Rattle.heap_image.specs.declared.fault.Fault.TheVariants.{Memory};
 ghost use Rattle.pcompact.specs.declared.failure.Failure.TheVariants.{Fault};
 
+use collector::Verdict;
 use heap_image::Fault;
-use std::alloc::AllocError;
+use std::alloc::{AllocError, Global};
 
 /// Why the program ends with a status other than 0.
 #[derive(Debug, Drop)]
@@ -12,18 +13,25 @@ pub enum Failure {
     Usage(String),
     /// The command met a fault.
     Fault(Fault),
+    /// An image isn't the compaction of another: the first difference.
+    Differs(Verdict),
 }
 
 impl Failure {
     ghost use Rattle.pcompact.specs.Failure.{status_of};
 
-    /// The exit status: 2 for words that are no command, 1 for a fault.
+    /// Words that are no command, for this reason.
+    pub fn usage(alloc: Global, reason: &str) -> Result<Failure, AllocError> {
+        Ok(Failure::Usage(String::from_str(alloc, reason)?))
+    }
+
+    /// The exit status: 2 for words that are no command, else 1.
     pub fn status(&self) -> u8
         ensures { result ≡ status_of self.now }
     {
         match self {
             Failure::Usage(_) => 2,
-            Failure::Fault(_) => 1,
+            Failure::Fault(_) | Failure::Differs(_) => 1,
         }
     }
 }

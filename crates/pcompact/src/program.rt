@@ -5,18 +5,17 @@ ghost use Rattle.std.specs.Io.KnownBytes.{Appends};
 ghost use Rattle.pcompact.specs.Board.{IsBoardText};
 ghost use Rattle.pcompact.specs.CommandLine.{AreWords};
 ghost use Rattle.pcompact.specs.Failure.{out_of_memory, status_of};
-ghost use Rattle.pcompact.specs.Summary.{IsSummary};
 
 use crate::command_line::Request;
 use crate::failure::Failure;
-use crate::summarize::summarize;
-use crate::{board, command_line};
-use heap_image::{Fault, FromRead};
+use crate::{board, command_line, files};
+use collector::Verdict;
+use heap_image::Fault;
+use std::io;
 use std::io::Write;
 use std::rt::Files;
 use std::sync::Wait;
 use std::thread::Threads;
-use std::{fs, io};
 
 /// Runs the program on the words after its name, and answers the exit status.
 ///
@@ -24,15 +23,14 @@ use std::{fs, io};
 /// to `out` whole, once its work is done, and flushed; a write or flush of `out` that fails is
 /// fault 13. A failed write to `err` changes nothing.
 ///
-/// `host` opens files and allocates, `threads` starts threads and `wait` waits for them: no
-/// command of today waits.
-pub fn run<H: Files + AllocGlobal, T: Threads + Sync, L: Wait, A: Write, B: Write>(
+/// `host` opens files and allocates, `threads` starts threads, and `wait` waits for them.
+pub fn run<H: Files + AllocGlobal, T: Threads + Sync, L: Wait + Sync, A: Write, B: Write>(
     host: &H,
     words: &[String],
     out: &mut A,
     err: &mut B,
     threads: &T,
-    _wait: &L,
+    wait: &L,
 ) -> u8
     ensures status { result ≤ 2 }
     ensures good { result ≡ 0 → err.new ≡ err.old }
@@ -44,63 +42,64 @@ pub fn run<H: Files + AllocGlobal, T: Threads + Sync, L: Wait, A: Write, B: Writ
         → (text : List ℕ) × IsBoardText text
         × Appends (A.contents out.old) (A.contents out.new) text }
 {
-    let text = match answer(host, words, threads) {
+    let text = match answer(host, words, threads, wait) {
         Ok(text) => text,
         Err(failure) => return tell(&failure, err),
     };
-    match show(text.as_str(), out) {
+    match show(text.as_slice(), out) {
         Ok(()) => 0,
         Err(_) => tell(&Failure::Fault(Fault::Io), err),
     }
 }
 
 /// What the words ask for, as the text for standard output.
-fn answer<H: Files + AllocGlobal, T: Threads + Sync>(
+fn answer<H: Files + AllocGlobal, T: Threads + Sync, L: Wait + Sync>(
     host: &H,
     words: &[String],
     threads: &T,
-) -> Result<String, Failure>
+    wait: &L,
+) -> Result<Vec<u8>, Failure>
     ensures { AreWords words.now (codes "board" ∷ []) → MatchResult result
-        (λ text. IsBoardText (string_bytes text)) (λ failure. failure ≡ out_of_memory) }
+        (λ text. IsBoardText text.items) (λ failure. failure ≡ out_of_memory) }
 {
     match command_line::read(host.alloc(), words)? {
-        Request::Board => Ok(board::board(host.alloc(), threads)?),
-        Request::Summary(image) => Ok(summary_of(host, image, threads)?),
-        Request::Show(text) => Ok(text),
-    }
-}
-
-/// What `summary` prints of the image in a file. A file that can't be opened is fault 13.
-fn summary_of<H: Files + AllocGlobal, T: Threads + Sync>(
-    host: &H,
-    name: &str,
-    threads: &T,
-) -> Result<String, Fault>
-    ensures { IfOk result (λ text. IsSummary (string_bytes text)) }
-{
-    match fs::open(host, name) {
-        Ok(file) => summarize(host.alloc(), &mut FromRead::new(file), threads),
-        Err(_) => Err(Fault::Io),
+        Request::Board => Ok(board::board(host.alloc(), threads)?.into_bytes()),
+        Request::Summary(image) => Ok(files::summary(host, image, threads)?.into_bytes()),
+        Request::Collect(asked) => files::collect(host, &asked, threads, wait),
+        Request::Verify(asked) => files::verify(host, &asked, threads),
+        Request::Replay(asked) => files::replay(host, &asked, threads),
+        Request::Show(text) => Ok(text.into_bytes()),
     }
 }
 
 /// Writes the text whole and flushes it.
-fn show<A: Write>(text: &str, out: &mut A) -> io::Result<()>
+fn show<A: Write>(text: &[u8], out: &mut A) -> io::Result<()>
     ensures { OnOk result (Appends (A.contents out.old) (A.contents out.new) text.now) }
 {
-    out.write_all(text.as_bytes())?;
+    out.write_all(text)?;
     out.flush()
 }
 
 /// Says on `err` why the program fails, and answers the exit status: 2 for words that are no
-/// command, 1 for a fault. Where `err` takes no text the status is the same.
+/// command, else 1. Where `err` takes no text the status is the same.
 pub fn tell<B: Write>(failure: &Failure, err: &mut B) -> u8
     ensures { result ≡ status_of failure.now }
 {
     let _ = match failure {
         Failure::Usage(text) => err.write_all(text.as_bytes()),
         Failure::Fault(fault) => writeln!(err, "pcompact: fault {fault}"),
+        Failure::Differs(verdict) => tell_difference(*verdict, err),
     };
     let _ = err.flush();
     failure.status()
+}
+
+/// Says where two images differ.
+fn tell_difference<B: Write>(verdict: Verdict, err: &mut B) -> io::Result<()> {
+    match verdict {
+        Verdict::Same => Ok(()),
+        Verdict::Shape => writeln!(err, "pcompact: differs shape"),
+        Verdict::Word(address) => writeln!(err, "pcompact: differs word {address}"),
+        Verdict::Live(index) => writeln!(err, "pcompact: differs live {index}"),
+    }
 }

@@ -1,0 +1,100 @@
+//! The commands over files. A file that can't be opened is fault 13.
+ghost use Rattle.std.specs.Prelude.{IfOk, string_bytes};
+ghost use Rattle.pcompact.specs.Summary.{IsSummary};
+
+use crate::collection::collect_into;
+use crate::command_line::{Collection, Comparison, Replay};
+use crate::failure::Failure;
+use crate::replaying::replay_text;
+use crate::summarize::summarize;
+use crate::verification::verify_images;
+use collector::Verdict;
+use heap_image::{Fault, FromRead, ToWrite};
+use std::alloc::Global;
+use std::rt::Files;
+use std::sync::Wait;
+use std::thread::Threads;
+use std::{fs, io};
+
+const SAME_FILE: &str = "pcompact: same file\n";
+
+/// What `summary` prints of the image in a file.
+pub fn summary<H: Files + AllocGlobal, T: Threads + Sync>(
+    host: &H,
+    name: &str,
+    threads: &T,
+) -> Result<String, Fault>
+    ensures { IfOk result (λ text. IsSummary (string_bytes text)) }
+{
+    let file = opened(fs::open(host, name))?;
+    summarize(host.alloc(), &mut FromRead::new(file), threads)
+}
+
+/// Collects one file into another, and answers what `collect` prints. The first is opened before
+/// the second is made or emptied.
+pub fn collect<H: Files + AllocGlobal, T: Threads + Sync, L: Wait + Sync>(
+    host: &H,
+    asked: &Collection<'_>,
+    threads: &T,
+    wait: &L,
+) -> Result<Vec<u8>, Failure> {
+    must_differ(host.alloc(), asked.image, asked.out)?;
+    let image = opened(fs::open(host, asked.image))?;
+    let out = opened(fs::create(host, asked.out))?;
+    let image = &mut FromRead::new(image);
+    let out = &mut ToWrite::new(out);
+    let line = collect_into(host.alloc(), image, out, asked.workers, threads, wait)?;
+    Ok(line.into_bytes())
+}
+
+/// Replays the schedule in a file on the image in another, and answers what `replay` prints.
+pub fn replay<H: Files + AllocGlobal, T: Threads + Sync>(
+    host: &H,
+    asked: &Replay<'_>,
+    threads: &T,
+) -> Result<Vec<u8>, Failure> {
+    must_differ(host.alloc(), asked.image, asked.schedule)?;
+    let image = opened(fs::open(host, asked.image))?;
+    let mut schedule = opened(fs::open(host, asked.schedule))?;
+    let image = &mut FromRead::new(image);
+    Ok(replay_text(host.alloc(), image, &mut schedule, threads)?)
+}
+
+/// What `verify` prints where one file has the compaction of another.
+pub fn verify<H: Files + AllocGlobal, T: Threads + Sync>(
+    host: &H,
+    asked: &Comparison<'_>,
+    threads: &T,
+) -> Result<Vec<u8>, Failure> {
+    match compared(host, asked, threads)? {
+        Verdict::Same => Ok(Vec::from_slice(host.alloc(), b"same\n")?),
+        difference => Err(Failure::Differs(difference)),
+    }
+}
+
+/// The verdict on two files, of which both are opened before one is read.
+fn compared<H: Files + AllocGlobal, T: Threads + Sync>(
+    host: &H,
+    asked: &Comparison<'_>,
+    threads: &T,
+) -> Result<Verdict, Fault> {
+    let before = opened(fs::open(host, asked.before))?;
+    let after = opened(fs::open(host, asked.after))?;
+    let before = &mut FromRead::new(before);
+    verify_images(host.alloc(), before, &mut FromRead::new(after), threads)
+}
+
+/// Two files of one command must have other names. Other ways of naming one file are not noticed.
+fn must_differ(alloc: Global, one: &str, other: &str) -> Result<(), Failure> {
+    if one == other {
+        return Err(Failure::usage(alloc, SAME_FILE)?);
+    }
+    Ok(())
+}
+
+fn opened<F>(file: io::Result<F>) -> Result<F, Fault> {
+    match file {
+        Ok(file) => Ok(file),
+        Err(_) => Err(Fault::Io),
+    }
+}
