@@ -7,3 +7,5 @@ pub mod Targets
 pub mod Redirects
 pub mod Steps
 pub mod Gaps
+pub mod Draining
+pub mod Reaching

@@ -4,3 +4,4 @@ pub mod Filling
 pub mod Runs
 pub mod Objects
 pub mod Hands
+pub mod Drains

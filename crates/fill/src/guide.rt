@@ -20,6 +20,7 @@ use summary::laws::region_data::region_data_by_words;
 /// The plan and the marks of one image.
 ///
 /// A contract sees them as that image.
+#[derive(Drop)]
 pub(crate) struct Guide<'a> {
     plan: &'a Plan,
     marks: &'a Marks,
@@ -42,6 +43,13 @@ impl<'a> Guide<'a> {
         ensures { result ≡ plan.now }
     {
         Guide { plan, marks }
+    }
+
+    /// The plan.
+    pub(crate) fn plan(&self) -> &Plan
+        ensures { result.now ≡ self.now }
+    {
+        self.plan
     }
 
     /// The prefix end.

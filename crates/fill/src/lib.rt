@@ -15,18 +15,23 @@
 //! events of the scheduler.
 #![tactic(auto)]
 
+mod calls;
 mod clear;
 mod deferred;
+mod fill;
 mod guide;
 mod heap;
 mod moves;
+mod opened;
 mod prefix;
 mod redirect;
 mod reference;
 mod runs;
 mod sources;
+mod take;
 #[cfg(test)]
 mod tests;
 
 pub use clear::clear_above;
 pub use deferred::update_deferred;
+pub use fill::fill_region;

@@ -19,3 +19,4 @@ mod Texts
 mod EventTexts
 mod LineTexts
 mod ScheduleTexts
+mod Whole

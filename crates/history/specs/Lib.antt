@@ -1,6 +1,7 @@
 pub mod MoveTable
 pub mod State
 pub mod History
+pub mod Whole
 pub mod Progress
 pub mod Scheduler
 pub mod Slide

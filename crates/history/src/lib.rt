@@ -35,6 +35,7 @@ mod entry;
 mod event;
 mod event_text;
 mod given_moves;
+mod image_laws;
 mod laws;
 mod line;
 mod line_text;
@@ -51,12 +52,14 @@ mod schedule_text;
 mod scheduler;
 mod tallies;
 mod verb;
+mod whole_histories;
 
 pub use book::Book;
 pub use call_fault::CallFault;
 pub use entry::Entry;
 pub use event::{Event, Illegal};
 pub use given_moves::GivenMoves;
+pub use image_laws::moves_of_images;
 pub use laws::{
     drained_before_written, how_counts_go_down, legal_histories_are_orderly, pairs_slide_down,
     what_legal_histories_keep, what_own_calls_tell,
@@ -70,6 +73,7 @@ pub use schedule_reading::read_schedule;
 pub use schedule_text::write_schedule;
 pub use scheduler::Scheduler;
 pub use tallies::{count_readers, count_sources};
+pub use whole_histories::settled_histories_have_each_once;
 
 #[cfg(test)]
 mod tests;

@@ -1,0 +1,79 @@
+-- What a fill asks of the scheduler, and what it tells.
+use Rattle.std.specs.Prelude.{◌≡◌, ◌⊎◌, ℕ, Bool, true, false, List, [], ◌∷◌, ◌++◌, map, filter}
+use Rattle.std.specs.List.{range_with_len, FoldsTo}
+use Rattle.heap_image.specs.declared.fault.Fault.{Fault}
+use Rattle.heap_image.specs.declared.fault.Fault.TheVariants.{Overwritten}
+use Rattle.history.specs.declared.entry.Entry.{Entry}
+use Rattle.history.specs.declared.event.Event.TheVariants.{Drain, Complete}
+use Rattle.history.specs.declared.reply.Reply.TheVariants.{Done}
+use Rattle.history.specs.MoveTable.{MoveTable, region_count, reads}
+use Rattle.history.specs.History.{entry}
+use Rattle.claim_board.specs.declared.drained.Drained.{Drained}
+use Rattle.claim_board.specs.declared.drained.Drained.TheVariants.{Last, NotLast}
+use Rattle.claim_board.specs.Callers.{Caller}
+use Rattle.claim_board.specs.Drains.{reply_of}
+
+-- a source that was drained, and what the drain answered
+pub record SourceDrain : Type 0 where
+  pub source : ℕ
+  pub answer : Drained
+
+abbrev pub source_drain : ℕ → Drained → SourceDrain
+source_drain s answer = record { source = s; answer = answer }
+
+abbrev pub is_last : Drained → Bool
+is_last Last = true
+is_last NotLast = false
+
+-- the other regions from which region d takes words, ascending; and those of them below a region
+abbrev pub other_sources : MoveTable → ℕ → List ℕ
+other_sources m d = filter (reads m d) (range_with_len 0 (region_count m))
+
+abbrev pub sources_below : MoveTable → ℕ → ℕ → List ℕ
+sources_below m d next = filter (reads m d) (range_with_len 0 next)
+
+abbrev pub sources_of : List SourceDrain → List ℕ
+sources_of drains = map (λ x. x.source) drains
+
+-- the sources whose drain answered Last
+abbrev pub last_sources : List SourceDrain → List ℕ
+last_sources drains = sources_of (filter (λ x. is_last x.answer) drains)
+
+-- the drains for region d, as calls of this worker
+abbrev pub drain_calls : ℕ → ℕ → List SourceDrain → List Entry
+drain_calls worker d drains = map (λ x. entry worker (Drain d x.source) (reply_of x.answer)) drains
+
+-- the same worker of the same board, with these calls more
+pub record GainsAll (old new : Caller) (calls : List Entry) : Type 0 where
+  pub board : new.board ≡ old.board
+  pub worker : new.worker ≡ old.worker
+  pub mine : new.mine ≡ old.mine ++ calls
+
+-- Where a step of f is a call of it: whether the drain of a source has f called with that source.
+abbrev pub TellsLast : {F : Type 0} → (F → ℕ → F → Type 0) → ℕ → Drained → F → F → Type 0
+TellsLast step s Last f f' = step f s f'
+TellsLast step s NotLast f f' = f ≡ f'
+
+module _ {F : Type 0} (step : F → ℕ → F → Type 0) (tells : Type 0) (m : MoveTable) (d : ℕ) where
+  -- The other sources of region d below `next` were drained, ascending and each once, and f was called with just those
+  -- whose drain answered Last, in this order. The caller, if it tells its calls, made these drains and no other call.
+  pub record HasDrained (next : ℕ) (old new : Caller) (f f' : F) : Type 0 where
+    pub drains : List SourceDrain
+    pub each : sources_of drains ≡ sources_below m d next
+    pub told : FoldsTo step f (last_sources drains) f'
+    pub gains : tells → GainsAll old new (drain_calls old.worker d drains)
+
+  -- The same of all other sources of region d, and then the caller completed d.
+  pub record HasFilled (old new : Caller) (f f' : F) : Type 0 where
+    pub drains : List SourceDrain
+    pub each : sources_of drains ≡ other_sources m d
+    pub told : FoldsTo step f (last_sources drains) f'
+    pub gains : tells → GainsAll old new (drain_calls old.worker d drains ++ entry old.worker (Complete d) Done ∷ [])
+
+-- the fault names some region that was overwritten, or had a writer
+abbrev pub IsOverwritten : Fault → Type 0
+IsOverwritten fault = (r : ℕ) × (fault ≡ Overwritten r)
+
+-- a fault of the desk, or one of the cells
+abbrev pub IsFaultOf : (Fault → Type 0) → Fault → Type 0
+IsFaultOf may_fail fault = may_fail fault ⊎ IsOverwritten fault
