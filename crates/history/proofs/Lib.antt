@@ -20,3 +20,7 @@ mod EventTexts
 mod LineTexts
 mod ScheduleTexts
 mod Whole
+mod CopiedOut
+mod Machines
+mod Ledgers
+mod Following

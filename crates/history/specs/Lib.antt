@@ -14,3 +14,5 @@ pub mod Reading
 pub mod Verb
 pub mod ReplyText
 pub mod ReadSchedule
+pub mod Replay
+pub mod Ledger

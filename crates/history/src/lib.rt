@@ -31,12 +31,14 @@
 
 mod book;
 mod call_fault;
+mod checking;
 mod entry;
 mod event;
 mod event_text;
 mod given_moves;
 mod image_laws;
 mod laws;
+mod ledger;
 mod line;
 mod line_text;
 mod locked_board;
@@ -56,6 +58,7 @@ mod whole_histories;
 
 pub use book::Book;
 pub use call_fault::CallFault;
+pub use checking::check;
 pub use entry::Entry;
 pub use event::{Event, Illegal};
 pub use given_moves::GivenMoves;
@@ -75,5 +78,7 @@ pub use scheduler::Scheduler;
 pub use tallies::{count_readers, count_sources};
 pub use whole_histories::settled_histories_have_each_once;
 
+#[cfg(test)]
+mod replay_tests;
 #[cfg(test)]
 mod tests;

@@ -1,0 +1,8 @@
+use Rattle.std.proofs.Common.{◌≡◌, take}
+use Rattle.history.specs.WordMachine.{machine_of}
+use Rattle.history.specs.Ledger.{IsLedger, Tells}
+use Rattle.history.proofs.Following.{IsFollowed}
+use Rattle.history.proofs.checking.check.Given as goal
+
+abbrev pub invariant-loop-i : goal.invariant-loop-i
+invariant-loop-i l = IsFollowed l.plan l.schedule l.i l.ledger

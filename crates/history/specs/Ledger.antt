@@ -1,0 +1,44 @@
+-- What a ledger keeps of the word machine.
+use Rattle.std.specs.Prelude.{◌≡◌, ℕ, ◌+◌, ◌-◌, min, List, length, slice_index, slice_set}
+use Rattle.heap_image.specs.HeapImage.{HeapImage, region_words, region_count, start_of}
+use Rattle.summary.specs.RegionData.{destination, data_words}
+use Rattle.history.specs.Scheduler.{state_in}
+use Rattle.history.specs.ImageMoves.{image_table}
+use Rattle.history.specs.Slide.{Machine, IsMachineStep, machine_after}
+use Rattle.history.specs.WordMachine.{image_slide}
+use Rattle.history.specs.Replay.{IsCallOf}
+use Rattle.history.specs.declared.entry.Entry.{Entry}
+use Rattle.history.specs.declared.event.Event.{Event}
+use Rattle.history.specs.declared.event.Event.TheVariants.{Copy}
+use Rattle.history.specs.declared.ledger.Ledger.{Ledger}
+use Rattle.history.specs.declared.line.Line.{Line}
+
+-- a ledger of an image and so many workers
+pub record IsLedger (image : HeapImage) (number : ℕ) (ledger : Ledger) : Type 0 where
+  pub moves : ledger.scheduler.moves ≡ image_table image
+  pub workers : ledger.scheduler.workers ≡ number
+  pub all : length ledger.written.items ≡ region_count image
+
+-- the ledger tells what the machine's scheduler knows, and how many words of each region are written
+pub record Tells (ledger : Ledger) (w : Machine) : Type 0 where
+  pub known : w.known ≡ state_in ledger.scheduler
+  pub written : (r : ℕ) → w.written r ≡ slice_index ledger.written.items r
+
+-- the call is a step of each machine that the old ledger tells, and the new ledger tells where it leads
+abbrev pub Leads : HeapImage → ℕ → Ledger → Entry → Ledger → Type 0
+Leads image workers old e new =
+    (w : Machine) → Tells old w → IsMachineStep (image_table image) (image_slide image) workers w e × Tells new (machine_after (image_slide image) w e)
+
+-- no call of the line is a step of any machine that the ledger tells
+abbrev pub RefusesLine : HeapImage → ℕ → Ledger → Line → Type 0
+RefusesLine image workers ledger line =
+    (w : Machine) → Tells ledger w → (e : Entry) → IsCallOf line e → ¬ (IsMachineStep (image_table image) (image_slide image) workers w e)
+
+-- how many words of each region are written, before an event and after it
+abbrev pub AreNoted : Event → List ℕ → List ℕ → Type 0
+AreNoted (Copy d n) old new = new ≡ slice_set old d (slice_index old d + n)
+AreNoted _ old new = new ≡ old
+
+-- up to which place of the region d, counted from its start, words of the region s go there
+abbrev pub taken_up_to : HeapImage → ℕ → ℕ → ℕ
+taken_up_to image d s = min (region_words image) (destination image s + data_words image s - start_of image d)

@@ -1,0 +1,148 @@
+//! The word machine without its heap.
+
+ghost use Rattle.std.specs.Prelude.{◌≡◌, ◌+◌, ◌^◌, ◌<◌, ◌≤◌, ◌↔◌, ℕ, length, slice_index, IsTrue, IfOk, OnErr, IfSome, IfNone};
+ghost use Rattle.history.specs.MoveTable.{reads};
+ghost use Rattle.history.specs.State.{AllAreSettled, Allows};
+ghost use Rattle.history.specs.Scheduler.{state_in};
+ghost use Rattle.history.specs.History.{entry};
+ghost use Rattle.history.specs.ImageMoves.{image_table};
+ghost use Rattle.history.specs.Slide.{Machine, IsMachineStep, IsCopiedOut, AllowsWords, words_of};
+ghost use Rattle.history.specs.WordMachine.{image_slide, machine_start};
+ghost use Rattle.history.specs.Replay.{IsCallOf};
+ghost use Rattle.history.specs.Ledger.{IsLedger, Tells, Leads, RefusesLine, AreNoted, taken_up_to};
+ghost use Rattle.history.specs.declared.reply.Reply.{Reply};
+
+use crate::event::{Event, Illegal};
+use crate::line::Line;
+use crate::reply::Reply;
+use crate::scheduler::Scheduler;
+use std::alloc::{AllocError, Global};
+use summary::Plan;
+
+/// The scheduler, and how many words of each region are written: the word machine but for its heap.
+#[derive(Drop)]
+pub(crate) struct Ledger {
+    scheduler: Scheduler,
+    /// Of each region, how many of its words below the new top are written.
+    written: Vec<u32>,
+}
+
+impl Ledger {
+    /// The ledger of the word machine at the opening.
+    pub(crate) fn new(alloc: Global, plan: &Plan, workers: u32) -> Result<Ledger, AllocError>
+        requires { (1 ≤ workers) × (workers ≤ 64) }
+        ensures kept { IfOk result (IsLedger plan.now workers) }
+        ensures opening { IfOk result (λ ledger. Tells ledger (machine_start plan.now)) }
+    {
+        let scheduler = Scheduler::new(alloc, plan, workers)?;
+        let written = vec![in alloc; 0; Plan::regions(plan) as usize]?;
+        Ok(Ledger { scheduler, written })
+    }
+
+    /// The reply to the line, exactly where the word machine allows the line and the line tells this
+    /// reply or none. After `None` the ledger is of no more use.
+    pub(crate) fn follow(&mut self, plan: &Plan, line: Line) -> Option<Reply>
+        requires kept { IsLedger plan.now self.old.scheduler.workers self.old }
+        requires worker { line.worker < self.old.scheduler.workers }
+        ensures kept { IfSome result (λ reply. IsLedger plan.now self.old.scheduler.workers self.new) }
+        ensures call { IfSome result (λ reply. IsCallOf line (entry line.worker line.event reply)) }
+        ensures leads { IfSome result (λ reply. Leads plan.now self.old.scheduler.workers self.old (entry line.worker line.event reply) self.new) }
+        ensures none { IfNone result (RefusesLine plan.now self.old.scheduler.workers self.old line) }
+    {
+        let Ok(reply) = self.step(plan, line.worker, line.event) else {
+            return None;
+        };
+        match line.reply {
+            Some(told) if told != reply => None,
+            _ => Some(reply),
+        }
+    }
+
+    /// Whether all regions to be filled are settled.
+    pub(crate) fn is_done(&self) -> bool
+        ensures { IsTrue result ↔ AllAreSettled self.now.scheduler.moves (state_in self.now.scheduler) }
+    {
+        self.scheduler.is_done()
+    }
+
+    /// How many words of the region are written.
+    pub(crate) fn written(&self, region: u32) -> u32
+        ensures { result ≡ slice_index self.now.written.items region }
+    {
+        self.written.get(region as usize).copied().unwrap_or(0)
+    }
+
+    /// One step of the word machine.
+    fn step(&mut self, plan: &Plan, worker: u32, event: Event) -> Result<Reply, Illegal>
+        requires kept { IsLedger plan.now self.old.scheduler.workers self.old }
+        requires worker { worker < self.old.scheduler.workers }
+        ensures kept { IfOk result (λ reply. IsLedger plan.now self.old.scheduler.workers self.new) }
+        ensures leads { IfOk result (λ reply. Leads plan.now self.old.scheduler.workers self.old (entry worker event reply) self.new) }
+        ensures illegal { OnErr result ((w : Machine) → Tells self.old w → (reply : Reply)
+            → ¬ (IsMachineStep (image_table plan.now) (image_slide plan.now) self.old.scheduler.workers w (entry worker event reply))) }
+    {
+        if !self.scheduler.allows(worker, event) || !self.allows_words(plan, event) {
+            return Err(Illegal);
+        }
+        // Its clause is that the image of the plan is valid.
+        let _regions = Plan::regions(plan);
+        let reply = self.scheduler.step(worker, event)?;
+        note(&mut self.written, event);
+        Ok(reply)
+    }
+
+    /// Whether the words allow an event that the scheduler allows.
+    fn allows_words(&self, plan: &Plan, event: Event) -> bool
+        requires { (d s : ℕ) → event ≡ Event.Drain d s → IsTrue (reads (image_table plan.now) d s) }
+        ensures { (w : Machine) → Tells self.now w → IsTrue result ↔ AllowsWords (image_slide plan.now) w event }
+    {
+        match event {
+            Event::Drain(destination, source) => self.is_copied_out(plan, destination, source),
+            Event::Complete(region) => u64::from(self.written(region)) == words_of(plan, region),
+            Event::Copy(region, words) => {
+                u64::from(self.written(region)) + u64::from(words) <= words_of(plan, region)
+            }
+            Event::Claim(_) | Event::Look(_) | Event::Settle(_) | Event::Poll => true,
+        }
+    }
+
+    /// Whether all words that go from the source to the destination are written.
+    fn is_copied_out(&self, plan: &Plan, destination: u32, source: u32) -> bool
+        requires { IsTrue (reads (image_table plan.now) destination source) }
+        ensures { (w : Machine) → Tells self.now w → IsTrue result ↔ IsCopiedOut (image_slide plan.now) w destination source }
+    {
+        // Its clause is that the image of the plan is valid.
+        let _regions = Plan::regions(plan);
+        u64::from(self.written(destination)) >= taken_up_to(plan, destination, source)
+    }
+}
+
+/// Notes the words that the event writes.
+fn note(written: &mut [u32], event: Event)
+    requires { (d n : ℕ) → event ≡ Event.Copy d n → (d < length written.old) × (slice_index written.old d + n < 2 ^ 32) }
+    ensures { AreNoted event written.old written.new }
+{
+    if let Event::Copy(region, words) = event {
+        written[region as usize] += words;
+    }
+}
+
+/// How many words of the region lie below the new top.
+fn words_of(plan: &Plan, region: u32) -> u64
+    ensures { result ≡ words_of (image_slide plan.now) region }
+{
+    let size = 1 << plan.region_log();
+    let start = u64::from(region) * size;
+    size.min(plan.new_top().saturating_sub(start))
+}
+
+/// Up to which place, counted from the destination's start, words of the source go there.
+fn taken_up_to(plan: &Plan, destination: u32, source: u32) -> u64
+    requires { IsTrue (reads (image_table plan.now) destination source) }
+    ensures { result ≡ taken_up_to plan.now destination source }
+{
+    let size = 1 << plan.region_log();
+    let region = plan.region(source);
+    let end = region.destination + u64::from(region.partial) + u64::from(region.live);
+    size.min(end.saturating_sub(u64::from(destination) * size))
+}
