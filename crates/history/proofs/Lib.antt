@@ -24,3 +24,4 @@ mod CopiedOut
 mod Machines
 mod Ledgers
 mod Following
+mod Records

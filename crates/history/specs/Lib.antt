@@ -16,3 +16,4 @@ pub mod ReplyText
 pub mod ReadSchedule
 pub mod Replay
 pub mod Ledger
+pub mod Record

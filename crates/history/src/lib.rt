@@ -46,6 +46,7 @@ mod moves;
 mod plan_moves;
 mod progress;
 mod reading;
+mod record_laws;
 mod reply;
 mod reply_text;
 mod schedule;
@@ -70,6 +71,7 @@ pub use laws::{
 pub use line::Line;
 pub use locked_board::LockedBoard;
 pub use moves::Moves;
+pub use record_laws::checked_histories_are_records;
 pub use reply::Reply;
 pub use schedule::Schedule;
 pub use schedule_reading::read_schedule;
