@@ -3,3 +3,7 @@ pub mod Gaps
 pub mod Placing
 pub mod Telling
 pub mod Queues
+pub mod Passes
+pub mod Settled
+pub mod Failing
+pub mod Reasons

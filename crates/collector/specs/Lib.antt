@@ -2,3 +2,7 @@ pub mod Difference
 pub mod Verdict
 pub mod Compared
 pub mod Ready
+pub mod Halts
+pub mod Collections
+pub mod Preparations
+pub mod Streams

@@ -21,16 +21,27 @@
 //! in which `take` asks. No contract says how long a call takes, nor that `verify` has memory enough.
 #![tactic(auto)]
 
+mod clean_up;
+mod collection;
 mod comparison;
+mod crew;
 mod difference;
 mod gate;
+mod outcome;
+mod prepared;
 mod ready;
+mod staff;
+mod streaming;
 #[cfg(test)]
 mod tests;
 mod verdict;
 mod verification;
+mod worker;
 
+pub use collection::collect;
 pub use gate::{Gate, OpenGate};
+pub use outcome::{Figures, Outcome, Refusal};
 pub use ready::{Ready, Thief};
+pub use streaming::collect_stream;
 pub use verdict::Verdict;
 pub use verification::verify;

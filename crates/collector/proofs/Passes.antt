@@ -1,0 +1,35 @@
+-- Lists of workers and of passes, one more or one less.
+use Rattle.std.proofs.Common.{◌≡◌, ℕ, zero, suc, ◌+◌, ◌<◌, List, [], ◌∷◌, ◌++◌, length, map, get_or, sym, ap, ◌∙◌, subst, arith}
+use Rattle.std.specs.Prelude.{All}
+use Rattle.std.proofs.lemmas.List.{get_or_append_left, length_push}
+use Rattle.std.proofs.Math.Seq.{get_or-append_seam}
+use Rattle.claim_board.specs.declared.pass.Pass.{Pass}
+use Rattle.claim_board.specs.Boards.{board_of, AllOf, ArePassesFrom, ArePasses}
+use Rattle.collector.specs.declared.worker.Worker.{Worker}
+
+-- what holds of each element holds of the front and of the last
+pub front_and_last : {X : Type 0} (P : X → Type 0) (all front : List X) (last : X) → all ≡ front ++ last ∷ [] → All P all → All P front × P last
+front_and_last P all front last is each =
+    let more : length all ≡ length front + 1 = ap length is ∙ length_push front last in (
+      (λ k d below. subst P (ap (λ l. get_or l k d) is ∙ get_or_append_left front (last ∷ []) d k below) (each k d (omega (arith, below)))),
+      subst P (ap (λ l. get_or l (length front) last) is ∙ get_or-append_seam front last [] last) (each (length front) last (omega arith)),
+    )
+
+-- one more pass of the board
+pub all_of_more : (board : _) (passes more : List Pass) (p : Pass) → more ≡ passes ++ p ∷ [] → AllOf board passes → board_of p ≡ board → AllOf board more
+all_of_more board passes more p is all one = subst (AllOf board) (sym is) (go passes all)
+  where
+    go : (ps : List Pass) → AllOf board ps → AllOf board (ps ++ p ∷ [])
+    go [] rest = (one, tt)
+    go (q ∷ qs) rest = (rest.0, go qs rest.1)
+
+-- each worker has a seat of the board, where the seats are its new passes
+seated : (board : _) (k : ℕ) (workers : List (Worker Pass)) → ArePassesFrom board k (map (λ w. w.seat) workers)
+    → (i : ℕ) (d : Worker Pass) → i < length workers → board_of (get_or workers i d).seat ≡ board
+seated board k [] all i d inside = absurd (omega arith)
+seated board k (w ∷ ws) all zero d inside = all.0.0
+seated board k (w ∷ ws) all (suc i) d inside = seated board (suc k) ws all.1 i d (omega arith)
+
+pub all_seated : (board : _) (passes : List Pass) (workers : List (Worker Pass)) → map (λ w. w.seat) workers ≡ passes
+    → ArePasses board passes → All (λ w. board_of w.seat ≡ board) workers
+all_seated board passes workers seats all = seated board 0 workers (subst (ArePasses board) (sym seats) all)

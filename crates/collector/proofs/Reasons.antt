@@ -1,0 +1,79 @@
+-- The faults of a collection from bytes to bytes.
+use Rattle.std.proofs.Common.{◌≡◌, ◌≢◌, ℕ, Bool, true, false, List, [], ◌∷◌, sym, ◌∙◌, subst, inl, inr, Option, Some, None, Result, Ok, Err}
+use Rattle.std.specs.Prelude.{IfSome, OnErr, option_map}
+use Rattle.heap_image.specs.declared.fault.Fault.{Fault}
+use Rattle.heap_image.specs.declared.fault.Fault.TheVariants.{TruncatedHeader, Magic, RegionLog, Length, TruncatedBody, LiveOrder, Header, Overlap, Reference, Trailing, Memory, Io, Schedule}
+use Rattle.heap_image.specs.ImageText.{fault_if, first_some, first_fault, faults}
+use Rattle.heap_image.specs.Refusals.{IsReason}
+use Rattle.collector.specs.Streams.{IsOfBytes}
+
+pub on_err : {A E : Type 0} (r : Result A E) (P : Type 0) → P → OnErr r P
+on_err (Ok x) P holds = tt
+on_err (Err e) P holds = holds
+
+abbrev AreOfBytes : List (Option Fault) → Type 0
+AreOfBytes [] = Unit {0}
+AreOfBytes (o ∷ os) = IfSome o IsOfBytes × AreOfBytes os
+
+first_of : (os : List (Option Fault)) (fault : Fault) → AreOfBytes os → first_some os ≡ Some fault → IsOfBytes fault
+first_of [] fault all is = absurd (let f : None ≡ Some fault = is in cc)
+first_of (None ∷ os) fault all is = first_of os fault all.1 is
+first_of (Some f ∷ os) fault all is = subst IsOfBytes (let e : f ≡ fault = cc in e) all.0
+
+tested : (b : Bool) (fault : Fault) → IsOfBytes fault → IfSome (fault_if b fault) IsOfBytes
+tested true fault is = is
+tested false fault is = tt
+
+mapped : {X : Type 0} (f : X → Fault) (o : Option X) → ((x : X) → IsOfBytes (f x)) → IfSome (option_map f o) IsOfBytes
+mapped f None each = tt
+mapped f (Some x) each = each x
+
+-- the first fault of an input is one of the first ten
+first_is : (input : List ℕ) (fault : Fault) → first_fault input ≡ Some fault → IsOfBytes fault
+first_is input fault is = first_of (faults input) fault all is
+  where
+    all : AreOfBytes (faults input)
+    all = (
+      tested _ TruncatedHeader tt,
+      (
+        tested _ Magic tt,
+        (
+          tested _ RegionLog tt,
+          (
+            tested _ Length tt,
+            (
+              tested _ TruncatedBody tt,
+              (
+                mapped LiveOrder _ (λ i. tt),
+                (
+                  mapped Header _ (λ a. tt),
+                  (
+                    mapped Overlap _ (λ a. tt),
+                    (
+                      mapped (λ p. Reference p.0 p.1) _ (λ p. tt),
+                      (tested _ Trailing tt, tt),
+                    ),
+                  ),
+                ),
+              ),
+            ),
+          ),
+        ),
+      ),
+    )
+
+-- reading answers no other fault than these of an input that is told
+pub no_fault_of_reading : (left : Option (List ℕ)) (Q : List ℕ → Type 0) (fault other : Fault) → fault ≡ other
+    → other ≢ Memory → other ≢ Io → (IsOfBytes other → ⊥) → IfSome left (λ input. IsReason input fault) → IfSome left Q
+no_fault_of_reading None Q fault other same no_memory no_io unlike reason = tt
+no_fault_of_reading (Some input) Q fault other same no_memory no_io unlike reason = absurd (go reason)
+  where
+    go : IsReason input fault → ⊥
+    go (inl memory) = no_memory (sym same ∙ memory)
+    go (inr (inl io)) = no_io (sym same ∙ io)
+    go (inr (inr first)) = unlike (subst IsOfBytes same (first_is input fault first))
+
+pub no_schedule : (left : Option (List ℕ)) (fault : Fault) → IfSome left (λ input. IsReason input fault) → IfSome left (λ _. (line : ℕ) → fault ≢ Schedule line)
+no_schedule None fault reason = tt
+no_schedule (Some input) fault reason = λ line same.
+    no_fault_of_reading (Some input) (λ _. ⊥) fault (Schedule line) same (λ e. cc) (λ e. cc) (λ none. none) reason

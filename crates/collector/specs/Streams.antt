@@ -1,0 +1,35 @@
+-- A collection from bytes to bytes.
+use Rattle.std.specs.Prelude.{ℕ, List, Option}
+use Rattle.std.specs.Io.KnownBytes.{Consumes, IsAtEnd}
+use Rattle.heap_image.specs.HeapImage.{HeapImage, IsValid}
+use Rattle.heap_image.specs.ImageText.{text}
+use Rattle.heap_image.specs.Outgoing.{TakesBeginning}
+use Rattle.heap_image.specs.declared.fault.Fault.{Fault}
+use Rattle.heap_image.specs.declared.fault.Fault.TheVariants.{TruncatedHeader, Magic, RegionLog, Length, TruncatedBody, LiveOrder, Header, Overlap, Reference, Trailing}
+use Rattle.summary.specs.Compaction.{compact}
+
+-- a fault of an image's bytes, one of the first ten
+abbrev pub IsOfBytes : Fault → Type 0
+IsOfBytes TruncatedHeader = Unit {0}
+IsOfBytes Magic = Unit {0}
+IsOfBytes RegionLog = Unit {0}
+IsOfBytes Length = Unit {0}
+IsOfBytes TruncatedBody = Unit {0}
+IsOfBytes (LiveOrder i) = Unit {0}
+IsOfBytes (Header a) = Unit {0}
+IsOfBytes (Overlap a) = Unit {0}
+IsOfBytes (Reference a f) = Unit {0}
+IsOfBytes Trailing = Unit {0}
+IsOfBytes _ = ⊥
+
+-- all of an input was read, and it is the text of this image
+pub record IsRead (image : HeapImage) (before after : Option (List ℕ)) : Type 0 where
+  pub valid : IsValid image
+  pub text : Consumes before after (Rattle.heap_image.specs.ImageText.text image)
+  pub end : IsAtEnd after
+
+-- all of the input was read, which is the text of some image, and a beginning of the text of its compaction was written
+pub record IsBegun (left left' took took' : Option (List ℕ)) : Type 0 where
+  pub image : HeapImage
+  pub read : IsRead image left left'
+  pub written : TakesBeginning took took' (text (compact image))

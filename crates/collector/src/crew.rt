@@ -1,0 +1,270 @@
+//! `Crew`: what the workers of one collection share, and what each of them does.
+ghost use Rattle.std.specs.Prelude.{◌≡◌, ◌<◌, ◌≤◌, ◌^◌, length, All, IfOk, IfErr, IfSome};
+ghost use Rattle.summary.specs.RegionData.{fill_count};
+ghost use Rattle.history.specs.ImageMoves.{image_table};
+ghost use Rattle.claim_board.specs.Tickets.{IsUnused, IsTicketOf, IsDoneOf};
+ghost use Rattle.collector.specs.Halts.{HasCause, MayBeRefused};
+ghost use Rattle.fill.specs.Drains.{IsFaultOf};
+ghost use Rattle.collector.specs.declared.worker.Halt.TheVariants.{Stopped};
+
+use crate::gate::Gate;
+use crate::ready::Thief;
+use crate::worker::{Halt, Worker};
+use claim_board::{Desk, Done, Ticket};
+use crossbeam_utils::Backoff;
+use fill::fill_region;
+use heap_image::Fault;
+use history::moves_of_images;
+use mark_bitmap::Marks;
+use region_cells::Cells;
+use std::sync::Wait;
+use std::sync::atomic::{AtomicBool, Ordering};
+use std::thread;
+use std::thread::Threads;
+use summary::Plan;
+use summary::laws::region_data::regions_to_fill;
+
+/// What the workers of one collection share.
+#[derive(Drop)]
+pub(crate) struct Crew<'a, D: Desk, G: Gate, W: Wait> {
+    pub(crate) desk: &'a D,
+    pub(crate) cells: &'a Cells,
+    pub(crate) plan: &'a Plan,
+    pub(crate) marks: &'a Marks,
+    pub(crate) gate: &'a G,
+    pub(crate) wait: &'a W,
+    /// Takes numbers of each worker's queue, by the workers' numbers.
+    pub(crate) thieves: &'a [Thief],
+    /// Whether some worker has met a fault.
+    pub(crate) stop: &'a AtomicBool,
+    pub(crate) ghost moves: { D.moves desk.now ≡ image_table plan.now },
+    pub(crate) ghost same_cells: { cells.now ≡ plan.now },
+    pub(crate) ghost same_marks: { marks.now ≡ plan.now },
+}
+
+impl<'a, D: Desk, G: Gate, W: Wait> Crew<'a, D, G, W> {
+    /// Fills regions until all are settled, or until some worker has met a fault. A fault of its own stops the others.
+    pub(crate) fn work(&self, number: u32, worker: &mut Worker<D::Seat>)
+        requires number { number < length self.now.thieves.now }
+        requires seat { D.serves self.now.desk.now worker.old.seat }
+        ensures seat { D.serves self.now.desk.now worker.new.seat }
+        ensures end { IfErr worker.new.end (HasCause D.may_fail (G.may_refuse self.now.gate.now number) (fill_count self.now.plan.now)) }
+    {
+        worker.end = self.fill_regions(number, worker);
+        if let Err(Halt::Failed(_)) = worker.end {
+            self.stop.store(true, Ordering::SeqCst);
+        }
+    }
+
+    /// Takes turns until all regions to fill are settled.
+    fn fill_regions(&self, number: u32, worker: &mut Worker<D::Seat>) -> Result<(), Halt>
+        requires number { number < length self.now.thieves.now }
+        requires seat { D.serves self.now.desk.now worker.old.seat }
+        ensures seat { D.serves self.now.desk.now worker.new.seat }
+        ensures halt { IfErr result (HasCause D.may_fail (G.may_refuse self.now.gate.now number) (fill_count self.now.plan.now)) }
+    {
+        let backoff = Backoff::new();
+        for _ in self.wait.forever() {
+            if self.turn(number, worker, &backoff)? {
+                return Ok(());
+            }
+        }
+        unreachable!()
+    }
+
+    /// Fills a region, or where none is ready waits a little. Whether all regions to fill are settled.
+    fn turn(
+        &self,
+        number: u32,
+        worker: &mut Worker<D::Seat>,
+        backoff: &Backoff,
+    ) -> Result<bool, Halt>
+        requires number { number < length self.now.thieves.now }
+        requires seat { D.serves self.now.desk.now worker.old.seat }
+        ensures seat { D.serves self.now.desk.now worker.new.seat }
+        ensures halt { IfErr result (HasCause D.may_fail (G.may_refuse self.now.gate.now number) (fill_count self.now.plan.now)) }
+    {
+        self.go_on()?;
+        if let Some(region) = self.next_region(number, worker) {
+            backoff.reset();
+            return self.visit(number, worker, region);
+        }
+        let all_settled = self.desk.poll(&mut worker.seat, self.wait)?;
+        if !all_settled {
+            backoff.snooze();
+        }
+        Ok(all_settled)
+    }
+
+    /// A region to fill that is ready, of this worker's queue or stolen from another.
+    fn next_region(&self, number: u32, worker: &mut Worker<D::Seat>) -> Option<u32>
+        requires { number < length self.now.thieves.now }
+        ensures seat { worker.new.seat ≡ worker.old.seat }
+        ensures region { IfSome result (λ r. r < fill_count self.now.plan.now) }
+    {
+        let region = worker.ready.take(self.thieves, number as usize)?;
+        if region < self.plan.fill_regions() {
+            Some(region)
+        } else {
+            None
+        }
+    }
+
+    /// Claims a region, and fills it if it is granted. Whether all regions to fill are settled.
+    fn visit(&self, number: u32, worker: &mut Worker<D::Seat>, region: u32) -> Result<bool, Halt>
+        requires seat { D.serves self.now.desk.now worker.old.seat }
+        requires region { region < fill_count self.now.plan.now }
+        ensures seat { D.serves self.now.desk.now worker.new.seat }
+        ensures halt { IfErr result (HasCause D.may_fail (G.may_refuse self.now.gate.now number) (fill_count self.now.plan.now)) }
+    {
+        moves_of_images();
+        regions_to_fill();
+        let _regions = self.plan.regions();
+        match self.desk.claim(&mut worker.seat, region, self.wait)? {
+            Some(ticket) => self.settle(number, worker, ticket),
+            None => Ok(false),
+        }
+    }
+
+    /// Fills the region of a ticket if the gate lets it, and settles it. Whether all regions to fill are settled.
+    fn settle(
+        &self,
+        number: u32,
+        worker: &mut Worker<D::Seat>,
+        ticket: Ticket,
+    ) -> Result<bool, Halt>
+        requires seat { D.serves self.now.desk.now worker.old.seat }
+        requires region { ticket.region < fill_count self.now.plan.now }
+        requires unused { IsUnused ticket }
+        requires ticket { D.tells → IsTicketOf (D.moves self.now.desk.now) (D.caller worker.old.seat) ticket }
+        ensures seat { D.serves self.now.desk.now worker.new.seat }
+        ensures halt { IfErr result (HasCause D.may_fail (G.may_refuse self.now.gate.now number) (fill_count self.now.plan.now)) }
+    {
+        let region = ticket.region();
+        if let Err(halt) = self.admit(number, region) {
+            ticket.give_up();
+            return Err(halt);
+        }
+        let done = self.fill(worker, ticket)?;
+        self.gate.after_complete(number, region);
+        Ok(self.desk.settle(&mut worker.seat, done, self.wait)?)
+    }
+
+    /// Asks the gate, which may have held the worker until another one met a fault.
+    fn admit(&self, number: u32, region: u32) -> Result<(), Halt>
+        requires { region < fill_count self.now.plan.now }
+        ensures { IfErr result (HasCause D.may_fail (G.may_refuse self.now.gate.now number) (fill_count self.now.plan.now)) }
+    {
+        if !self.gate.before_fill(number, region) {
+            return Err(Halt::Failed(Fault::Gate));
+        }
+        self.go_on()
+    }
+
+    /// Whether no worker has met a fault so far.
+    fn go_on(&self) -> Result<(), Halt>
+        ensures { IfErr result (λ halt. halt ≡ Stopped) }
+    {
+        if self.stop.load(Ordering::SeqCst) {
+            Err(Halt::Stopped)
+        } else {
+            Ok(())
+        }
+    }
+
+    /// Fills the region of a ticket, and queues those to fill that nobody has to read any more.
+    fn fill(&self, worker: &mut Worker<D::Seat>, ticket: Ticket) -> Result<Done, Fault>
+        requires seat { D.serves self.now.desk.now worker.old.seat }
+        requires region { ticket.region < fill_count self.now.plan.now }
+        requires unused { IsUnused ticket }
+        requires ticket { D.tells → IsTicketOf (D.moves self.now.desk.now) (D.caller worker.old.seat) ticket }
+        ensures seat { D.serves self.now.desk.now worker.new.seat }
+        ensures done { IfOk result (λ done. D.tells → IsDoneOf (D.caller worker.new.seat) done) }
+        ensures fault { IfErr result (IsFaultOf D.may_fail) }
+    {
+        let fill_regions = self.plan.fill_regions();
+        let ready = &mut worker.ready;
+        let mut refused = None;
+        let queue = |source: u32| {
+            if source < fill_regions && !ready.push(source) {
+                refused = Some(source);
+            }
+        };
+        let done = self.fill_region(&mut worker.seat, ticket, queue)?;
+        match refused {
+            Some(source) => {
+                done.give_up();
+                Err(Fault::Overwritten(source))
+            }
+            None => Ok(done),
+        }
+    }
+
+    /// Fills the region of a ticket. `on_last` hears of each region that nobody has to read any more.
+    fn fill_region<F: FnMut(u32)>(
+        &self,
+        seat: &mut D::Seat,
+        ticket: Ticket,
+        mut on_last: F,
+    ) -> Result<Done, Fault>
+        requires seat { D.serves self.now.desk.now seat.old }
+        requires callable { F.IsAlwaysCallable on_last }
+        requires region { ticket.region < fill_count self.now.plan.now }
+        requires unused { IsUnused ticket }
+        requires ticket { D.tells → IsTicketOf (D.moves self.now.desk.now) (D.caller seat.old) ticket }
+        ensures seat { D.serves self.now.desk.now seat.new }
+        ensures done { IfOk result (λ done. D.tells → IsDoneOf (D.caller seat.new) done) }
+        ensures fault { IfErr result (IsFaultOf D.may_fail) }
+    {
+        let (done, _placed) = fill_region(
+            self.desk,
+            self.cells,
+            self.plan,
+            self.marks,
+            seat,
+            ticket,
+            &mut on_last,
+            self.wait,
+        )?;
+        Ok(done)
+    }
+}
+
+/// All workers work, each in a thread of its own where one can be started, and else after another.
+pub(crate) fn work_all<D: Desk + Sync, G: Gate + Sync, T: Threads + Sync, W: Wait + Sync>(
+    crew: &Crew<'_, D, G, W>,
+    workers: &mut [Worker<D::Seat>],
+    threads: &T,
+)
+where
+    D::Seat: Send,
+    requires some { 0 < length workers.old }
+    requires few { length workers.old ≤ 64 }
+    requires thieves { length crew.now.thieves.now ≡ length workers.old }
+    requires seats { All (λ w. D.serves crew.now.desk.now w.seat) workers.old }
+    ensures seats { All (λ w. D.serves crew.now.desk.now w.seat) workers.new }
+    ensures halts { All (λ w. IfErr w.end (HasCause D.may_fail
+        (λ r. MayBeRefused (λ n. G.may_refuse crew.now.gate.now n r) (length workers.old))
+        (fill_count crew.now.plan.now))) workers.new }
+{
+    let count = workers.len();
+    let (desk, cells, plan, marks) = (crew.desk, crew.cells, crew.plan, crew.marks);
+    let (gate, wait, thieves, stop) = (crew.gate, crew.wait, crew.thieves, crew.stop);
+    let work = |number: usize, worker: &mut Worker<D::Seat>|
+        requires { (D.moves desk.now ≡ image_table plan.now) × (cells.now ≡ plan.now) × (marks.now ≡ plan.now)
+            × (number < length thieves.now) × (number < 2 ^ 32) × D.serves desk.now worker.old.seat }
+    {
+        let own = Crew {
+            desk,
+            cells,
+            plan,
+            marks,
+            gate,
+            wait,
+            thieves,
+            stop,
+        };
+        own.work(number as u32, worker)
+    };
+    thread::for_each_mut(threads, workers, count, &work);
+}

@@ -1,0 +1,67 @@
+//! `Staff`: the workers of a collection, made before any of them begins.
+ghost use Rattle.std.specs.Prelude.{◌≡◌, ◌<◌, ◌≤◌, map, vec_len, IfOk, length};
+
+use crate::ready::{Ready, Thief};
+use crate::worker::{Halt, Worker};
+use std::alloc::{AllocError, Global};
+use summary::Plan;
+use summary::laws::region_data::regions_to_fill;
+
+/// The workers of a collection, and a handle to the queue of each.
+#[derive(Drop)]
+pub(crate) struct Staff<S> {
+    pub(crate) workers: Vec<Worker<S>>,
+    pub(crate) thieves: Vec<Thief>,
+}
+
+impl<S: Drop> Staff<S> {
+    /// A worker in each seat. The regions to fill that nobody has to read are queued, each in turn with the next worker.
+    ///
+    /// Each queue has room for all regions to fill. The error is that memory is refused.
+    pub(crate) fn new(alloc: Global, plan: &Plan, seats: Vec<S>) -> Result<Staff<S>, AllocError>
+        ensures seats { IfOk result (λ staff. map (λ w. w.seat) staff.workers.items ≡ seats.items) }
+        ensures thieves { IfOk result (λ staff. vec_len staff.thieves ≡ vec_len seats) }
+    {
+        let count = seats.len();
+        let mut workers = Vec::with_capacity(alloc, count)?;
+        let mut thieves = Vec::with_capacity(alloc, count)?;
+        for seat in seats {
+            let ready = first_regions(alloc, plan, workers.len(), count)?;
+            thieves.push(ready.thief()?)?;
+            workers.push(Worker {
+                seat,
+                ready,
+                end: Err(Halt::Stopped),
+            })?;
+        }
+        Ok(Staff { workers, thieves })
+    }
+}
+
+/// The queue with which a worker begins. Of the regions to fill that nobody has to read, counted from 0, it has those
+/// whose place leaves the worker's number over when divided by the number of workers.
+fn first_regions(
+    alloc: Global,
+    plan: &Plan,
+    number: usize,
+    workers: usize,
+) -> Result<Ready, AllocError>
+    requires { number < workers }
+{
+    regions_to_fill();
+    let _regions = plan.regions();
+    let fill_regions = plan.fill_regions();
+    let mut ready = Ready::new(alloc, fill_regions as usize)?;
+    let mut place = 0;
+    for region in 0..fill_regions {
+        if plan.region(region).count > 0 {
+            continue;
+        }
+        if place % workers == number {
+            let queued = ready.push(region);
+            prove!(queued);
+        }
+        place += 1;
+    }
+    Ok(ready)
+}

@@ -1,0 +1,61 @@
+//! `collect_stream`: a collection from bytes to bytes.
+ghost use Rattle.std.specs.Prelude.{◌≡◌, ◌≢◌, ◌⊎◌, ℕ, IsTrue, IfOk, OnErr, IfErr, IfSome, Some, Err};
+ghost use Rattle.std.specs.Io.KnownBytes.{Appends};
+ghost use Rattle.heap_image.specs.HeapImage.{HeapImage};
+ghost use Rattle.heap_image.specs.ImageText.{text, first_fault};
+ghost use Rattle.summary.specs.Compaction.{compact};
+ghost use Rattle.summary.specs.RegionData.{fill_count};
+ghost use Rattle.collector.specs.Collections.{figures_of, fault_of, AreNoneOrTooMany};
+ghost use Rattle.collector.specs.Halts.{MayBeRefused};
+ghost use Rattle.collector.specs.Streams.{IsRead, IsBegun, IsOfBytes};
+
+use crate::collection::collect;
+use crate::gate::Gate;
+use crate::outcome::{Figures, Refusal};
+use heap_image::{Fault, Intake, Outlet, read_image, write_image};
+use std::alloc::Global;
+use std::sync::Wait;
+use std::thread::Threads;
+
+/// Reads an image, compacts it as [`collect`] does, and writes the compaction.
+///
+/// Nothing is written before the collection has ended well. A fault of 1 to 10 is the first fault of the input, fault
+/// 13 says that a device has failed, and the others are those of `collect`. After fault 13 in writing, a beginning of
+/// the text was written.
+pub fn collect_stream<R: Intake, O: Outlet, G: Gate + Sync, T: Threads + Sync, W: Wait + Sync>(
+    alloc: Global,
+    reader: &mut R,
+    writer: &mut O,
+    workers: u32,
+    gate: &G,
+    threads: &T,
+    wait: &W,
+) -> Result<Figures, Fault>
+    // The whole input was the text of an image. The text of its compaction was written.
+    ensures text { IfOk result (λ figures. (image : HeapImage)
+        × IsRead image (R.left reader.old) (R.left reader.new)
+        × Appends (O.took writer.old) (O.took writer.new) (text (compact image))
+        × (figures ≡ figures_of image)) }
+    // Nothing was written, or the collection had ended well.
+    ensures written { OnErr result ((writer.new ≡ writer.old)
+        ⊎ IsBegun (R.left reader.old) (R.left reader.new) (O.took writer.old) (O.took writer.new)) }
+    ensures bytes { IfErr result (λ fault. IsOfBytes fault
+        → IfSome (R.left reader.old) (λ input. first_fault input ≡ Some fault)) }
+    ensures device { result ≡ Err Fault.Io
+        → IsTrue (R.has_failed reader.new) ⊎ IsTrue (O.has_failed writer.new) }
+    // Of an input that is told.
+    ensures workers { result ≡ Err Fault.Workers → IfSome (R.left reader.old) (λ _. AreNoneOrTooMany workers) }
+    ensures gate { result ≡ Err Fault.Gate → IfSome (R.left reader.old)
+        (λ _. (r : ℕ) × MayBeRefused (λ n. G.may_refuse gate.now n r) workers) }
+    ensures schedule { IfErr result (λ fault. IfSome (R.left reader.old)
+        (λ _. (line : ℕ) → fault ≢ Fault.Schedule line)) }
+{
+    let image = read_image(alloc, reader)?;
+    match collect(alloc, image, workers, gate, threads, wait) {
+        Ok((outcome, _finished)) => {
+            write_image(&outcome.image, writer)?;
+            Ok(outcome.figures)
+        }
+        Err(refusal) => Err(refusal.fault()),
+    }
+}
