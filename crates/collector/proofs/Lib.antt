@@ -7,3 +7,4 @@ pub mod Passes
 pub mod Settled
 pub mod Failing
 pub mod Reasons
+mod Losses

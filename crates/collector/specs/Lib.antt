@@ -6,3 +6,5 @@ pub mod Halts
 pub mod Collections
 pub mod Preparations
 pub mod Streams
+pub mod Records
+pub mod Recordings

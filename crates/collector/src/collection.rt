@@ -22,7 +22,7 @@ use std::sync::Wait;
 use std::thread::Threads;
 
 /// The most workers that a collection can have.
-const MOST_WORKERS: u32 = 64;
+pub(crate) const MOST_WORKERS: u32 = 64;
 
 /// Compacts an image. Its regions are filled by 1 to 64 workers, each in a thread of its own where one can be started.
 ///

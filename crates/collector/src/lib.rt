@@ -30,6 +30,10 @@ mod gate;
 mod outcome;
 mod prepared;
 mod ready;
+#[cfg(test)]
+mod record_tests;
+mod recorded;
+mod recording;
 mod staff;
 mod streaming;
 #[cfg(test)]
@@ -42,6 +46,7 @@ pub use collection::collect;
 pub use gate::{Gate, OpenGate};
 pub use outcome::{Figures, Outcome, Refusal};
 pub use ready::{Ready, Thief};
+pub use recorded::record;
 pub use streaming::collect_stream;
 pub use verdict::Verdict;
 pub use verification::verify;

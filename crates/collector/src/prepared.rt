@@ -146,7 +146,7 @@ fn finish(board: Board, workers: Vec<Worker<Pass>>, passes: Vec<Pass>) -> Result
 }
 
 /// The fault of the lowest worker that met one.
-fn first_fault<S>(workers: &[Worker<S>]) -> Option<Fault>
+pub(crate) fn first_fault<S>(workers: &[Worker<S>]) -> Option<Fault>
     ensures { IfSome result (λ fault. (k : ℕ) × (w : _) × (k < length workers.now)
         × (slice_index_or workers.now k w ≡ w) × (w.end ≡ Err (Failed fault))) }
 {

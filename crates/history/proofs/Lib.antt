@@ -28,3 +28,4 @@ mod Copies
 mod TextLaws
 mod Whole
 mod Replays
+mod Records

@@ -18,3 +18,4 @@ pub mod Replay
 pub mod Ledger
 pub mod Carrier
 pub mod Replayed
+pub mod Record

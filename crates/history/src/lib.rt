@@ -53,6 +53,7 @@ mod origins;
 mod plan_moves;
 mod progress;
 mod reading;
+mod record_laws;
 mod references;
 mod replay_laws;
 mod replayed;
@@ -82,6 +83,7 @@ pub use laws::{
 pub use line::Line;
 pub use locked_board::LockedBoard;
 pub use moves::Moves;
+pub use record_laws::checked_histories_are_records;
 pub use replay_laws::what_replays_keep;
 pub use replayed::{End, Replayed};
 pub use replaying::replay;

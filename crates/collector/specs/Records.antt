@@ -1,0 +1,17 @@
+-- Why a recorded collection is lost.
+use Rattle.std.specs.Prelude.{◌≡◌, ◌⊎◌, ℕ}
+use Rattle.heap_image.specs.declared.fault.Fault.{Fault}
+use Rattle.heap_image.specs.declared.fault.Fault.TheVariants.{Memory, Schedule, Gate}
+use Rattle.fill.specs.Drains.{IsOverwritten}
+
+-- a line of the schedule is at fault
+abbrev pub IsOfSchedule : Fault → Type 0
+IsOfSchedule fault = (line : ℕ) × (fault ≡ Schedule line)
+
+-- The gate refused, which it does only if it may; a cell, a queue or the recorder's board contradicts the order of work; memory for a line was refused; or a line is at fault.
+abbrev pub IsLossBy : Type 0 → Fault → Type 0
+IsLossBy may_refuse fault = ((fault ≡ Gate) × may_refuse) ⊎ (IsOverwritten fault ⊎ ((fault ≡ Memory) ⊎ IsOfSchedule fault))
+
+-- the same, of whatever gate
+abbrev pub IsLoss : Fault → Type 0
+IsLoss fault = IsLossBy (Unit {0}) fault

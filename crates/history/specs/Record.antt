@@ -1,0 +1,18 @@
+-- A schedule that was recorded to the end of a collection.
+use Rattle.std.specs.Prelude.{◌≡◌, ℕ, List}
+use Rattle.heap_image.specs.HeapImage.{HeapImage}
+use Rattle.history.specs.State.{AllAreSettled}
+use Rattle.history.specs.Schedule.{ScheduleView, schedule_of}
+use Rattle.history.specs.ImageMoves.{image_table}
+use Rattle.history.specs.WordMachine.{machine_of, IsAllowed}
+use Rattle.history.specs.Whole.{HasEachOnce}
+use Rattle.history.specs.declared.entry.Entry.{Entry}
+
+-- The schedule tells each call with its reply. The word machine of the image allows them, and settles with them all regions
+-- to be filled. Each of these is granted, completed and settled once, and each pair is drained once.
+pub record IsRecord (image : HeapImage) (workers : ℕ) (v : ScheduleView) : Type 0 where
+  pub log : List Entry
+  pub told : v ≡ schedule_of workers log
+  pub allowed : IsAllowed image workers log
+  pub settled : AllAreSettled (image_table image) (machine_of image log).known
+  pub once : HasEachOnce (image_table image) log
