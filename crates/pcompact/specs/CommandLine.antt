@@ -39,11 +39,16 @@ collect_command = with_rule (with_rule (with_rule (new_app (codes "collect")) (f
 abbrev pub verify_command : App
 verify_command = with_rule (with_rule (new_app (codes "verify")) (file_rule (codes "BEFORE"))) (file_rule (codes "AFTER"))
 
+abbrev pub record_command : App
+record_command =
+    with_rule (with_rule (with_rule (with_rule (new_app (codes "record")) (file_rule (codes "IMAGE"))) (file_rule (codes "OUT")))
+    (file_rule (codes "SCHEDULE"))) workers_rule
+
 abbrev pub replay_command : App
 replay_command = with_rule (with_rule (new_app (codes "replay")) (file_rule (codes "IMAGE"))) (file_rule (codes "SCHEDULE"))
 
 -- the program and its commands, as the reading of the words sees them
 abbrev pub commands : App
 commands =
-    with_subcommand (with_subcommand (with_subcommand (with_subcommand (with_subcommand program
-    board_command.top) summary_command.top) collect_command.top) verify_command.top) replay_command.top
+    with_subcommand (with_subcommand (with_subcommand (with_subcommand (with_subcommand (with_subcommand program
+    board_command.top) summary_command.top) collect_command.top) verify_command.top) record_command.top) replay_command.top

@@ -7,4 +7,5 @@ pub mod CommandLine
 pub mod Summary
 pub mod Verification
 pub mod Collection
+pub mod Recording
 pub mod Replaying

@@ -21,6 +21,8 @@ pub enum Request<'a> {
     Collect(Collection<'a>),
     /// The command `verify`.
     Verify(Comparison<'a>),
+    /// The command `record`.
+    Record(Recording<'a>),
     /// The command `replay`.
     Replay(Replay<'a>),
     /// To show this text, help or the version, of whole lines.
@@ -36,6 +38,15 @@ pub struct Collection<'a> {
     pub out: &'a str,
     /// How many workers share the work.
     pub workers: u32,
+}
+
+/// A collection of one file into another, with what the workers did in a third.
+#[derive(Drop)]
+pub struct Recording<'a> {
+    /// The collection.
+    pub collection: Collection<'a>,
+    /// The file for the schedule.
+    pub schedule: &'a str,
 }
 
 /// A replay of one file's schedule on another's image.
@@ -76,6 +87,7 @@ fn requested<'a>(alloc: Global, matches: &ArgMatches<'a>) -> Result<Request<'a>,
         Some(("summary", given)) => given.get_str("IMAGE").map(Request::Summary),
         Some(("collect", given)) => read_collection(given).map(Request::Collect),
         Some(("verify", given)) => read_comparison(given).map(Request::Verify),
+        Some(("record", given)) => read_recording(given).map(Request::Record),
         Some(("replay", given)) => read_replay(given).map(Request::Replay),
         _ => None,
     };
@@ -99,6 +111,14 @@ fn read_comparison<'a>(given: &ArgMatches<'a>) -> Option<Comparison<'a>> {
     Some(Comparison {
         before: given.get_str("BEFORE")?,
         after: given.get_str("AFTER")?,
+    })
+}
+
+/// What `record` is given.
+fn read_recording<'a>(given: &ArgMatches<'a>) -> Option<Recording<'a>> {
+    Some(Recording {
+        collection: read_collection(given)?,
+        schedule: given.get_str("SCHEDULE")?,
     })
 }
 

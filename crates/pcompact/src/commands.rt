@@ -1,8 +1,8 @@
 //! The commands of the program, and their texts.
-ghost use Rattle.std.specs.Prelude.{◌≡◌, false, IfOk};
+ghost use Rattle.std.specs.Prelude.{◌≡◌, codes, false, IfOk};
 ghost use Rattle.clap.specs.Words.{app_of, rule_of};
 ghost use Rattle.clap.specs.declared.builder.command.Command.TheViews.{out-Command as fields_of};
-ghost use Rattle.pcompact.specs.CommandLine.{board_command, collect_command, commands, file_rule, program, replay_command, summary_command, verify_command, workers_rule};
+ghost use Rattle.pcompact.specs.CommandLine.{board_command, collect_command, commands, file_rule, program, record_command, replay_command, summary_command, verify_command, workers_rule};
 
 use clap::{Arg, Command, value_parser};
 use std::alloc::{AllocError, Global};
@@ -24,6 +24,7 @@ pub fn command<'a>(alloc: Global) -> Result<Command<'a>, AllocError>
         .subcommand(summary(alloc)?)?
         .subcommand(collect(alloc)?)?
         .subcommand(verify(alloc)?)?
+        .subcommand(record(alloc)?)?
         .subcommand(replay(alloc)?)
 }
 
@@ -85,6 +86,22 @@ fn verify<'a>(alloc: Global) -> Result<Command<'a>, AllocError>
         ))
 }
 
+fn record<'a>(alloc: Global) -> Result<Command<'a>, AllocError>
+    ensures app { IfOk result (λ command. app_of command ≡ record_command) }
+    ensures local { IfOk result (λ command. (fields_of command).has_globals ≡ false) }
+{
+    Command::new(alloc, "record")
+        .about("Collects a heap image, and writes down what each worker did")
+        .arg(image(alloc))?
+        .arg(file(alloc, "OUT", "The file for the compacted image"))?
+        .arg(file(
+            alloc,
+            "SCHEDULE",
+            "The file for the schedule of the workers",
+        ))?
+        .arg(workers(alloc))
+}
+
 fn replay<'a>(alloc: Global) -> Result<Command<'a>, AllocError>
     ensures app { IfOk result (λ command. app_of command ≡ replay_command) }
     ensures local { IfOk result (λ command. (fields_of command).has_globals ≡ false) }
@@ -97,21 +114,24 @@ fn replay<'a>(alloc: Global) -> Result<Command<'a>, AllocError>
 
 /// The file that is read.
 fn image<'a>(alloc: Global) -> Arg<'a>
-    ensures { rule_of result ≡ file_rule (codes "IMAGE") }
+    ensures rule { rule_of result ≡ file_rule (codes "IMAGE") }
+    ensures local { result.global ≡ false }
 {
     file(alloc, "IMAGE", "A file with a heap image")
 }
 
 /// The name of a file, which must be given.
 fn file<'a>(alloc: Global, id: &'a str, help: &'a str) -> Arg<'a>
-    ensures { rule_of result ≡ file_rule id.now }
+    ensures rule { rule_of result ≡ file_rule id.now }
+    ensures local { result.global ≡ false }
 {
     Arg::new(alloc, id).help(help).required(true)
 }
 
 /// How many workers, which must be given.
 fn workers<'a>(alloc: Global) -> Arg<'a>
-    ensures { rule_of result ≡ workers_rule }
+    ensures rule { rule_of result ≡ workers_rule }
+    ensures local { result.global ≡ false }
 {
     Arg::new(alloc, "workers")
         .long("workers")

@@ -3,8 +3,9 @@ ghost use Rattle.std.specs.Prelude.{IfOk, string_bytes};
 ghost use Rattle.pcompact.specs.Summary.{IsSummary};
 
 use crate::collection::collect_into;
-use crate::command_line::{Collection, Comparison, Replay};
+use crate::command_line::{Collection, Comparison, Recording, Replay};
 use crate::failure::Failure;
+use crate::recording::record_into;
 use crate::replaying::replay_text;
 use crate::summarize::summarize;
 use crate::verification::verify_images;
@@ -44,6 +45,39 @@ pub fn collect<H: Files + AllocGlobal, T: Threads + Sync, L: Wait + Sync>(
     let image = &mut FromRead::new(image);
     let out = &mut ToWrite::new(out);
     let line = collect_into(host.alloc(), image, out, asked.workers, threads, wait)?;
+    Ok(line.into_bytes())
+}
+
+/// Collects one file into another and writes a third with the schedule, and answers what `record`
+/// prints. The first is opened before the others are made or emptied.
+pub fn record<H: Files + AllocGlobal, T: Threads + Sync, L: Wait + Sync>(
+    host: &H,
+    asked: &Recording<'_>,
+    threads: &T,
+    wait: &L,
+) -> Result<Vec<u8>, Failure> {
+    let Collection {
+        image,
+        out,
+        workers,
+    } = asked.collection;
+    must_differ(host.alloc(), image, out)?;
+    must_differ(host.alloc(), image, asked.schedule)?;
+    must_differ(host.alloc(), out, asked.schedule)?;
+    let image = opened(fs::open(host, image))?;
+    let out = opened(fs::create(host, out))?;
+    let mut schedule = opened(fs::create(host, asked.schedule))?;
+    let image = &mut FromRead::new(image);
+    let out = &mut ToWrite::new(out);
+    let line = record_into(
+        host.alloc(),
+        image,
+        out,
+        &mut schedule,
+        workers,
+        threads,
+        wait,
+    )?;
     Ok(line.into_bytes())
 }
 

@@ -67,6 +67,7 @@ fn answer<H: Files + AllocGlobal, T: Threads + Sync, L: Wait + Sync>(
         Request::Summary(image) => Ok(files::summary(host, image, threads)?.into_bytes()),
         Request::Collect(asked) => files::collect(host, &asked, threads, wait),
         Request::Verify(asked) => files::verify(host, &asked, threads),
+        Request::Record(asked) => files::record(host, &asked, threads, wait),
         Request::Replay(asked) => files::replay(host, &asked, threads),
         Request::Show(text) => Ok(text.into_bytes()),
     }

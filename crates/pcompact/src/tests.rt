@@ -27,6 +27,7 @@ Commands:
   summary  Prints what a collection of a heap image will do, region by region
   collect  Collects a heap image, and writes the compacted one
   verify   Says whether a heap image is the compaction of another, or where they differ
+  record   Collects a heap image, and writes down what each worker did
   replay   Follows a schedule word by word, and prints it with each reply
   help     Print this message or the help of the given subcommand(s)
 
@@ -65,7 +66,7 @@ const VERSION: &str = "pcompact 0.1.0\n";
 
 const NO_COMMAND: &str = "\
 error: 'pcompact' requires a subcommand but one was not provided
-  [subcommands: board, summary, collect, verify, replay, help]
+  [subcommands: board, summary, collect, verify, record, replay, help]
 
 Usage: pcompact <COMMAND>
 

@@ -197,6 +197,28 @@ fn verify_tells_the_first_difference(rt: HostRuntime) -> Result<(), Fail> {
     assert_verdict(&rt, BASE_FRONT, 1, "", FAULT_5)
 }
 
+#[test]
+fn record_writes_what_the_worker_did(rt: HostRuntime) -> Result<(), Fail> {
+    let image = "record_test.image";
+    let out = "record_test.out";
+    let schedule = "record_test.schedule";
+    fs::write(&rt, image, base(rt.alloc())?.as_slice())?;
+    let words = ["record", image, out, schedule, "--workers", "1"];
+    assert_run(&rt, &words, 0, COLLECTED, "")?;
+    let written = fs::read(&rt, schedule)?;
+    assert!(rt; written.as_slice() == SCHEDULE.as_bytes(), "the schedule");
+    let collected = fs::read(&rt, out)?;
+    assert!(rt;
+        collected.as_slice() == compacted(rt.alloc(), BASE_FRONT, 129)?.as_slice(),
+        "the image"
+    );
+    assert_run(&rt, &["replay", image, schedule], 0, REPLAYED, "")?;
+    fs::remove_file(&rt, image)?;
+    fs::remove_file(&rt, out)?;
+    fs::remove_file(&rt, schedule)?;
+    assert_run(&rt, &words, 1, "", FAULT_13)
+}
+
 /// Asserts what `replay` answers of the base heap and a file with this schedule.
 fn assert_replay<R: Files + AllocGlobal + Threads + Wait + Abort + Sync>(
     rt: &R,
@@ -217,7 +239,6 @@ fn assert_replay<R: Files + AllocGlobal + Threads + Wait + Abort + Sync>(
 
 #[test]
 fn replay_tells_the_replies_or_the_line(rt: HostRuntime) -> Result<(), Fail> {
-    assert_replay(&rt, SCHEDULE, 0, REPLAYED, "")?;
     assert_replay(
         &rt,
         "schedule 1 1\n0 claim 0 yes\n0 claim 1 ?\n",
