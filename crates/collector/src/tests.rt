@@ -9,7 +9,7 @@ use summary::compact_plainly;
 
 const DEAD: u64 = 999;
 
-const BASE_WORDS: [u64; 32] = [
+pub(crate) const BASE_WORDS: [u64; 32] = [
     0x0100_0002_0000_0003,
     6,
     21,
@@ -44,7 +44,7 @@ const BASE_WORDS: [u64; 32] = [
     DEAD,
 ];
 
-const BASE_LIVE: [u64; 4] = [0, 5, 12, 20];
+pub(crate) const BASE_LIVE: [u64; 4] = [0, 5, 12, 20];
 
 /// The words of the base heap's compaction, with allowance 0.
 const MOVED_WORDS: [u64; 32] = [
@@ -88,7 +88,12 @@ const MOVED_LIVE: [u64; 4] = [0, 3, 7, 9];
 const MAGIC: u64 = 0x3130_5041_4548_4350;
 
 /// The image of region log 3 with these words and live addresses.
-fn image_of(alloc: Global, allowance: u64, words: &[u64], live: &[u64]) -> Result<Image, Fail> {
+pub(crate) fn image_of(
+    alloc: Global,
+    allowance: u64,
+    words: &[u64],
+    live: &[u64],
+) -> Result<Image, Fail> {
     let front = [
         MAGIC,
         3 | (live.len() as u64) << 32,
