@@ -2,6 +2,7 @@
 //!
 //! - [`collect`] compacts an image by 1 to 64 workers, each in a thread of its own where one can be started.
 //!   [`collect_stream`] does so from bytes to bytes.
+//! - [`record`] collects as `collect` does, and gives the schedule of all that the workers did.
 //! - [`verify`] says whether an image is the compaction of another, and if not, where it first differs: in its shape,
 //!   its words or its live list.
 //! - [`Ready`] holds the regions that one worker has found ready to be filled, first in first out. Its room is reserved
@@ -15,7 +16,8 @@
 //! the image's moves, with one grant, one completion and one settling of each region to fill and one drain of each
 //! pair, for every number of workers and however their steps fall. Each refusal has its cause in its clause, and `Kept`
 //! hands the image back unchanged. `collect_stream` at Ok has read all of its input, the text of an image, and written
-//! the text of its compaction; before a collection has ended well it has written nothing.
+//! the text of its compaction; before a collection has ended well it has written nothing. `record` at Ok gives the
+//! compaction too, and a schedule that the word machine allows and that settles all regions to fill.
 //!
 //! `verify` answers `Same` exactly where the second image is the compaction of the first by the definitions of
 //! `summary`, and else the first difference; its only error is want of memory. `push` answers true exactly while fewer
@@ -25,8 +27,9 @@
 //! # What is only tested, or not said
 //!
 //! That a collection ends, that several threads run, and that fault 15 doesn't come: tests with gates show it. That the
-//! fault answered is the lowest worker's. That what a `Thief` takes was pushed, and that each number is taken once: two threads that steal show it. The order
-//! in which `take` asks. No contract says how long a call takes, nor that `verify` has memory enough.
+//! fault answered is the lowest worker's. That the schedule of `record` is what its own workers did: orders that a gate
+//! forces show it. That what a `Thief` takes was pushed, and that each number is taken once: two threads that steal show
+//! it. The order in which `take` asks. No contract says how long a call takes, nor that `verify` has memory enough.
 #![tactic(auto)]
 
 mod clean_up;
