@@ -1,8 +1,8 @@
 -- The first bit from a place on that is not set.
 use Rattle.std.proofs.Common.{◌≡◌, ℕ, zero, suc, ◌+◌, ◌-◌, ◌*◌, ◌/◌, ◌%◌, ◌^◌, ◌≤◌, ◌<◌, inl, inr, Bool, true, false, ◌&&◌, not, eqb, leb, List, length, get_or, drop, Some, None, refl, sym, ◌∙◌, ap, arith, bit_and}
-use Rattle.std.specs.Int.{bit_at, bit_not, w64}
-use Rattle.std.proofs.lemmas.Bool.{true≢false, cases_Bool, cases_lt, and_parts, leb-true, le-leb, eqb-true, eqb-false, ltb-false, not-false, not-true, cond-true, not_from_true, not_from_false}
-use Rattle.std.proofs.lemmas.List.{get_or-drop, length-drop}
+use Rattle.std.specs.Int.{bit_at, w64}
+use Rattle.std.proofs.lemmas.Bool.{true≢false, cases_Bool, cases_lt, and_parts, leb-true, le-leb, eqb-true, eqb-false, ltb-false, not-false, not-true, cond-true}
+use Rattle.std.proofs.lemmas.List.{get_or-drop}
 use Rattle.std.proofs.lemmas.List.Sums.{fails_before_first}
 use Rattle.std.proofs.lemmas.List.Quantifiers.{position-Some}
 use Rattle.std.specs.List.{position, position_or_len}

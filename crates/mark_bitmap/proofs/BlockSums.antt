@@ -25,6 +25,23 @@ blocks_divide log = elim (cases_lt log 7) [
       (2 ^ (log - 7), omega arith, omega arith, parts ∙ mul_comm 128 (2 ^ (log - 7)) ∙ ap (λ n. 2 ^ (log - 7) * n) (sym is))
 ]
 
+-- the power of two that a block has words
+pub block_log : (log : ℕ) → 2 ^ min log 7 ≡ min 128 (2 ^ log)
+block_log log = elim (cases_lt log 7) [
+  | inl small ↦
+      let below : 2 ^ log < 2 ^ 7 = pow_below log 7 small in
+      let own : min log 7 ≡ log = omega arith in
+      let is : 2 ^ log ≡ min 128 (2 ^ log) = omega arith in
+      ap (λ n. 2 ^ n) own ∙ is
+  | inr large ↦
+      let e : 7 + (log - 7) ≡ log = omega arith in
+      let some : 1 ≤ 2 ^ (log - 7) = one-le-pow (log - 7) 2 (omega arith) in
+      let parts : 2 ^ log ≡ 128 * 2 ^ (log - 7) = sym (ap (λ n. 2 ^ n) e) ∙ pow-add 2 7 (log - 7) in
+      let own : min log 7 ≡ 7 = omega arith in
+      let is : 2 ^ 7 ≡ min 128 (2 ^ log) = omega arith in
+      ap (λ n. 2 ^ n) own ∙ is
+]
+
 -- where a place that is no start of a region lies, the place one block before it lies too
 same_region : (w m r b : ℕ) → 0 < m → 0 < w → r ≡ m * w → ((suc b * w) % r ≡ 0 → ⊥) → (b * w) / r ≡ (suc b * w) / r
 same_region w m r b some_m some_w is inside =

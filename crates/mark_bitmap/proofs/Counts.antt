@@ -116,6 +116,37 @@ count-more words first n total word is so_far =
     join : (a b c d e f : ℕ) → a ≡ b + c → c ≡ d → e ≡ b → a ≡ f → e + d ≡ f
     join a b c d e f h1 h2 h3 h4 = omega arith
 
+-- one more whole word, from the first on
+pub count-next : (words : List ℕ) (n total : ℕ) → total ≡ count_by (has words) (range_with_len 0 (64 * n)) → total + count_ones (get_or words n 0 % 2 ^ 64) ≡ count_by (has words) (range_with_len 0 (64 * (n + 1)))
+count-next words n total so_far =
+    let none : 64 * 0 ≡ 0 = omega arith in
+    let at : n ≡ 0 + n = omega arith in
+    count-more words 0 n total (get_or words n 0) (ap (λ k. get_or words k 0) at) (so_far ∙ ap (λ a. count_by (has words) (range_with_len a (64 * n))) (sym none))
+    ∙ ap (λ a. count_by (has words) (range_with_len a (64 * (n + 1)))) none
+
+-- no word, or one
+pub count-at_most_one : (words : List ℕ) (first n : ℕ) → n ≤ 1 → n * count_ones (get_or words first 0 % 2 ^ 64) ≡ count_by (has words) (range_with_len (64 * first) (64 * n))
+count-at_most_one words first zero h = omega arith
+count-at_most_one words first (suc zero) h =
+    let one : 1 * count_ones (get_or words first 0 % 2 ^ 64) ≡ count_ones (get_or words first 0 % 2 ^ 64) = omega arith in
+    let long : 64 ≡ 64 * 1 = omega arith in
+    one ∙ sym (count-in_word words first 64 (omega arith)) ∙ ap (λ m. count_by (has words) (range_with_len (64 * first) m)) long
+count-at_most_one words first (suc (suc n)) h = let no : ⊥ = omega arith in absurd no
+
+-- the bits of some of the words are those of all words from a place on
+pub count-part : (part words : List ℕ) (first n : ℕ) → ((i : ℕ) → i < n → get_or part i 0 ≡ get_or words (first + i) 0) → count_by (has part) (range_with_len 0 (64 * n)) ≡ count_by (has words) (range_with_len (64 * first) (64 * n))
+count-part part words first n same = count-same (has part) (has words) 0 (64 * first) (64 * n) (λ j l. at j l)
+  where
+    at : (j : ℕ) → j < 64 * n → has part (0 + j) ≡ has words (64 * first + j)
+    at j l =
+        let low : (0 + j) / 64 ≡ j / 64 = omega arith in
+        let high : first + j / 64 ≡ (64 * first + j) / 64 = omega arith in
+        let bit : (0 + j) % 64 ≡ (64 * first + j) % 64 = omega arith in
+        ap (λ q. eqb (bit_at (get_or part q 0) ((0 + j) % 64)) 1) low
+        ∙ ap (λ w. eqb (bit_at w ((0 + j) % 64)) 1) (same (j / 64) (omega arith))
+        ∙ ap (λ q. eqb (bit_at (get_or words q 0) ((0 + j) % 64)) 1) high
+        ∙ ap (λ b. eqb (bit_at (get_or words ((64 * first + j) / 64) 0) b) 1) bit
+
 -- whole words, and the parts of a word at both ends
 pub count-ends : (p : ℕ → Bool) (from to whole before after : ℕ) → from ≤ to → whole ≡ count_by p (range_with_len (64 * (from / 64)) (64 * (to / 64 - from / 64))) → after ≡ count_by p (range_with_len (to - to % 64) (to % 64)) → before ≡ count_by p (range_with_len (from - from % 64) (from % 64)) → whole + after ≡ before + count_by p (range_with_len from (to - from))
 count-ends p from to whole before after h e f g =

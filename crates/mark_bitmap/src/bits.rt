@@ -136,13 +136,26 @@ impl Bits {
         requires inside { to < room self.now }
         ensures { result ≡ count_by (has self.now) (range_with_len from (to - from)) }
     {
-        let first = (from / 64) as usize;
-        let last = (to / 64) as usize;
-        let mut whole = 0;
-        for word in &self.words[first..last] {
-            whole += ones(*word);
-        }
+        let whole = self.count_words((from / 64) as usize, (to / 64) as usize);
         whole + self.count_below(to) - self.count_below(from)
+    }
+
+    /// How many addresses are in the set by the words with an index from `first` up to `last`, itself not included. At most
+    /// one word, as within a block, is counted without a loop.
+    #[inline]
+    fn count_words(&self, first: usize, last: usize) -> u64
+        requires ordered { first ≤ last }
+        requires inside { last < length self.now }
+        requires few { last < 2 ^ 58 }
+        ensures value { result ≡ count_by (has self.now) (range_with_len (64 * first) (64 * (last - first))) }
+        ensures few { result ≤ 64 * (last - first) }
+    {
+        let words = last - first;
+        if words <= 1 {
+            words as u64 * ones(self.words[first])
+        } else {
+            ones_of(&self.words[first..last])
+        }
     }
 
     /// How many addresses below `i` that lie in the same word are in the set.
@@ -198,6 +211,18 @@ fn lowest(word: u64) -> u64
     ensures least { (j : ℕ) → j < result → bit_at word j ≡ 0 }
 {
     u64::from(word.trailing_zeros())
+}
+
+/// How many bits of some words are set.
+fn ones_of(words: &[u64]) -> u64
+    requires { length words.now < 2 ^ 58 }
+    ensures { result ≡ count_by (has words.now) (range_with_len 0 (64 * length words.now)) }
+{
+    let mut count = 0;
+    for word in words {
+        count += ones(*word);
+    }
+    count
 }
 
 /// How many bits of a word are set.

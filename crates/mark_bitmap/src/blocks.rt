@@ -1,5 +1,5 @@
 //! Blocks: how many live words of its region lie before each.
-ghost use Rattle.std.specs.Prelude.{◌≡◌, ℕ, ◌<◌, length, map, IfOk};
+ghost use Rattle.std.specs.Prelude.{◌≡◌, ℕ, ◌^◌, ◌<◌, ◌≤◌, length, map, IfOk};
 ghost use Rattle.std.specs.List.{range_with_len};
 ghost use Rattle.heap_image.specs.HeapImage.{IsValid, region_words, is_live_word};
 ghost use Rattle.mark_bitmap.specs.Bits.{has};
@@ -15,6 +15,14 @@ pub(crate) fn words_of_block(image: &Image) -> u64
     ensures valid { IsValid image.now }
 {
     words_of_region(image).min(128)
+}
+
+/// The power of two that a block has words.
+pub(crate) fn log_of_block(image: &Image) -> u32
+    ensures value { 2 ^ result ≡ block_words image.now }
+    ensures few { result ≤ 7 }
+{
+    image.region_log().min(7)
 }
 
 /// The number of words of a region.

@@ -1,11 +1,11 @@
 //! `Marks`: the mark bitmaps of an image.
-ghost use Rattle.std.specs.Prelude.{◌≡◌, ◌<◌, ◌≤◌, IsTrue, IfOk, MatchOption};
+ghost use Rattle.std.specs.Prelude.{◌≡◌, ◌/◌, ◌<◌, ◌≤◌, IsTrue, IfOk, MatchOption};
 ghost use Rattle.heap_image.specs.HeapImage.{IsValid, heap_words, is_live_word, is_dead_word, live_words, size_at};
 ghost use Rattle.mark_bitmap.specs.Bits.{NoneFrom, IsFirstFrom};
 ghost use Rattle.mark_bitmap.specs.Marks.{is_begin, is_end, block_words, block_count, block_live};
 
 use crate::bits::Bits;
-use crate::blocks::{live_before_blocks, words_of_block};
+use crate::blocks::{live_before_blocks, log_of_block};
 use crate::objects::mark_objects;
 use heap_image::Image;
 use std::alloc::{AllocError, Global};
@@ -18,7 +18,7 @@ use std::snapshot::Snapshot;
 #[derive(Drop)]
 pub struct Marks {
     image: Snapshot<Image>,
-    block_words: u64,
+    block_log: u32,
     begins: Bits,
     ends: Bits,
     live: Bits,
@@ -33,7 +33,7 @@ impl Model for Marks {
 
     ghost view = { λ m. m.image.value };
 
-    ghost invariant = { λ m. AreMarks m.image.value m.block_words m.begins m.ends m.live m.live_before.items };
+    ghost invariant = { λ m. AreMarks m.image.value m.block_log m.begins m.ends m.live m.live_before.items };
 }
 
 impl Marks {
@@ -51,7 +51,7 @@ impl Marks {
         let live_before = live_before_blocks(alloc, image, &live)?;
         Ok(Marks {
             image: Snapshot::of(image),
-            block_words: words_of_block(image),
+            block_log: log_of_block(image),
             begins,
             ends,
             live,
@@ -130,7 +130,15 @@ impl Marks {
         ensures value { result ≡ block_words self.now }
         ensures valid { IsValid self.now }
     {
-        self.block_words
+        1 << self.block_log
+    }
+
+    /// The number of the block that address `a` lies in.
+    #[inline]
+    pub fn block_of(&self, a: u64) -> u64
+        ensures { result ≡ a / block_words self.now }
+    {
+        a >> self.block_log
     }
 
     /// How many live words there are from the start of its region up to the start of block `b`.

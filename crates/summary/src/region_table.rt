@@ -116,9 +116,9 @@ impl RegionTable {
             return a;
         }
         let region = self.regions[(a >> self.region_log) as usize];
-        let block_words = marks.block_words();
-        let block = a / block_words;
-        let before = u64::from(marks.block_live(block)) + marks.live_words(block * block_words, a);
+        let block = marks.block_of(a);
+        let start = block * marks.block_words();
+        let before = u64::from(marks.block_live(block)) + marks.live_words(start, a);
         region.destination + before
     }
 }

@@ -1,11 +1,10 @@
-use Rattle.std.proofs.Common.{◌≡◌, ℕ, ◌+◌, ◌-◌, ◌*◌, ◌/◌, ◌%◌, List, length, get_or, take, drop, ap, ◌∙◌, sym, subst, arith, bit_and, Some, None}
+use Rattle.std.proofs.Common.{◌≡◌, ℕ, ◌+◌, ◌-◌, ◌*◌, ◌/◌, ◌%◌, List, length, get_or, take, drop, ap, ◌∙◌, sym, arith, bit_and, Some, None}
 use Rattle.std.specs.List.{position}
 use Rattle.std.proofs.lemmas.Bool.{ltb-true}
 use Rattle.std.proofs.lemmas.List.{length-drop, get_or-drop, get_or_default}
-use Rattle.mark_bitmap.specs.Bits.{has, IsFirstFrom}
 use Rattle.mark_bitmap.proofs.Masks.{low_mask}
 use Rattle.mark_bitmap.proofs.Firsts.{words_behind}
-use Rattle.mark_bitmap.proofs.Absent.{AllBefore, not_full, first-in_word, lack-first, lack-behind, all-first, all-second, all-behind, full-none, full-some, found-lack, absent-past, first-past}
+use Rattle.mark_bitmap.proofs.Absent.{AllBefore, not_full, first-in_word, lack-first, lack-behind, all-first, all-second, all-behind, full-none, full-some, found-lack, first-past}
 use Rattle.mark_bitmap.proofs.bits.Bits.next_absent.Goals as goal
 
 pub returns-then-rest-ne0 : goal.returns-then-rest-ne0

@@ -38,16 +38,20 @@ block_live-requires c =
     let behind = c.if-a-self.false in
     let goes = goes_by_block image t.valid a (subst (λ (i : HeapImage). Contains i.live a) (sym c.self.view_is) c.requires.live) (omega arith) in
     let marks : c.args.marks.now ≡ image = c.requires.same ∙ sym c.self.view_is in
-    let words : c.block_words-block_words.result ≡ block_words image = c.block_words-block_words.ensures.value ∙ ap block_words marks in
-    let block : a / c.block_words-block_words.result ≡ a / block_words image = ap (λ n. a / n) words in
+    let words : c.block_words.result ≡ block_words image = c.block_words.ensures.value ∙ ap block_words marks in
+    let block : c.block_of-block.result ≡ a / block_words image = c.block_of-block.ensures ∙ ap (λ i. a / block_words i) marks in
     let inside = goes.block in
     let blocks = ap block_count marks in
-    let fits : a / c.block_words-block_words.result < block_count image = omega arith in
-    subst (λ i. a / c.block_words-block_words.result < block_count i) (sym marks) fits
+    let fits : c.block_of-block.result < block_count image = omega arith in
+    subst (λ i. c.block_of-block.result < block_count i) (sym marks) fits
 
 pub live_words-requires-clause-ordered : goal.live_words-requires-clause-ordered
 live_words-requires-clause-ordered c =
-    div-mul-le_self c.args.a c.block_words-block_words.result
+    let a = c.args.a in
+    let w : ℕ = block_words c.args.marks.now in
+    let start : c.block_of-block.result * c.block_words.result ≡ a / w * w = ap (λ n. n * c.block_words.result) c.block_of-block.ensures ∙ ap (λ n. a / w * n) c.block_words.ensures.value in
+    let down : a / w * w ≤ a = div-mul-le_self a w in
+    omega arith
 
 pub live_words-requires-clause-inside : goal.live_words-requires-clause-inside
 live_words-requires-clause-inside c =
@@ -70,10 +74,10 @@ overflow_add-before c =
     let behind = c.if-a-self.false in
     let goes = goes_by_block image t.valid a (subst (λ (i : HeapImage). Contains i.live a) (sym c.self.view_is) c.requires.live) (omega arith) in
     let marks : c.args.marks.now ≡ image = c.requires.same ∙ sym c.self.view_is in
-    let words : c.block_words-block_words.result ≡ block_words image = c.block_words-block_words.ensures.value ∙ ap block_words marks in
-    let block : a / c.block_words-block_words.result ≡ a / block_words image = ap (λ n. a / n) words in
-    let sum : c.from.result ≡ block_live image (a / block_words image) = c.from.ensures ∙ c.block_live.ensures ∙ ap (λ i. block_live i (a / c.block_words-block_words.result)) marks ∙ ap (block_live image) block in
-    let count : c.live_words.result ≡ live_words image (a / block_words image * block_words image) a = c.live_words.ensures ∙ ap (λ i. live_words i (a / c.block_words-block_words.result * c.block_words-block_words.result) a) marks ∙ ap (λ n. live_words image (a / n * n) a) words in
+    let words : c.block_words.result ≡ block_words image = c.block_words.ensures.value ∙ ap block_words marks in
+    let block : c.block_of-block.result ≡ a / block_words image = c.block_of-block.ensures ∙ ap (λ i. a / block_words i) marks in
+    let sum : c.from.result ≡ block_live image (a / block_words image) = c.from.ensures ∙ c.block_live.ensures ∙ ap (λ i. block_live i c.block_of-block.result) marks ∙ ap (block_live image) block in
+    let count : c.live_words.result ≡ live_words image (a / block_words image * block_words image) a = c.live_words.ensures ∙ ap (λ i. live_words i (c.block_of-block.result * c.block_words.result) a) marks ∙ ap (λ n. live_words image (n * c.block_words.result) a) block ∙ ap (λ n. live_words image (a / block_words image * n) a) words in
     let down = goes.down in
     let to = goes.to in
     let size = c.ranges.a.fits in
@@ -89,10 +93,10 @@ overflow_add-result c =
     let goes = goes_by_block image t.valid a (subst (λ (i : HeapImage). Contains i.live a) (sym c.self.view_is) c.requires.live) (omega arith) in
     let at : a / 2 ^ c.self.inside.region_log ≡ region_of image a = ap (λ n. a / 2 ^ n) t.region_log in
     let marks : c.args.marks.now ≡ image = c.requires.same ∙ sym c.self.view_is in
-    let words : c.block_words-block_words.result ≡ block_words image = c.block_words-block_words.ensures.value ∙ ap block_words marks in
-    let block : a / c.block_words-block_words.result ≡ a / block_words image = ap (λ n. a / n) words in
-    let sum : c.from.result ≡ block_live image (a / block_words image) = c.from.ensures ∙ c.block_live.ensures ∙ ap (λ i. block_live i (a / c.block_words-block_words.result)) marks ∙ ap (block_live image) block in
-    let count : c.live_words.result ≡ live_words image (a / block_words image * block_words image) a = c.live_words.ensures ∙ ap (λ i. live_words i (a / c.block_words-block_words.result * c.block_words-block_words.result) a) marks ∙ ap (λ n. live_words image (a / n * n) a) words in
+    let words : c.block_words.result ≡ block_words image = c.block_words.ensures.value ∙ ap block_words marks in
+    let block : c.block_of-block.result ≡ a / block_words image = c.block_of-block.ensures ∙ ap (λ i. a / block_words i) marks in
+    let sum : c.from.result ≡ block_live image (a / block_words image) = c.from.ensures ∙ c.block_live.ensures ∙ ap (λ i. block_live i c.block_of-block.result) marks ∙ ap (block_live image) block in
+    let count : c.live_words.result ≡ live_words image (a / block_words image * block_words image) a = c.live_words.ensures ∙ ap (λ i. live_words i (c.block_of-block.result * c.block_words.result) a) marks ∙ ap (λ n. live_words image (n * c.block_words.result) a) block ∙ ap (λ n. live_words image (a / block_words image * n) a) words in
     let down = goes.down in
     let to = goes.to in
     let region = c.index-region.ensures ∙ region_at image c.self.inside.regions.items t.regions_are (region_of image a) _ c.index-region.result.now goes.region at in
@@ -110,10 +114,10 @@ returns c =
     let goes = goes_by_block image t.valid a (subst (λ (i : HeapImage). Contains i.live a) (sym c.self.view_is) c.requires.live) (omega arith) in
     let at : a / 2 ^ c.self.inside.region_log ≡ region_of image a = ap (λ n. a / 2 ^ n) t.region_log in
     let marks : c.args.marks.now ≡ image = c.requires.same ∙ sym c.self.view_is in
-    let words : c.block_words-block_words.result ≡ block_words image = c.block_words-block_words.ensures.value ∙ ap block_words marks in
-    let block : a / c.block_words-block_words.result ≡ a / block_words image = ap (λ n. a / n) words in
-    let sum : c.from.result ≡ block_live image (a / block_words image) = c.from.ensures ∙ c.block_live.ensures ∙ ap (λ i. block_live i (a / c.block_words-block_words.result)) marks ∙ ap (block_live image) block in
-    let count : c.live_words.result ≡ live_words image (a / block_words image * block_words image) a = c.live_words.ensures ∙ ap (λ i. live_words i (a / c.block_words-block_words.result * c.block_words-block_words.result) a) marks ∙ ap (λ n. live_words image (a / n * n) a) words in
+    let words : c.block_words.result ≡ block_words image = c.block_words.ensures.value ∙ ap block_words marks in
+    let block : c.block_of-block.result ≡ a / block_words image = c.block_of-block.ensures ∙ ap (λ i. a / block_words i) marks in
+    let sum : c.from.result ≡ block_live image (a / block_words image) = c.from.ensures ∙ c.block_live.ensures ∙ ap (λ i. block_live i c.block_of-block.result) marks ∙ ap (block_live image) block in
+    let count : c.live_words.result ≡ live_words image (a / block_words image * block_words image) a = c.live_words.ensures ∙ ap (λ i. live_words i (c.block_of-block.result * c.block_words.result) a) marks ∙ ap (λ n. live_words image (n * c.block_words.result) a) block ∙ ap (λ n. live_words image (a / block_words image * n) a) words in
     let down = goes.down in
     let to = goes.to in
     let region = c.index-region.ensures ∙ region_at image c.self.inside.regions.items t.regions_are (region_of image a) _ c.index-region.result.now goes.region at in
