@@ -7,8 +7,8 @@ use Rattle.std.specs.Option.{option_or}
 use Rattle.std.specs.List.{concat}
 use Rattle.heap_image.specs.Header.{size_of, references_of, kind_of}
 use Rattle.heap_image.specs.HeapImage.{HeapImage, image_of, size_at}
-use Rattle.heap_image.specs.ImageText.{is_unsound, unsound_header, overlapping, first_some}
-use Rattle.heap_image.specs.declared.fault.Fault.TheVariants.{Header, Overlap}
+use Rattle.heap_image.specs.ImageText.{is_unsound, unsound_header, overlapping, dangling, first_some}
+use Rattle.heap_image.specs.declared.fault.Fault.TheVariants.{Header, Overlap, Reference}
 use Rattle.heap_image.proofs.Finds.{find_first}
 use Rattle.heap_image.proofs.Overlaps.{last_end_of, overlap_of, one_if, overlap_more, last_end_more}
 
@@ -40,5 +40,5 @@ module _ (log : ℕ) (regions : List (List ℕ)) (live : List ℕ) (words i : �
       chosen false = refl
 
   -- the first unsound header decides
-  pub header_first : find (is_unsound image) (take i live) ≡ None → is_unsound image a ≡ true → first_some (option_map Header (unsound_header image) ∷ option_map Overlap (overlapping image) ∷ []) ≡ Some (Header a)
-  header_first none bad = ap (λ o. first_some (option_map Header o ∷ option_map Overlap (overlapping image) ∷ [])) (find_first (is_unsound image) live i 0 inside none bad)
+  pub header_first : find (is_unsound image) (take i live) ≡ None → is_unsound image a ≡ true → first_some (option_map Header (unsound_header image) ∷ option_map Overlap (overlapping image) ∷ option_map (λ (p : ℕ × ℕ). Reference p.0 p.1) (dangling image) ∷ []) ≡ Some (Header a)
+  header_first none bad = ap (λ o. first_some (option_map Header o ∷ option_map Overlap (overlapping image) ∷ option_map (λ (p : ℕ × ℕ). Reference p.0 p.1) (dangling image) ∷ [])) (find_first (is_unsound image) live i 0 inside none bad)

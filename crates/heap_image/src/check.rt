@@ -32,9 +32,8 @@ pub(crate) fn check_live_list(
     if let Some(index) = misplaced_index(live, words) {
         return Err(Fault::LiveOrder(index));
     }
-    check_objects(regions, region_log, words, live)?;
     let bits = begin_bits(alloc, live, words)?;
-    check_references(regions, region_log, words, live, bits.as_slice())
+    check_objects(regions, region_log, words, live, bits.as_slice())
 }
 
 /// The least index of an address that is outside the heap or not above the one before it.
@@ -67,36 +66,9 @@ fn is_unsound(word: u64, a: u64, words: u64) -> bool
         || a + u64::from(size) > words
 }
 
-/// Whether each live address has the header of an object that fits, and no object begins before the end of the one
-/// before it.
-fn check_objects(regions: &[Region], region_log: u32, words: u64, live: &[u64]) -> Result<(), Fault>
-    requires heap { FormHeap region_log regions.now }
-    requires words { words ≡ length (concat regions.now) }
-    requires inside { All (λ a. a < words) live.now }
-    ensures ok { let image = image_of region_log 0 regions.now live.now in
-        OnOk result ((unsound_header image ≡ None) × (overlapping image ≡ None)) }
-    ensures fault { let image = image_of region_log 0 regions.now live.now in
-        IfErr result (λ fault. first_some (option_map Fault.Header (unsound_header image)
-        ∷ option_map Fault.Overlap (overlapping image) ∷ []) ≡ Some fault) }
-{
-    let mut end = 0;
-    let mut overlap = None;
-    for a in live {
-        let word = word_of(regions, region_log, *a);
-        if is_unsound(word, *a, words) {
-            return Err(Fault::Header(*a));
-        }
-        overlap = overlap.or((*a < end).then_some(*a));
-        end = *a + u64::from(header::size(word));
-    }
-    match overlap {
-        Some(a) => Err(Fault::Overlap(a)),
-        None => Ok(()),
-    }
-}
-
-/// Whether each reference of a live object is null or to a live object.
-fn check_references(
+/// Whether each live address has the header of an object that fits, no object begins before the end of the one before
+/// it, and each reference is null or to a live object, whose addresses are marked. Each object is visited once.
+fn check_objects(
     regions: &[Region],
     region_log: u32,
     words: u64,
@@ -105,20 +77,35 @@ fn check_references(
 ) -> Result<(), Fault>
     requires heap { FormHeap region_log regions.now }
     requires words { words ≡ length (concat regions.now) }
-    requires sound { unsound_header (image_of region_log 0 regions.now live.now) ≡ None }
     requires inside { All (λ a. a < words) live.now }
     requires bits { MarkBegins live.now words bits.now }
-    ensures ok { OnOk result (dangling (image_of region_log 0 regions.now live.now) ≡ None) }
-    ensures fault { let found = dangling (image_of region_log 0 regions.now live.now) in
-        IfErr result (λ fault. option_map (λ p. Fault.Reference p.0 p.1) found ≡ Some fault) }
+    ensures ok { let image = image_of region_log 0 regions.now live.now in
+        OnOk result ((unsound_header image ≡ None) × (overlapping image ≡ None) × (dangling image ≡ None)) }
+    ensures fault { let image = image_of region_log 0 regions.now live.now in
+        IfErr result (λ fault. first_some (option_map Fault.Header (unsound_header image)
+        ∷ option_map Fault.Overlap (overlapping image)
+        ∷ option_map (λ p. Fault.Reference p.0 p.1) (dangling image) ∷ []) ≡ Some fault) }
 {
+    let mut end = 0;
+    let mut overlap = None;
+    let mut dangling = None;
     for a in live {
-        let references = header::references(word_of(regions, region_log, *a));
-        if let Some(field) = dangling_field(regions, region_log, *a, references, words, bits) {
-            return Err(Fault::Reference(*a, field));
+        let word = word_of(regions, region_log, *a);
+        if is_unsound(word, *a, words) {
+            return Err(Fault::Header(*a));
+        }
+        overlap = overlap.or((*a < end).then_some(*a));
+        end = *a + u64::from(header::size(word));
+        if dangling.is_none() {
+            let references = header::references(word);
+            dangling = dangling_field(regions, region_log, *a, references, words, bits);
         }
     }
-    Ok(())
+    match (overlap, dangling) {
+        (Some(a), _) => Err(Fault::Overlap(a)),
+        (None, Some((a, field))) => Err(Fault::Reference(a, field)),
+        (None, None) => Ok(()),
+    }
 }
 
 /// Whether a reference is null or to a live object, whose addresses are marked.
@@ -131,7 +118,7 @@ fn is_null_or_live(reference: u64, words: u64, bits: &[u64]) -> bool
     reference == 0 || reference <= words && is_marked(bits, reference - 1)
 }
 
-/// The least of the first fields of the object at `a` whose reference is neither null nor to a live object.
+/// The object at `a` and the least of its first fields whose reference is neither null nor to a live object.
 fn dangling_field(
     regions: &[Region],
     region_log: u32,
@@ -139,20 +126,19 @@ fn dangling_field(
     references: u32,
     words: u64,
     bits: &[u64],
-) -> Option<u32>
+) -> Option<(u64, u32)>
     requires heap { FormHeap region_log regions.now }
     requires words { words ≡ length (concat regions.now) }
     requires inside { a + references < words }
     requires bits { words / 64 < length bits.now }
     ensures { (live : List ℕ) → All (λ b. b < words) live → MarkBegins live words bits.now
-        → option_map (λ f. (a, f)) result
-        ≡ find (is_dangling (image_of region_log 0 regions.now live))
+        → result ≡ find (is_dangling (image_of region_log 0 regions.now live))
         (map (λ f. (a, f)) (range_with_len 0 references)) }
 {
     for field in 0..references {
         let reference = word_of(regions, region_log, a + 1 + u64::from(field));
         if !is_null_or_live(reference, words, bits) {
-            return Some(field);
+            return Some((a, field));
         }
     }
     None

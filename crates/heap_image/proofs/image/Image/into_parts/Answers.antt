@@ -1,9 +1,9 @@
-use Rattle.std.proofs.Common.{◌≡◌, ◌<◌, ℕ, List, length, get_or, [], ap, ◌∙◌, sym, arith}
+use Rattle.std.proofs.Common.{◌≡◌, ◌<◌, ℕ, List, length, [], ap, ◌∙◌, sym, arith}
 use Rattle.std.specs.Prelude.{map}
 use Rattle.std.specs.List.{range_with_len}
 use Rattle.std.proofs.lemmas.List.{same_lists, get_or_default}
 use Rattle.std.proofs.lemmas.List.FromFn.{length-map-range_with_len, get_or-map-range_with_len}
-use Rattle.heap_image.specs.HeapImage.{HeapImage, AreValidParts, region_count, block_of, image_of}
+use Rattle.heap_image.specs.HeapImage.{AreValidParts, region_count, block_of, image_of}
 use Rattle.heap_image.proofs.Parts.{count_by_blocks, block_by_blocks}
 use Rattle.heap_image.proofs.image.Image.into_parts.Goals as goal
 

@@ -1,8 +1,0 @@
-use Rattle.std.proofs.Common.{◌≡◌, take, None}
-use Rattle.std.specs.Prelude.{find, flat_map}
-use Rattle.heap_image.specs.HeapImage.{image_of}
-use Rattle.heap_image.specs.ImageText.{is_dangling, fields_of}
-use Rattle.heap_image.proofs.check.check_references.Given as goal
-
-abbrev pub invariant-loop-a : goal.invariant-loop-a
-invariant-loop-a l = find (is_dangling (image_of l.region_log 0 l.regions l.live)) (flat_map (fields_of (image_of l.region_log 0 l.regions l.live)) (take l.a-index l.live)) ≡ None
