@@ -1,5 +1,5 @@
 -- What is made before any worker of a recorded collection begins.
-use Rattle.std.specs.Prelude.{◌≡◌, ℕ, ◌<◌, ◌≤◌, All, vec_len}
+use Rattle.std.specs.Prelude.{◌≡◌, ◌<◌, ◌≤◌, All, vec_len}
 use Rattle.history.specs.ImageMoves.{image_table}
 use Rattle.claim_board.specs.Recorders.{moves, worker_count}
 use Rattle.collector.specs.declared.recording.Recording.{Recording}

@@ -1,14 +1,14 @@
 -- What a worker's own calls tell of the regions that it claimed.
-use Rattle.std.proofs.Common.{◌≡◌, ◌≢◌, ℕ, ◌<◌, Bool, true, false, cond, List, [], ◌∷◌, Option, Some, None, refl, sym, ap, ◌∙◌, subst, inl, inr, ◌⊎◌}
-use Rattle.std.specs.Prelude.{is_none, if◌then◌else◌, IsTrue, ◌==◌, ◌&&◌, ◌||◌}
-use Rattle.std.proofs.lemmas.Bool.{cases_Bool, and_parts, eqb-true, cases_eq, eq-eqb, ne_eqb, false≢true, false_from_ne_true}
+use Rattle.std.proofs.Common.{◌≡◌, ◌≢◌, ℕ, Bool, cond, List, [], ◌∷◌, Option, Some, None, refl, sym, ap, ◌∙◌, subst, inl, inr, ◌⊎◌}
+use Rattle.std.specs.Prelude.{if◌then◌else◌, ◌==◌, ◌&&◌, ◌||◌}
+use Rattle.std.proofs.lemmas.Bool.{cases_eq, eq-eqb, ne_eqb, false_from_ne_true}
 use Rattle.history.specs.MoveTable.{MoveTable}
 use Rattle.history.specs.State.{State, opening, state_after, claimed_by, IsStep}
 use Rattle.history.specs.History.{state_from, state_of, AreSteps, IsLegal, IsReached, TellsOwn, AgreeOn, calls_by}
 use Rattle.history.specs.declared.event.Event.{Event}
 use Rattle.history.specs.declared.event.Event.TheVariants.{Claim, Look, Drain, Complete, Settle, Poll, Copy}
 use Rattle.history.specs.declared.reply.Reply.{Reply}
-use Rattle.history.specs.declared.reply.Reply.TheVariants.{Yes, No}
+use Rattle.history.specs.declared.reply.Reply.TheVariants.{Yes}
 use Rattle.history.specs.declared.entry.Entry.{Entry}
 use Rattle.history.proofs.Reaches.{MayClaim, grant_tells, step_reached, opening_reached}
 

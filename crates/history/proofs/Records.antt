@@ -1,15 +1,15 @@
 -- A schedule that tells all its replies has one history.
 use Rattle.std.proofs.Common.{◌≡◌, ℕ, Option, Some, None, List, [], ◌∷◌, map, refl, sym, ap, ◌∙◌, subst, ◌⊎◌, ⊎_elim}
-use Rattle.std.specs.Prelude.{true, IsTrue}
+use Rattle.std.specs.Prelude.{true}
 use Rattle.std.proofs.lemmas.Option.{none-some, same_Some}
-use Rattle.heap_image.specs.HeapImage.{HeapImage, IsValid}
+use Rattle.heap_image.specs.HeapImage.{HeapImage}
 use Rattle.history.specs.MoveTable.{MoveTable, IsMoveTable}
-use Rattle.history.specs.State.{State, opening, AllAreSettled}
+use Rattle.history.specs.State.{AllAreSettled}
 use Rattle.history.specs.History.{IsLegal, entry, state_of}
 use Rattle.history.specs.Schedule.{ScheduleView, IsHistory, line_of, entries_of, schedule_of}
 use Rattle.history.specs.ImageMoves.{image_table}
-use Rattle.history.specs.WordMachine.{image_slide, machine_start, machine_of, IsAllowed}
-use Rattle.history.specs.Replay.{IsCallOf, AreCallsOf, IsReplay, IsChecked}
+use Rattle.history.specs.WordMachine.{image_slide, machine_start, machine_of}
+use Rattle.history.specs.Replay.{IsCallOf, AreCallsOf, IsChecked}
 use Rattle.history.specs.Whole.{HasEachOnce}
 use Rattle.history.specs.Record.{IsRecord}
 use Rattle.history.specs.declared.event.Event.{Event}

@@ -1,4 +1,4 @@
-use Rattle.std.proofs.Common.{◌≡◌, refl, ℕ, List, [], ◌∷◌, codes, true, Option, Some, None, option_map, Box, Result, Ok, Err, MatchResult}
+use Rattle.std.proofs.Common.{◌≡◌, refl, List, [], ◌∷◌, codes, true, Option, Some, None, option_map, Box, Result, MatchResult}
 use Rattle.std.specs.Box.{box_value}
 use Rattle.clap.specs.Words.{Text, subcommand_of, subcommand_rows, takes}
 use Rattle.clap.specs.declared.parser.matches.SubCommand.{SubCommand}

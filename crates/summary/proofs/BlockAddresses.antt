@@ -6,9 +6,9 @@ use Rattle.std.proofs.lemmas.List.{get_or_default}
 use Rattle.std.proofs.Math.Nat.{mul_assoc, mul_comm, one-le-pow, div-mul-le_self, mul-le-mul_right, lt_of_mul-lt-mul_right}
 use Rattle.std.proofs.lemmas.Bool.{cases_lt, cond-true, lt-ltb}
 use Rattle.std.proofs.lemmas.List.FromFn.{get_or-map-range_with_len}
-use Rattle.heap_image.specs.HeapImage.{HeapImage, IsValid, region_words, heap_words, region_count, region_of, size_at, live_words}
+use Rattle.heap_image.specs.HeapImage.{HeapImage, IsValid, region_words, heap_words, region_count, region_of, live_words}
 use Rattle.mark_bitmap.specs.Marks.{block_words, block_count, block_live}
-use Rattle.summary.specs.LiveObjects.{object_count, object_at}
+use Rattle.summary.specs.LiveObjects.{object_at}
 use Rattle.summary.specs.NewAddresses.{prefix_end, next_at, new_address}
 use Rattle.summary.specs.RegionData.{destination, region_data}
 use Rattle.summary.specs.Plan.{AreRegions}

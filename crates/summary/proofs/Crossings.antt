@@ -1,6 +1,6 @@
 -- The deferred object of a region is the last one that begins below the region's end, if it crosses that end.
-use Rattle.std.proofs.Common.{◌≡◌, ℕ, ◌+◌, ◌-◌, ◌*◌, ◌/◌, ◌≤◌, ◌<◌, inl, inr, true, length, get_or, false, refl, sym, ◌∙◌, ap, subst, arith, eqb}
-use Rattle.std.proofs.lemmas.Bool.{cases_Bool, cases_lt, cases_order, eqb-false, eqb-true, eq-eqb, not-true}
+use Rattle.std.proofs.Common.{◌≡◌, ℕ, ◌+◌, ◌-◌, ◌*◌, ◌/◌, ◌≤◌, ◌<◌, inl, inr, true, length, get_or, false, sym, ◌∙◌, ap, subst, arith, eqb}
+use Rattle.std.proofs.lemmas.Bool.{cases_Bool, cases_lt, cases_order, eqb-false, eqb-true, not-true}
 use Rattle.std.specs.Prelude.{Some, None, not}
 use Rattle.heap_image.specs.HeapImage.{HeapImage, HasLiveList, region_words, region_of, start_of, size_at}
 use Rattle.summary.specs.NewAddresses.{new_address}
@@ -8,7 +8,7 @@ use Rattle.summary.specs.Compaction.{is_deferred}
 use Rattle.summary.specs.RegionData.{deferred}
 use Rattle.summary.proofs.Graph.{new-apart, new-ordered}
 use Rattle.summary.proofs.Objects.{deferred-told, deferred-None}
-use Rattle.summary.proofs.Regions.{region_is, region_low, region_high, region_some, region_apart}
+use Rattle.summary.proofs.Regions.{region_is, region_low, region_high, region_some}
 
 module _ (image : HeapImage) (sound : HasLiveList image) where
   abbrev place : ℕ → ℕ

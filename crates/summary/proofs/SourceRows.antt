@@ -1,12 +1,12 @@
 -- The regions that a region reads are those with data, from the first one on, whose destination is below its end.
-use Rattle.std.proofs.Common.{◌≡◌, ℕ, ◌+◌, ◌-◌, ◌*◌, ◌≤◌, ◌<◌, inl, inr, ◌⊎◌, Bool, true, false, ◌&&◌, List, [], length, get_or, refl, sym, ◌∙◌, ap, subst, arith, ltb}
+use Rattle.std.proofs.Common.{◌≡◌, ℕ, ◌+◌, ◌-◌, ◌*◌, ◌≤◌, ◌<◌, inl, inr, true, false, List, length, get_or, refl, sym, ◌∙◌, ap, subst, arith, ltb}
 use Rattle.std.proofs.lemmas.Bool.{cases_Bool, cases_lt, cases_order, and_parts, and_from, ltb-true, lt-ltb}
 use Rattle.std.proofs.lemmas.List.FromFn.{length-map-range_with_len}
-use Rattle.std.specs.Prelude.{filter, Option, Some, None, unwrap_or, max, min}
+use Rattle.std.specs.Prelude.{filter, Some, None, unwrap_or, max, min}
 use Rattle.std.specs.List.{range_with_len}
-use Rattle.heap_image.specs.HeapImage.{HeapImage, IsValid, HasLiveList, region_words, region_count, start_of, live_words}
+use Rattle.heap_image.specs.HeapImage.{HeapImage, IsValid, HasLiveList, region_words, region_count, start_of}
 use Rattle.summary.specs.NewAddresses.{prefix_end, new_top}
-use Rattle.summary.specs.WordMoves.{reads, is_to_fill}
+use Rattle.summary.specs.WordMoves.{reads}
 use Rattle.summary.specs.RegionData.{region_data, data_words, destination, source}
 use Rattle.summary.specs.Plan.{AreRegions, sources_from}
 use Rattle.summary.specs.Reads.{goes_below, no_data, sources_below, AreInOrder, BeginAt}
@@ -16,7 +16,7 @@ use Rattle.summary.proofs.Destinations.{destination-live_words}
 use Rattle.summary.proofs.Blocks.{region_in_heap}
 use Rattle.summary.proofs.Filters.{filter-skip, filter-none, filter-same}
 use Rattle.summary.proofs.Layouts.{destination-low, destination-high}
-use Rattle.summary.proofs.Readers.{same_Bool, reads-below, reads-prefix, reads-targets, reads-destination, prefix-reads, next-reads, reads-filled, reads-in_range, source-Some}
+use Rattle.summary.proofs.Readers.{same_Bool, reads-below, reads-targets, reads-destination, prefix-reads, next-reads, reads-filled, reads-in_range, source-Some}
 use Rattle.summary.proofs.Regions.{prefix_region, region_apart}
 use Rattle.summary.proofs.Steps.{source-is}
 use Rattle.summary.proofs.Words.{live_words-add}

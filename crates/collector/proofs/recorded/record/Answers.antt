@@ -1,4 +1,4 @@
-use Rattle.std.proofs.Common.{◌≡◌, ℕ, subst, Err}
+use Rattle.std.proofs.Common.{◌≡◌, ℕ, subst}
 use Rattle.heap_image.specs.HeapImage.{HeapImage}
 use Rattle.heap_image.specs.declared.fault.Fault.TheVariants.{Gate}
 use Rattle.summary.specs.RegionData.{fill_count}

@@ -1,5 +1,4 @@
 use Rattle.history.proofs.Records.{recorded}
-use Rattle.history.specs.ImageMoves.{image_table}
 use Rattle.history.proofs.record_laws.checked_histories_are_records.Goals as goal
 
 pub returns : goal.returns

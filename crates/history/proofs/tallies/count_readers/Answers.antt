@@ -1,8 +1,7 @@
-use Rattle.std.proofs.Common.{◌≡◌, ◌<◌, ◌≤◌, ◌+◌, ℕ, List, length, get_or, take, refl, sym, ap, ◌∙◌, subst, arith}
+use Rattle.std.proofs.Common.{◌≡◌, ◌<◌, ℕ, List, length, get_or, ap, ◌∙◌, arith}
 use Rattle.std.specs.Prelude.{slice_index}
 use Rattle.std.proofs.lemmas.List.{get_or_default}
-use Rattle.history.specs.MoveTable.{MoveTable, IsMoveTable, region_count, Slides}
-use Rattle.history.specs.Scheduler.{AreTallies}
+use Rattle.history.specs.MoveTable.{MoveTable, region_count, Slides}
 use Rattle.history.proofs.Openings.{AreTallies-more, tally_le}
 use Rattle.history.proofs.tallies.count_readers.Goals as goal
 

@@ -1,4 +1,4 @@
-use Rattle.std.proofs.Common.{ℕ, take}
+use Rattle.std.proofs.Common.{take}
 use Rattle.history.specs.Scheduler.{AreTallies}
 use Rattle.history.proofs.tallies.count_sources.Given as goal
 

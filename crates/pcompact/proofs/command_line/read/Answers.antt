@@ -1,5 +1,5 @@
-use Rattle.std.proofs.Common.{◌≡◌, ◌∙◌, ap, ap₂, refl, subst, sym, codes, Some, Ok, Err, option_map, map}
-use Rattle.clap.specs.Words.{app_of, found_of, is_simple, kind_of, subcommand_name_of, subcommand_of, takes}
+use Rattle.std.proofs.Common.{◌≡◌, ◌∙◌, ap, ap₂, refl, subst, sym, codes, Some, option_map}
+use Rattle.clap.specs.Words.{app_of, is_simple, subcommand_name_of, subcommand_of, takes}
 use Rattle.clap.specs.declared.parser.matches.ArgMatches.TheViews.{out-ArgMatches}
 use Rattle.pcompact.specs.CommandLine.{commands}
 use Rattle.pcompact.proofs.CommandLineLemmas.{IsBoardRequest, board_is_met, board_is_taken, name_of_rows}

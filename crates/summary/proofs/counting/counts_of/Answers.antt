@@ -1,7 +1,6 @@
-use Rattle.std.proofs.Common.{◌≡◌, ◌<◌, ◌≤◌, ◌+◌, ◌-◌, ◌*◌, ℕ, sym, ap, ◌∙◌, arith}
+use Rattle.std.proofs.Common.{◌≡◌, ◌+◌, ◌-◌, ◌*◌, ℕ, sym, ap, ◌∙◌, arith}
 use Rattle.heap_image.specs.HeapImage.{HeapImage, start_of, region_words, heap_words, live_words}
 use Rattle.summary.specs.RegionData.{partial_words, own_words}
-use Rattle.summary.specs.declared.region_counts.RegionCounts.{RegionCounts}
 use Rattle.summary.proofs.Blocks.{region_in_heap}
 use Rattle.summary.proofs.Regions.{data-live_words, data-le}
 use Rattle.summary.proofs.counting.counts_of.Goals as goal

@@ -1,7 +1,6 @@
-use Rattle.std.proofs.Common.{of_calls, rules, ◌≡◌, ◌<◌, ◌≤◌, ◌+◌, ◌-◌, ℕ, List, length, get_or, true, false, sym, ap, ◌∙◌, arith, ltb}
+use Rattle.std.proofs.Common.{of_calls, rules, ◌≡◌, ◌≤◌, ◌+◌, ◌-◌, ℕ, List, length, get_or, sym, ap, arith, ltb}
 use Rattle.std.proofs.lemmas.Bool.{ltb-true, ltb-false}
 use Rattle.std.proofs.lemmas.Fn.{always_returns_same}
-use Rattle.std.specs.List.Sorted.{IsPartitionPoint}
 use Rattle.summary.proofs.LiveOrder.{below_partitions}
 use Rattle.summary.proofs.counting.last_below.Goals as goal
 

@@ -1,6 +1,5 @@
-use Rattle.std.proofs.Common.{◌≡◌, ◌<◌, ◌≤◌, ◌+◌, ◌*◌, ℕ, length, get_or, sym, ap, ◌∙◌, arith}
-use Rattle.heap_image.specs.HeapImage.{start_of, region_words, end_of, size_at}
-use Rattle.summary.specs.RegionData.{partial_words}
+use Rattle.std.proofs.Common.{◌≡◌, ◌<◌, ◌+◌, ◌*◌, ℕ, length, get_or, sym, ap, ◌∙◌, arith}
+use Rattle.heap_image.specs.HeapImage.{start_of, end_of, size_at}
 use Rattle.summary.proofs.Steps.{partial-last, partial-none}
 use Rattle.summary.proofs.counting.partial_words.Goals as goal
 

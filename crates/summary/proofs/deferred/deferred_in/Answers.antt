@@ -1,7 +1,7 @@
-use Rattle.std.proofs.Common.{◌≡◌, ℕ, ◌+◌, ◌-◌, ◌*◌, ◌≤◌, ◌<◌, List, length, get_or, sym, ◌∙◌, ap, arith}
-use Rattle.std.specs.Prelude.{Some, None}
+use Rattle.std.proofs.Common.{◌≡◌, ℕ, ◌+◌, ◌-◌, ◌*◌, List, get_or, sym, ◌∙◌, ap, arith}
+use Rattle.std.specs.Prelude.{Some}
 use Rattle.heap_image.specs.HeapImage.{HeapImage, region_words, start_of, size_at}
-use Rattle.summary.specs.LiveObjects.{object_count, object_at}
+use Rattle.summary.specs.LiveObjects.{object_at}
 use Rattle.summary.specs.NewAddresses.{new_address}
 use Rattle.summary.proofs.Crossings.{are_below, none_below, last_crosses, last_stays_inside}
 use Rattle.summary.proofs.deferred.deferred_in.Goals as goal

@@ -1,8 +1,5 @@
-use Rattle.std.proofs.Common.{◌≡◌, ℕ, ◌<◌, ◌*◌, ◌≤◌, refl, sym, ◌∙◌, ap, subst, arith}
-use Rattle.std.proofs.lemmas.List.FromFn.{length-map-range_with_len}
-use Rattle.std.specs.Prelude.{Option, None, length}
-use Rattle.heap_image.specs.HeapImage.{start_of, region_count}
-use Rattle.summary.specs.RegionData.{region_data, source}
+use Rattle.std.proofs.Common.{◌≡◌, ℕ, ◌*◌, refl, sym, ◌∙◌, ap, subst, arith}
+use Rattle.heap_image.specs.HeapImage.{start_of}
 use Rattle.summary.specs.Reads.{BeginAt}
 use Rattle.summary.specs.declared.region_data.RegionData.{RegionData}
 use Rattle.summary.proofs.BlockAddresses.{region_at}

@@ -1,7 +1,6 @@
-use Rattle.std.proofs.Common.{◌≡◌, ◌∙◌, ap, List, ℕ, ◌++◌, ◌<◌, length, get_or, refl, arith}
-use Rattle.std.specs.Prelude.{flat_map, string_bytes}
+use Rattle.std.proofs.Common.{◌∙◌, ap, List, ℕ, ◌++◌, get_or, refl, arith}
+use Rattle.std.specs.Prelude.{flat_map}
 use Rattle.std.specs.List.{range_with_len}
-use Rattle.heap_image.specs.HeapImage.{region_count}
 use Rattle.summary.specs.RegionData.{region_data}
 use Rattle.summary.specs.Reads.{no_data}
 use Rattle.summary.specs.declared.region_data.RegionData.{RegionData}

@@ -1,4 +1,4 @@
-use Rattle.std.proofs.Common.{◌≡◌, ℕ, ◌<◌, nat_eq, cond, length, Some, refl, sym, ap, ◌∙◌, subst, eq-eqb}
+use Rattle.std.proofs.Common.{◌≡◌, ℕ, ◌<◌, cond, length, Some, refl, sym, ap, ◌∙◌, subst, eq-eqb}
 use Rattle.std.proofs.lemmas.List.{get_or_default}
 use Rattle.history.specs.declared.event.Event.TheVariants.{Claim}
 use Rattle.history.specs.declared.reply.Reply.{Reply}

@@ -1,6 +1,5 @@
-use Rattle.std.proofs.Common.{◌≡◌, ℕ, ◌≤◌, ◌∙◌, ap, arith}
+use Rattle.std.proofs.Common.{◌≡◌, ◌∙◌, ap, arith}
 use Rattle.std.specs.Int.{div_ceil}
-use Rattle.heap_image.specs.HeapImage.{region_count}
 use Rattle.summary.specs.RegionData.{fill_count}
 use Rattle.summary.proofs.Steps.{fill_count-le}
 use Rattle.summary.proofs.plan.Plan.fill_regions.Goals as goal

@@ -1,4 +1,4 @@
-use Rattle.std.proofs.Common.{◌≡◌, ℕ, ◌<◌, refl, sym, ◌∙◌, ap, subst}
+use Rattle.std.proofs.Common.{◌<◌, refl, sym, ◌∙◌, ap, subst}
 use Rattle.heap_image.specs.HeapImage.{region_count}
 use Rattle.summary.specs.RegionData.{region_data}
 use Rattle.summary.proofs.BlockAddresses.{region_at}

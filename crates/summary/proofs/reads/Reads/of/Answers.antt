@@ -1,4 +1,4 @@
-use Rattle.std.proofs.Common.{◌≡◌, ℕ, ◌+◌, ◌*◌, ◌≤◌, sym, ◌∙◌, ap, arith}
+use Rattle.std.proofs.Common.{◌≡◌, ◌+◌, ◌*◌, ◌∙◌, ap, arith}
 use Rattle.std.specs.Prelude.{max, min, length}
 use Rattle.heap_image.specs.HeapImage.{start_of, region_words}
 use Rattle.summary.proofs.SourceRows.{table_in_order, sources_of_table}

@@ -1,6 +1,4 @@
-use Rattle.std.proofs.Common.{◌≡◌, ℕ, ◌+◌, ◌<◌, List, [], ◌∷◌, length, refl, sym, ◌∙◌, ap, arith}
-use Rattle.std.specs.Prelude.{Some}
-use Rattle.std.specs.Iterator.{YieldsFirst}
+use Rattle.std.proofs.Common.{◌≡◌, ◌+◌, ◌<◌, [], ◌∷◌, length, sym, ◌∙◌, ap, arith}
 use Rattle.summary.specs.Reads.{sources_below}
 use Rattle.summary.proofs.ReadSteps.{none_left, next_is, none_below, next_below}
 use Rattle.summary.proofs.reads.ReadsIterator.next.Goals as goal

@@ -4,7 +4,7 @@ use Rattle.std.proofs.Math.Nat.{div-mul-le_self}
 use Rattle.std.proofs.lemmas.List.FromFn.{length-map-range_with_len}
 use Rattle.heap_image.specs.HeapImage.{HeapImage, heap_words, region_count, region_of, live_words}
 use Rattle.mark_bitmap.specs.Marks.{block_words, block_count, block_live}
-use Rattle.summary.specs.NewAddresses.{new_address, stays}
+use Rattle.summary.specs.NewAddresses.{new_address}
 use Rattle.summary.specs.RegionData.{destination, region_data}
 use Rattle.summary.specs.declared.region_data.RegionData.{RegionData}
 use Rattle.summary.proofs.BlockAddresses.{goes_by_block, region_at, stays_there}
