@@ -136,26 +136,23 @@ impl Bits {
         requires inside { to < room self.now }
         ensures { result ≡ count_by (has self.now) (range_with_len from (to - from)) }
     {
-        let whole = self.count_words((from / 64) as usize, (to / 64) as usize);
+        let first = (from / 64) as usize;
+        let last = (to / 64) as usize;
+        let whole = ones_of(&self.words[first..last]);
         whole + self.count_below(to) - self.count_below(from)
     }
 
-    /// How many addresses are in the set by the words with an index from `first` up to `last`, itself not included. At most
-    /// one word, as within a block, is counted without a loop.
+    /// How many addresses from `from` up to `to`, itself not included, are in the set, where both lie in the same word or
+    /// in two side by side. It needs no loop.
     #[inline]
-    fn count_words(&self, first: usize, last: usize) -> u64
-        requires ordered { first ≤ last }
-        requires inside { last < length self.now }
-        requires few { last < 2 ^ 58 }
-        ensures value { result ≡ count_by (has self.now) (range_with_len (64 * first) (64 * (last - first))) }
-        ensures few { result ≤ 64 * (last - first) }
+    pub(crate) fn count_near(&self, from: u64, to: u64) -> u64
+        requires ordered { from ≤ to }
+        requires near { to / 64 ≤ from / 64 + 1 }
+        requires inside { to < room self.now }
+        ensures { result ≡ count_by (has self.now) (range_with_len from (to - from)) }
     {
-        let words = last - first;
-        if words <= 1 {
-            words as u64 * ones(self.words[first])
-        } else {
-            ones_of(&self.words[first..last])
-        }
+        let whole = (to / 64 - from / 64) * ones(self.words[(from / 64) as usize]);
+        whole + self.count_below(to) - self.count_below(from)
     }
 
     /// How many addresses below `i` that lie in the same word are in the set.

@@ -1,5 +1,5 @@
 //! `Marks`: the mark bitmaps of an image.
-ghost use Rattle.std.specs.Prelude.{◌≡◌, ◌/◌, ◌<◌, ◌≤◌, IsTrue, IfOk, MatchOption};
+ghost use Rattle.std.specs.Prelude.{◌≡◌, ◌*◌, ◌/◌, ◌<◌, ◌≤◌, IsTrue, IfOk, MatchOption};
 ghost use Rattle.heap_image.specs.HeapImage.{IsValid, heap_words, is_live_word, is_dead_word, live_words, size_at};
 ghost use Rattle.mark_bitmap.specs.Bits.{NoneFrom, IsFirstFrom};
 ghost use Rattle.mark_bitmap.specs.Marks.{is_begin, is_end, block_words, block_count, block_live};
@@ -150,5 +150,15 @@ impl Marks {
         ensures { result ≡ block_live self.now b }
     {
         self.live_before[b as usize]
+    }
+
+    /// How many words from the start of its block up to address `a`, itself not included, belong to live objects.
+    #[inline]
+    pub fn live_in_block(&self, a: u64) -> u64
+        requires { a < heap_words self.now }
+        ensures { result ≡ live_words self.now (a / block_words self.now * block_words self.now) a }
+    {
+        let start = a >> self.block_log << self.block_log;
+        self.live.count_near(start, a)
     }
 }

@@ -116,9 +116,7 @@ impl RegionTable {
             return a;
         }
         let region = self.regions[(a >> self.region_log) as usize];
-        let block = marks.block_of(a);
-        let start = block * marks.block_words();
-        let before = u64::from(marks.block_live(block)) + marks.live_words(start, a);
+        let before = u64::from(marks.block_live(marks.block_of(a))) + marks.live_in_block(a);
         region.destination + before
     }
 }

@@ -38,23 +38,14 @@ block_live-requires c =
     let behind = c.if-a-self.false in
     let goes = goes_by_block image t.valid a (subst (λ (i : HeapImage). Contains i.live a) (sym c.self.view_is) c.requires.live) (omega arith) in
     let marks : c.args.marks.now ≡ image = c.requires.same ∙ sym c.self.view_is in
-    let words : c.block_words.result ≡ block_words image = c.block_words.ensures.value ∙ ap block_words marks in
-    let block : c.block_of-block.result ≡ a / block_words image = c.block_of-block.ensures ∙ ap (λ i. a / block_words i) marks in
+    let block : c.block_of.result ≡ a / block_words image = c.block_of.ensures ∙ ap (λ i. a / block_words i) marks in
     let inside = goes.block in
     let blocks = ap block_count marks in
-    let fits : c.block_of-block.result < block_count image = omega arith in
-    subst (λ i. c.block_of-block.result < block_count i) (sym marks) fits
+    let fits : c.block_of.result < block_count image = omega arith in
+    subst (λ i. c.block_of.result < block_count i) (sym marks) fits
 
-pub live_words-requires-clause-ordered : goal.live_words-requires-clause-ordered
-live_words-requires-clause-ordered c =
-    let a = c.args.a in
-    let w : ℕ = block_words c.args.marks.now in
-    let start : c.block_of-block.result * c.block_words.result ≡ a / w * w = ap (λ n. n * c.block_words.result) c.block_of-block.ensures ∙ ap (λ n. a / w * n) c.block_words.ensures.value in
-    let down : a / w * w ≤ a = div-mul-le_self a w in
-    omega arith
-
-pub live_words-requires-clause-inside : goal.live_words-requires-clause-inside
-live_words-requires-clause-inside c =
+pub live_in_block-requires : goal.live_in_block-requires
+live_in_block-requires c =
     let image = c.self.inside.image.value in
     let t = c.self.invariant in
     let a = c.args.a in
@@ -74,10 +65,9 @@ overflow_add-before c =
     let behind = c.if-a-self.false in
     let goes = goes_by_block image t.valid a (subst (λ (i : HeapImage). Contains i.live a) (sym c.self.view_is) c.requires.live) (omega arith) in
     let marks : c.args.marks.now ≡ image = c.requires.same ∙ sym c.self.view_is in
-    let words : c.block_words.result ≡ block_words image = c.block_words.ensures.value ∙ ap block_words marks in
-    let block : c.block_of-block.result ≡ a / block_words image = c.block_of-block.ensures ∙ ap (λ i. a / block_words i) marks in
-    let sum : c.from.result ≡ block_live image (a / block_words image) = c.from.ensures ∙ c.block_live.ensures ∙ ap (λ i. block_live i c.block_of-block.result) marks ∙ ap (block_live image) block in
-    let count : c.live_words.result ≡ live_words image (a / block_words image * block_words image) a = c.live_words.ensures ∙ ap (λ i. live_words i (c.block_of-block.result * c.block_words.result) a) marks ∙ ap (λ n. live_words image (n * c.block_words.result) a) block ∙ ap (λ n. live_words image (a / block_words image * n) a) words in
+    let block : c.block_of.result ≡ a / block_words image = c.block_of.ensures ∙ ap (λ i. a / block_words i) marks in
+    let sum : c.from.result ≡ block_live image (a / block_words image) = c.from.ensures ∙ c.block_live.ensures ∙ ap (λ i. block_live i c.block_of.result) marks ∙ ap (block_live image) block in
+    let count : c.live_in_block.result ≡ live_words image (a / block_words image * block_words image) a = c.live_in_block.ensures ∙ ap (λ i. live_words i (a / block_words i * block_words i) a) marks in
     let down = goes.down in
     let to = goes.to in
     let size = c.ranges.a.fits in
@@ -93,10 +83,9 @@ overflow_add-result c =
     let goes = goes_by_block image t.valid a (subst (λ (i : HeapImage). Contains i.live a) (sym c.self.view_is) c.requires.live) (omega arith) in
     let at : a / 2 ^ c.self.inside.region_log ≡ region_of image a = ap (λ n. a / 2 ^ n) t.region_log in
     let marks : c.args.marks.now ≡ image = c.requires.same ∙ sym c.self.view_is in
-    let words : c.block_words.result ≡ block_words image = c.block_words.ensures.value ∙ ap block_words marks in
-    let block : c.block_of-block.result ≡ a / block_words image = c.block_of-block.ensures ∙ ap (λ i. a / block_words i) marks in
-    let sum : c.from.result ≡ block_live image (a / block_words image) = c.from.ensures ∙ c.block_live.ensures ∙ ap (λ i. block_live i c.block_of-block.result) marks ∙ ap (block_live image) block in
-    let count : c.live_words.result ≡ live_words image (a / block_words image * block_words image) a = c.live_words.ensures ∙ ap (λ i. live_words i (c.block_of-block.result * c.block_words.result) a) marks ∙ ap (λ n. live_words image (n * c.block_words.result) a) block ∙ ap (λ n. live_words image (a / block_words image * n) a) words in
+    let block : c.block_of.result ≡ a / block_words image = c.block_of.ensures ∙ ap (λ i. a / block_words i) marks in
+    let sum : c.from.result ≡ block_live image (a / block_words image) = c.from.ensures ∙ c.block_live.ensures ∙ ap (λ i. block_live i c.block_of.result) marks ∙ ap (block_live image) block in
+    let count : c.live_in_block.result ≡ live_words image (a / block_words image * block_words image) a = c.live_in_block.ensures ∙ ap (λ i. live_words i (a / block_words i * block_words i) a) marks in
     let down = goes.down in
     let to = goes.to in
     let region = c.index-region.ensures ∙ region_at image c.self.inside.regions.items t.regions_are (region_of image a) _ c.index-region.result.now goes.region at in
@@ -114,13 +103,12 @@ returns c =
     let goes = goes_by_block image t.valid a (subst (λ (i : HeapImage). Contains i.live a) (sym c.self.view_is) c.requires.live) (omega arith) in
     let at : a / 2 ^ c.self.inside.region_log ≡ region_of image a = ap (λ n. a / 2 ^ n) t.region_log in
     let marks : c.args.marks.now ≡ image = c.requires.same ∙ sym c.self.view_is in
-    let words : c.block_words.result ≡ block_words image = c.block_words.ensures.value ∙ ap block_words marks in
-    let block : c.block_of-block.result ≡ a / block_words image = c.block_of-block.ensures ∙ ap (λ i. a / block_words i) marks in
-    let sum : c.from.result ≡ block_live image (a / block_words image) = c.from.ensures ∙ c.block_live.ensures ∙ ap (λ i. block_live i c.block_of-block.result) marks ∙ ap (block_live image) block in
-    let count : c.live_words.result ≡ live_words image (a / block_words image * block_words image) a = c.live_words.ensures ∙ ap (λ i. live_words i (c.block_of-block.result * c.block_words.result) a) marks ∙ ap (λ n. live_words image (n * c.block_words.result) a) block ∙ ap (λ n. live_words image (a / block_words image * n) a) words in
+    let block : c.block_of.result ≡ a / block_words image = c.block_of.ensures ∙ ap (λ i. a / block_words i) marks in
+    let sum : c.from.result ≡ block_live image (a / block_words image) = c.from.ensures ∙ c.block_live.ensures ∙ ap (λ i. block_live i c.block_of.result) marks ∙ ap (block_live image) block in
+    let count : c.live_in_block.result ≡ live_words image (a / block_words image * block_words image) a = c.live_in_block.ensures ∙ ap (λ i. live_words i (a / block_words i * block_words i) a) marks in
     let down = goes.down in
     let to = goes.to in
     let region = c.index-region.ensures ∙ region_at image c.self.inside.regions.items t.regions_are (region_of image a) _ c.index-region.result.now goes.region at in
     let destination : c.index-region.result.now.destination ≡ destination image (region_of image a) = ap (λ (k : RegionData). k.destination) region in
-    let is : c.index-region.result.now.destination + (c.from.result + c.live_words.result) ≡ new_address image a = omega arith in
+    let is : c.index-region.result.now.destination + (c.from.result + c.live_in_block.result) ≡ new_address image a = omega arith in
     is ∙ ap (λ i. new_address i a) c.self.view_is
