@@ -14,20 +14,26 @@ struct Board {
 struct Moves {
     fill: Vec<bool>,
     pairs: Vec<(u32, u32)>,
+    first: Vec<Option<u32>>,
 }
 
 impl Moves {
     fn next_source(&self, destination: u32, from: u32) -> Option<u32> {
-        let at = self.pairs.partition_point(|pair| *pair < (destination, from));
-        let &(d, s) = self.pairs.get(at)?;
-        if d == destination { Some(s) } else { None }
+        if from == 0 { self.first[destination as usize] } else { search(&self.pairs, destination, from) }
     }
+}
+
+fn search(pairs: &[(u32, u32)], destination: u32, from: u32) -> Option<u32> {
+    let at = pairs.partition_point(|pair| *pair < (destination, from));
+    let &(d, s) = pairs.get(at)?;
+    if d == destination { Some(s) } else { None }
 }
 
 fn moves() -> Moves {
     let fill = vec![true; REGIONS as usize];
-    let pairs = (0..REGIONS).step_by(2).map(|region| (region, region + 1)).collect();
-    Moves { fill, pairs }
+    let pairs: Vec<_> = (0..REGIONS).step_by(2).map(|region| (region, region + 1)).collect();
+    let first = (0..REGIONS).map(|region| search(&pairs, region, 0)).collect();
+    Moves { fill, pairs, first }
 }
 
 fn board(moves: &Moves) -> Board {
