@@ -72,8 +72,9 @@ fn replays(
 ) -> Result<bool, Fault> {
     let marks = Marks::of(alloc, image)?;
     let plan = Plan::of(alloc, image, &marks, threads)?;
-    match replay(alloc, image, &marks, &plan, schedule)?.ended {
-        End::Finished(after) => Ok(verify(alloc, image, &after, threads)? == Verdict::Same),
+    let replayed = replay(alloc, image, &marks, &plan, schedule)?;
+    match &replayed.ended {
+        End::Finished(after) => Ok(verify(alloc, image, after, threads)? == Verdict::Same),
         End::Open => Ok(false),
     }
 }
