@@ -1,14 +1,19 @@
 //! Tests of recorded collections: the base heap's schedule, and orders that a gate forces.
 use crate::tests::{BASE_LIVE, BASE_WORDS, image_of};
-use crate::{Figures, Gate, OpenGate, Refusal, Verdict, record, verify};
+use crate::{Gate, OpenGate, Refusal, Verdict, record, verify};
 use heap_image::{Fault, Image, encode};
-use history::{Event, Reply, Schedule, write_schedule};
+use history::{End, Event, Reply, Schedule, replay, write_schedule};
+use mark_bitmap::Marks;
 use std::alloc::Global;
 use std::sync::Wait;
 use std::sync::atomic::{AtomicBool, AtomicU32, Ordering};
 use std::test::Fail;
 use std::thread;
 use std::thread::Threads;
+use summary::Plan;
+
+mod held;
+mod memory;
 
 /// What one worker does with the base heap.
 const BASE_SCHEDULE: &str = "schedule 1 1
@@ -58,6 +63,22 @@ fn recorded<G: Gate + Sync, R: Threads + Wait + Sync>(
     }
 }
 
+/// Whether the schedule, replayed over the image, ends with the compacted one.
+fn replays(
+    alloc: Global,
+    threads: &(impl Threads + Sync),
+    image: &Image,
+    schedule: &Schedule,
+) -> Result<bool, Fault> {
+    let marks = Marks::of(alloc, image)?;
+    let plan = Plan::of(alloc, image, &marks, threads)?;
+    let replayed = replay(alloc, image, &marks, &plan, schedule)?;
+    match &replayed.ended {
+        End::Finished(after) => Ok(verify(alloc, image, after, threads)? == Verdict::Same),
+        End::Open => Ok(false),
+    }
+}
+
 #[test]
 fn one_worker_records_the_base_heap(rt: HostRuntime) -> Result<(), Fail> {
     let schedule = recorded(rt.alloc(), &rt, 0, 1, &OpenGate)?;
@@ -71,6 +92,8 @@ fn any_number_of_workers_records_a_schedule(rt: HostRuntime) -> Result<(), Fail>
     for workers in [1, 2, 64] {
         let schedule = recorded(rt.alloc(), &rt, 0, workers, &OpenGate)?;
         assert_eq!(rt; schedule.workers(), workers);
+        let image = base(rt.alloc(), 0)?;
+        assert!(rt; replays(rt.alloc(), &rt, &image, &schedule)?);
     }
     Ok(())
 }
@@ -96,14 +119,59 @@ fn no_workers_or_too_many_keep_the_image(rt: HostRuntime) -> Result<(), Fail> {
     Ok(())
 }
 
-/// Holds the fill of one region until another one is filled, for so many turns at most, and notes who fills what.
+/// Of each of three regions, the worker for which the gate was called.
+#[derive(Drop)]
+struct Fillers([AtomicU32; 3]);
+
+impl Fillers {
+    fn unknown() -> Fillers {
+        Fillers([AtomicU32::new(64), AtomicU32::new(64), AtomicU32::new(64)])
+    }
+
+    fn note(&self, worker: u32, region: u32) {
+        if let Some(filler) = self.0.get(region as usize) {
+            filler.store(worker, Ordering::SeqCst);
+        }
+    }
+
+    /// The worker for the region, or 64 where the gate heard of none.
+    fn of(&self, region: u32) -> u32 {
+        match self.0.get(region as usize) {
+            Some(filler) => filler.load(Ordering::SeqCst),
+            None => 64,
+        }
+    }
+}
+
+/// The region that the worker of an entry must have been granted.
+fn granted_region(event: Event, reply: Option<Reply>) -> Option<u32> {
+    match event {
+        Event::Claim(region) if reply == Some(Reply::Yes) => Some(region),
+        Event::Copy(region, _) | Event::Drain(region, _) => Some(region),
+        Event::Complete(region) | Event::Settle(region) => Some(region),
+        _ => None,
+    }
+}
+
+/// Whether each region was granted to the worker for which the gate was called, and moved by no other.
+fn is_of_its_fillers(schedule: &Schedule, fillers: &Fillers) -> bool {
+    for i in 0..schedule.len() {
+        let (worker, event, reply) = schedule.line(i);
+        match granted_region(event, reply) {
+            Some(region) if fillers.of(region) != worker => return false,
+            _ => {}
+        }
+    }
+    true
+}
+
+/// Holds the fill of one region until another one is filled, for so many turns at most.
 #[derive(Drop)]
 struct Holds {
     held: u32,
     first: u32,
     first_is_filled: AtomicBool,
-    /// Of each of three regions, the worker for which the gate was called.
-    fillers: [AtomicU32; 3],
+    fillers: Fillers,
 }
 
 const TURNS: u32 = 1_000_000;
@@ -112,9 +180,7 @@ impl Gate for Holds {
     ghost may_refuse = { λ _ _ _. Unit {0} };
 
     fn before_fill(&self, worker: u32, region: u32) -> bool {
-        if let Some(filler) = self.fillers.get(region as usize) {
-            filler.store(worker, Ordering::SeqCst);
-        }
+        self.fillers.note(worker, region);
         if region != self.held {
             return true;
         }
@@ -139,7 +205,7 @@ fn holding(held: u32, first: u32) -> Holds {
         held,
         first,
         first_is_filled: AtomicBool::new(false),
-        fillers: [AtomicU32::new(64), AtomicU32::new(64), AtomicU32::new(64)],
+        fillers: Fillers::unknown(),
     }
 }
 
@@ -156,26 +222,52 @@ fn is_in_order(schedule: &Schedule, gate: &Holds) -> bool {
     is_completed
 }
 
-/// Whether each region was granted to the worker for which the gate was called.
-fn is_of_its_fillers(schedule: &Schedule, gate: &Holds) -> bool {
-    for i in 0..schedule.len() {
-        if let (worker, Event::Claim(region), Some(Reply::Yes)) = schedule.line(i) {
-            match gate.fillers.get(region as usize) {
-                Some(filler) if filler.load(Ordering::SeqCst) == worker => {}
-                _ => return false,
-            }
-        }
-    }
-    true
-}
-
 #[test]
 fn the_schedule_is_in_the_order_that_the_gate_forced(rt: HostRuntime) -> Result<(), Fail> {
     for (held, first) in [(0, 1), (1, 0)] {
         let gate = holding(held, first);
         let schedule = recorded(rt.alloc(), &rt, 2, 2, &gate)?;
         assert!(rt; is_in_order(&schedule, &gate));
-        assert!(rt; is_of_its_fillers(&schedule, &gate));
+        assert!(rt; is_of_its_fillers(&schedule, &gate.fillers));
     }
+    Ok(())
+}
+
+/// Holds the first fill to begin until another worker begins one, for so many turns at most.
+#[derive(Drop)]
+struct Meets {
+    begun: AtomicU32,
+    fillers: Fillers,
+}
+
+impl Gate for Meets {
+    ghost may_refuse = { λ _ _ _. Unit {0} };
+
+    fn before_fill(&self, worker: u32, region: u32) -> bool {
+        self.fillers.note(worker, region);
+        if self.begun.fetch_add(1, Ordering::SeqCst) > 0 {
+            return true;
+        }
+        for _ in 0..TURNS {
+            if self.begun.load(Ordering::SeqCst) > 1 {
+                return true;
+            }
+            thread::yield_now();
+        }
+        false
+    }
+
+    fn after_complete(&self, _worker: u32, _region: u32) {}
+}
+
+#[test]
+fn each_of_two_workers_has_its_own_lines(rt: HostRuntime) -> Result<(), Fail> {
+    let gate = Meets {
+        begun: AtomicU32::new(0),
+        fillers: Fillers::unknown(),
+    };
+    let schedule = recorded(rt.alloc(), &rt, 2, 2, &gate)?;
+    assert!(rt; gate.fillers.of(0) != gate.fillers.of(1));
+    assert!(rt; is_of_its_fillers(&schedule, &gate.fillers));
     Ok(())
 }

@@ -1,4 +1,5 @@
 //! Worked rows, with replies known from outside, and each public call once.
+use crate::book::Book;
 use crate::call_fault::CallFault;
 use crate::event::{Event, Illegal};
 use crate::given_moves::GivenMoves;
@@ -10,6 +11,7 @@ use crate::schedule_text::write_schedule;
 use crate::scheduler::Scheduler;
 use heap_image::Fault;
 use std::alloc::{AllocError, Global};
+use std::sync::Wait;
 use std::test::Fail;
 
 fn given(
@@ -177,4 +179,50 @@ fn the_least_malformed_line_is_named(rt: HostRuntime) -> Result<(), Fail> {
     assert_eq!(rt; schedule.line(0), (0, Event::Claim(4_294_967_295), None));
     assert_eq!(rt; schedule.line(1), (0, Event::Poll, Some(Reply::All)));
     Ok(())
+}
+
+/// The moves of the base heap with 2 dead words allowed.
+fn moves_with_prefix(alloc: Global) -> Result<GivenMoves, CallFault> {
+    let fill = [true, true, true, false];
+    given(alloc, &fill, &[(1, 2), (1, 3), (2, 3)])?.ok_or(CallFault::Illegal)
+}
+
+/// What a scheduler and a book of two workers answer to a look at region 3.
+fn looks(alloc: Global) -> Result<(Reply, Reply), CallFault> {
+    let moves = moves_with_prefix(alloc)?;
+    let mut scheduler = Scheduler::new(alloc, &moves, 2)?;
+    let mut book = Book::new(alloc, &moves, 2)?;
+    let reply = scheduler.step(1, Event::Look(3))?;
+    Ok((reply, book.apply(1, Event::Look(3))?))
+}
+
+/// The text of a look at region 3 on a locked board. Where memory was refused it is made again.
+fn text_of_a_look(alloc: Global, wait: &impl Wait) -> Result<Vec<u8>, CallFault> {
+    let moves = moves_with_prefix(alloc)?;
+    let board = LockedBoard::new(alloc, &moves, 2)?;
+    if board.call(1, Event::Look(3), wait) == Err(CallFault::Memory) {
+        board.call(1, Event::Look(3), wait)?;
+    }
+    Ok(write_schedule(alloc, &board.into_schedule())?)
+}
+
+/// Whether both answers and the text are right.
+fn comes_through(alloc: Global, wait: &impl Wait) -> Result<bool, CallFault> {
+    let replies = looks(alloc)?;
+    let text = text_of_a_look(alloc, wait)?;
+    let is_one_line = text.as_slice() == b"schedule 1 2\n1 look 3 out2\n".as_slice();
+    Ok(replies == (Reply::Outside(2), Reply::Outside(2)) && is_one_line)
+}
+
+/// The script tests/crate-allocations runs this with each allocation refused in turn.
+#[test]
+fn refused_memory_is_told(rt: HostRuntime) {
+    let answers = [
+        comes_through(rt.alloc(), &rt),
+        comes_through(rt.alloc(), &rt),
+    ];
+    for answer in &answers {
+        assert!(rt; *answer == Ok(true) || *answer == Err(CallFault::Memory));
+    }
+    assert!(rt; answers.contains(&Ok(true)));
 }
