@@ -9,7 +9,7 @@ use std::thread::Threads;
 use summary::compact_plainly;
 
 /// How many heaps of each shape.
-const HEAPS: u64 = 10;
+const HEAPS: u64 = 104;
 
 /// Region log and number of regions of a heap.
 type Shape = (u64, u64);
@@ -146,31 +146,50 @@ fn gives<R: Threads + Wait + Sync>(
     }
 }
 
-/// The first number of workers up to 8, if there is one, by whom the heap of this seed isn't compacted.
-fn gone_wrong<R: Threads + Wait + Sync>(
+/// Whether the heap of this seed is compacted by two numbers of workers, whose sum is 9.
+fn is_compacted<R: Threads + Wait + Sync>(
     alloc: Global,
     rt: &R,
     seed: u64,
     shape: Shape,
-) -> Result<Option<u32>, Fault> {
+) -> Result<bool, Fault> {
     let before = seeded_text(alloc, seed, shape)?;
     let image = decode(alloc, before.as_slice())?;
     let after = encode(alloc, &compact_plainly(alloc, &image)?)?;
-    for workers in 1..9 {
-        if !gives(alloc, rt, workers, (before.as_slice(), after.as_slice()))? {
-            return Ok(Some(workers));
-        }
-    }
-    Ok(None)
+    let texts = (before.as_slice(), after.as_slice());
+    let few = (seed % 4) as u32 + 1;
+    Ok(gives(alloc, rt, few, texts)? && gives(alloc, rt, 9 - few, texts)?)
 }
 
 #[test]
-fn seeded_heaps_are_compacted_by_any_number_of_workers(rt: HostRuntime) -> Result<(), Fail> {
-    for shape in [(3, 24), (4, 60), (8, 12)] {
-        for seed in 0..HEAPS {
-            let workers = gone_wrong(rt.alloc(), &rt, seed, shape)?;
-            assert_eq!(rt; workers, None, "seed {seed}");
-        }
+fn seeded_heaps_of_small_regions_are_compacted(rt: HostRuntime) -> Result<(), Fail> {
+    for seed in 0..HEAPS {
+        assert!(rt;
+            is_compacted(rt.alloc(), &rt, seed, (3, 24))?,
+            "seed {seed}"
+        );
+    }
+    Ok(())
+}
+
+#[test]
+fn seeded_heaps_of_many_regions_are_compacted(rt: HostRuntime) -> Result<(), Fail> {
+    for seed in 0..HEAPS {
+        assert!(rt;
+            is_compacted(rt.alloc(), &rt, seed, (4, 40))?,
+            "seed {seed}"
+        );
+    }
+    Ok(())
+}
+
+#[test]
+fn seeded_heaps_of_larger_regions_are_compacted(rt: HostRuntime) -> Result<(), Fail> {
+    for seed in 0..HEAPS {
+        assert!(rt;
+            is_compacted(rt.alloc(), &rt, seed, (7, 12))?,
+            "seed {seed}"
+        );
     }
     Ok(())
 }
