@@ -256,6 +256,7 @@ fn stolen(alloc: Global, thief: &Thief) -> Result<Vec<u32>, AllocError> {
     Ok(numbers)
 }
 
+/// A `steal` that always answers `Empty`, so that nobody can steal, meets its contract. It fails here.
 #[test]
 fn two_threads_steal_each_number_once(rt: HostRuntime) -> Result<(), Fail> {
     let mut ready = Ready::new(rt.alloc(), 100)?;
