@@ -12,7 +12,7 @@ use summary::compact_plainly;
 const HEAPS: u64 = 104;
 
 /// Region log and number of regions of a heap.
-type Shape = (u64, u64);
+type Shape = (u32, u64);
 
 /// Where objects begin, in order, and how many words each has.
 #[derive(Drop)]
@@ -105,14 +105,14 @@ fn seeded_text(
     (region_log, regions): Shape,
 ) -> Result<Vec<u8>, AllocError> {
     let mut source = Seed(seed);
-    let region_words: u64 = 1 << region_log;
+    let region_words = 1u64.wrapping_shl(region_log);
     let len = region_words.wrapping_mul(regions);
     let objects = seeded_objects(alloc, &mut source, region_words, len)?;
     let words = seeded_words(alloc, &mut source, &objects, len)?;
     let allowance = (seed % 6).wrapping_mul(region_words);
     image_text(
         alloc,
-        (region_log, allowance),
+        (u64::from(region_log), allowance),
         words.as_slice(),
         objects.live.as_slice(),
     )
