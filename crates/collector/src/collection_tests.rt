@@ -1,4 +1,7 @@
 //! Tests of collections: worked heaps, and gates that show who fills what.
+mod held;
+mod stress;
+
 use crate::tests::{BASE_LIVE, BASE_WORDS, image_of};
 use crate::{Figures, Gate, OpenGate, Refusal, Verdict, collect, verify};
 use crossbeam_utils::Backoff;

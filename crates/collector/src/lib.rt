@@ -40,6 +40,8 @@ mod comparison;
 mod crew;
 mod difference;
 mod gate;
+#[cfg(test)]
+mod memory_tests;
 mod outcome;
 mod prepared;
 mod ready;
@@ -49,6 +51,8 @@ mod recorded;
 mod recording;
 mod staff;
 mod streaming;
+#[cfg(test)]
+mod streaming_tests;
 #[cfg(test)]
 mod tests;
 mod verdict;

@@ -47,7 +47,7 @@ pub(crate) const BASE_WORDS: [u64; 32] = [
 pub(crate) const BASE_LIVE: [u64; 4] = [0, 5, 12, 20];
 
 /// The words of the base heap's compaction, with allowance 0.
-const MOVED_WORDS: [u64; 32] = [
+pub(crate) const MOVED_WORDS: [u64; 32] = [
     0x0100_0002_0000_0003,
     4,
     10,
@@ -82,7 +82,7 @@ const MOVED_WORDS: [u64; 32] = [
     0,
 ];
 
-const MOVED_LIVE: [u64; 4] = [0, 3, 7, 9];
+pub(crate) const MOVED_LIVE: [u64; 4] = [0, 3, 7, 9];
 
 /// The first eight bytes of an image.
 const MAGIC: u64 = 0x3130_5041_4548_4350;
@@ -94,9 +94,20 @@ pub(crate) fn image_of(
     words: &[u64],
     live: &[u64],
 ) -> Result<Image, Fail> {
+    let text = image_text(alloc, (3, allowance), words, live)?;
+    Ok(decode(alloc, text.as_slice())?)
+}
+
+/// The text of the image with this region log and allowance, and these words and live addresses.
+pub(crate) fn image_text(
+    alloc: Global,
+    (region_log, allowance): (u64, u64),
+    words: &[u64],
+    live: &[u64],
+) -> Result<Vec<u8>, AllocError> {
     let front = [
         MAGIC,
-        3 | (live.len() as u64) << 32,
+        region_log | (live.len() as u64) << 32,
         words.len() as u64,
         allowance,
     ];
@@ -104,7 +115,7 @@ pub(crate) fn image_of(
     for part in [front.as_slice(), words, live] {
         put_words(&mut text, part)?;
     }
-    Ok(decode(alloc, text.as_slice())?)
+    Ok(text)
 }
 
 fn put_words(text: &mut Vec<u8>, words: &[u64]) -> Result<(), AllocError> {
@@ -162,10 +173,10 @@ fn the_live_list_decides_last(rt: HostRuntime) -> Result<(), Fail> {
 
 /// Numbers that look like chance, the same in each run.
 #[derive(Drop)]
-struct Seed(u64);
+pub(crate) struct Seed(pub(crate) u64);
 
 impl Seed {
-    fn below(&mut self, bound: u64) -> u64 {
+    pub(crate) fn below(&mut self, bound: u64) -> u64 {
         self.0 = self
             .0
             .wrapping_mul(6_364_136_223_846_793_005)
@@ -245,6 +256,7 @@ fn stolen(alloc: Global, thief: &Thief) -> Result<Vec<u32>, AllocError> {
     Ok(numbers)
 }
 
+/// A `steal` that always answers `Empty`, so that nobody can steal, meets its contract. It fails here.
 #[test]
 fn two_threads_steal_each_number_once(rt: HostRuntime) -> Result<(), Fail> {
     let mut ready = Ready::new(rt.alloc(), 100)?;
