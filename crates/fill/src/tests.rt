@@ -3,6 +3,8 @@ ghost use Rattle.std.specs.Prelude.{◌≡◌, ◌<◌, IfOk};
 ghost use Rattle.history.specs.ImageMoves.{image_table};
 ghost use Rattle.claim_board.specs.Boards.{moves as moves_of, identity, board_of};
 
+mod seeded;
+
 use crate::{clear_above, fill_region, update_deferred};
 use claim_board::{Board, Pass, Right};
 use heap_image::{Fault, Image, decode};
@@ -62,9 +64,19 @@ fn image_of(
     words: &[[u64; 8]],
     live: &[u64],
 ) -> Result<Image, Fail> {
-    let words = words.as_flattened();
+    sized_image(alloc, (3, allowance), words.as_flattened(), live)
+}
+
+/// The image with this region log and allowance.
+fn sized_image(
+    alloc: Global,
+    (region_log, allowance): (u64, u64),
+    words: &[u64],
+    live: &[u64],
+) -> Result<Image, Fail> {
     let live_count = live.len() as u64;
-    let front = [MAGIC, 3 | live_count << 32, words.len() as u64, allowance];
+    let counts = region_log | live_count << 32;
+    let front = [MAGIC, counts, words.len() as u64, allowance];
     let mut bytes = Vec::new(alloc);
     for part in [front.as_slice(), words, live] {
         put_words(&mut bytes, part)?;
