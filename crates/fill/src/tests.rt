@@ -182,7 +182,7 @@ fn fill_all<R: Threads + Wait + Sync>(
     rt: &R,
 ) -> Result<Outcome, Fail> {
     let (heap, mut pass) = heap_of(alloc, image, rt)?;
-    let mut told = Vec::new(alloc);
+    let mut told = Vec::with_capacity(alloc, heap.plan.regions() as usize)?;
     for region in order {
         fill(&heap, &mut pass, &mut told, *region, rt)?;
     }

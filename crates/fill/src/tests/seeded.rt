@@ -238,7 +238,7 @@ fn outcome<R: Threads + Wait + Sync>(
     rt: &R,
 ) -> Result<Outcome, Fail> {
     let (heap, mut pass) = heap_of(alloc, image, rt)?;
-    let mut told = Vec::new(alloc);
+    let mut told = Vec::with_capacity(alloc, heap.plan.regions() as usize)?;
     if !fill_ordered(&heap, &mut pass, &mut told, &mut order, rt)? {
         return Err(Fail::from("no region is granted"));
     }
@@ -292,7 +292,7 @@ fn seed_agrees<R: Threads + Wait + Sync>(
 
 #[test]
 fn seeded_heaps_are_compacted_in_each_order(rt: HostRuntime) -> Result<(), Fail> {
-    for seed in 0..40 {
+    for seed in 0..12 {
         assert!(rt; seed_agrees(&rt, rt.alloc(), seed, (3, 8))?, "seed {seed}");
         assert!(rt; seed_agrees(&rt, rt.alloc(), seed, (4, 16))?, "seed {seed}");
         assert!(rt; seed_agrees(&rt, rt.alloc(), seed, (5, 32))?, "seed {seed}");
