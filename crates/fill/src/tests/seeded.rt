@@ -185,7 +185,7 @@ impl Order {
             Order::Lowest => [0, 1, 2, 3, 4, 5, 6, 7],
             Order::Highest => [7, 6, 5, 4, 3, 2, 1, 0],
             Order::Seeded(seed) => {
-                let first = seed.below(8) as u32;
+                let first = u32::try_from(seed.below(8)).unwrap_or(0);
                 [0, 5, 2, 7, 4, 1, 6, 3].map(|r: u32| r.wrapping_add(first) % 8)
             }
         }
