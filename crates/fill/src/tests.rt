@@ -3,10 +3,14 @@ ghost use Rattle.std.specs.Prelude.{◌≡◌, ◌<◌, IfOk};
 ghost use Rattle.history.specs.ImageMoves.{image_table};
 ghost use Rattle.claim_board.specs.Boards.{moves as moves_of, identity, board_of};
 
+mod overwritten;
+mod recorded;
+mod seeded;
+
 use crate::{clear_above, fill_region, update_deferred};
-use claim_board::{Board, Pass, Right};
+use claim_board::{Board, Pass};
 use heap_image::{Fault, Image, decode};
-use history::{GivenMoves, Moves, moves_of_images};
+use history::moves_of_images;
 use mark_bitmap::Marks;
 use raw_region::Region;
 use region_cells::Cells;
@@ -62,9 +66,19 @@ fn image_of(
     words: &[[u64; 8]],
     live: &[u64],
 ) -> Result<Image, Fail> {
-    let words = words.as_flattened();
+    sized_image(alloc, (3, allowance), words.as_flattened(), live)
+}
+
+/// The image with this region log and allowance.
+fn sized_image(
+    alloc: Global,
+    (region_log, allowance): (u64, u64),
+    words: &[u64],
+    live: &[u64],
+) -> Result<Image, Fail> {
     let live_count = live.len() as u64;
-    let front = [MAGIC, 3 | live_count << 32, words.len() as u64, allowance];
+    let counts = region_log | live_count << 32;
+    let front = [MAGIC, counts, words.len() as u64, allowance];
     let mut bytes = Vec::new(alloc);
     for part in [front.as_slice(), words, live] {
         put_words(&mut bytes, part)?;
@@ -169,7 +183,7 @@ fn fill_all<R: Threads + Wait + Sync>(
     rt: &R,
 ) -> Result<Outcome, Fail> {
     let (heap, mut pass) = heap_of(alloc, image, rt)?;
-    let mut told = Vec::new(alloc);
+    let mut told = Vec::with_capacity(alloc, heap.plan.regions() as usize)?;
     for region in order {
         fill(&heap, &mut pass, &mut told, *region, rt)?;
     }
@@ -353,59 +367,5 @@ fn an_object_of_four_regions_stays(rt: HostRuntime) -> Result<(), Fail> {
     let found = fill_all(rt.alloc(), image, &[3, 1, 2, 0], &rt)?;
     assert_eq!(rt; found.moved.as_slice(), words.as_flattened());
     assert_eq!(rt; found.compacted.as_slice(), words.as_flattened());
-    Ok(())
-}
-
-/// The right to write one of four regions, by a board of its own over regions of which none reads another.
-fn other_right(alloc: Global, region: u32) -> Result<Right, Fail>
-    requires { region < 4 }
-    ensures { IfOk result (λ right. right.region ≡ region) }
-{
-    let fill = Vec::from_slice(alloc, [true; 4].as_slice())?;
-    let moves = GivenMoves::new(fill, Vec::new(alloc)).ok_or("no table of moves")?;
-    if moves.regions() != 4 {
-        return Err(Fail::from("not four regions"));
-    }
-    let (board, mut passes) = Board::new(alloc, &moves, 1)?;
-    let mut pass = passes.pop().ok_or("no pass")?;
-    let Some(mut ticket) = board.claim(&mut pass, region) else {
-        return Err(Fail::from("the region was not claimed"));
-    };
-    let right = ticket.right();
-    ticket.give_up();
-    match right {
-        Some(right) => Ok(right),
-        None => Err(Fail::from("the ticket has no right")),
-    }
-}
-
-/// The fault that a fill of region 0 of the base heap meets while another writes a region, and how many sources it told.
-fn fault_beside_a_writing<R: Threads + Wait + Sync>(
-    alloc: Global,
-    region: u32,
-    rt: &R,
-) -> Result<(Option<Fault>, usize), Fail>
-    requires { region < 4 }
-{
-    let image = image_of(alloc, 0, &BASE, &BASE_LIVE)?;
-    let (heap, mut pass) = heap_of(alloc, image, rt)?;
-    if heap.plan.regions() != 4 {
-        return Err(Fail::from("not four regions"));
-    }
-    let mut told = Vec::new(alloc);
-    let target = heap.cells.write(other_right(alloc, region)?, rt)?;
-    let fault = fill(&heap, &mut pass, &mut told, 0, rt).err();
-    target.give_up();
-    Ok((fault, told.len()))
-}
-
-#[test]
-fn a_fill_meets_a_region_that_is_written(rt: HostRuntime) -> Result<(), Fail> {
-    for region in [0, 1] {
-        assert_eq!(rt;
-            fault_beside_a_writing(rt.alloc(), region, &rt)?,
-            (Some(Fault::Overwritten(region)), 0)
-        );
-    }
     Ok(())
 }

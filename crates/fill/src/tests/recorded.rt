@@ -1,0 +1,144 @@
+//! What a recorder keeps of the fills of the base heap: how many words are noted, and when.
+ghost use Rattle.std.specs.Prelude.{◌≡◌};
+ghost use Rattle.history.specs.ImageMoves.{image_table};
+ghost use Rattle.claim_board.specs.Recorders.{moves as moves_of, worker_count};
+
+use crate::fill_region;
+use crate::tests::{BASE, BASE_LIVE, image_of};
+use claim_board::{Desk, Recorder};
+use heap_image::{Fault, Image};
+use history::{moves_of_images, write_schedule};
+use mark_bitmap::Marks;
+use region_cells::Cells;
+use std::alloc::{AllocError, Global};
+use std::sync::Wait;
+use std::test::Fail;
+use std::thread::Threads;
+use summary::Plan;
+use summary::laws::region_data::regions_to_fill;
+
+/// The fills with allowance 0.
+const SLID: &str = "schedule 1 1
+0 claim 0 yes
+0 copy 0 6 ok
+0 copy 0 2 ok
+0 drain 0 1 last
+0 complete 0 ok
+0 settle 0 more
+0 claim 1 yes
+0 copy 1 1 ok
+0 copy 1 4 ok
+0 drain 1 2 last
+0 copy 1 3 ok
+0 drain 1 3 notlast
+0 complete 1 ok
+0 settle 1 more
+0 claim 2 yes
+0 copy 2 3 ok
+0 drain 2 3 last
+0 complete 2 ok
+0 settle 2 all
+";
+
+/// The fills with allowance 2, by which the first region stays.
+const BEHIND_PREFIX: &str = "schedule 1 1
+0 claim 0 yes
+0 copy 0 8 ok
+0 complete 0 ok
+0 settle 0 more
+0 claim 1 yes
+0 copy 1 3 ok
+0 copy 1 4 ok
+0 drain 1 2 last
+0 copy 1 1 ok
+0 drain 1 3 notlast
+0 complete 1 ok
+0 settle 1 more
+0 claim 2 yes
+0 copy 2 5 ok
+0 drain 2 3 last
+0 complete 2 ok
+0 settle 2 all
+";
+
+/// A heap whose fills are recorded, by one worker.
+#[derive(Drop)]
+struct RecordedHeap {
+    plan: Plan,
+    marks: Marks,
+    cells: Cells,
+    recorder: Recorder,
+    ghost marks_are: { marks ≡ plan },
+    ghost cells_are: { cells ≡ plan },
+    ghost moves_are: { moves_of recorder ≡ image_table plan },
+    ghost alone: { worker_count recorder ≡ 1 },
+}
+
+fn heap_of<T: Threads + Sync>(
+    alloc: Global,
+    image: Image,
+    threads: &T,
+) -> Result<RecordedHeap, Fail> {
+    let marks = Marks::of(alloc, &image)?;
+    let plan = Plan::of(alloc, &image, &marks, threads)?;
+    let recorder = Recorder::new(alloc, &plan, 1)?;
+    let Ok(cells) = Cells::of(alloc, image, &plan) else {
+        return Err(Fail::from(AllocError));
+    };
+    Ok(RecordedHeap {
+        plan,
+        marks,
+        cells,
+        recorder,
+    })
+}
+
+/// Claims, fills and settles a region. False where it is not to be filled, or cannot be claimed.
+fn fill_recorded<W: Wait>(heap: &RecordedHeap, region: u32, wait: &W) -> Result<bool, Fault> {
+    moves_of_images();
+    regions_to_fill();
+    let _regions = heap.plan.regions();
+    if region >= heap.plan.fill_regions() {
+        return Ok(false);
+    }
+    let mut seat = 0;
+    let Some(ticket) = heap.recorder.claim(&mut seat, region, wait)? else {
+        return Ok(false);
+    };
+    let (done, _placed) = fill_region(
+        &heap.recorder,
+        &heap.cells,
+        &heap.plan,
+        &heap.marks,
+        &mut seat,
+        ticket,
+        &mut |_source: u32| {},
+        wait,
+    )?;
+    let _all = heap.recorder.settle(&mut seat, done, wait)?;
+    Ok(true)
+}
+
+/// The schedule of the base heap with this allowance, filled in ascending order.
+fn base_schedule<R: Threads + Wait + Sync>(
+    alloc: Global,
+    allowance: u64,
+    rt: &R,
+) -> Result<Vec<u8>, Fail> {
+    let image = image_of(alloc, allowance, &BASE, &BASE_LIVE)?;
+    let heap = heap_of(alloc, image, rt)?;
+    for region in 0..4 {
+        let _filled = fill_recorded(&heap, region, rt)?;
+    }
+    let RecordedHeap { recorder, .. } = heap;
+    Ok(write_schedule(alloc, &recorder.into_schedule())?)
+}
+
+#[test]
+fn the_words_are_noted_before_each_drain(rt: HostRuntime) -> Result<(), Fail> {
+    let text = base_schedule(rt.alloc(), 0, &rt)?;
+    assert_eq!(rt; text.as_slice(), SLID.as_bytes());
+    let text = base_schedule(rt.alloc(), 2, &rt)?;
+    assert_eq!(rt; text.as_slice(), BEHIND_PREFIX.as_bytes());
+    Ok(())
+}

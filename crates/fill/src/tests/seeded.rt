@@ -1,0 +1,301 @@
+//! Heaps made from seeds, filled in several orders and compared with the plain compaction.
+ghost use Rattle.std.specs.Prelude.{◌≡◌};
+ghost use Rattle.claim_board.specs.Boards.{identity, board_of};
+
+use crate::tests::{DEAD, Heap, Outcome, ended, fill, heap_of, joined, sized_image};
+use claim_board::Pass;
+use heap_image::{Fault, Image};
+use std::alloc::{AllocError, Global};
+use std::sync::Wait;
+use std::test::Fail;
+use std::thread::Threads;
+use summary::{Plan, compact_plainly};
+
+/// An address and a size.
+type Object = (u64, u64);
+
+/// How the objects of a heap lie.
+#[derive(Clone, Copy)]
+enum Shape {
+    /// With no dead words between them.
+    Packed,
+    /// Each of one word.
+    Small,
+    /// At times over some regions, and at times behind some dead regions.
+    Mixed,
+}
+
+/// Numbers that look like chance, the same in each run.
+#[derive(Drop)]
+struct Seed(u64);
+
+impl Seed {
+    fn below(&mut self, bound: u64) -> u64 {
+        self.0 = self
+            .0
+            .wrapping_mul(6_364_136_223_846_793_005)
+            .wrapping_add(1_442_695_040_888_963_407);
+        (self.0 >> 33).checked_rem(bound).unwrap_or(0)
+    }
+
+    fn shape(&mut self) -> Shape {
+        match self.below(4) {
+            0 => Shape::Packed,
+            1 => Shape::Small,
+            _ => Shape::Mixed,
+        }
+    }
+
+    /// How many dead words come next.
+    fn gap(&mut self, shape: Shape, region_words: u64) -> u64 {
+        match (shape, self.below(6)) {
+            (Shape::Packed, _) => 0,
+            (_, 0) => self.below(region_words.wrapping_mul(3)),
+            (_, 1 | 2) => self.below(4),
+            _ => 0,
+        }
+    }
+
+    /// How many words the next object has.
+    fn size(&mut self, shape: Shape, region_words: u64) -> u64 {
+        let behind = match (shape, self.below(6)) {
+            (Shape::Small, _) | (_, 1 | 2) => 0,
+            (_, 0) => self.below(region_words.wrapping_mul(3)),
+            _ => self.below(region_words),
+        };
+        behind.wrapping_add(1)
+    }
+
+    /// Null, or a reference to one of these objects.
+    fn reference(&mut self, objects: &[Object]) -> u64 {
+        let index = self.below((objects.len() as u64).wrapping_add(2)) as usize;
+        match objects.get(index) {
+            Some((begin, _)) => begin.wrapping_add(1),
+            None => 0,
+        }
+    }
+}
+
+/// The objects of a heap of so many words.
+fn seeded_objects(
+    alloc: Global,
+    seed: &mut Seed,
+    region_words: u64,
+    len: u64,
+) -> Result<Vec<Object>, AllocError> {
+    let shape = seed.shape();
+    let mut objects = Vec::new(alloc);
+    let mut end: u64 = 0;
+    for _ in 0..len {
+        let begin = end.wrapping_add(seed.gap(shape, region_words));
+        let size = seed.size(shape, region_words);
+        end = begin.wrapping_add(size);
+        if end > len {
+            break;
+        }
+        objects.push((begin, size))?;
+    }
+    Ok(objects)
+}
+
+/// The words of a heap of these objects.
+fn seeded_words(
+    alloc: Global,
+    seed: &mut Seed,
+    objects: &[Object],
+    len: u64,
+) -> Result<Vec<u64>, AllocError> {
+    let mut words = Vec::new(alloc);
+    for (begin, size) in objects {
+        put_dead(&mut words, *begin)?;
+        put_object(&mut words, seed, objects, *size)?;
+    }
+    put_dead(&mut words, len)?;
+    Ok(words)
+}
+
+/// Puts dead words up to this address.
+fn put_dead(words: &mut Vec<u64>, end: u64) -> Result<(), AllocError> {
+    for _ in words.len() as u64..end {
+        words.push(DEAD)?;
+    }
+    Ok(())
+}
+
+/// Puts an object with some references to these objects.
+fn put_object(
+    words: &mut Vec<u64>,
+    seed: &mut Seed,
+    objects: &[Object],
+    size: u64,
+) -> Result<(), AllocError> {
+    let references = seed.below(size);
+    words.push(1 << 56 | references << 32 | size)?;
+    for i in 1..size {
+        let word = if i <= references {
+            seed.reference(objects)
+        } else {
+            seed.below(1 << 31)
+        };
+        words.push(word)?;
+    }
+    Ok(())
+}
+
+/// The addresses of these objects.
+fn begins(alloc: Global, objects: &[Object]) -> Result<Vec<u64>, AllocError> {
+    let mut begins = Vec::new(alloc);
+    for (begin, _) in objects {
+        begins.push(*begin)?;
+    }
+    Ok(begins)
+}
+
+/// An image of eight regions.
+fn seeded_image(
+    alloc: Global,
+    seed: &mut Seed,
+    (region_log, region_words): (u64, u64),
+) -> Result<Image, Fail> {
+    let len = region_words.wrapping_mul(8);
+    let allowance = seed.below(5).wrapping_mul(region_words / 2);
+    let objects = seeded_objects(alloc, seed, region_words, len)?;
+    let words = seeded_words(alloc, seed, objects.as_slice(), len)?;
+    let live = begins(alloc, objects.as_slice())?;
+    sized_image(
+        alloc,
+        (region_log, allowance),
+        words.as_slice(),
+        live.as_slice(),
+    )
+}
+
+/// Which of the regions whose claim is granted is filled next.
+#[derive(Drop)]
+enum Order {
+    Lowest,
+    Highest,
+    Seeded(Seed),
+}
+
+impl Order {
+    /// The regions as they are tried next.
+    fn next(&mut self) -> [u32; 8] {
+        match self {
+            Order::Lowest => [0, 1, 2, 3, 4, 5, 6, 7],
+            Order::Highest => [7, 6, 5, 4, 3, 2, 1, 0],
+            Order::Seeded(seed) => {
+                let first = u32::try_from(seed.below(8)).unwrap_or(0);
+                [0, 5, 2, 7, 4, 1, 6, 3].map(|r: u32| r.wrapping_add(first) % 8)
+            }
+        }
+    }
+}
+
+/// Fills the first of these regions that is granted. False where none is.
+fn fill_first<W: Wait>(
+    heap: &Heap,
+    pass: &mut Pass,
+    told: &mut Vec<u32>,
+    regions: &[u32],
+    wait: &W,
+) -> Result<bool, Fault>
+    requires { board_of pass.old ≡ identity heap.now.board }
+    ensures { board_of pass.new ≡ identity heap.now.board }
+{
+    for region in regions {
+        if fill(heap, pass, told, *region, wait)? {
+            return Ok(true);
+        }
+    }
+    Ok(false)
+}
+
+/// Fills as many regions as are to be filled. False where none is granted before.
+fn fill_ordered<W: Wait>(
+    heap: &Heap,
+    pass: &mut Pass,
+    told: &mut Vec<u32>,
+    order: &mut Order,
+    wait: &W,
+) -> Result<bool, Fault>
+    requires { board_of pass.old ≡ identity heap.now.board }
+{
+    for _ in 0..heap.plan.fill_regions() {
+        let regions = order.next();
+        if !fill_first(heap, pass, told, regions.as_slice(), wait)? {
+            return Ok(false);
+        }
+    }
+    Ok(true)
+}
+
+/// What fills in this order told and left.
+fn outcome<R: Threads + Wait + Sync>(
+    alloc: Global,
+    image: Image,
+    mut order: Order,
+    rt: &R,
+) -> Result<Outcome, Fail> {
+    let (heap, mut pass) = heap_of(alloc, image, rt)?;
+    let mut told = Vec::with_capacity(alloc, heap.plan.regions() as usize)?;
+    if !fill_ordered(&heap, &mut pass, &mut told, &mut order, rt)? {
+        return Err(Fail::from("no region is granted"));
+    }
+    let sources = read_by_others(alloc, &heap.plan)?;
+    told.sort_unstable();
+    if told != sources {
+        return Err(Fail::from("other sources were told"));
+    }
+    ended(alloc, heap, told)
+}
+
+/// The regions that another region reads.
+fn read_by_others(alloc: Global, plan: &Plan) -> Result<Vec<u32>, AllocError> {
+    let mut sources = Vec::new(alloc);
+    for r in 0..plan.regions() {
+        if plan.region(r).count > 0 {
+            sources.push(r)?;
+        }
+    }
+    Ok(sources)
+}
+
+/// Whether fills in this order leave the plain compaction of the heap that this seed makes.
+fn order_agrees<R: Threads + Wait + Sync>(
+    rt: &R,
+    alloc: Global,
+    seed: u64,
+    sizes: (u64, u64),
+    order: Order,
+) -> Result<bool, Fail> {
+    let image = seeded_image(alloc, &mut Seed(seed), sizes)?;
+    let plain = compact_plainly(alloc, &image)?.into_parts();
+    let found = outcome(alloc, image, order, rt)?;
+    Ok(found.compacted == joined(alloc, plain.regions.as_slice())?)
+}
+
+/// Whether fills of the heap that this seed makes leave its plain compaction in each order.
+fn seed_agrees<R: Threads + Wait + Sync>(
+    rt: &R,
+    alloc: Global,
+    seed: u64,
+    sizes: (u64, u64),
+) -> Result<bool, Fail> {
+    for order in [Order::Lowest, Order::Highest, Order::Seeded(Seed(seed))] {
+        if !order_agrees(rt, alloc, seed, sizes, order)? {
+            return Ok(false);
+        }
+    }
+    Ok(true)
+}
+
+#[test]
+fn seeded_heaps_are_compacted_in_each_order(rt: HostRuntime) -> Result<(), Fail> {
+    for seed in 0..12 {
+        assert!(rt; seed_agrees(&rt, rt.alloc(), seed, (3, 8))?, "seed {seed}");
+        assert!(rt; seed_agrees(&rt, rt.alloc(), seed, (4, 16))?, "seed {seed}");
+        assert!(rt; seed_agrees(&rt, rt.alloc(), seed, (5, 32))?, "seed {seed}");
+    }
+    Ok(())
+}
