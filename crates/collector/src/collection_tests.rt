@@ -134,6 +134,44 @@ fn a_filler_may_cross_a_region_end(rt: HostRuntime) -> Result<(), Fail> {
     Ok(())
 }
 
+#[test]
+fn an_object_moves_down_to_a_cut_filler(rt: HostRuntime) -> Result<(), Fail> {
+    let mut words = [DEAD; 16];
+    for (a, word) in [
+        (0, plain(4)),
+        (1, 0),
+        (2, 0),
+        (3, 0),
+        (10, plain(2)),
+        (11, 0),
+    ] {
+        words[a] = word;
+    }
+    let heap = Heap {
+        words: words.as_slice(),
+        live: &[0, 10],
+        allowance: 8,
+    };
+    let found = heap.collected(rt.alloc(), 2, &OpenGate, &rt)?;
+    assert_eq!(rt; (found.prefix_end, found.new_top, found.filled), (8, 10, 2));
+    Ok(())
+}
+
+#[test]
+fn an_object_may_cross_two_region_ends(rt: HostRuntime) -> Result<(), Fail> {
+    let mut words = [DEAD; 32];
+    words[1..21].fill(0);
+    words[1] = plain(20);
+    let heap = Heap {
+        words: words.as_slice(),
+        live: &[1],
+        allowance: 0,
+    };
+    let found = heap.collected(rt.alloc(), 3, &OpenGate, &rt)?;
+    assert_eq!(rt; (found.prefix_end, found.new_top, found.filled), (0, 20, 3));
+    Ok(())
+}
+
 /// Holds the first fill to begin until so many calls of the other worker have come.
 #[derive(Drop)]
 struct FirstHeld {

@@ -369,5 +369,7 @@ fn nothing_is_written_before_a_collection_has_ended_well(rt: HostRuntime) -> Res
         let refused = watched(rt.alloc(), &rt, text.as_slice(), workers, false);
         assert_eq!(rt; refused, (Err(Fault::Workers), false));
     }
+    let bad = watched(rt.alloc(), &rt, &[0; 40], 0, false);
+    assert_eq!(rt; bad, (Err(Fault::Magic), false));
     Ok(())
 }
