@@ -1,4 +1,4 @@
-use Rattle.std.proofs.Common.{◌≡◌, ◌∙◌, ap, refl, subst, sym, ℕ, List, [], ◌∷◌, codes, true, Option, Some, None, option_map, Box, Result, Ok, Err, MatchResult}
+use Rattle.std.proofs.Common.{◌≡◌, ◌∙◌, ap, refl, subst, sym, List, [], ◌∷◌, codes, true, Option, Some, None, option_map, Box, Result, Err, MatchResult}
 use Rattle.std.specs.Prelude.{IfOk}
 use Rattle.std.specs.Box.{box_value}
 use Rattle.clap.specs.Words.{App, HasMatchesOf, Text, is_simple, subcommand_name_of, subcommand_of, subcommand_rows, takes}

@@ -1,4 +1,4 @@
-use Rattle.std.proofs.Common.{◌≡◌, ℕ, ◌+◌, Bool, true, false, cond, List, [], sym, ap, ◌∙◌, subst, string_bytes}
+use Rattle.std.proofs.Common.{◌≡◌, ℕ, ◌+◌, Bool, cond, List, [], sym, ap, ◌∙◌, string_bytes}
 use Rattle.std.specs.Prelude.{◌++◌, codes}
 use Rattle.std.proofs.lemmas.List.{append-nil}
 use Rattle.claim_board.specs.Boards.{moves, mine}

@@ -1,7 +1,7 @@
 use Rattle.std.proofs.Common.{◌≡◌, ◌∙◌, ap, ap₂}
 use Rattle.std.proofs.lemmas.Result.{IfOk-weaker}
 use Rattle.clap.specs.Words.{App, app_of, with_subcommand}
-use Rattle.pcompact.specs.CommandLine.{board_command, collect_command, program, record_command, replay_command, summary_command, verify_command}
+use Rattle.pcompact.specs.CommandLine.{board_command, collect_command, program, record_command, summary_command, verify_command}
 use Rattle.pcompact.proofs.commands.command.Goals as goal
 
 pub returns : goal.returns

@@ -1,4 +1,4 @@
-use Rattle.std.proofs.Common.{◌≡◌, ℕ, ◌<◌, ◌≤◌, ◌++◌, false, List, [], ◌∷◌, if◌then◌else◌, sym, ◌∙◌, subst}
+use Rattle.std.proofs.Common.{◌≡◌, ℕ, ◌<◌, ◌≤◌, ◌++◌, false, [], ◌∷◌, if◌then◌else◌, sym, ◌∙◌, subst}
 use Rattle.history.specs.declared.event.Event.{Event}
 use Rattle.history.specs.declared.event.Event.TheVariants.{Drain, Complete}
 use Rattle.history.specs.declared.reply.Reply.TheVariants.{Done, All, More}
@@ -8,7 +8,7 @@ use Rattle.claim_board.specs.Boards.{moves, mine, worker, caller}
 use Rattle.claim_board.specs.Callers.{Gains}
 use Rattle.claim_board.specs.Drains.{reply_of}
 use Rattle.pcompact.specs.Tallies.{Adds, none}
-use Rattle.pcompact.proofs.Tallying.{tally, adds-drain, adds-completion, adds-settling, adds-nothing, adds-both}
+use Rattle.pcompact.proofs.Tallying.{tally, adds-drain, adds-completion, adds-settling, adds-both}
 use Rattle.pcompact.proofs.sweep.fill.Goals as goal
 
 pub loop-opening-preserved : goal.loop-opening-preserved

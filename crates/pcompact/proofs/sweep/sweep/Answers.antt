@@ -1,4 +1,4 @@
-use Rattle.std.proofs.Common.{◌≡◌, ◌∙◌}
+use Rattle.std.proofs.Common.{◌∙◌}
 use Rattle.claim_board.specs.Boards.{mine}
 use Rattle.pcompact.proofs.Sweeping.{swept-one_more}
 use Rattle.pcompact.proofs.sweep.sweep.Goals as goal
