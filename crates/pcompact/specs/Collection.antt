@@ -1,6 +1,6 @@
 use Rattle.std.specs.Prelude.{◌≡◌, ℕ, List, ◌++◌, Option, Some, IfSome, codes, decimal}
 use Rattle.std.specs.Io.KnownBytes.{Appends}
-use Rattle.heap_image.specs.HeapImage.{HeapImage}
+use Rattle.heap_image.specs.HeapImage.{HeapImage, IsValid}
 use Rattle.heap_image.specs.ImageText.{text, first_fault}
 use Rattle.heap_image.specs.declared.fault.Fault.{Fault}
 use Rattle.summary.specs.Compaction.{compact}
@@ -22,3 +22,7 @@ IsCollection left left' took took' shown = (image : HeapImage) × IsRead image l
 -- a fault of an image's bytes is the first of the input's
 abbrev pub IsFirstOfBytes : Option (List ℕ) → Fault → Type 0
 IsFirstOfBytes input fault = IsOfBytes fault → IfSome input (λ bytes. first_fault bytes ≡ Some fault)
+
+-- the line with the figures of the collection of some valid image
+abbrev pub IsFigures : List ℕ → Type 0
+IsFigures shown = (image : HeapImage) × IsValid image × (shown ≡ figures_line (figures_of image))

@@ -1,6 +1,6 @@
-use Rattle.std.specs.Prelude.{◌≡◌, ℕ, pos, true, List, map, String, codes, Some, string_bytes}
+use Rattle.std.specs.Prelude.{◌≡◌, ℕ, pos, true, List, map, String, codes, option_map, Some, string_bytes}
 use Rattle.clap.specs.Walk.{Rule, Text}
-use Rattle.clap.specs.Words.{App, new_app, new_rule, with_rule, with_subcommand}
+use Rattle.clap.specs.Words.{App, new_app, new_rule, subcommand_of, takes, with_rule, with_subcommand}
 use Rattle.clap.specs.declared.builder.value_parser.ValueParser.TheVariants.{Signed}
 
 module _ {A : Type 0} where
@@ -52,3 +52,12 @@ abbrev pub commands : App
 commands =
     with_subcommand (with_subcommand (with_subcommand (with_subcommand (with_subcommand (with_subcommand program
     board_command.top) summary_command.top) collect_command.top) verify_command.top) record_command.top) replay_command.top
+
+-- the program takes the line, which calls the command of this name
+abbrev pub IsCallOf : Text → List Text → Type 0
+IsCallOf name line = (takes commands line ≡ true) × (option_map (λ p. p.0) (subcommand_of commands line) ≡ Some name)
+
+module _ {A : Type 0} where
+  -- the words call the command of this name
+  abbrev pub AreCallOf : Text → List (String A) → Type 0
+  AreCallOf name words = IsCallOf name (map string_bytes words)

@@ -4,6 +4,7 @@ pub mod Report
 pub mod Board
 pub mod Failure
 pub mod CommandLine
+pub mod Request
 pub mod Summary
 pub mod Verification
 pub mod Collection

@@ -25,3 +25,12 @@ pub record IsReplayOf (left left' asked : Option (List ℕ)) (shown : List ℕ) 
   pub replayed : Replayed
   pub follows : IsReplayed image schedule replayed
   pub tells : shown ≡ schedule_text replayed.lines ++ end_line replayed.ended
+
+-- the replay of some schedule on some valid image
+pub record IsReplay (shown : List ℕ) : Type 0 where
+  pub image : HeapImage
+  pub valid : IsValid image
+  pub schedule : ScheduleView
+  pub replayed : Replayed
+  pub follows : IsReplayed image schedule replayed
+  pub tells : shown ≡ schedule_text replayed.lines ++ end_line replayed.ended

@@ -1,7 +1,8 @@
 //! The command line: which words are which command.
-ghost use Rattle.std.specs.Prelude.{◌≡◌, ◌∷◌, [], codes, MatchResult};
+ghost use Rattle.std.specs.Prelude.{◌≡◌, ◌∷◌, [], codes, true, IfOk, MatchResult};
 ghost use Rattle.clap.specs.Words.{kind_of, subcommand_name_of};
-ghost use Rattle.pcompact.specs.CommandLine.{AreWords};
+ghost use Rattle.pcompact.specs.CommandLine.{AreWords, AreCallOf};
+ghost use Rattle.pcompact.specs.Request.{is_summary, is_collect, is_verify, is_record, is_replay};
 ghost use Rattle.pcompact.specs.Failure.{out_of_memory};
 
 use crate::commands::command;
@@ -69,8 +70,13 @@ pub struct Comparison<'a> {
 
 /// Reads the words that follow the program's name.
 pub fn read(alloc: Global, words: &[String]) -> Result<Request<'_>, Failure>
-    ensures { AreWords words.now (codes "board" ∷ []) → MatchResult result
+    ensures board { AreWords words.now (codes "board" ∷ []) → MatchResult result
         (λ request. request ≡ Request.Board) (λ failure. failure ≡ out_of_memory) }
+    ensures summary { AreCallOf (codes "summary") words.now → IfOk result (λ request. is_summary request ≡ true) }
+    ensures collect { AreCallOf (codes "collect") words.now → IfOk result (λ request. is_collect request ≡ true) }
+    ensures record { AreCallOf (codes "record") words.now → IfOk result (λ request. is_record request ≡ true) }
+    ensures replay { AreCallOf (codes "replay") words.now → IfOk result (λ request. is_replay request ≡ true) }
+    ensures verify { AreCallOf (codes "verify") words.now → IfOk result (λ request. is_verify request ≡ true) }
 {
     match command(alloc)?.try_get_matches_from(words) {
         Ok(matches) => requested(alloc, &matches),
@@ -80,7 +86,12 @@ pub fn read(alloc: Global, words: &[String]) -> Result<Request<'_>, Failure>
 
 /// The command that the words name.
 fn requested<'a>(alloc: Global, matches: &ArgMatches<'a>) -> Result<Request<'a>, Failure>
-    ensures { subcommand_name_of matches.now ≡ Some (codes "board") → result ≡ Ok Request.Board }
+    ensures board { subcommand_name_of matches.now ≡ Some (codes "board") → result ≡ Ok Request.Board }
+    ensures summary { subcommand_name_of matches.now ≡ Some (codes "summary") → IfOk result (λ request. is_summary request ≡ true) }
+    ensures collect { subcommand_name_of matches.now ≡ Some (codes "collect") → IfOk result (λ request. is_collect request ≡ true) }
+    ensures record { subcommand_name_of matches.now ≡ Some (codes "record") → IfOk result (λ request. is_record request ≡ true) }
+    ensures replay { subcommand_name_of matches.now ≡ Some (codes "replay") → IfOk result (λ request. is_replay request ≡ true) }
+    ensures verify { subcommand_name_of matches.now ≡ Some (codes "verify") → IfOk result (λ request. is_verify request ≡ true) }
 {
     let request = match matches.subcommand() {
         Some(("board", _)) => Some(Request::Board),

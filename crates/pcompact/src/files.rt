@@ -1,5 +1,7 @@
 //! The commands over files. A file that can't be opened is fault 13.
-ghost use Rattle.std.specs.Prelude.{IfOk, string_bytes};
+ghost use Rattle.std.specs.Prelude.{◌≡◌, codes, IfOk, string_bytes};
+ghost use Rattle.pcompact.specs.Collection.{IsFigures};
+ghost use Rattle.pcompact.specs.Replaying.{IsReplay};
 ghost use Rattle.pcompact.specs.Summary.{IsSummary};
 
 use crate::collection::collect_into;
@@ -38,7 +40,9 @@ pub fn collect<H: Files + AllocGlobal, T: Threads + Sync, L: Wait + Sync>(
     asked: &Collection<'_>,
     threads: &T,
     wait: &L,
-) -> Result<Vec<u8>, Failure> {
+) -> Result<Vec<u8>, Failure>
+    ensures { IfOk result (λ text. IsFigures text.items) }
+{
     must_differ(host.alloc(), asked.image, asked.out)?;
     let image = opened(fs::open(host, asked.image))?;
     let out = opened(fs::create(host, asked.out))?;
@@ -55,7 +59,9 @@ pub fn record<H: Files + AllocGlobal, T: Threads + Sync, L: Wait + Sync>(
     asked: &Recording<'_>,
     threads: &T,
     wait: &L,
-) -> Result<Vec<u8>, Failure> {
+) -> Result<Vec<u8>, Failure>
+    ensures { IfOk result (λ text. IsFigures text.items) }
+{
     let Collection {
         image,
         out,
@@ -86,7 +92,9 @@ pub fn replay<H: Files + AllocGlobal, T: Threads + Sync>(
     host: &H,
     asked: &Replay<'_>,
     threads: &T,
-) -> Result<Vec<u8>, Failure> {
+) -> Result<Vec<u8>, Failure>
+    ensures { IfOk result (λ text. IsReplay text.items) }
+{
     must_differ(host.alloc(), asked.image, asked.schedule)?;
     let image = opened(fs::open(host, asked.image))?;
     let mut schedule = opened(fs::open(host, asked.schedule))?;
@@ -99,7 +107,9 @@ pub fn verify<H: Files + AllocGlobal, T: Threads + Sync>(
     host: &H,
     asked: &Comparison<'_>,
     threads: &T,
-) -> Result<Vec<u8>, Failure> {
+) -> Result<Vec<u8>, Failure>
+    ensures { IfOk result (λ text. text.items ≡ codes "same\n") }
+{
     match compared(host, asked, threads)? {
         Verdict::Same => Ok(Vec::from_slice(host.alloc(), b"same\n")?),
         difference => Err(Failure::Differs(difference)),

@@ -3,8 +3,11 @@ ghost use Rattle.std.specs.Prelude.{◌≡◌, ◌≤◌, ◌∷◌, [], ℕ, Li
 ghost use Rattle.std.specs.Prelude.{codes, string_bytes};
 ghost use Rattle.std.specs.Io.KnownBytes.{Appends};
 ghost use Rattle.pcompact.specs.Board.{IsBoardText};
-ghost use Rattle.pcompact.specs.CommandLine.{AreWords};
+ghost use Rattle.pcompact.specs.Collection.{IsFigures};
+ghost use Rattle.pcompact.specs.CommandLine.{AreWords, AreCallOf};
 ghost use Rattle.pcompact.specs.Failure.{out_of_memory, status_of};
+ghost use Rattle.pcompact.specs.Replaying.{IsReplay};
+ghost use Rattle.pcompact.specs.Summary.{IsSummary};
 
 use crate::command_line::Request;
 use crate::failure::Failure;
@@ -41,6 +44,23 @@ pub fn run<H: Files + AllocGlobal, T: Threads + Sync, L: Wait + Sync, A: Write, 
     ensures board { AreWords words.now (codes "board" ∷ []) → result ≡ 0
         → (text : List ℕ) × IsBoardText text
         × Appends (A.contents out.old) (A.contents out.new) text }
+
+    // What a good call of a command over files prints.
+    ensures summary { AreCallOf (codes "summary") words.now → result ≡ 0
+        → (text : List ℕ) × IsSummary text
+        × Appends (A.contents out.old) (A.contents out.new) text }
+    ensures collect { AreCallOf (codes "collect") words.now → result ≡ 0
+        → (text : List ℕ) × IsFigures text
+        × Appends (A.contents out.old) (A.contents out.new) text }
+    ensures record { AreCallOf (codes "record") words.now → result ≡ 0
+        → (text : List ℕ) × IsFigures text
+        × Appends (A.contents out.old) (A.contents out.new) text }
+    ensures replay { AreCallOf (codes "replay") words.now → result ≡ 0
+        → (text : List ℕ) × IsReplay text
+        × Appends (A.contents out.old) (A.contents out.new) text }
+    ensures verify { AreCallOf (codes "verify") words.now → result ≡ 0
+        → (text : List ℕ) × (text ≡ codes "same\n")
+        × Appends (A.contents out.old) (A.contents out.new) text }
 {
     let text = match answer(host, words, threads, wait) {
         Ok(text) => text,
@@ -59,8 +79,13 @@ fn answer<H: Files + AllocGlobal, T: Threads + Sync, L: Wait + Sync>(
     threads: &T,
     wait: &L,
 ) -> Result<Vec<u8>, Failure>
-    ensures { AreWords words.now (codes "board" ∷ []) → MatchResult result
+    ensures board { AreWords words.now (codes "board" ∷ []) → MatchResult result
         (λ text. IsBoardText text.items) (λ failure. failure ≡ out_of_memory) }
+    ensures summary { AreCallOf (codes "summary") words.now → IfOk result (λ text. IsSummary text.items) }
+    ensures collect { AreCallOf (codes "collect") words.now → IfOk result (λ text. IsFigures text.items) }
+    ensures record { AreCallOf (codes "record") words.now → IfOk result (λ text. IsFigures text.items) }
+    ensures replay { AreCallOf (codes "replay") words.now → IfOk result (λ text. IsReplay text.items) }
+    ensures verify { AreCallOf (codes "verify") words.now → IfOk result (λ text. text.items ≡ codes "same\n") }
 {
     match command_line::read(host.alloc(), words)? {
         Request::Board => Ok(board::board(host.alloc(), threads)?.into_bytes()),

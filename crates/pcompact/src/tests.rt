@@ -9,6 +9,7 @@ use std::thread::Threads;
 use std::{fs, io};
 
 mod files;
+mod usage;
 
 const BOARD: &str = "\
 region 0 claims 1 completions 1
