@@ -37,8 +37,8 @@ loop-a-preserved c =
       overlap = overlaps_more log regions live words i c.loop-a-test.true c.requires.words c.loop-a.end c.loop-a.overlap c.or-overlap.result c.then_some.result c.loop-a.invariant.end c.loop-a.invariant.overlap c.then_some.ensures c.or-overlap.ensures;
       dangling = elim c.if-is_none.branch [
         | then-is_none w ↦ dangling_searched (is_dangling image) (fields_of image) live i c.loop-a.dangling c.if-is_none.dangling c.loop-a-test.true c.loop-a.invariant.dangling
-              (c.is_none.ensures ∙ ap not w.if-is_none.true)
-              (searched log regions live (get_or live i 0) word w.references-references.result w.dangling_field-dangling.result c.word_of-word.ensures w.references-references.ensures (w.dangling_field-dangling.ensures live c.requires.inside c.requires.bits) ∙ sym w.dangling-is)
+            (c.is_none.ensures ∙ ap not w.if-is_none.true)
+            (searched log regions live (get_or live i 0) word w.references-references.result w.dangling_field-dangling.result c.word_of-word.ensures w.references-references.ensures (w.dangling_field-dangling.ensures live c.requires.inside c.requires.bits) ∙ sym w.dangling-is)
         | else-is_none w ↦ w.dangling-is ∙ dangling_kept (is_dangling image) (fields_of image) live i c.loop-a.dangling c.loop-a-test.true c.loop-a.invariant.dangling (c.is_none.ensures ∙ ap not w.if-is_none.false)
       ];
     }
