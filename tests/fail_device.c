@@ -1,23 +1,16 @@
 // Preloaded into a program, lets one of its opens, reads and writes fail: the one whose number, from
-// 1, the environment gives as FAILED. With ONE set, each read and write moves one byte at most. At
-// exit a line on file descriptor 3 gives how many such calls were made. A program that starts threads
-// ends by `_exit`, which runs no destructor.
+// 1, the environment gives as FAILED. With ONE set, each read and write moves one byte at most.
+// nth_call.h says how many such calls were made.
 #define _GNU_SOURCE
 #include <dlfcn.h>
 #include <errno.h>
 #include <fcntl.h>
 #include <stdarg.h>
-#include <stdio.h>
-#include <stdlib.h>
-#include <sys/syscall.h>
-#include <unistd.h>
 
-static unsigned long made;
+#include "nth_call.h"
 
 static int fails(void) {
-    const char *text = getenv("FAILED");
-    unsigned long failed = text ? strtoul(text, NULL, 10) : 0;
-    if (__atomic_add_fetch(&made, 1, __ATOMIC_RELAXED) != failed) {
+    if (!is_chosen("FAILED")) {
         return 0;
     }
     errno = EIO;
@@ -54,14 +47,4 @@ ssize_t write(int file, const void *bytes, size_t size) {
         next = (ssize_t(*)(int, const void *, size_t))dlsym(RTLD_NEXT, "write");
     }
     return fails() ? -1 : next(file, bytes, moved(size));
-}
-
-__attribute__((destructor)) static void tell(void) {
-    dprintf(3, "%lu\n", made);
-}
-
-void _exit(int status) {
-    tell();
-    syscall(SYS_exit_group, status);
-    __builtin_unreachable();
 }

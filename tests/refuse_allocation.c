@@ -1,19 +1,12 @@
 // Preloaded into a program, refuses one of its allocations: the one whose number, from 1, the
-// environment gives as REFUSED. At exit a line on file descriptor 3 gives how many were asked for. A
-// program that starts threads ends by `_exit`, which runs no destructor.
+// environment gives as REFUSED. nth_call.h says how many were asked for.
 #define _GNU_SOURCE
 #include <dlfcn.h>
-#include <stdio.h>
-#include <stdlib.h>
-#include <sys/syscall.h>
-#include <unistd.h>
 
-static unsigned long asked;
+#include "nth_call.h"
 
 static int is_refused(void) {
-    const char *text = getenv("REFUSED");
-    unsigned long refused = text ? strtoul(text, NULL, 10) : 0;
-    return __atomic_add_fetch(&asked, 1, __ATOMIC_RELAXED) == refused;
+    return is_chosen("REFUSED");
 }
 
 void *malloc(size_t size) {
@@ -30,14 +23,4 @@ void *realloc(void *block, size_t size) {
         next = (void *(*)(void *, size_t))dlsym(RTLD_NEXT, "realloc");
     }
     return is_refused() ? NULL : next(block, size);
-}
-
-__attribute__((destructor)) static void tell(void) {
-    dprintf(3, "%lu\n", asked);
-}
-
-void _exit(int status) {
-    tell();
-    syscall(SYS_exit_group, status);
-    __builtin_unreachable();
 }
