@@ -116,7 +116,7 @@ impl Prepared {
         };
         work_all(&crew, workers.as_mut_slice(), threads);
         let finished = finish(board, workers, passes)?;
-        let image = clean_up(cells, &plan, &marks)?;
+        let image = clean_up(cells, &plan, &marks, threads)?;
         let figures = Figures::of(&plan);
         Ok((Outcome { image, figures }, finished))
     }

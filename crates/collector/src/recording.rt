@@ -91,7 +91,7 @@ impl Recording {
             workers,
         } = self;
         work(&recorder, &cells, &plan, &marks, staff, gate, threads, wait)?;
-        let image = clean_up(cells, &plan, &marks)?;
+        let image = clean_up(cells, &plan, &marks, threads)?;
         let schedule = whole_schedule(alloc, recorder, &plan, workers)?;
         let figures = Figures::of(&plan);
         Ok((Outcome { image, figures }, schedule))
