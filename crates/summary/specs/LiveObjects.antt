@@ -1,5 +1,5 @@
 -- The live objects of an image, by their places in the live list.
-use Rattle.std.specs.Prelude.{◌≡◌, ℕ, ◌+◌, ◌<◌, ◌≤◌, length, slice_index}
+use Rattle.std.specs.Prelude.{ℕ, length, slice_index}
 use Rattle.heap_image.specs.HeapImage.{HeapImage}
 
 -- how many live objects there are
@@ -9,7 +9,3 @@ object_count image = length image.live
 -- the address of the i-th live object, from 0
 abbrev pub object_at : HeapImage → ℕ → ℕ
 object_at image i = slice_index image.live i
-
--- a is the address of the last live object that begins below the limit
-abbrev pub IsLastBelow : HeapImage → ℕ → ℕ → Type 0
-IsLastBelow image limit a = (i : ℕ) × (i < object_count image) × (object_at image i ≡ a) × (a < limit) × (i + 1 < object_count image → limit ≤ object_at image (i + 1))
