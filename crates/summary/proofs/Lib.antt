@@ -19,8 +19,8 @@ pub mod Fillers
 pub mod Updates
 pub mod Blocks
 pub mod Steps
+pub mod OwnStarts
 pub mod Runs
-pub mod LiveOrder
 pub mod Lines
 pub mod ReadSteps
 pub mod Filters

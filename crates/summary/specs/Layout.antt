@@ -1,12 +1,25 @@
 -- What is known of the regions before their sources are told.
-use Rattle.std.specs.Prelude.{◌≡◌, ℕ, List, map, None}
+use Rattle.std.specs.Prelude.{◌≡◌, ℕ, ◌+◌, ◌<◌, ◌≤◌, IsTrue, List, length, map, slice_index, false, None}
 use Rattle.std.specs.List.{range_with_len}
-use Rattle.heap_image.specs.HeapImage.{HeapImage, region_count}
+use Rattle.heap_image.specs.HeapImage.{HeapImage, region_words, region_count, start_of}
+use Rattle.mark_bitmap.specs.Marks.{is_begin}
 use Rattle.summary.specs.NewAddresses.{prefix_end, new_top}
 use Rattle.summary.specs.RegionData.{partial_words, own_words, region_data}
 use Rattle.summary.specs.declared.region_data.RegionData.{RegionData}
 use Rattle.summary.specs.declared.region_counts.RegionCounts.{RegionCounts}
 use Rattle.summary.specs.declared.layout.Layout.{Layout}
+
+-- The own start of region r: the first address in it at which a live object begins, or its end where none does.
+pub record IsOwnStart (image : HeapImage) (r a : ℕ) : Type 0 where
+  pub behind : start_of image r ≤ a
+  pub inside : a ≤ start_of image r + region_words image
+  pub before : (k : ℕ) → start_of image r ≤ k → k < a → is_begin image k ≡ false
+  pub begins : a < start_of image r + region_words image → IsTrue (is_begin image a)
+
+-- these are the own starts of all regions
+pub record AreOwnStarts (image : HeapImage) (starts : List ℕ) : Type 0 where
+  pub number : length starts ≡ region_count image
+  pub each : (r : ℕ) → r < region_count image → IsOwnStart image r (slice_index starts r)
 
 module _ (image : HeapImage) where
   abbrev pub region_counts : ℕ → RegionCounts

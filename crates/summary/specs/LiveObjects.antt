@@ -1,6 +1,7 @@
 -- The live objects of an image, by their places in the live list.
-use Rattle.std.specs.Prelude.{◌≡◌, ℕ, ◌+◌, ◌<◌, ◌≤◌, length, slice_index}
+use Rattle.std.specs.Prelude.{ℕ, ◌<◌, ◌≤◌, length, slice_index}
 use Rattle.heap_image.specs.HeapImage.{HeapImage}
+use Rattle.summary.specs.NewAddresses.{new_address}
 
 -- how many live objects there are
 abbrev pub object_count : HeapImage → ℕ
@@ -10,6 +11,8 @@ object_count image = length image.live
 abbrev pub object_at : HeapImage → ℕ → ℕ
 object_at image i = slice_index image.live i
 
--- a is the address of the last live object that begins below the limit
-abbrev pub IsLastBelow : HeapImage → ℕ → ℕ → Type 0
-IsLastBelow image limit a = (i : ℕ) × (i < object_count image) × (object_at image i ≡ a) × (a < limit) × (i + 1 < object_count image → limit ≤ object_at image (i + 1))
+-- the first n live objects, and no others, have a new address below the limit
+pub record ArePlacedBelow (image : HeapImage) (limit n : ℕ) : Type 0 where
+  pub within : n ≤ object_count image
+  pub below : (i : ℕ) → i < n → new_address image (object_at image i) < limit
+  pub above : (i : ℕ) → n ≤ i → i < object_count image → limit ≤ new_address image (object_at image i)

@@ -1,12 +1,10 @@
 //! The counts of the regions: how many words of each are live, and of which objects.
 
-ghost use Rattle.std.specs.Prelude.{◌≡◌, ◌<◌, ◌≤◌, IfOk, MatchOption};
-ghost use Rattle.heap_image.specs.HeapImage.{region_count};
-ghost use Rattle.summary.specs.LiveObjects.{object_count, object_at, IsLastBelow};
-ghost use Rattle.summary.specs.RegionData.{partial_words};
-ghost use Rattle.summary.specs.Layout.{region_counts, AreCounts};
+ghost use Rattle.std.specs.Prelude.{◌≡◌, ℕ, ◌<◌, ◌≤◌, false, IsTrue, IfOk};
+ghost use Rattle.heap_image.specs.HeapImage.{heap_words, region_count};
+ghost use Rattle.mark_bitmap.specs.Marks.{is_begin};
+ghost use Rattle.summary.specs.Layout.{region_counts, AreCounts, IsOwnStart, AreOwnStarts};
 
-use crate::object_words::object_words;
 use crate::region_counts::RegionCounts;
 use crate::region_words::region_words;
 use heap_image::Image;
@@ -25,61 +23,62 @@ pub(crate) fn count_regions(
     requires { marks.now ≡ image.now }
     ensures { IfOk result (λ counts. AreCounts image.now counts.items) }
 {
+    let starts = own_starts(alloc, image, marks)?;
+    let starts = starts.as_slice();
     (0..image.regions())
         .into_par_iter()
         .map(
             |r: u32| -> RegionCounts
-                requires { (marks.now ≡ image.now) × (r < region_count image.now) }
+                requires { (marks.now ≡ image.now) × AreOwnStarts image.now starts.now × (r < region_count image.now) }
                 ensures { result ≡ region_counts image.entry.now r }
-            { counts_of(image, marks, r) },
+            { counts_of(image, marks, r, starts[r as usize]) },
         )
         .collect(threads, alloc)
 }
 
-/// The counts of one region: its live words by population counts, and how many of them are of an object begun further
+/// The counts of one region, by population counts. The live words below its own start are of an object begun further
 /// left.
-fn counts_of(image: &Image, marks: &Marks, r: u32) -> RegionCounts
+fn counts_of(image: &Image, marks: &Marks, r: u32, own_start: u64) -> RegionCounts
     requires same { marks.now ≡ image.now }
     requires inside { r < region_count image.now }
+    requires own_start { IsOwnStart image.now r own_start }
     ensures { result ≡ region_counts image.now r }
 {
     let region_words = region_words(image);
     let start = u64::from(r) * region_words;
-    let words = marks.live_words(start, start + region_words);
-    let partial = partial_words(image, r);
+    let end = start + region_words;
     RegionCounts {
-        partial,
-        live: words as u32 - partial,
+        partial: marks.live_words(start, own_start) as u32,
+        live: marks.live_words(own_start, end) as u32,
     }
 }
 
-/// The words at the front of a region that are of an object begun further left. Of the objects that begin there only
-/// the last can reach into the region.
-fn partial_words(image: &Image, r: u32) -> u32
-    requires { r < region_count image.now }
-    ensures { result ≡ partial_words image.now r }
+/// The own start of each region: the address of the first object that begins in it, or its end where none does. Each is
+/// looked for from where the one before it was found, so that no mark is read twice.
+fn own_starts(alloc: Global, image: &Image, marks: &Marks) -> Result<Vec<u64>, AllocError>
+    requires { marks.now ≡ image.now }
+    ensures { IfOk result (λ starts. AreOwnStarts image.now starts.items) }
 {
     let region_words = region_words(image);
-    let start = u64::from(r) * region_words;
-    match last_below(image, start) {
-        Some(a) => {
-            let end = a + object_words(image, a);
-            end.saturating_sub(start).min(region_words) as u32
+    let mut starts = Vec::with_capacity(alloc, image.regions() as usize)?;
+    let mut begin = begin_from(image, marks, 0);
+    for r in 0..image.regions() {
+        let start = u64::from(r) * region_words;
+        if begin < start {
+            begin = begin_from(image, marks, start);
         }
-        None => 0,
+        starts.push(begin.min(start + region_words))?;
     }
+    Ok(starts)
 }
 
-/// The last live object that begins below a limit.
-fn last_below(image: &Image, limit: u64) -> Option<u64>
-    ensures { MatchOption result (0 < object_count image.now → limit ≤ object_at image.now 0)
-        (IsLastBelow image.now limit) }
+/// The first address from `from` on at which a live object begins, or the end of the heap where none does.
+fn begin_from(image: &Image, marks: &Marks, from: u64) -> u64
+    requires same { marks.now ≡ image.now }
+    requires inside { from ≤ heap_words image.now }
+    ensures behind { from ≤ result }
+    ensures before { (k : ℕ) → from ≤ k → k < result → is_begin image.now k ≡ false }
+    ensures begins { result < heap_words image.now → IsTrue (is_begin image.now result) }
 {
-    let live = image.live();
-    let below = live.partition_point(|a| *a < limit);
-    if below == 0 {
-        None
-    } else {
-        Some(live[below - 1])
-    }
+    marks.next_begin(from).unwrap_or(image.len())
 }

@@ -27,7 +27,6 @@ mod counting;
 mod deferred;
 pub mod laws;
 mod layout;
-mod object_words;
 mod plainly;
 mod plan;
 mod reads;

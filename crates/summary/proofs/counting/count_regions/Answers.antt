@@ -1,11 +1,11 @@
-use Rattle.std.proofs.Common.{◌≡◌, ◌<◌, ◌-◌, ◌∙◌, map, ap, arith}
+use Rattle.std.proofs.Common.{◌≡◌, ◌<◌, ◌-◌, ◌∙◌, map, ap, sym, subst, arith}
 use Rattle.std.specs.List.{range_with_len}
 use Rattle.std.proofs.lemmas.Slice.Zip.{AllZip-map}
 use Rattle.heap_image.specs.HeapImage.{region_count}
 use Rattle.rayon.specs.Numbers.{nat_range}
 use Rattle.rayon.proofs.ListFacts.{IfOk-then}
 use Rattle.rayon.proofs.ToStd.{nat_range-All}
-use Rattle.summary.specs.Layout.{region_counts}
+use Rattle.summary.specs.Layout.{region_counts, AreOwnStarts}
 use Rattle.summary.proofs.counting.count_regions.Goals as goal
 
 pub collect-requires-clause-ready : goal.collect-requires-clause-ready
@@ -14,8 +14,9 @@ collect-requires-clause-ready g c κs bounds =
     let ends = c.into_par_iter.ensures in
     let same = c.requires in
     let count = c.regions.ensures.value in
-    let inside = nat_range-All (λ i. (c.args.marks.now ≡ image) × (i < region_count image)) 0 c.regions.result
-    (λ i low high. (same, omega arith)) in
+    let starts = subst (AreOwnStarts image) (sym c.as_slice-starts.ensures.value) c.in_ok-starts.ensures in
+    let inside = nat_range-All (λ i. (c.args.marks.now ≡ image) × AreOwnStarts image c.as_slice-starts.result.now × (i < region_count image)) 0 c.regions.result
+    (λ i low high. (same, starts, omega arith)) in
     rw (c.map.ensures.base, c.map.ensures.f, ends.0, ends.1) (λ k d lt. (inside k d lt, λ y p. tt))
 
 pub returns : goal.returns

@@ -1,45 +1,39 @@
-use Rattle.std.proofs.Common.{◌≡◌, ◌+◌, ◌-◌, ◌*◌, ℕ, sym, ap, ◌∙◌, arith}
-use Rattle.heap_image.specs.HeapImage.{HeapImage, start_of, region_words, heap_words, live_words}
+use Rattle.std.proofs.Common.{◌≡◌, ◌+◌, ◌*◌, ℕ, refl, ap, ◌∙◌, arith}
+use Rattle.heap_image.specs.HeapImage.{HeapImage, start_of, region_words, live_words}
 use Rattle.summary.specs.RegionData.{partial_words, own_words}
-use Rattle.summary.proofs.Blocks.{region_in_heap}
-use Rattle.summary.proofs.Regions.{data-live_words, data-le}
+use Rattle.summary.proofs.OwnStarts.{own_start-partial, own_start-own}
+use Rattle.summary.proofs.Regions.{data-le}
 use Rattle.summary.proofs.counting.counts_of.Goals as goal
 
-pub live_words-words-requires-clause-inside : goal.live_words-words-requires-clause-inside
-live_words-words-requires-clause-inside c =
-    let image = c.args.image.now in
-    let at : c.from.result * c.region_words-region_words.result ≡ start_of image c.args.r = ap (λ n. n * c.region_words-region_words.result) c.from.ensures ∙ ap (λ n. c.args.r * n) c.region_words-region_words.ensures.value in
-    let words = c.region_words-region_words.ensures.value in
-    let within = region_in_heap image c.args.r c.requires.inside in
-    let heap : heap_words c.args.marks.now ≡ heap_words image = ap heap_words c.requires.same in
-    omega arith
-
--- the live words of a region are its partial and its own ones
-words : (image : HeapImage) (r n m from to : ℕ) → from ≡ start_of image r → to ≡ start_of image r + region_words image → n ≡ live_words image from to
-    → live_words image (start_of image r) (start_of image r + region_words image) ≡ m → n ≡ m
-words image r n m from to e f g h = g ∙ ap (λ a. live_words image a to) e ∙ ap (live_words image (start_of image r)) f ∙ h
+-- the live words between two addresses, which are these
+between : (image other : HeapImage) (n a b c d : ℕ) → n ≡ live_words other a b → other ≡ image → a ≡ c → b ≡ d → n ≡ live_words image c d
+between image other n a b c d is same e f = is ∙ ap (λ i. live_words i a b) same ∙ ap (λ k. live_words image k b) e ∙ ap (live_words image c) f
 
 pub overflow_cast-result : goal.overflow_cast-result
 overflow_cast-result c =
     let image = c.args.image.now in
     let r = c.args.r in
     let sound = c.region_words-region_words.ensures.valid.live_list in
-    let at : c.from.result * c.region_words-region_words.result ≡ start_of image r = ap (λ n. n * c.region_words-region_words.result) c.from.ensures ∙ ap (λ n. r * n) c.region_words-region_words.ensures.value in
-    let region = c.region_words-region_words.ensures.value in
-    let all = words image r c.live_words-words.result (partial_words image r + own_words image r) (c.from.result * c.region_words-region_words.result) (c.from.result * c.region_words-region_words.result + c.region_words-region_words.result) at (omega arith) (c.live_words-words.ensures ∙ ap (λ i. live_words i (c.from.result * c.region_words-region_words.result) (c.from.result * c.region_words-region_words.result + c.region_words-region_words.result)) c.requires.same) (sym (data-live_words image sound r)) in
+    let n : ℕ = c.region_words-region_words.result in
+    let at : c.from.result * n ≡ start_of image r = ap (λ m. m * n) c.from.ensures ∙ ap (λ m. r * m) c.region_words-region_words.ensures.value in
+    let is = between image c.args.marks.now c.live_words.result (c.from.result * n) c.args.own_start (start_of image r) c.args.own_start c.live_words.ensures c.requires.same at refl ∙ own_start-partial image sound r c.args.own_start c.requires.own_start in
     let few = data-le image sound r in
+    let words = c.region_words-region_words.ensures.value in
     let small = c.region_words-region_words.ensures.few in
     omega arith
 
-pub overflow_sub-result : goal.overflow_sub-result
-overflow_sub-result c =
+pub overflow_cast-result-2 : goal.overflow_cast-result-2
+overflow_cast-result-2 c =
     let image = c.args.image.now in
     let r = c.args.r in
     let sound = c.region_words-region_words.ensures.valid.live_list in
-    let at : c.from.result * c.region_words-region_words.result ≡ start_of image r = ap (λ n. n * c.region_words-region_words.result) c.from.ensures ∙ ap (λ n. r * n) c.region_words-region_words.ensures.value in
-    let region = c.region_words-region_words.ensures.value in
-    let all = words image r c.live_words-words.result (partial_words image r + own_words image r) (c.from.result * c.region_words-region_words.result) (c.from.result * c.region_words-region_words.result + c.region_words-region_words.result) at (omega arith) (c.live_words-words.ensures ∙ ap (λ i. live_words i (c.from.result * c.region_words-region_words.result) (c.from.result * c.region_words-region_words.result + c.region_words-region_words.result)) c.requires.same) (sym (data-live_words image sound r)) in
-    let partial = c.partial_words-partial.ensures in
+    let n : ℕ = c.region_words-region_words.result in
+    let words = c.region_words-region_words.ensures.value in
+    let at : c.from.result * n ≡ start_of image r = ap (λ m. m * n) c.from.ensures ∙ ap (λ m. r * m) words in
+    let end : c.from.result * n + n ≡ start_of image r + region_words image = omega arith in
+    let is = between image c.args.marks.now c.live_words-2.result c.args.own_start (c.from.result * n + n) c.args.own_start (start_of image r + region_words image) c.live_words-2.ensures c.requires.same refl end ∙ own_start-own image sound r c.args.own_start c.requires.own_start in
+    let few = data-le image sound r in
+    let small = c.region_words-region_words.ensures.few in
     omega arith
 
 pub returns : goal.returns
@@ -47,10 +41,11 @@ returns c =
     let image = c.args.image.now in
     let r = c.args.r in
     let sound = c.region_words-region_words.ensures.valid.live_list in
-    let at : c.from.result * c.region_words-region_words.result ≡ start_of image r = ap (λ n. n * c.region_words-region_words.result) c.from.ensures ∙ ap (λ n. r * n) c.region_words-region_words.ensures.value in
-    let region = c.region_words-region_words.ensures.value in
-    let all = words image r c.live_words-words.result (partial_words image r + own_words image r) (c.from.result * c.region_words-region_words.result) (c.from.result * c.region_words-region_words.result + c.region_words-region_words.result) at (omega arith) (c.live_words-words.ensures ∙ ap (λ i. live_words i (c.from.result * c.region_words-region_words.result) (c.from.result * c.region_words-region_words.result + c.region_words-region_words.result)) c.requires.same) (sym (data-live_words image sound r)) in
-    let partial = c.partial_words-partial.ensures in
-    let own : c.live_words-words.result - c.partial_words-partial.result ≡ own_words image r = omega arith in
-    ap (λ (n : ℕ). record { partial = n; live = c.live_words-words.result - c.partial_words-partial.result }) partial
-    ∙ ap (λ (n : ℕ). record { partial = partial_words image r; live = n }) own
+    let n : ℕ = c.region_words-region_words.result in
+    let words = c.region_words-region_words.ensures.value in
+    let at : c.from.result * n ≡ start_of image r = ap (λ m. m * n) c.from.ensures ∙ ap (λ m. r * m) words in
+    let end : c.from.result * n + n ≡ start_of image r + region_words image = omega arith in
+    let partial : c.live_words.result ≡ partial_words image r = between image c.args.marks.now c.live_words.result (c.from.result * n) c.args.own_start (start_of image r) c.args.own_start c.live_words.ensures c.requires.same at refl ∙ own_start-partial image sound r c.args.own_start c.requires.own_start in
+    let own : c.live_words-2.result ≡ own_words image r = between image c.args.marks.now c.live_words-2.result c.args.own_start (c.from.result * n + n) c.args.own_start (start_of image r + region_words image) c.live_words-2.ensures c.requires.same refl end ∙ own_start-own image sound r c.args.own_start c.requires.own_start in
+    ap (λ (m : ℕ). record { partial = m; live = c.live_words-2.result }) partial
+    ∙ ap (λ (m : ℕ). record { partial = partial_words image r; live = m }) own

@@ -1,29 +1,24 @@
-use Rattle.std.proofs.Common.{◌≡◌, ◌<◌, ◌-◌, ◌∙◌, map, ap, arith}
+use Rattle.std.proofs.Common.{◌≡◌, ◌+◌, ◌*◌, ℕ, List, [], ◌∷◌, ◌++◌, map, sym, ◌∙◌, ap, arith}
+use Rattle.std.specs.Prelude.{Option}
 use Rattle.std.specs.List.{range_with_len}
-use Rattle.std.proofs.lemmas.Slice.Zip.{AllZip-map}
-use Rattle.heap_image.specs.HeapImage.{region_count}
-use Rattle.rayon.specs.Numbers.{nat_range}
-use Rattle.rayon.proofs.ListFacts.{IfOk-then}
-use Rattle.rayon.proofs.ToStd.{nat_range-All}
+use Rattle.std.proofs.lemmas.List.FromFn.{map-range_with_len_more}
+use Rattle.heap_image.specs.HeapImage.{start_of}
 use Rattle.summary.specs.RegionData.{deferred}
 use Rattle.summary.proofs.deferred.deferred_addresses.Goals as goal
 
-pub collect-requires-clause-ready : goal.collect-requires-clause-ready
-collect-requires-clause-ready g c κs bounds =
+pub loop-d-preserved : goal.loop-d-preserved
+loop-d-preserved g c =
     let image = c.args.image.now in
-    let ends = c.into_par_iter.ensures in
-    let count = c.regions.ensures.value in
-    let inside = nat_range-All (λ i. (c.args.marks.now ≡ image) × (c.args.table.now ≡ image) × (i < region_count image)) 0 c.regions.result
-    (λ i low high. (c.requires.marks, c.requires.table, omega arith)) in
-    rw (c.map.ensures.base, c.map.ensures.f, ends.0, ends.1) (λ k d lt. (inside k d lt, λ y p. tt))
-
-pub returns : goal.returns
-returns g c =
-    let image = c.args.image.now in
-    let ends = c.into_par_iter.ensures in
-    let n = c.regions.result in
-    let whole : n - 0 ≡ region_count image = omega (arith, c.regions.ensures.value) in
-    IfOk-then c.collect.result _ _ c.collect.ensures (λ v h.
-    let chain = rw (c.map.ensures.base, c.map.ensures.f) at h.1 in
-    let places = chain.1 ∙ (λ i. nat_range (ends.0 i) (ends.1 i)) ∙ ap (range_with_len 0) whole in
-    h.2 ∙ AllZip-map (deferred image) chain.0 h.0 chain.2 ∙ ap (map (deferred image)) places)
+    let d : ℕ = c.loop-d.d in
+    let n : ℕ = c.region_words-region_words.result in
+    let placed = c.placed_below-placed.ensures in
+    let end : (c.from.result + 1) * n ≡ start_of image (d + 1) = ap (λ m. (m + 1) * n) c.from.ensures ∙ ap (λ m. (d + 1) * m) c.region_words-region_words.ensures.value in
+    let pushed : c.push.new.self.items ≡ c.loop-d.addresses.items ++ c.deferred_in.result ∷ [] = c.in_ok-push.ensures.items in
+    record {
+      made = pushed
+          ∙ ap (λ (l : List (Option ℕ)). l ++ c.deferred_in.result ∷ []) c.loop-d.invariant.made
+          ∙ ap (λ a. map (deferred image) (range_with_len 0 d) ++ a ∷ []) c.deferred_in.ensures
+          ∙ sym (map-range_with_len_more (deferred image) 0 d d (omega arith));
+      within = placed.within;
+      known = λ i l. let low = placed.below i l in omega arith;
+    }

@@ -1,30 +1,55 @@
-use Rattle.std.proofs.Common.{◌≡◌, ℕ, ◌+◌, ◌-◌, ◌/◌, ◌≤◌, List, get_or, ◌∙◌, ap, arith}
+use Rattle.std.proofs.Common.{◌≡◌, ℕ, ◌+◌, ◌-◌, ◌≤◌, ◌<◌, List, drop, take, length, get_or, ltb, ◌∙◌, ap, arith}
+use Rattle.std.specs.List.{prefix_len}
+use Rattle.std.proofs.lemmas.List.{take_rest}
 use Rattle.heap_image.specs.HeapImage.{HeapImage}
 use Rattle.summary.specs.LiveObjects.{object_count, object_at}
 use Rattle.summary.specs.NewAddresses.{new_address}
-use Rattle.summary.proofs.Crossings.{to-le}
+use Rattle.summary.proofs.Crossings.{to-le, more_below}
 use Rattle.summary.proofs.deferred.placed_below.Goals as goal
 
-pub loop-low-preserved-then-new_address-limit : goal.loop-low-preserved-then-new_address-limit
-loop-low-preserved-then-new_address-limit c =
-    let image = c.args.image.now in
-    let before = c.loop-low.invariant in
-    let high : c.loop-low.high ≤ object_count image = before.1 in
-    let less = c.loop-low-test.true in
-    let middle : ℕ = c.loop-low.low + (c.loop-low.high - c.loop-low.low) / 2 in
-    let at : get_or c.live-live.result.now middle 0 ≡ object_at image middle = ap (λ (l : List ℕ). get_or l middle 0) c.live-live.ensures.value in
-    let is : c.new_address.result ≡ new_address image (object_at image middle) = c.new_address.ensures ∙ ap (λ (i : HeapImage). new_address i (get_or c.live-live.result.now middle 0)) c.requires.table ∙ ap (new_address image) at in
-    let below = c.if-new_address-limit.true in
-    (omega arith, high, (λ i l. let up = to-le image c.live-live.ensures.valid.live_list i middle (omega arith) (omega arith) in omega arith), before.3)
+-- the new address of an object that was asked for
+asked : (image table : HeapImage) (live : List ℕ) (n to : ℕ) → live ≡ image.live → table ≡ image → to ≡ new_address table (get_or live n 0) → to ≡ new_address image (object_at image n)
+asked image table live n to same is found = found ∙ ap (λ (i : HeapImage). new_address i (get_or live n 0)) is ∙ ap (λ (l : List ℕ). new_address image (get_or l n 0)) same
 
-pub loop-low-preserved : goal.loop-low-preserved
-loop-low-preserved c =
+more : (c : goal.After-front_below-placed) → (c.loop-placed.placed + c.front_below-placed.result ≤ object_count c.args.image.now)
+    × ((i : ℕ) → i < c.loop-placed.placed + c.front_below-placed.result → new_address c.args.image.now (object_at c.args.image.now i) < c.args.limit)
+more c =
     let image = c.args.image.now in
-    let before = c.loop-low.invariant in
-    let high : c.loop-low.high ≤ object_count image = before.1 in
-    let less = c.loop-low-test.true in
-    let middle : ℕ = c.loop-low.low + (c.loop-low.high - c.loop-low.low) / 2 in
-    let at : get_or c.live-live.result.now middle 0 ≡ object_at image middle = ap (λ (l : List ℕ). get_or l middle 0) c.live-live.ensures.value in
-    let is : c.new_address.result ≡ new_address image (object_at image middle) = c.new_address.ensures ∙ ap (λ (i : HeapImage). new_address i (get_or c.live-live.result.now middle 0)) c.requires.table ∙ ap (new_address image) at in
-    let above = c.if-new_address-limit.false in
-    (omega arith, omega arith, before.2, λ i l m. let up = to-le image c.live-live.ensures.valid.live_list middle i (omega arith) m in omega arith)
+    let sound = c.live-live.ensures.valid.live_list in
+    let n : ℕ = c.loop-placed.placed in
+    let m : ℕ = c.front_below-placed.result in
+    let live : List ℕ = c.live-live.result.now in
+    let same : live ≡ image.live = c.live-live.ensures.value in
+    let to = asked image c.args.table.now live n c.new_address-to.result same c.requires.table c.new_address-to.ensures in
+    let test = c.loop-placed-test.true in
+    let near : ℕ = get_or live n 0 + (c.args.limit - c.new_address-to.result) in
+    let place : get_or live n 0 ≡ object_at image n = ap (λ (l : List ℕ). get_or l n 0) same in
+    let long : length live ≡ length image.live = ap length same in
+    let below = c.if-limit-to.false in
+    let rest : take (length live - n) (drop n live) ≡ drop n live = take_rest live n in
+    let count : m ≡ prefix_len (λ a. ltb a near) (drop n image.live) = c.front_below-placed.ensures ∙ ap (prefix_len (λ a. ltb a near)) rest ∙ ap (λ (l : List ℕ). prefix_len (λ a. ltb a near) (drop n l)) same in
+    more_below image sound n m near c.args.limit (omega arith) (omega arith) (omega arith) count c.loop-placed.invariant.known
+
+pub overflow_add-placed : goal.overflow_add-placed
+overflow_add-placed c =
+    let few = (more c).0 in
+    let limits = c.live-live.ensures.valid.limits in
+    let live = limits.few_live in
+    let words = limits.few_words in
+    omega arith
+
+pub loop-placed-preserved : goal.loop-placed-preserved
+loop-placed-preserved c = let h = more c in record { within = h.0; known = h.1 }
+
+pub returns-then-limit-to : goal.returns-then-limit-to
+returns-then-limit-to c =
+    let image = c.args.image.now in
+    let sound = c.live-live.ensures.valid.live_list in
+    let n : ℕ = c.loop-placed.placed in
+    let to = asked image c.args.table.now c.live-live.result.now n c.new_address-to.result c.live-live.ensures.value c.requires.table c.new_address-to.ensures in
+    let over = c.if-limit-to.true in
+    record {
+      within = c.loop-placed.invariant.within;
+      below = c.loop-placed.invariant.known;
+      above = λ i l m. let up = to-le image sound n i l m in omega arith;
+    }
