@@ -1,26 +1,12 @@
 -- The live objects of a valid image, and their bits.
-use Rattle.std.proofs.Common.{◌≡◌, ℕ, zero, suc, ◌+◌, ◌-◌, ◌/◌, ◌%◌, ◌≤◌, ◌<◌, inl, inr, Bool, true, false, ◌||◌, ◌&&◌, eqb, leb, ltb, List, [], length, get_or, take, replicate, sym, ◌∙◌, ap, subst, arith}
-use Rattle.std.specs.Int.{bit_at}
+use Rattle.std.proofs.Common.{◌≡◌, ℕ, zero, suc, ◌+◌, ◌-◌, ◌≤◌, ◌<◌, inl, inr, Bool, true, eqb, length, get_or, sym, ◌∙◌, ap, subst, arith}
 use Rattle.std.specs.List.{list_any}
-use Rattle.std.proofs.lemmas.Bool.{cases_lt, cases_order, eq-eqb, eqb-true, false_from_ne_true, true≢false}
-use Rattle.std.proofs.lemmas.List.{get_or-replicate, length-replicate}
-use Rattle.std.proofs.lemmas.List.Folds.{list_any_more, list_any_at, Any-from_list_any}
-use Rattle.std.proofs.Math.ListN.{get_or-eq_default}
-use Rattle.std.proofs.lemmas.Nat.Bits.{bit_at-zero}
+use Rattle.std.proofs.lemmas.Bool.{cases_order, eq-eqb, eqb-true, false_from_ne_true, true≢false}
+use Rattle.std.proofs.lemmas.List.Folds.{list_any_at, Any-from_list_any}
 use Rattle.std.proofs.lemmas.Grind.{get_or_default_zero}
-use Rattle.heap_image.specs.HeapImage.{HeapImage, IsValid, HasSoundHeader, heap_words, size_at, end_of, is_word_of}
-use Rattle.mark_bitmap.specs.Bits.{has, IsFirstFrom}
-use Rattle.mark_bitmap.specs.Marks.{HaveMarks, is_begin, is_end, bit_words}
-use Rattle.mark_bitmap.proofs.Places.{same_tests}
-
-pub has-none : (n k : ℕ) → has (replicate n 0) k ≡ false
-has-none n k =
-    let long : length (replicate {A = ℕ} n 0) ≡ n = length-replicate n 0 in
-    let zero' : get_or (replicate n 0) (k / 64) 0 ≡ 0 = elim (cases_lt (k / 64) n) [
-      | inl inside ↦ get_or-replicate n (k / 64) 0 0 inside
-      | inr behind ↦ get_or-eq_default (replicate n 0) 0 (omega arith)
-    ] in
-    ap (λ w. eqb (bit_at w (k % 64)) 1) zero' ∙ ap (λ b. eqb b 1) (bit_at-zero (k % 64))
+use Rattle.heap_image.specs.HeapImage.{HeapImage, IsValid, HasSoundHeader, size_at, end_of}
+use Rattle.mark_bitmap.specs.Bits.{IsFirstFrom}
+use Rattle.mark_bitmap.specs.Marks.{is_begin, is_end}
 
 -- two first addresses of one test are one
 pub IsFirstFrom-unique : (p : ℕ → Bool) (from a b : ℕ) → IsFirstFrom p from a → IsFirstFrom p from b → a ≡ b
@@ -37,55 +23,9 @@ IsFirstFrom-same p q from a e h = record {
   least = λ k f l. sym (e k) ∙ h.least k f l;
 }
 
--- no object is marked yet
-pub HaveMarks-none : (image : HeapImage) (begins ends live : List ℕ) → begins ≡ replicate (bit_words image) 0 → ends ≡ replicate (bit_words image) 0 → live ≡ replicate (bit_words image) 0 → HaveMarks image [] begins ends live
-HaveMarks-none image begins ends live b e l =
-    let n : ℕ = bit_words image in
-    record {
-      begins_room = ap length b ∙ length-replicate n 0;
-      ends_room = ap length e ∙ length-replicate n 0;
-      live_room = ap length l ∙ length-replicate n 0;
-      begin_bits = λ a. ap (λ (w : List ℕ). has w a) b ∙ has-none n a;
-      end_bits = λ a. ap (λ (w : List ℕ). has w a) e ∙ has-none n a;
-      live_bits = λ a. ap (λ (w : List ℕ). has w a) l ∙ has-none n a;
-    }
-
 module _ (image : HeapImage) (valid : IsValid image) where
   pub sound_at : (i : ℕ) → i < length image.live → HasSoundHeader image (get_or image.live i 0)
   sound_at i h = valid.live_list.sound i 0 h
-
-  -- an object of the list, read from a list that is equal, has words, all of them in the heap
-  pub listed : (items : List ℕ) (i : ℕ) → items ≡ image.live → i < length items → (0 < size_at image (get_or items i 0)) × (end_of image (get_or items i 0) ≤ heap_words image)
-  listed items i is h =
-      let at : get_or image.live i 0 ≡ get_or items i 0 = ap (λ (l : List ℕ). get_or l i 0) (sym is) in
-      let sound = sound_at i (subst (λ (l : List ℕ). i < length l) is h) in
-      (subst (λ n. 0 < size_at image n) at sound.header, subst (λ n. end_of image n ≤ heap_words image) at sound.inside)
-
-  -- the marks with those of one more object
-  pub HaveMarks-more : (i a end : ℕ) (begins ends live begins' ends' live' : List ℕ) → i < length image.live → a ≡ get_or image.live i 0 → end ≡ end_of image a
-      → HaveMarks image (take i image.live) begins ends live
-      → length begins' ≡ length begins → length ends' ≡ length ends → length live' ≡ length live
-      → ((k : ℕ) → has begins' k ≡ (has begins k || eqb a k)) → ((k : ℕ) → has ends' k ≡ (has ends k || eqb (end - 1) k)) → ((k : ℕ) → has live' k ≡ (has live k || (leb a k && ltb k end)))
-      → HaveMarks image (take (i + 1) image.live) begins' ends' live'
-  HaveMarks-more i a end begins ends live begins' ends' live' h is ends_at so_far room1 room2 room3 bits1 bits2 bits3 =
-      let sound = sound_at i h in
-      let some : 0 < size_at image a = subst (λ n. 0 < size_at image n) (sym is) sound.header in
-      record {
-        begins_room = room1 ∙ so_far.begins_room;
-        ends_room = room2 ∙ so_far.ends_room;
-        live_room = room3 ∙ so_far.live_room;
-        begin_bits = λ k. bits1 k ∙ ap (λ b. b || eqb a k) (so_far.begin_bits k) ∙ more (λ b. eqb b k) (eqb a k) (ap (λ n. eqb n k) is);
-        end_bits = λ k. bits2 k ∙ ap (λ b. b || eqb (end - 1) k) (so_far.end_bits k) ∙ more (λ b. eqb (end_of image b) (k + 1)) (eqb (end - 1) k) (last k some ∙ ap (λ n. eqb (end_of image n) (k + 1)) is);
-        live_bits = λ k. bits3 k ∙ ap (λ b. b || (leb a k && ltb k end)) (so_far.live_bits k) ∙ more (λ b. is_word_of image b k) (leb a k && ltb k end) (ap (λ n. leb a k && ltb k n) ends_at ∙ ap (λ n. is_word_of image n k) is);
-      }
-    where
-      more : (p : ℕ → Bool) (b : Bool) → b ≡ p (get_or image.live i 0) → (list_any p (take i image.live) || b) ≡ list_any p (take (i + 1) image.live)
-      more p b e = ap (λ t. list_any p (take i image.live) || t) e ∙ sym (list_any_more p image.live i 0 h)
-
-      last : (k : ℕ) → 0 < size_at image a → eqb (end - 1) k ≡ eqb (end_of image a) (k + 1)
-      last k some = same_tests (eqb (end - 1) k) (eqb (end_of image a) (k + 1))
-          (λ t. let e : end - 1 ≡ k = eqb-true (end - 1) k t in eq-eqb (end_of image a) (k + 1) (omega arith))
-          (λ t. let e : end_of image a ≡ k + 1 = eqb-true (end_of image a) (k + 1) t in eq-eqb (end - 1) k (omega arith))
 
   -- the objects stand in order, apart from one another
   apart_by : (i d : ℕ) → i + 1 + d < length image.live → end_of image (get_or image.live i 0) ≤ get_or image.live (i + 1 + d) 0

@@ -4,5 +4,6 @@ pub mod Words
 pub mod Counts
 pub mod Firsts
 pub mod Apart
+pub mod Runs
 pub mod BlockSums
 pub mod Absent

@@ -1,7 +1,7 @@
 //! `Bits`: a set of addresses, with one bit for each address.
-ghost use Rattle.std.specs.Prelude.{◌≡◌, ℕ, ◌+◌, ◌-◌, ◌*◌, ◌/◌, ◌%◌, ◌^◌, ◌<◌, ◌≤◌, ◌==◌, ◌||◌, ◌&&◌, nat_le, nat_lt, ◌++◌, length, replicate, take, drop, count_by, count_ones, position, not, IfOk, MatchOption};
+ghost use Rattle.std.specs.Prelude.{◌≡◌, ℕ, ◌+◌, ◌-◌, ◌*◌, ◌/◌, ◌%◌, ◌^◌, ◌<◌, ◌≤◌, ◌==◌, ◌||◌, ◌&&◌, nat_le, nat_lt, ◌++◌, length, replicate, take, drop, All, slice_index, slice_set, count_by, count_ones, position, not, IfOk, MatchOption};
 ghost use Rattle.std.specs.Int.{bit_at};
-ghost use Rattle.std.specs.List.{range_with_len};
+ghost use Rattle.std.specs.List.{range_with_len, list_any};
 ghost use Rattle.mark_bitmap.specs.Bits.{has, room, NoneFrom, IsFirstFrom};
 
 use std::alloc::{AllocError, Global};
@@ -53,23 +53,14 @@ impl Bits {
         self.insert_mask((i / 64) as usize, 1 << (i % 64));
     }
 
-    /// Puts the addresses from `from` up to `to`, itself not included, into the set.
-    pub(crate) fn insert_run(&mut self, from: u64, to: u64)
-        requires some { from < to }
-        requires inside { to ≤ room self.old }
+    /// Puts some addresses into the set.
+    pub(crate) fn insert_all(&mut self, addresses: &[u64])
+        requires { All (λ a. a < room self.old) addresses.now }
         ensures room { length self.new ≡ length self.old }
-        ensures bits { (k : ℕ) → has self.new k ≡ (has self.old k || (nat_le from k && nat_lt k to)) }
+        ensures bits { (k : ℕ) → has self.new k ≡ (has self.old k || list_any (λ a. a == k) addresses.now) }
     {
-        let first = (from / 64) as usize;
-        let last = ((to - 1) / 64) as usize;
-        let low = u64::MAX << (from % 64);
-        let high = u64::MAX >> (63 - (to - 1) % 64);
-        if first == last {
-            self.insert_mask(first, low & high);
-        } else {
-            self.insert_mask(first, low);
-            self.insert_words(first + 1, last);
-            self.insert_mask(last, high);
+        for &address in addresses {
+            self.insert(address);
         }
     }
 
@@ -83,15 +74,22 @@ impl Bits {
         self.words[i] |= mask;
     }
 
-    /// Sets all bits of the words with an index from `from` up to `to`, itself not included.
+    /// The word with index `i`.
     #[inline]
-    fn insert_words(&mut self, from: usize, to: usize)
-        requires ordered { from ≤ to }
-        requires inside { to ≤ length self.old }
-        ensures room { length self.new ≡ length self.old }
-        ensures bits { (k : ℕ) → has self.new k ≡ (has self.old k || (nat_le from (k / 64) && nat_lt (k / 64) to)) }
+    pub(crate) fn word(&self, i: usize) -> u64
+        requires { i < length self.now }
+        ensures { result ≡ slice_index self.now i }
     {
-        fill_ones(self.words.as_mut_slice(), from, to);
+        self.words[i]
+    }
+
+    /// Puts a word in the place of the one with index `i`.
+    #[inline]
+    pub(crate) fn set_word(&mut self, i: usize, word: u64)
+        requires { i < length self.old }
+        ensures { self.new ≡ slice_set self.old i word }
+    {
+        self.words[i] = word;
     }
 
     /// The least address of the set from `from` on.
@@ -164,16 +162,6 @@ impl Bits {
         let below = (1 << (i % 64)) - 1;
         ones(self.words[(i / 64) as usize] & below)
     }
-}
-
-/// Sets all bits of the words with an index from `from` up to `to`, itself not included.
-#[inline]
-fn fill_ones(words: &mut [u64], from: usize, to: usize)
-    requires ordered { from ≤ to }
-    requires inside { to ≤ length words.old }
-    ensures { words.new ≡ take from words.old ++ replicate (to - from) (2 ^ 64 - 1) ++ drop to words.old }
-{
-    words[from..to].fill(u64::MAX);
 }
 
 /// The index of the first word that is not zero.

@@ -14,13 +14,14 @@ pub(crate) fn words_of_block(image: &Image) -> u64
     ensures value { result ≡ block_words image.now }
     ensures valid { IsValid image.now }
 {
-    words_of_region(image).min(128)
+    1 << log_of_block(image)
 }
 
 /// The power of two that a block has words.
 pub(crate) fn log_of_block(image: &Image) -> u32
     ensures value { 2 ^ result ≡ block_words image.now }
     ensures few { result ≤ 7 }
+    ensures valid { IsValid image.now }
 {
     image.region_log().min(7)
 }

@@ -1,10 +1,15 @@
 //! The bits of the live objects.
-ghost use Rattle.std.specs.Prelude.{◌≡◌, ◌<◌, replicate};
-ghost use Rattle.heap_image.specs.HeapImage.{heap_words, size_at};
-ghost use Rattle.mark_bitmap.specs.Marks.{HaveMarks, bit_words};
+ghost use Rattle.std.specs.Prelude.{◌≡◌, ℕ, ◌+◌, ◌-◌, ◌*◌, ◌%◌, ◌^◌, ◌<◌, ◌≤◌, ◌==◌, ◌||◌, All, length, map, replicate, take};
+ghost use Rattle.std.specs.List.{list_any};
+ghost use Rattle.heap_image.specs.HeapImage.{IsValid, HasSoundHeader, heap_words, end_of, size_at, is_live_word};
+ghost use Rattle.mark_bitmap.specs.Bits.{has};
+ghost use Rattle.mark_bitmap.specs.Marks.{HaveMarks, bit_words, is_begin, is_end};
 
 use crate::bits::Bits;
 use heap_image::{Image, header};
+
+/// How many headers are read in a row.
+const PIECE: usize = 64;
 
 /// Sets, for each live object, the bit of its first word in `begins`, that of its last word in `ends`, and those of all
 /// its words in `live`.
@@ -14,12 +19,54 @@ pub(crate) fn mark_objects(image: &Image, begins: &mut Bits, ends: &mut Bits, li
     requires no_live { live.old ≡ replicate (bit_words image.now) 0 }
     ensures { HaveMarks image.now image.now.live begins.new ends.new live.new }
 {
-    for &begin in image.live() {
-        let end = begin + object_words(image, begin);
-        begins.insert(begin);
-        ends.insert(end - 1);
-        live.insert_run(begin, end);
+    begins.insert_all(image.live());
+    mark_ends(image, ends);
+    mark_words(image, begins, ends, live);
+}
+
+/// Sets the bit of the last word of each live object.
+fn mark_ends(image: &Image, ends: &mut Bits)
+    requires { ends.old ≡ replicate (bit_words image.now) 0 }
+    ensures room { length ends.new ≡ bit_words image.now }
+    ensures bits { (a : ℕ) → has ends.new a ≡ is_end image.now a }
+{
+    let objects = image.live();
+    for piece in 0..objects.len().div_ceil(PIECE) {
+        let from = piece * PIECE;
+        let to = objects.len().min(from + PIECE);
+        mark_ends_of(image, &objects[from..to], ends);
     }
+}
+
+/// Sets the bit of the last word of each of a few objects.
+fn mark_ends_of(image: &Image, objects: &[u64], ends: &mut Bits)
+    requires valid { IsValid image.now }
+    requires few { length objects.now ≤ 64 }
+    requires sound { All (HasSoundHeader image.now) objects.now }
+    requires room { length ends.old ≡ bit_words image.now }
+    ensures room { length ends.new ≡ length ends.old }
+    ensures bits { (k : ℕ) → has ends.new k ≡ (has ends.old k || list_any (λ a. end_of image.now a == k + 1) objects.now) }
+{
+    let lasts = last_words(image, objects);
+    ends.insert_all(&lasts[..objects.len()]);
+}
+
+/// The addresses of the last words of a few objects, and zeros behind them.
+///
+/// A header is mostly waited for, since it lies in no cache. Nothing is done here but to read the headers, so that the
+/// processor has many of them under way at once.
+#[inline]
+fn last_words(image: &Image, objects: &[u64]) -> [u64; PIECE]
+    requires valid { IsValid image.now }
+    requires few { length objects.now ≤ 64 }
+    requires sound { All (HasSoundHeader image.now) objects.now }
+    ensures { take (length objects.now) result ≡ map (λ a. end_of image.now a - 1) objects.now }
+{
+    let mut lasts = [0; PIECE];
+    for (i, &begin) in objects.iter().enumerate() {
+        lasts[i] = begin + object_words(image, begin) - 1;
+    }
+    lasts
 }
 
 /// The size in words of the object at `begin`, by its header.
@@ -29,4 +76,35 @@ fn object_words(image: &Image, begin: u64) -> u64
     ensures { result ≡ size_at image.now begin }
 {
     u64::from(header::size(image.word(begin)))
+}
+
+/// Sets the bits of the words of all live objects, by the bits of their first words and of their last words.
+fn mark_words(image: &Image, begins: &Bits, ends: &Bits, live: &mut Bits)
+    requires begins_room { length begins.now ≡ bit_words image.now }
+    requires ends_room { length ends.now ≡ bit_words image.now }
+    requires live_room { length live.old ≡ bit_words image.now }
+    requires begins { (a : ℕ) → has begins.now a ≡ is_begin image.now a }
+    requires ends { (a : ℕ) → has ends.now a ≡ is_end image.now a }
+    ensures room { length live.new ≡ bit_words image.now }
+    ensures bits { (a : ℕ) → has live.new a ≡ is_live_word image.now a }
+{
+    let mut carried = 0;
+    for i in 0..(image.len() / 64 + 1) as usize {
+        let ends = ends.word(i);
+        let word = live_word(begins.word(i), ends, carried);
+        live.set_word(i, word);
+        carried = (word >> 63) - (ends >> 63);
+    }
+}
+
+/// The live bits of a word, by the begin bits and the end bits in it. `carried` is 1 where its first bit belongs to an
+/// object that begins in a word below, and else 0.
+///
+/// The live bits of an object from bit `b` up to bit `e` are `2 ^ (e + 1) - 2 ^ b`, and objects do not overlap. So the
+/// live bits of a word are the difference of the sums, modulo `2 ^ 64`.
+#[inline]
+fn live_word(begins: u64, ends: u64, carried: u64) -> u64
+    ensures { (result + begins + carried) % 2 ^ 64 ≡ 2 * ends % 2 ^ 64 }
+{
+    (ends << 1).wrapping_sub(begins).wrapping_sub(carried)
 }
