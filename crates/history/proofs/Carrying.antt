@@ -1,13 +1,13 @@
 -- What a carrier tells: origins, references and fillers.
 use Rattle.std.proofs.Common.{◌≡◌, ℕ, ◌+◌, ◌-◌, ◌<◌, ◌≤◌, Bool, true, false, List, [], ◌∷◌, ◌++◌, length, get_or, take, min, ◌≢◌, Option, Some, None, Contains, refl, sym, ap, add-one, ◌∙◌, subst, inl, inr, arith}
-use Rattle.std.specs.Prelude.{◌==◌, MatchOption, ◌&&◌, ◌||◌, not, nat_lt, nat_le, slice_index, slice_index_or}
+use Rattle.std.specs.Prelude.{MatchOption, ◌&&◌, ◌||◌, not, nat_lt, nat_le, slice_index, slice_index_or}
 use Rattle.std.specs.List.{list_any}
 use Rattle.std.specs.Option.{unwrap_or}
 use Rattle.summary.specs.Fillers.{gap_at}
 use Rattle.summary.proofs.Fillers.{gap_at-run}
 use Rattle.std.proofs.Math.Seq.{take-suc, get_or-append_seam}
 use Rattle.std.proofs.Math.ListN.{length-append}
-use Rattle.std.proofs.lemmas.Bool.{cases_Bool, cases_lt, or_cases, and_parts, eqb-true, ltb-true, leb-true, cond-true}
+use Rattle.std.proofs.lemmas.Bool.{cases_Bool, cases_lt, and_parts, ltb-true, leb-true, cond-true}
 use Rattle.std.proofs.lemmas.List.{get_or_default, get_or_append_left}
 use Rattle.std.proofs.lemmas.List.Folds.{Any-from_list_any, list_any-append}
 use Rattle.heap_image.specs.HeapImage.{HeapImage, IsValid, heap_words, size_at, references_at, word_at, is_live_word, is_null_or_live}
@@ -87,17 +87,6 @@ module _ (image : HeapImage) (valid : IsValid image) where
       let end = slid-high image (heap_words image) (omega arith) in
       let top = new_top-live_words image valid.live_list in
       record { all = omega arith; each = listed.each }
-
-  -- a reference that isn't null leads to a live object
-  pub null_or_live : (w : ℕ) → is_null_or_live image w ≡ true → (w ≡ 0 → ⊥) → Contains image.live (w - 1)
-  null_or_live w h some = elim (or_cases (w == 0) (list_any (λ a. w == a + 1) image.live) h) [
-    | inl null ↦ absurd (some (eqb-true w 0 null))
-    | inr any ↦
-        let at = Any-from_list_any (λ a. w == a + 1) image.live any in
-        let e = eqb-true w (at.1 + 1) at.4 in
-        let is : w - 1 ≡ at.1 = omega arith in
-        (at.0, at.2, get_or_default image.live at.0 (w - 1) at.1 at.2 ∙ at.3 ∙ sym is)
-  ]
 
   -- the new address of a live object is no higher than the old one, and its new words lie in the heap
   pub new_fits : (a : ℕ) → Contains image.live a → (new_address image a ≤ a) × (new_address image a + size_at image a ≤ heap_words image) × (0 < size_at image a) × (references_at image a < size_at image a) × (a + size_at image a ≤ heap_words image)

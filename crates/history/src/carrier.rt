@@ -11,7 +11,7 @@ ghost use Rattle.history.specs.WordMachine.{image_slide};
 ghost use Rattle.history.specs.Carrier.{IsCarrier};
 
 use crate::origins::{filler_word, is_live, origins_of};
-use crate::references::{early_references, late_references, redirected};
+use crate::references::{early_references, late_references};
 use heap_image::Image;
 use mark_bitmap::Marks;
 use raw_region::Region;
@@ -122,7 +122,7 @@ impl<'a> Carrier<'a> {
         }
         let word = heap[place as usize];
         if self.late[place as usize] {
-            redirected(self.plan, self.marks, word)
+            self.plan.redirected(self.marks, word)
         } else {
             word
         }
@@ -156,7 +156,7 @@ impl<'a> Carrier<'a> {
         };
         let word = heap[origin as usize];
         if self.early[origin as usize] {
-            redirected(self.plan, self.marks, word)
+            self.plan.redirected(self.marks, word)
         } else {
             word
         }

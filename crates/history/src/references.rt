@@ -1,8 +1,8 @@
 //! References of live objects: which words they are, and what becomes of them.
 
-ghost use Rattle.std.specs.Prelude.{◌≡◌, ◌+◌, ◌<◌, IsTrue, IfOk, length, Contains};
-ghost use Rattle.heap_image.specs.HeapImage.{is_null_or_live, word_at};
-ghost use Rattle.summary.specs.Compaction.{redirected, is_deferred};
+ghost use Rattle.std.specs.Prelude.{◌≡◌, ◌+◌, ◌<◌, IfOk, length, Contains};
+ghost use Rattle.heap_image.specs.HeapImage.{word_at};
+ghost use Rattle.summary.specs.Compaction.{is_deferred};
 ghost use Rattle.summary.specs.Updates.{is_late_reference};
 ghost use Rattle.history.specs.WordMachine.{is_redirected};
 ghost use Rattle.history.specs.Carrier.{AreFlags, AreSet};
@@ -53,19 +53,6 @@ pub(crate) fn late_references(
         }
     }
     Ok(flags)
-}
-
-/// A reference, as it is once its object has moved: null stays null.
-pub(crate) fn redirected(plan: &Plan, marks: &Marks, reference: u64) -> u64
-    requires same { marks.now ≡ plan.now }
-    requires sound { IsTrue (is_null_or_live plan.now reference) }
-    ensures { result ≡ redirected plan.now reference }
-{
-    let _prefix_end = plan.prefix_end();
-    if reference == 0 {
-        return 0;
-    }
-    plan.new_address(marks, reference - 1) + 1
 }
 
 /// Whether the live object with this header is deferred.

@@ -23,6 +23,7 @@
 //! that memory is enough, in how many threads the counting runs, and how long a call takes.
 #![tactic(auto)]
 
+mod block_bases;
 mod counting;
 mod deferred;
 pub mod laws;

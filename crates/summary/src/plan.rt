@@ -1,9 +1,10 @@
 //! `Plan`: what a collection will do to an image.
 
-ghost use Rattle.std.specs.Prelude.{◌≡◌, ◌<◌, IfOk, IfErr, Contains, string_bytes};
-ghost use Rattle.heap_image.specs.HeapImage.{IsValid, region_count};
+ghost use Rattle.std.specs.Prelude.{◌≡◌, ◌<◌, IfOk, IfErr, IsTrue, Contains, string_bytes};
+ghost use Rattle.heap_image.specs.HeapImage.{IsValid, region_count, is_null_or_live};
 ghost use Rattle.heap_image.specs.declared.fault.Fault.TheVariants.{Memory};
 ghost use Rattle.summary.specs.NewAddresses.{prefix_end, new_address, new_top};
+ghost use Rattle.summary.specs.Compaction.{redirected};
 ghost use Rattle.summary.specs.RegionData.{region_data, deferred, fill_count};
 ghost use Rattle.summary.specs.Plan.{sources, sources_from};
 ghost use Rattle.summary.specs.Report.{report};
@@ -55,7 +56,7 @@ impl Plan {
         ensures fault { IfErr result (λ fault. fault ≡ Memory) }
     {
         let counts = count_regions(alloc, image, marks, threads)?;
-        let table = RegionTable::of(alloc, image, counts.as_slice())?;
+        let table = RegionTable::of(alloc, image, marks, counts.as_slice())?;
         let deferred = deferred_addresses(alloc, image, marks, &table, threads)?;
         Ok(Plan { table, deferred })
     }
@@ -107,6 +108,16 @@ impl Plan {
         ensures { result ≡ new_address self.now a }
     {
         self.table.new_address(marks, a)
+    }
+
+    /// A reference, as it is once its object has moved: null stays null.
+    #[inline]
+    pub fn redirected(&self, marks: &Marks, reference: u64) -> u64
+        requires same { marks.now ≡ self.now }
+        requires sound { IsTrue (is_null_or_live self.now reference) }
+        ensures { result ≡ redirected self.now reference }
+    {
+        self.table.redirected(marks, reference)
     }
 
     /// The new address of the deferred object that begins in region `d` at its new address.

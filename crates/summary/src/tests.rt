@@ -143,6 +143,47 @@ fn objects_of_the_base_heap_slide(rt: HostRuntime) -> Result<(), Fail> {
     Ok(())
 }
 
+/// What becomes of null, and then of a reference to each live object.
+fn references(
+    alloc: Global,
+    image: &Image,
+    marks: &Marks,
+    plan: &Plan,
+) -> Result<Vec<u64>, AllocError>
+    requires marks { marks.now ≡ image.now }
+    requires plan { plan.now ≡ image.now }
+{
+    let mut references = Vec::new(alloc);
+    references.push(plan.redirected(marks, 0))?;
+    for a in image.live() {
+        references.push(plan.redirected(marks, *a + 1))?;
+    }
+    Ok(references)
+}
+
+/// Whether these are the references of such a heap.
+fn redirects_to(
+    threads: &(impl Threads + Sync),
+    alloc: Global,
+    sizes: (u64, u64, u64),
+    objects: &[Object],
+    expected: &[u64],
+) -> Result<bool, Fail> {
+    let image = image_of(alloc, sizes, objects)?;
+    let marks = Marks::of(alloc, &image)?;
+    let plan = Plan::of(alloc, &image, &marks, threads)?;
+    let found = references(alloc, &image, &marks, &plan)?;
+    Ok(found.as_slice() == expected)
+}
+
+#[test]
+fn references_follow_their_objects(rt: HostRuntime) -> Result<(), Fail> {
+    let alloc = rt.alloc();
+    assert!(rt; redirects_to(&rt, alloc, (3, 32, 0), &BASE, &[0, 1, 4, 8, 10])?);
+    assert!(rt; redirects_to(&rt, alloc, (3, 32, 2), &BASE, &[0, 1, 6, 10, 12])?);
+    Ok(())
+}
+
 #[test]
 fn prefixes_are_cut_at_the_last_live_end(rt: HostRuntime) -> Result<(), Fail> {
     let alloc = rt.alloc();
