@@ -32,8 +32,8 @@ struct Heap<'a> {
 }
 
 impl Heap<'_> {
-    fn image(&self, alloc: Global) -> Result<Image, Fail> {
-        image_of(alloc, self.allowance, self.words, self.live)
+    fn image(&self, alloc: Global, threads: &(impl Threads + Sync)) -> Result<Image, Fail> {
+        image_of(alloc, self.allowance, self.words, self.live, threads)
     }
 
     /// The figures of a collection by so many workers, whose image is the right one.
@@ -44,8 +44,8 @@ impl Heap<'_> {
         gate: &G,
         rt: &R,
     ) -> Result<Figures, Fail> {
-        let before = self.image(alloc)?;
-        match collect(alloc, self.image(alloc)?, workers, gate, rt, rt) {
+        let before = self.image(alloc, rt)?;
+        match collect(alloc, self.image(alloc, rt)?, workers, gate, rt, rt) {
             Ok((outcome, _finished)) => {
                 if verify(alloc, &before, &outcome.image, rt)? != Verdict::Same {
                     return Err(Fail::from("another image"));
@@ -270,7 +270,7 @@ impl Gate for Refuses {
 
 #[test]
 fn a_refused_region_loses_the_image(rt: HostRuntime) -> Result<(), Fail> {
-    let image = base(0).image(rt.alloc())?;
+    let image = base(0).image(rt.alloc(), &rt)?;
     match collect(rt.alloc(), image, 2, &Refuses(2), &rt, &rt) {
         Err(Refusal::Lost(fault)) => assert_eq!(rt; fault, Fault::Gate),
         _ => return Err(Fail::from("not lost")),
@@ -281,13 +281,13 @@ fn a_refused_region_loses_the_image(rt: HostRuntime) -> Result<(), Fail> {
 #[test]
 fn the_number_of_workers_is_tested_first(rt: HostRuntime) -> Result<(), Fail> {
     for workers in [0, 65] {
-        let image = base(0).image(rt.alloc())?;
+        let image = base(0).image(rt.alloc(), &rt)?;
         match collect(rt.alloc(), image, workers, &OpenGate, &rt, &rt) {
             Err(Refusal::Kept(back, fault)) => {
                 assert_eq!(rt; fault, Fault::Workers);
                 assert_eq!(rt;
                     encode(rt.alloc(), &back)?.as_slice(),
-                    encode(rt.alloc(), &base(0).image(rt.alloc())?)?.as_slice()
+                    encode(rt.alloc(), &base(0).image(rt.alloc(), &rt)?)?.as_slice()
                 );
             }
             _ => return Err(Fail::from("not kept")),

@@ -14,8 +14,8 @@ fn base_text(alloc: Global) -> Result<Vec<u8>, AllocError> {
     image_text(alloc, (3, 2), &BASE_WORDS, &BASE_LIVE)
 }
 
-fn base(alloc: Global) -> Result<Image, Fault> {
-    decode(alloc, base_text(alloc)?.as_slice())
+fn base(alloc: Global, threads: &(impl Threads + Sync)) -> Result<Image, Fault> {
+    decode(alloc, base_text(alloc)?.as_slice(), threads)
 }
 
 /// Whether the image is the base heap.
@@ -25,9 +25,9 @@ fn is_base(alloc: Global, image: &Image) -> Result<bool, Fault> {
 
 /// Whether a collection of the base heap gives its compaction. Its only error is want of memory that keeps the image.
 fn collects<R: Threads + Wait + Sync>(alloc: Global, rt: &R) -> Result<bool, Fault> {
-    match collect(alloc, base(alloc)?, 2, &OpenGate, rt, rt) {
+    match collect(alloc, base(alloc, rt)?, 2, &OpenGate, rt, rt) {
         Ok((outcome, _finished)) => {
-            Ok(verify(alloc, &base(alloc)?, &outcome.image, rt)? == Verdict::Same)
+            Ok(verify(alloc, &base(alloc, rt)?, &outcome.image, rt)? == Verdict::Same)
         }
         Err(Refusal::Kept(image, Fault::Memory)) if is_base(alloc, &image)? => Err(Fault::Memory),
         Err(_) => Ok(false),
@@ -46,7 +46,7 @@ fn collect_where_refused_memory_is_told(rt: HostRuntime) {
 /// Whether the text of the base heap's compaction is written. Its only error is want of memory, with nothing written.
 fn streams<R: Threads + Wait + Sync>(alloc: Global, rt: &R) -> Result<bool, Fault> {
     let before = base_text(alloc)?;
-    let after = encode(alloc, &compact_plainly(alloc, &base(alloc)?)?)?;
+    let after = encode(alloc, &compact_plainly(alloc, &base(alloc, rt)?)?)?;
     let mut reader = FromRead::new(before.as_slice());
     let mut writer = ToWrite::new(Checked::against(after.as_slice()));
     let answer = collect_stream(alloc, &mut reader, &mut writer, 2, &OpenGate, rt, rt);
@@ -69,7 +69,7 @@ fn stream_where_refused_memory_is_told(rt: HostRuntime) {
 
 /// Whether the base heap's compaction is found the same, and the base heap itself is not.
 fn verifies<R: Threads + Sync>(alloc: Global, rt: &R) -> Result<bool, Fault> {
-    let before = base(alloc)?;
+    let before = base(alloc, rt)?;
     let after = compact_plainly(alloc, &before)?;
     let (same, other) = (
         verify(alloc, &before, &after, rt)?,

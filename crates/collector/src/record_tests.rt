@@ -39,8 +39,8 @@ const BASE_SCHEDULE: &str = "schedule 1 1
 ";
 
 /// The base heap with this allowance.
-fn base(alloc: Global, allowance: u64) -> Result<Image, Fail> {
-    image_of(alloc, allowance, &BASE_WORDS, &BASE_LIVE)
+fn base(alloc: Global, allowance: u64, threads: &(impl Threads + Sync)) -> Result<Image, Fail> {
+    image_of(alloc, allowance, &BASE_WORDS, &BASE_LIVE, threads)
 }
 
 /// The schedule of the base heap's collection under a gate, where its image is the right one.
@@ -51,8 +51,8 @@ fn recorded<G: Gate + Sync, R: Threads + Wait + Sync>(
     workers: u32,
     gate: &G,
 ) -> Result<Schedule, Fail> {
-    let before = base(alloc, allowance)?;
-    match record(alloc, base(alloc, allowance)?, workers, gate, rt, rt) {
+    let before = base(alloc, allowance, rt)?;
+    match record(alloc, base(alloc, allowance, rt)?, workers, gate, rt, rt) {
         Ok((outcome, schedule)) => {
             if verify(alloc, &before, &outcome.image, rt)? != Verdict::Same {
                 return Err(Fail::from("another image"));
@@ -92,7 +92,7 @@ fn any_number_of_workers_records_a_schedule(rt: HostRuntime) -> Result<(), Fail>
     for workers in [1, 2, 64] {
         let schedule = recorded(rt.alloc(), &rt, 0, workers, &OpenGate)?;
         assert_eq!(rt; schedule.workers(), workers);
-        let image = base(rt.alloc(), 0)?;
+        let image = base(rt.alloc(), 0, &rt)?;
         assert!(rt; replays(rt.alloc(), &rt, &image, &schedule)?);
     }
     Ok(())
@@ -100,10 +100,10 @@ fn any_number_of_workers_records_a_schedule(rt: HostRuntime) -> Result<(), Fail>
 
 /// The fault of a recording that keeps the image as it was.
 fn kept<R: Threads + Wait + Sync>(alloc: Global, rt: &R, workers: u32) -> Result<Fault, Fail> {
-    match record(alloc, base(alloc, 2)?, workers, &OpenGate, rt, rt) {
+    match record(alloc, base(alloc, 2, rt)?, workers, &OpenGate, rt, rt) {
         Err(Refusal::Kept(image, fault)) => {
             let text = encode(alloc, &image)?;
-            if text.as_slice() != encode(alloc, &base(alloc, 2)?)?.as_slice() {
+            if text.as_slice() != encode(alloc, &base(alloc, 2, rt)?)?.as_slice() {
                 return Err(Fail::from("another image"));
             }
             Ok(fault)

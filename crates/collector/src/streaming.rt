@@ -50,7 +50,7 @@ pub fn collect_stream<R: Intake, O: Outlet, G: Gate + Sync, T: Threads + Sync, W
     ensures schedule { IfErr result (λ fault. IfSome (R.left reader.old)
         (λ _. (line : ℕ) → fault ≢ Fault.Schedule line)) }
 {
-    let image = read_image(alloc, reader)?;
+    let image = read_image(alloc, reader, threads)?;
     match collect(alloc, image, workers, gate, threads, wait) {
         Ok((outcome, _finished)) => {
             write_image(&outcome.image, writer)?;

@@ -96,15 +96,15 @@ fn texts_of(alloc: Global, before: &Image, after: &Image) -> Result<Texts, Alloc
 }
 
 /// Of the base heap with allowance 0.
-fn slid(alloc: Global) -> Result<Texts, Fail> {
-    let before = image_of(alloc, 0, &BASE_WORDS, &BASE_LIVE)?;
-    let after = image_of(alloc, 0, &MOVED_WORDS, &MOVED_LIVE)?;
+fn slid(alloc: Global, threads: &(impl Threads + Sync)) -> Result<Texts, Fail> {
+    let before = image_of(alloc, 0, &BASE_WORDS, &BASE_LIVE, threads)?;
+    let after = image_of(alloc, 0, &MOVED_WORDS, &MOVED_LIVE, threads)?;
     Ok(texts_of(alloc, &before, &after)?)
 }
 
 /// Of the base heap with allowance 2, whose first region stays.
-pub(crate) fn with_prefix(alloc: Global) -> Result<Texts, Fail> {
-    let before = image_of(alloc, 2, &BASE_WORDS, &BASE_LIVE)?;
+pub(crate) fn with_prefix(alloc: Global, threads: &(impl Threads + Sync)) -> Result<Texts, Fail> {
+    let before = image_of(alloc, 2, &BASE_WORDS, &BASE_LIVE, threads)?;
     let after = compact_plainly(alloc, &before)?;
     Ok(texts_of(alloc, &before, &after)?)
 }
@@ -167,7 +167,7 @@ fn whole(stream: &Stream) -> Option<(u64, u64, u32)> {
 
 #[test]
 fn the_base_heap_goes_from_bytes_to_bytes(rt: HostRuntime) -> Result<(), Fail> {
-    let (slid, with_prefix) = (slid(rt.alloc())?, with_prefix(rt.alloc())?);
+    let (slid, with_prefix) = (slid(rt.alloc(), &rt)?, with_prefix(rt.alloc(), &rt)?);
     for step in [1, 7, usize::MAX] {
         let stream = slowly(rt.alloc(), &rt, &slid, step);
         assert_eq!(rt; whole(&stream), Some((0, 19, 3)));
@@ -179,7 +179,7 @@ fn the_base_heap_goes_from_bytes_to_bytes(rt: HostRuntime) -> Result<(), Fail> {
 
 #[test]
 fn a_reader_that_fails_at_any_byte_lets_nothing_be_written(rt: HostRuntime) -> Result<(), Fail> {
-    let texts = slid(rt.alloc())?;
+    let texts = slid(rt.alloc(), &rt)?;
     for limit in 0..=texts.before.len() {
         let reader = Trickle {
             bytes: texts.before.as_slice(),
@@ -220,7 +220,7 @@ fn cut_short<R: Threads + Wait + Sync>(
 
 #[test]
 fn a_writer_that_fails_at_any_byte_has_the_beginning(rt: HostRuntime) -> Result<(), Fail> {
-    let texts = slid(rt.alloc())?;
+    let texts = slid(rt.alloc(), &rt)?;
     for limit in 0..texts.after.len() {
         for fails in [true, false] {
             let stream = cut_short(rt.alloc(), &rt, &texts, limit, fails);
@@ -253,7 +253,7 @@ fn refused<R: Threads + Wait + Sync>(
 
 #[test]
 fn no_beginning_of_an_image_is_collected(rt: HostRuntime) -> Result<(), Fail> {
-    let text = slid(rt.alloc())?.before;
+    let text = slid(rt.alloc(), &rt)?.before;
     for n in 0..text.len() {
         let fault = if n < 32 {
             Fault::TruncatedHeader
@@ -279,7 +279,7 @@ fn no_changed_image_is_collected(rt: HostRuntime) -> Result<(), Fail> {
         (40, 33, Fault::Reference(0, 0)),
     ];
     for (at, byte, fault) in changes {
-        let mut text = slid(rt.alloc())?.before;
+        let mut text = slid(rt.alloc(), &rt)?.before;
         assert!(rt; at < text.len());
         text[at] = byte;
         let answer = refused(rt.alloc(), &rt, text.as_slice());
@@ -293,7 +293,7 @@ fn no_changed_image_is_collected(rt: HostRuntime) -> Result<(), Fail> {
 
 #[test]
 fn no_image_with_a_byte_behind_it_is_collected(rt: HostRuntime) -> Result<(), Fail> {
-    let mut text = slid(rt.alloc())?.before;
+    let mut text = slid(rt.alloc(), &rt)?.before;
     text.push(0)?;
     let answer = refused(rt.alloc(), &rt, text.as_slice());
     assert_eq!(rt; answer, Some(Err(Fault::Trailing)));
@@ -357,7 +357,7 @@ fn watched<R: Threads + Wait + Sync>(
 
 #[test]
 fn nothing_is_written_before_a_collection_has_ended_well(rt: HostRuntime) -> Result<(), Fail> {
-    let text = with_prefix(rt.alloc())?.before;
+    let text = with_prefix(rt.alloc(), &rt)?.before;
     for workers in [1, 2, 3] {
         let (answer, is_written) = watched(rt.alloc(), &rt, text.as_slice(), workers, false);
         assert_eq!(rt; answer.map(|figures| figures.filled), Ok(3));

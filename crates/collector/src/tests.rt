@@ -5,6 +5,7 @@ use heap_image::{Image, decode};
 use std::alloc::{AllocError, Global};
 use std::test::Fail;
 use std::thread;
+use std::thread::Threads;
 use summary::compact_plainly;
 
 const DEAD: u64 = 999;
@@ -93,9 +94,10 @@ pub(crate) fn image_of(
     allowance: u64,
     words: &[u64],
     live: &[u64],
+    threads: &(impl Threads + Sync),
 ) -> Result<Image, Fail> {
     let text = image_text(alloc, (3, allowance), words, live)?;
-    Ok(decode(alloc, text.as_slice())?)
+    Ok(decode(alloc, text.as_slice(), threads)?)
 }
 
 /// The text of the image with this region log and allowance, and these words and live addresses.
@@ -127,20 +129,20 @@ fn put_words(text: &mut Vec<u8>, words: &[u64]) -> Result<(), AllocError> {
 
 #[test]
 fn the_first_difference_decides(rt: HostRuntime) -> Result<(), Fail> {
-    let base = image_of(rt.alloc(), 0, &BASE_WORDS, &BASE_LIVE)?;
-    let moved = image_of(rt.alloc(), 0, &MOVED_WORDS, &MOVED_LIVE)?;
+    let base = image_of(rt.alloc(), 0, &BASE_WORDS, &BASE_LIVE, &rt)?;
+    let moved = image_of(rt.alloc(), 0, &MOVED_WORDS, &MOVED_LIVE, &rt)?;
     assert_eq!(rt; verify(rt.alloc(), &base, &moved, &rt)?, Verdict::Same);
     assert_eq!(rt; verify(rt.alloc(), &base, &base, &rt)?, Verdict::Word(1));
 
     let mut words = MOVED_WORDS;
     words[18] = 130;
-    let other_word = image_of(rt.alloc(), 0, &words, &MOVED_LIVE)?;
+    let other_word = image_of(rt.alloc(), 0, &words, &MOVED_LIVE, &rt)?;
     assert_eq!(rt;
         verify(rt.alloc(), &base, &other_word, &rt)?,
         Verdict::Word(18)
     );
 
-    let generous = image_of(rt.alloc(), 2, &BASE_WORDS, &BASE_LIVE)?;
+    let generous = image_of(rt.alloc(), 2, &BASE_WORDS, &BASE_LIVE, &rt)?;
     let with_filler = compact_plainly(rt.alloc(), &generous)?;
     assert_eq!(rt;
         verify(rt.alloc(), &base, &with_filler, &rt)?,
@@ -165,8 +167,8 @@ fn the_live_list_decides_last(rt: HostRuntime) -> Result<(), Fail> {
         0,
         0,
     ];
-    let before = image_of(rt.alloc(), 0, &words, &[0])?;
-    let after = image_of(rt.alloc(), 0, &words, &[1])?;
+    let before = image_of(rt.alloc(), 0, &words, &[0], &rt)?;
+    let after = image_of(rt.alloc(), 0, &words, &[1], &rt)?;
     assert_eq!(rt; verify(rt.alloc(), &before, &after, &rt)?, Verdict::Live(0));
     Ok(())
 }
@@ -186,7 +188,12 @@ impl Seed {
 }
 
 /// A heap of 24 regions, with 12 objects of 1 to 9 words and up to 3 dead words before each.
-fn seeded_image(alloc: Global, seed: u64, allowance: u64) -> Result<Image, Fail> {
+fn seeded_image(
+    alloc: Global,
+    seed: u64,
+    allowance: u64,
+    threads: &(impl Threads + Sync),
+) -> Result<Image, Fail> {
     let mut seed = Seed(seed);
     let mut sizes = Vec::new(alloc);
     let mut live = Vec::new(alloc);
@@ -202,7 +209,7 @@ fn seeded_image(alloc: Global, seed: u64, allowance: u64) -> Result<Image, Fail>
     for a in 0..192 {
         words.push(seeded_word(&mut seed, live.as_slice(), sizes.as_slice(), a))?;
     }
-    image_of(alloc, allowance, words.as_slice(), live.as_slice())
+    image_of(alloc, allowance, words.as_slice(), live.as_slice(), threads)
 }
 
 /// The word at `a`: of an object a header, then references, the half of its words, then plain numbers.
@@ -229,7 +236,7 @@ fn seeded_word(seed: &mut Seed, live: &[u64], sizes: &[u64], a: u64) -> u64 {
 #[test]
 fn the_plain_compaction_is_the_same(rt: HostRuntime) -> Result<(), Fail> {
     for seed in 0..12 {
-        let before = seeded_image(rt.alloc(), seed, seed % 3 * 9)?;
+        let before = seeded_image(rt.alloc(), seed, seed % 3 * 9, &rt)?;
         let after = compact_plainly(rt.alloc(), &before)?;
         assert_eq!(rt;
             verify(rt.alloc(), &before, &after, &rt)?,

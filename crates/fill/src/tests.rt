@@ -65,8 +65,9 @@ fn image_of(
     allowance: u64,
     words: &[[u64; 8]],
     live: &[u64],
+    threads: &(impl Threads + Sync),
 ) -> Result<Image, Fail> {
-    sized_image(alloc, (3, allowance), words.as_flattened(), live)
+    sized_image(alloc, (3, allowance), words.as_flattened(), live, threads)
 }
 
 /// The image with this region log and allowance.
@@ -75,6 +76,7 @@ fn sized_image(
     (region_log, allowance): (u64, u64),
     words: &[u64],
     live: &[u64],
+    threads: &(impl Threads + Sync),
 ) -> Result<Image, Fail> {
     let live_count = live.len() as u64;
     let counts = region_log | live_count << 32;
@@ -83,7 +85,7 @@ fn sized_image(
     for part in [front.as_slice(), words, live] {
         put_words(&mut bytes, part)?;
     }
-    Ok(decode(alloc, bytes.as_slice())?)
+    Ok(decode(alloc, bytes.as_slice(), threads)?)
 }
 
 fn put_words(bytes: &mut Vec<u8>, words: &[u64]) -> Result<(), AllocError> {
@@ -238,7 +240,7 @@ fn words_from_the_new_top_up_are_cleared(rt: HostRuntime) -> Result<(), Fail> {
 
 #[test]
 fn the_base_heap_is_filled(rt: HostRuntime) -> Result<(), Fail> {
-    let image = image_of(rt.alloc(), 0, &BASE, &BASE_LIVE)?;
+    let image = image_of(rt.alloc(), 0, &BASE, &BASE_LIVE, &rt)?;
     let found = fill_all(rt.alloc(), image, &[1, 2, 0, 1, 2], &rt)?;
     assert_eq!(rt; found.told.as_slice(), [1, 2, 3].as_slice());
     let moved = [
@@ -260,7 +262,7 @@ fn the_base_heap_is_filled(rt: HostRuntime) -> Result<(), Fail> {
 
 #[test]
 fn the_base_heap_is_filled_behind_a_prefix(rt: HostRuntime) -> Result<(), Fail> {
-    let image = image_of(rt.alloc(), 2, &BASE, &BASE_LIVE)?;
+    let image = image_of(rt.alloc(), 2, &BASE, &BASE_LIVE, &rt)?;
     let found = fill_all(rt.alloc(), image, &[1, 2, 0], &rt)?;
     assert_eq!(rt; found.told.as_slice(), [2, 3].as_slice());
     let moved = [
@@ -284,13 +286,13 @@ fn the_base_heap_is_filled_behind_a_prefix(rt: HostRuntime) -> Result<(), Fail> 
 fn the_small_heap_is_filled(rt: HostRuntime) -> Result<(), Fail> {
     let object = FIRST + 2;
     let words = [[ONE, DEAD, ONE, object, 3, 4, 106, 107]];
-    let image = image_of(rt.alloc(), 0, &words, &[0, 2, 3])?;
+    let image = image_of(rt.alloc(), 0, &words, &[0, 2, 3], &rt)?;
     let found = fill_all(rt.alloc(), image, &[0], &rt)?;
     let moved = [ONE, ONE, object, 2, 3, 106, 107, 107];
     assert_eq!(rt; found.moved.as_slice(), moved.as_slice());
     let compacted = [ONE, ONE, object, 2, 3, 106, 107, 0];
     assert_eq!(rt; found.compacted.as_slice(), compacted.as_slice());
-    let image = image_of(rt.alloc(), 1, &words, &[0, 2, 3])?;
+    let image = image_of(rt.alloc(), 1, &words, &[0, 2, 3], &rt)?;
     let found = fill_all(rt.alloc(), image, &[0], &rt)?;
     let stayed = [ONE, FILLER, ONE, object, 3, 4, 106, 107];
     assert_eq!(rt; found.moved.as_slice(), stayed.as_slice());
@@ -304,7 +306,7 @@ fn a_filler_ends_at_the_prefix_end(rt: HostRuntime) -> Result<(), Fail> {
         [FOUR, 0, 0, 0, DEAD, DEAD, DEAD, DEAD],
         [DEAD, DEAD, TWO, 0, DEAD, DEAD, DEAD, DEAD],
     ];
-    let image = image_of(rt.alloc(), 8, &words, &[0, 10])?;
+    let image = image_of(rt.alloc(), 8, &words, &[0, 10], &rt)?;
     let found = fill_all(rt.alloc(), image, &[1, 0], &rt)?;
     let moved = [
         [FOUR, 0, 0, 0, FILLER + 3, 0, 0, 0],
@@ -328,7 +330,7 @@ const SPARSE: [[u64; 8]; 3] = [
 
 #[test]
 fn a_filler_crosses_a_region_end(rt: HostRuntime) -> Result<(), Fail> {
-    let image = image_of(rt.alloc(), 14, &SPARSE, &[2, 20])?;
+    let image = image_of(rt.alloc(), 14, &SPARSE, &[2, 20], &rt)?;
     let found = fill_all(rt.alloc(), image, &[2, 1, 0], &rt)?;
     let moved = [
         [FILLER + 1, 0, TWO, 0, FILLER + 11, 0, 0, 0],
@@ -347,7 +349,7 @@ fn a_filler_crosses_a_region_end(rt: HostRuntime) -> Result<(), Fail> {
 
 #[test]
 fn a_region_behind_the_prefix_reads_the_next(rt: HostRuntime) -> Result<(), Fail> {
-    let image = image_of(rt.alloc(), 13, &SPARSE, &[2, 20])?;
+    let image = image_of(rt.alloc(), 13, &SPARSE, &[2, 20], &rt)?;
     let found = fill_all(rt.alloc(), image, &[0, 1, 2], &rt)?;
     assert_eq!(rt; found.told.as_slice(), [2].as_slice());
     let moved = [
@@ -363,7 +365,7 @@ fn a_region_behind_the_prefix_reads_the_next(rt: HostRuntime) -> Result<(), Fail
 fn an_object_of_four_regions_stays(rt: HostRuntime) -> Result<(), Fail> {
     let mut words = [[0; 8]; 4];
     words[0][0] = ONE + 31;
-    let image = image_of(rt.alloc(), 0, &words, &[0])?;
+    let image = image_of(rt.alloc(), 0, &words, &[0], &rt)?;
     let found = fill_all(rt.alloc(), image, &[3, 1, 2, 0], &rt)?;
     assert_eq!(rt; found.moved.as_slice(), words.as_flattened());
     assert_eq!(rt; found.compacted.as_slice(), words.as_flattened());

@@ -26,10 +26,7 @@ find_none_in_pairs size low (a ∷ b ∷ xs) h =
     let f : a + size a ≤ b = h.1.0 in
     cond-false (ltb b (a + size a)) (Some (a, b)) (find (λ (p : ℕ × ℕ). ltb p.1 (p.0 + size p.0)) (zip (b ∷ xs) xs)) (le-ltb b (a + size a) f) ∙ find_none_in_pairs size (a + size a) (b ∷ xs) h.1
 
-module _ (image : HeapImage) (valid : IsValid image) where
-  sound : HasLiveList image
-  sound = valid.live_list
-
+module _ (image : HeapImage) (sound : HasLiveList image) where
   -- a live address is above the one before it
   ascending : (i : ℕ) → suc i < length image.live → get_or image.live i 0 < get_or image.live (suc i) 0
   ascending i l =
@@ -101,10 +98,10 @@ first_some-None (Some x ∷ others) h = h.0
 pub fault_if-None : (b : Bool) (f : Fault) → b ≡ false → fault_if b f ≡ None
 fault_if-None b f e = ap (λ c. fault_if c f) e
 
-module _ (image : HeapImage) (valid : IsValid image) where
+module _ (image : HeapImage) (sound : HasLiveList image) where
   pub dangling-None : dangling image ≡ None
   dangling-None = find_none_in_flat_map (λ (p : ℕ × ℕ). not (is_null_or_live image (reference_at image p.0 p.1))) (λ a. map (λ f. (a, f)) (range_with_len 0 (references_at image a))) image.live (λ i l.
-      find_none_in_fields (λ (p : ℕ × ℕ). not (is_null_or_live image (reference_at image p.0 p.1))) (get_or image.live i 0) 0 (references_at image (get_or image.live i 0)) (λ f k. ap not (valid.live_list.references i 0 l f (omega arith))))
+      find_none_in_fields (λ (p : ℕ × ℕ). not (is_null_or_live image (reference_at image p.0 p.1))) (get_or image.live i 0) 0 (references_at image (get_or image.live i 0)) (λ f k. ap not (sound.references i 0 l f (omega arith))))
 
 -- a front within the limits is without a fault, whatever stands behind it
 module _ (log live_count words allowance : ℕ) (limits : IsWithinLimits log words live_count) (behind : List ℕ) where
@@ -167,15 +164,15 @@ module _ (image : HeapImage) (fits : HasFittingNumbers image) (rest : List ℕ) 
       ∙ ap (λ i. first_some (live_list_faults i ++ (fault_if (ltb (told_length said) (length said)) Trailing ∷ []))) (told_image-append image fits rest)
       ∙ ap (λ n. first_some (live_list_faults image ++ (fault_if (ltb n (length said)) Trailing ∷ []))) (length_told image fits rest)
 
-pub live_list_faults-None : (image : HeapImage) → IsValid image → first_some (live_list_faults image) ≡ None
-live_list_faults-None image valid =
+pub live_list_faults-None : (image : HeapImage) → HasLiveList image → first_some (live_list_faults image) ≡ None
+live_list_faults-None image sound =
     first_some-None (live_list_faults image) (
-      ap (option_map LiveOrder) (misplaced_index-None image valid),
+      ap (option_map LiveOrder) (misplaced_index-None image sound),
       (
-        ap (option_map Header) (unsound_header-None image valid),
+        ap (option_map Header) (unsound_header-None image sound),
         (
-          ap (option_map Overlap) (overlapping-None image valid),
-          (ap (option_map (λ (p : ℕ × ℕ). Reference p.0 p.1)) (dangling-None image valid), tt),
+          ap (option_map Overlap) (overlapping-None image sound),
+          (ap (option_map (λ (p : ℕ × ℕ). Reference p.0 p.1)) (dangling-None image sound), tt),
         ),
       ),
     )
@@ -186,5 +183,5 @@ first_fault-text image valid =
     let same : length (text image) ≡ length (text image ++ []) = ap length (sym none) in
     ap first_fault (sym none)
     ∙ first_fault-append image (valid_numbers image valid) []
-    ∙ first_some_past (live_list_faults image) (fault_if (ltb (length (text image)) (length (text image ++ []))) Trailing ∷ []) (live_list_faults-None image valid)
+    ∙ first_some_past (live_list_faults image) (fault_if (ltb (length (text image)) (length (text image ++ []))) Trailing ∷ []) (live_list_faults-None image valid.live_list)
     ∙ first_some-None (fault_if (ltb (length (text image)) (length (text image ++ []))) Trailing ∷ []) (fault_if-None (ltb (length (text image)) (length (text image ++ []))) Trailing (le-ltb (length (text image)) (length (text image ++ [])) (omega arith)), tt)

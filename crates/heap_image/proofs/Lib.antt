@@ -19,3 +19,4 @@ pub mod Fields
 pub mod Refusing
 pub mod Sending
 pub mod WholeBytes
+pub mod SoundObjects

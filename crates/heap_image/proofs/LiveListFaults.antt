@@ -43,15 +43,20 @@ find_None-at t (x ∷ xs) d h (suc i) l = elim (cases_Bool (t x)) [
 fields_long : (x n f : ℕ) → f < n → f < length {A = ℕ × ℕ} (map (λ (g : ℕ). (x, g)) (range_with_len 0 n))
 fields_long x n f k = subst (λ m. f < m) (sym (length-map-range_with_len {X = ℕ × ℕ} (λ (g : ℕ). (x, g)) 0 n)) k
 
+-- of the fields of one object
+pub field_fails : (t : ℕ × ℕ → Bool) (x n : ℕ) → find t (map (λ f. (x, f)) (range_with_len 0 n)) ≡ None → (f : ℕ) → f < n → t (x, f) ≡ false
+field_fails t x n none f k =
+    let h = find_None-at t (map (λ f. (x, f)) (range_with_len 0 n)) (x, 0) none f (fields_long x n f k) in
+    ap t (sym (get_or-map-range_with_len (λ (f : ℕ). (x, f)) 0 n f f (x, 0) k (zero-add f))) ∙ h
+
 module _ (image : HeapImage) where
-  pub sound_at : unsound_header image ≡ None → (i : ℕ) → i < length image.live → HasSoundHeader image (get_or image.live i 0)
-  sound_at sound i l =
-      let x : ℕ = get_or image.live i 0 in
+  pub sound_header : (x : ℕ) → is_unsound image x ≡ false → HasSoundHeader image x
+  sound_header x sound =
       let a : Bool = not (eqb (kind_at image x) 1) in
       let b : Bool = eqb (size_at image x) 0 in
       let c : Bool = leb (size_at image x) (references_at image x) in
       let d : Bool = ltb (heap_words image) (end_of image x) in
-      let four = or_parts (a || b || c) d (find_None-at (is_unsound image) image.live 0 sound i l) in
+      let four = or_parts (a || b || c) d sound in
       let three = or_parts (a || b) c four.0 in
       let two = or_parts a b three.0 in
       let some : (size_at image x ≡ 0 → ⊥) = eqb-false (size_at image x) 0 two.1 in
@@ -61,6 +66,9 @@ module _ (image : HeapImage) where
         references = leb-false (size_at image x) (references_at image x) three.1;
         inside = ltb-false (heap_words image) (end_of image x) four.1;
       }
+
+  pub sound_at : unsound_header image ≡ None → (i : ℕ) → i < length image.live → HasSoundHeader image (get_or image.live i 0)
+  sound_at sound i l = sound_header (get_or image.live i 0) (find_None-at (is_unsound image) image.live 0 sound i l)
 
   apart_in : (size : ℕ → ℕ) (xs : List ℕ) → find (λ (p : ℕ × ℕ). ltb p.1 (p.0 + size p.0)) (zip xs (drop 1 xs)) ≡ None → (k d : ℕ) → k + 1 < length xs → get_or xs k d + size (get_or xs k d) ≤ get_or xs (k + 1) d
   apart_in size [] h k d l = let no : ⊥ = omega arith in absurd no
@@ -87,9 +95,7 @@ module _ (image : HeapImage) where
 
       by_place : (i : ℕ) → i < length (x ∷ xs) → f < count (get_or (x ∷ xs) i 0) → (find t (map (λ f. (x, f)) (range_with_len 0 (count x))) ≡ None) × (find t (flat_map (λ a. map (λ f. (a, f)) (range_with_len 0 (count a))) xs) ≡ None)
           → ((j : ℕ) → j < length xs → f < count (get_or xs j 0) → t (get_or xs j 0, f) ≡ false) → t (get_or (x ∷ xs) i 0, f) ≡ false
-      by_place zero l k both more =
-          let h = find_None-at t (map (λ f. (x, f)) (range_with_len 0 (count x))) (x, 0) both.0 f (fields_long x (count x) f k) in
-          ap t (sym (get_or-map-range_with_len (λ (f : ℕ). (x, f)) 0 (count x) f f (x, 0) k (zero-add f))) ∙ h
+      by_place zero l k both more = field_fails t x (count x) both.0 f k
       by_place (suc i) l k both more = more i (omega arith) k
 
   pub faultless-HasLiveList : unsound_header image ≡ None → overlapping image ≡ None → dangling image ≡ None → HasLiveList image

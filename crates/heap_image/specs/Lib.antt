@@ -7,3 +7,4 @@ pub mod Incoming
 pub mod Begins
 pub mod Refusals
 pub mod Outgoing
+pub mod Soundness

@@ -8,18 +8,24 @@ ghost use Rattle.heap_image.specs.Begins.{MarkBegins};
 
 use crate::begins::{begin_bits, is_marked};
 use crate::blocks::word_of;
+use crate::soundness::are_sound;
 use crate::{Fault, header};
 use raw_region::Region;
 use std::alloc::Global;
+use std::thread::Threads;
 
 /// What is first wrong with a live list over a heap that lies in these regions, if anything is. `words` is how many
 /// words they have.
+///
+/// Most lists are sound, so all processors are asked first whether this one is. Where it is not, one of them looks for
+/// the fault that comes first.
 pub(crate) fn check_live_list(
     alloc: Global,
     regions: &[Region],
     region_log: u32,
     words: u64,
     live: &[u64],
+    threads: &(impl Threads + Sync),
 ) -> Result<(), Fault>
     requires heap { FormHeap region_log regions.now }
     requires words { words ≡ length (concat regions.now) }
@@ -33,6 +39,9 @@ pub(crate) fn check_live_list(
         return Err(Fault::LiveOrder(index));
     }
     let bits = begin_bits(alloc, live, words)?;
+    if are_sound(regions, region_log, words, live, bits.as_slice(), threads) {
+        return Ok(());
+    }
     check_objects(regions, region_log, words, live, bits.as_slice())
 }
 
@@ -54,7 +63,7 @@ fn misplaced_index(live: &[u64], words: u64) -> Option<u32>
 
 /// Whether this word at `a` is not the header of an object that fits.
 #[inline]
-fn is_unsound(word: u64, a: u64, words: u64) -> bool
+pub(crate) fn is_unsound(word: u64, a: u64, words: u64) -> bool
     requires { a ≤ 4194304 }
     ensures { result ≡ (not (kind_of word == 1) || (size_of word == 0)
         || nat_le (size_of word) (references_of word) || nat_lt words (a + size_of word)) }
@@ -115,11 +124,11 @@ fn is_null_or_live(reference: u64, words: u64, bits: &[u64]) -> bool
     ensures { (live : List ℕ) → All (λ b. b < words) live → MarkBegins live words bits.now
         → result ≡ ((reference == 0) || list_any (λ b. reference == b + 1) live) }
 {
-    reference == 0 || reference <= words && is_marked(bits, reference - 1)
+    reference <= words && (reference == 0) | is_marked(bits, reference.saturating_sub(1))
 }
 
 /// The object at `a` and the least of its first fields whose reference is neither null nor to a live object.
-fn dangling_field(
+pub(crate) fn dangling_field(
     regions: &[Region],
     region_log: u32,
     a: u64,

@@ -8,10 +8,12 @@ use crate::intake::{Failed, Intake};
 use crate::read::read_image;
 use crate::{Fault, Image};
 use std::alloc::Global;
+use std::thread::Threads;
 
 /// The image of which these bytes are the text, or what is first wrong with them: faults 1 to 10, in this order, or
-/// fault 11 where memory was refused. Faults 1 to 5 take no memory.
-pub fn decode(alloc: Global, bytes: &[u8]) -> Result<Image, Fault>
+/// fault 11 where memory was refused. Faults 1 to 5 take no memory. As many threads as there are processors check the
+/// live objects, and the answer does not depend on how many.
+pub fn decode(alloc: Global, bytes: &[u8], threads: &(impl Threads + Sync)) -> Result<Image, Fault>
     ensures text { IfOk result (λ image. IsValid image × (bytes.now ≡ text image)) }
     // No text of a valid image is refused, but for want of memory.
     ensures only { (image : HeapImage) → IsValid image → bytes.now ≡ text image
@@ -28,7 +30,7 @@ pub fn decode(alloc: Global, bytes: &[u8]) -> Result<Image, Fault>
     if bytes.len() < front.text_len() {
         return Err(Fault::TruncatedBody);
     }
-    read_image(alloc, &mut Bytes(bytes))
+    read_image(alloc, &mut Bytes(bytes), threads)
 }
 
 /// Bytes in memory, which give themselves out and never fail.

@@ -7,7 +7,8 @@
 //!
 //! Each valid image has exactly one text. [`decode`] and [`encode`] go between the two in memory; [`read_image`] and
 //! [`write_image`] do the same over any [`Intake`] and [`Outlet`], as [`FromRead`] and [`ToWrite`] are over std's. A
-//! text that is none of a valid image is refused with its first [`Fault`].
+//! text that is none of a valid image is refused with its first [`Fault`]. As many threads as there are processors check
+//! the live objects of what is read.
 //!
 //! **Proved**, for all inputs: `decode` answers an image exactly where the bytes are its text, unless memory is refused,
 //! and else the first fault; `encode` and `write_image` give the text; `read_image` decides as `decode` does of the
@@ -32,6 +33,7 @@ mod numbers;
 mod outgoing;
 mod outlet;
 mod read;
+mod soundness;
 #[cfg(test)]
 mod tests;
 mod write;

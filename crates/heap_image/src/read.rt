@@ -15,13 +15,19 @@ use crate::intake::{Intake, fill};
 use crate::{Fault, Image};
 use raw_region::Region;
 use std::alloc::Global;
+use std::thread::Threads;
 
 /// Reads an image up to the end of the input, and decides as [`decode`](crate::decode) does of these bytes.
 ///
 /// Faults 2 to 4 are found before a byte behind the first 32 is asked for, and faults 6 to 9 before a byte behind the
 /// live list is. No memory is taken before the first byte behind the front has come. Fault 13 comes where the device
-/// has failed, which is not asked again. After a fault what was read is gone.
-pub fn read_image<R: Intake>(alloc: Global, reader: &mut R) -> Result<Image, Fault>
+/// has failed, which is not asked again. After a fault what was read is gone. As many threads as there are processors
+/// check the live objects, and the answer does not depend on how many.
+pub fn read_image<R: Intake>(
+    alloc: Global,
+    reader: &mut R,
+    threads: &(impl Threads + Sync),
+) -> Result<Image, Fault>
     ensures valid { IfOk result (λ image. IsValid image) }
     // The input is the text of the image, all of it.
     ensures text { IfOk result
@@ -44,6 +50,7 @@ pub fn read_image<R: Intake>(alloc: Global, reader: &mut R) -> Result<Image, Fau
         front.region_log,
         front.words,
         live.as_slice(),
+        threads,
     )?;
     if fill(reader, &mut [0; 1])? > 0 {
         return Err(Fault::Trailing);

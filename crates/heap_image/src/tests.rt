@@ -11,6 +11,7 @@ use std::io;
 use std::io::{Read, Write};
 use std::process::Abort;
 use std::test::Fail;
+use std::thread::Threads;
 
 /// The words of the base heap, and then its live addresses.
 const BASE: [u64; 36] = [
@@ -146,14 +147,14 @@ fn refused(rt: &impl Abort, answer: Result<Image, Fault>) -> Fault {
 }
 
 /// The fault of these bytes, which is the same where they come one at a time.
-fn fault_of(rt: &impl Abort, alloc: Global, bytes: &[u8]) -> Fault {
-    let fault = refused(rt, decode(alloc, bytes));
+fn fault_of(rt: &(impl Abort + Threads + Sync), alloc: Global, bytes: &[u8]) -> Fault {
+    let fault = refused(rt, decode(alloc, bytes, rt));
     let mut slow = FromRead::new(Trickle {
         bytes,
         step: 1,
         limit: usize::MAX,
     });
-    assert_eq!(rt; refused(rt, read_image(alloc, &mut slow)), fault);
+    assert_eq!(rt; refused(rt, read_image(alloc, &mut slow, rt)), fault);
     assert!(rt; !slow.failed());
     fault
 }
@@ -182,7 +183,7 @@ fn the_base_is_read_and_written(rt: HostRuntime) -> Result<(), Fail> {
         ]
     );
     let mut reader = FromRead::new(text.as_slice());
-    let image = read_image(rt.alloc(), &mut reader)?;
+    let image = read_image(rt.alloc(), &mut reader, &rt)?;
     assert_eq!(rt; reader.into_inner().len(), 0);
     assert_eq!(rt;
         (
@@ -204,17 +205,20 @@ fn the_base_is_read_and_written(rt: HostRuntime) -> Result<(), Fail> {
 }
 
 /// Whether the base comes through each call that takes memory.
-fn comes_through(alloc: Global) -> Result<bool, Fault> {
+fn comes_through(alloc: Global, threads: &(impl Threads + Sync)) -> Result<bool, Fault> {
     let text = base_text(alloc)?;
-    let decoded = decode(alloc, text.as_slice())?;
-    let read = read_image(alloc, &mut FromRead::new(text.as_slice()))?;
+    let decoded = decode(alloc, text.as_slice(), threads)?;
+    let read = read_image(alloc, &mut FromRead::new(text.as_slice()), threads)?;
     Ok(encode(alloc, &decoded)? == text && encode(alloc, &read)? == text)
 }
 
 /// The script tests/crate-allocations runs this with each allocation refused in turn.
 #[test]
 fn refused_memory_is_told(rt: HostRuntime) {
-    let answers = [comes_through(rt.alloc()), comes_through(rt.alloc())];
+    let answers = [
+        comes_through(rt.alloc(), &rt),
+        comes_through(rt.alloc(), &rt),
+    ];
     for answer in &answers {
         assert!(rt; *answer == Ok(true) || *answer == Err(Fault::Memory));
     }
@@ -224,7 +228,7 @@ fn refused_memory_is_told(rt: HostRuntime) {
 #[test]
 fn an_image_is_taken_apart_and_made_again(rt: HostRuntime) -> Result<(), Fail> {
     let text = base_text(rt.alloc())?;
-    let parts = decode(rt.alloc(), text.as_slice())?.into_parts();
+    let parts = decode(rt.alloc(), text.as_slice(), &rt)?.into_parts();
     assert_eq!(rt; (parts.region_log, parts.allowance), (3, 0));
     assert_eq!(rt; (parts.regions.len(), parts.live.len()), (4, 4));
     let image = Image::of_parts(parts.region_log, parts.allowance, parts.regions, parts.live);
@@ -297,6 +301,44 @@ fn changed_images_are_refused(rt: HostRuntime) -> Result<(), Fail> {
     Ok(())
 }
 
+/// The header of an object of two words, of which the second is a reference.
+const PAIR: u64 = 0x0100_0001_0000_0002;
+
+/// The text of a heap of 4,096 such objects, each with a reference to itself, but for one word. They are so many that
+/// several threads check them.
+fn pairs_but(alloc: Global, at: u64, word: u64) -> Result<Vec<u8>, AllocError> {
+    let mut numbers = Vec::new(alloc);
+    for a in 0..8192 {
+        let own = if a % 2 == 0 { PAIR } else { a };
+        numbers.push(if a == at { word } else { own })?;
+    }
+    for a in 0..8192 {
+        if a % 2 == 0 {
+            numbers.push(a)?;
+        }
+    }
+    text_of(alloc, front(3, 4096, 8192), numbers.as_slice())
+}
+
+#[test]
+fn many_objects_are_checked_by_several_threads(rt: HostRuntime) -> Result<(), Fail> {
+    let sound = pairs_but(rt.alloc(), 6000, PAIR)?;
+    let image = decode(rt.alloc(), sound.as_slice(), &rt)?;
+    assert_eq!(rt; image.live().len(), 4096);
+    let changes = [
+        (6000, header::filler(2), Fault::Header(6000)),
+        (6000, PAIR + 1, Fault::Overlap(6002)),
+        (6001, 6000, Fault::Reference(6000, 0)),
+        (8191, u64::MAX, Fault::Reference(8190, 0)),
+    ];
+    for (at, word, fault) in changes {
+        let text = pairs_but(rt.alloc(), at, word)?;
+        let found = refused(&rt, decode(rt.alloc(), text.as_slice(), &rt));
+        assert_eq!(rt; found, fault);
+    }
+    Ok(())
+}
+
 #[test]
 fn faults_have_their_texts(rt: HostRuntime) -> Result<(), Fail> {
     let texts = [
@@ -332,7 +374,7 @@ fn a_reader_fails_at_each_byte(rt: HostRuntime) -> Result<(), Fail> {
             step: 7,
             limit,
         });
-        let fault = refused(&rt, read_image(rt.alloc(), &mut broken));
+        let fault = refused(&rt, read_image(rt.alloc(), &mut broken, &rt));
         assert_eq!(rt; fault, Fault::Io, "at {limit}");
     }
     Ok(())
@@ -341,7 +383,7 @@ fn a_reader_fails_at_each_byte(rt: HostRuntime) -> Result<(), Fail> {
 #[test]
 fn a_writer_is_full_at_each_byte(rt: HostRuntime) -> Result<(), Fail> {
     let text = base_text(rt.alloc())?;
-    let image = decode(rt.alloc(), text.as_slice())?;
+    let image = decode(rt.alloc(), text.as_slice(), &rt)?;
     for limit in 0..text.len() {
         let taken = beginning(&rt, rt.alloc(), &image, limit, false);
         assert_eq!(rt; taken.as_slice(), &text.as_slice()[..limit]);
@@ -362,7 +404,7 @@ fn large_heaps_go_in_pieces(rt: HostRuntime) -> Result<(), Fail> {
             step: 10_000,
             limit: usize::MAX,
         });
-        let image = read_image(rt.alloc(), &mut trickle)?;
+        let image = read_image(rt.alloc(), &mut trickle, &rt)?;
         assert_eq!(rt; encode(rt.alloc(), &image)?.as_slice(), text.as_slice());
     }
     Ok(())

@@ -203,7 +203,7 @@ fn with_allowance(allowance: u64) -> [u64; 40] {
 
 /// The plan of the image with this text.
 fn plan_of(alloc: Global, threads: &(impl Threads + Sync), words: &[u64]) -> Result<Plan, Fault> {
-    let image = decode(alloc, bytes_of(alloc, words)?.as_slice())?;
+    let image = decode(alloc, bytes_of(alloc, words)?.as_slice(), threads)?;
     let marks = Marks::of(alloc, &image)?;
     Plan::of(alloc, &image, &marks, threads)
 }
@@ -215,7 +215,7 @@ fn replayed(
     words: &[u64],
     schedule: &Schedule,
 ) -> Result<Replayed, Fault> {
-    let image = decode(alloc, bytes_of(alloc, words)?.as_slice())?;
+    let image = decode(alloc, bytes_of(alloc, words)?.as_slice(), threads)?;
     let marks = Marks::of(alloc, &image)?;
     let plan = Plan::of(alloc, &image, &marks, threads)?;
     replay(alloc, &image, &marks, &plan, schedule)

@@ -5,6 +5,7 @@ use crate::Marks;
 use heap_image::{Image, decode};
 use std::alloc::{AllocError, Global};
 use std::test::Fail;
+use std::thread::Threads;
 
 /// An object of one word, without references.
 const ONE_WORD: u64 = 0x0100_0000_0000_0001;
@@ -19,7 +20,13 @@ const MAGIC: u64 = 0x3130_5041_4548_4350;
 type Object = (u64, u64);
 
 /// The image with these words and live addresses.
-fn image_of(alloc: Global, region_log: u64, words: &[u64], live: &[u64]) -> Result<Image, Fail> {
+fn image_of(
+    threads: &(impl Threads + Sync),
+    alloc: Global,
+    region_log: u64,
+    words: &[u64],
+    live: &[u64],
+) -> Result<Image, Fail> {
     let front = [
         MAGIC,
         region_log | (live.len() as u64) << 32,
@@ -30,7 +37,7 @@ fn image_of(alloc: Global, region_log: u64, words: &[u64], live: &[u64]) -> Resu
     for part in [front.as_slice(), words, live] {
         put_words(&mut bytes, part)?;
     }
-    Ok(decode(alloc, bytes.as_slice())?)
+    Ok(decode(alloc, bytes.as_slice(), threads)?)
 }
 
 fn put_words(bytes: &mut Vec<u8>, words: &[u64]) -> Result<(), AllocError> {
@@ -43,6 +50,7 @@ fn put_words(bytes: &mut Vec<u8>, words: &[u64]) -> Result<(), AllocError> {
 /// The image of a heap whose objects, each given by its address and size, have no references and only zeros behind their
 /// headers.
 fn plain_image(
+    threads: &(impl Threads + Sync),
     alloc: Global,
     region_log: u64,
     len: u64,
@@ -50,7 +58,13 @@ fn plain_image(
 ) -> Result<Image, Fail> {
     let words: Vec<u64> = (0..len).map(|a| plain_word(objects, a)).collect(alloc)?;
     let live: Vec<u64> = objects.iter().map(|object| object.0).collect(alloc)?;
-    image_of(alloc, region_log, words.as_slice(), live.as_slice())
+    image_of(
+        threads,
+        alloc,
+        region_log,
+        words.as_slice(),
+        live.as_slice(),
+    )
 }
 
 /// The word at address `a` of such a heap.
@@ -67,7 +81,7 @@ fn plain_word(objects: &[Object], a: u64) -> u64 {
 }
 
 /// Four objects, with references, over four regions of 8 words.
-fn base_image(alloc: Global) -> Result<Image, Fail> {
+fn base_image(threads: &(impl Threads + Sync), alloc: Global) -> Result<Image, Fail> {
     let first = [
         0x0100_0002_0000_0003,
         6,
@@ -85,7 +99,13 @@ fn base_image(alloc: Global) -> Result<Image, Fail> {
     for region in [first, second, third, fourth] {
         words.extend_from_slice(region.as_slice())?;
     }
-    image_of(alloc, 3, words.as_slice(), [0, 5, 12, 20].as_slice())
+    image_of(
+        threads,
+        alloc,
+        3,
+        words.as_slice(),
+        [0, 5, 12, 20].as_slice(),
+    )
 }
 
 /// The sums of all blocks.
@@ -104,7 +124,7 @@ fn block_sums(alloc: Global, image: &Image) -> Result<Vec<u32>, Fail> {
 
 #[test]
 fn base_heap_has_its_bits(rt: HostRuntime) -> Result<(), Fail> {
-    let image = base_image(rt.alloc())?;
+    let image = base_image(&rt, rt.alloc())?;
     let marks = Marks::of(rt.alloc(), &image)?;
     let begins: Vec<u64> = (0..40).filter(|a| marks.is_begin(*a)).collect(rt.alloc())?;
     let ends: Vec<u64> = (0..40).filter(|a| marks.is_end(*a)).collect(rt.alloc())?;
@@ -115,7 +135,7 @@ fn base_heap_has_its_bits(rt: HostRuntime) -> Result<(), Fail> {
 
 #[test]
 fn base_heap_answers(rt: HostRuntime) -> Result<(), Fail> {
-    let image = base_image(rt.alloc())?;
+    let image = base_image(&rt, rt.alloc())?;
     let marks = Marks::of(rt.alloc(), &image)?;
     assert_eq!(rt; image.len(), 32);
     let counts = [
@@ -149,7 +169,7 @@ fn an_object_of_one_word_has_both_bits(rt: HostRuntime) -> Result<(), Fail> {
         106,
         107,
     ];
-    let image = image_of(rt.alloc(), 3, words.as_slice(), [0, 2, 3].as_slice())?;
+    let image = image_of(&rt, rt.alloc(), 3, words.as_slice(), [0, 2, 3].as_slice())?;
     let marks = Marks::of(rt.alloc(), &image)?;
     let both: Vec<u64> = (0..8)
         .filter(|a| marks.is_begin(*a) && marks.is_end(*a))
@@ -162,7 +182,7 @@ fn an_object_of_one_word_has_both_bits(rt: HostRuntime) -> Result<(), Fail> {
 #[test]
 fn blocks_of_one_region(rt: HostRuntime) -> Result<(), Fail> {
     let objects = [(0, 1), (130, 2), (300, 4), (511, 1)];
-    let image = plain_image(rt.alloc(), 9, 512, objects.as_slice())?;
+    let image = plain_image(&rt, rt.alloc(), 9, 512, objects.as_slice())?;
     let sums = block_sums(rt.alloc(), &image)?;
     assert_eq!(rt; sums.as_slice(), [0, 1, 3, 7].as_slice());
     Ok(())
@@ -170,7 +190,7 @@ fn blocks_of_one_region(rt: HostRuntime) -> Result<(), Fail> {
 
 #[test]
 fn blocks_count_from_their_own_region(rt: HostRuntime) -> Result<(), Fail> {
-    let image = plain_image(rt.alloc(), 9, 1024, [(10, 700), (900, 3)].as_slice())?;
+    let image = plain_image(&rt, rt.alloc(), 9, 1024, [(10, 700), (900, 3)].as_slice())?;
     let sums = block_sums(rt.alloc(), &image)?;
     assert_eq!(rt;
         sums.as_slice(),

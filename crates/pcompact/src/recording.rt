@@ -33,7 +33,7 @@ pub fn record_into<R: Intake, O: Outlet, S: Write, T: Threads + Sync, W: Wait + 
         (S.contents schedule.old) (S.contents schedule.new) (string_bytes shown)) }
 {
     let mut line = String::with_capacity(alloc, LINE_ROOM)?;
-    let image = read_image(alloc, input)?;
+    let image = read_image(alloc, input, threads)?;
     let (outcome, recorded) = recorded(alloc, image, workers, threads, wait)?;
     let text = write_schedule(alloc, &recorded)?;
     write_image(&outcome.image, output)?;

@@ -22,7 +22,7 @@ pub fn replay_text<R: Intake, S: Read, T: Threads + Sync>(
     ensures { IfOk result (λ shown. IsReplayOf (R.left input.old) (R.left input.new)
         (S.remaining schedule.old) shown.items) }
 {
-    let image = read_image(alloc, input)?;
+    let image = read_image(alloc, input, threads)?;
     let asked = schedule_in(alloc, schedule)?;
     let marks = Marks::of(alloc, &image)?;
     let plan = Plan::of(alloc, &image, &marks, threads)?;

@@ -19,7 +19,7 @@ pub fn summarize<R: Intake, T: Threads + Sync>(
         IsSummaryOf (R.left input.old) (R.left input.new) (string_bytes text)) }
     ensures fault { IfErr result (λ fault. IfSome (R.left input.old) (λ bytes. IsReason bytes fault)) }
 {
-    let image = read_image(alloc, input)?;
+    let image = read_image(alloc, input, threads)?;
     let marks = Marks::of(alloc, &image)?;
     let plan = Plan::of(alloc, &image, &marks, threads)?;
     Ok(text_of(alloc, &plan)?)

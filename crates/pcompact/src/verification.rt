@@ -19,7 +19,7 @@ pub fn verify_images<R: Intake, S: Intake, T: Threads + Sync>(
     ensures { IfOk result (λ verdict. IsVerdictOf (R.left before.old) (R.left before.new)
         (S.left after.old) (S.left after.new) verdict) }
 {
-    let was = read_image(alloc, before)?;
-    let is = read_image(alloc, after)?;
+    let was = read_image(alloc, before, threads)?;
+    let is = read_image(alloc, after, threads)?;
     verify(alloc, &was, &is, threads)
 }

@@ -52,13 +52,13 @@ const BASE: [[u64; 8]; 4] = [
 const LIVE: [u64; 4] = [0, 5, 12, 20];
 
 /// The base heap with these live objects.
-fn image_of(alloc: Global, live: &[u64]) -> Result<Image, Fail> {
+fn image_of(alloc: Global, live: &[u64], threads: &(impl Threads + Sync)) -> Result<Image, Fail> {
     let front = [MAGIC, 3 | (live.len() as u64) << 32, 32, 0];
     let mut bytes = Vec::new(alloc);
     for part in [front.as_slice(), BASE.as_flattened(), live] {
         put_words(&mut bytes, part)?;
     }
-    Ok(decode(alloc, bytes.as_slice())?)
+    Ok(decode(alloc, bytes.as_slice(), threads)?)
 }
 
 fn put_words(bytes: &mut Vec<u8>, words: &[u64]) -> Result<(), AllocError> {
@@ -78,7 +78,7 @@ fn base_cells<T: Threads + Sync>(
     ensures regions { IfOk result (λ base. region_count base.0 ≡ 4) }
     ensures region_log { IfOk result (λ base. base.0.region_log ≡ 3) }
 {
-    let image = image_of(alloc, live)?;
+    let image = image_of(alloc, live, threads)?;
     if image.regions() != 4 || image.region_log() != 3 {
         return Err(Fail::from("not four regions of 8 words"));
     }

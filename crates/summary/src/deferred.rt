@@ -13,7 +13,6 @@ use crate::region_words::region_words;
 use heap_image::Image;
 use mark_bitmap::Marks;
 use std::alloc::{AllocError, Global};
-use std::thread::Threads;
 
 /// For each region the new address of the deferred object that begins in it.
 ///
@@ -23,7 +22,6 @@ pub(crate) fn deferred_addresses(
     image: &Image,
     marks: &Marks,
     table: &RegionTable,
-    _threads: &(impl Threads + Sync),
 ) -> Result<Vec<Option<u64>>, AllocError>
     requires marks { marks.now ≡ image.now }
     requires table { table.now ≡ image.now }

@@ -57,7 +57,7 @@ impl Plan {
     {
         let counts = count_regions(alloc, image, marks, threads)?;
         let table = RegionTable::of(alloc, image, marks, counts.as_slice())?;
-        let deferred = deferred_addresses(alloc, image, marks, &table, threads)?;
+        let deferred = deferred_addresses(alloc, image, marks, &table)?;
         Ok(Plan { table, deferred })
     }
 

@@ -65,6 +65,7 @@ const CROSSING_REPORT: &str = concat!(
 /// The image with this region log, number of words and allowance, whose objects have no references and only zeros behind
 /// their headers.
 fn image_of(
+    threads: &(impl Threads + Sync),
     alloc: Global,
     (region_log, len, allowance): (u64, u64, u64),
     objects: &[Object],
@@ -81,7 +82,7 @@ fn image_of(
     for (a, _) in objects {
         put_word(&mut bytes, *a)?;
     }
-    Ok(decode(alloc, bytes.as_slice())?)
+    Ok(decode(alloc, bytes.as_slice(), threads)?)
 }
 
 fn put_word(bytes: &mut Vec<u8>, word: u64) -> Result<(), AllocError> {
@@ -124,7 +125,7 @@ fn slides_to(
     objects: &[Object],
     expected: &[u64],
 ) -> Result<bool, Fail> {
-    let image = image_of(alloc, sizes, objects)?;
+    let image = image_of(threads, alloc, sizes, objects)?;
     let marks = Marks::of(alloc, &image)?;
     let plan = Plan::of(alloc, &image, &marks, threads)?;
     let found = figures(alloc, &image, &marks, &plan)?;
@@ -224,7 +225,7 @@ fn plan_of(
     sizes: (u64, u64, u64),
     objects: &[Object],
 ) -> Result<Plan, Fail> {
-    let image = image_of(alloc, sizes, objects)?;
+    let image = image_of(threads, alloc, sizes, objects)?;
     let marks = Marks::of(alloc, &image)?;
     Ok(Plan::of(alloc, &image, &marks, threads)?)
 }

@@ -140,7 +140,14 @@ fn gives<R: Threads + Wait + Sync>(
     workers: u32,
     (before, after): (&[u8], &[u8]),
 ) -> Result<bool, Fault> {
-    match collect(alloc, decode(alloc, before)?, workers, &OpenGate, rt, rt) {
+    match collect(
+        alloc,
+        decode(alloc, before, rt)?,
+        workers,
+        &OpenGate,
+        rt,
+        rt,
+    ) {
         Ok((outcome, _finished)) => Ok(encode(alloc, &outcome.image)?.as_slice() == after),
         Err(refusal) => Err(refusal.fault()),
     }
@@ -154,7 +161,7 @@ fn is_compacted<R: Threads + Wait + Sync>(
     shape: Shape,
 ) -> Result<bool, Fault> {
     let before = seeded_text(alloc, seed, shape)?;
-    let image = decode(alloc, before.as_slice())?;
+    let image = decode(alloc, before.as_slice(), rt)?;
     let after = encode(alloc, &compact_plainly(alloc, &image)?)?;
     let texts = (before.as_slice(), after.as_slice());
     let few = (seed % 4) as u32 + 1;

@@ -165,7 +165,7 @@ fn comes_through<R: Threads + Wait + Sync>(
     gate: &HoldsAt,
 ) -> Result<bool, Fail> {
     let schedule = recorded(alloc, rt, allowance, workers, gate)?;
-    let image = base(alloc, allowance)?;
+    let image = base(alloc, allowance, rt)?;
     let is_replayed = replays(alloc, rt, &image, &schedule)?;
     let is_heard = is_of_its_fillers(&schedule, &gate.fillers) && is_all_as_heard(&schedule, gate);
     Ok(is_replayed && is_heard && !gate.last_came_early.load(Ordering::SeqCst))

@@ -20,7 +20,7 @@ fn base_heap<T: Threads + Sync>(alloc: Global, threads: &T) -> Result<(Heap, Pas
     ensures pass { IfOk result (λ made. board_of made.1 ≡ identity made.0.board) }
     ensures regions { IfOk result (λ made. region_count made.0.cells ≡ 4) }
 {
-    let image = image_of(alloc, 0, &BASE, &BASE_LIVE)?;
+    let image = image_of(alloc, 0, &BASE, &BASE_LIVE, threads)?;
     let (heap, pass) = heap_of(alloc, image, threads)?;
     if heap.plan.regions() != 4 {
         return Err(Fail::from("not four regions"));

@@ -125,7 +125,7 @@ fn base_schedule<R: Threads + Wait + Sync>(
     allowance: u64,
     rt: &R,
 ) -> Result<Vec<u8>, Fail> {
-    let image = image_of(alloc, allowance, &BASE, &BASE_LIVE)?;
+    let image = image_of(alloc, allowance, &BASE, &BASE_LIVE, rt)?;
     let heap = heap_of(alloc, image, rt)?;
     for region in 0..4 {
         let _filled = fill_recorded(&heap, region, rt)?;

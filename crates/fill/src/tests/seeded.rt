@@ -156,6 +156,7 @@ fn seeded_image(
     alloc: Global,
     seed: &mut Seed,
     (region_log, region_words): (u64, u64),
+    threads: &(impl Threads + Sync),
 ) -> Result<Image, Fail> {
     let len = region_words.wrapping_mul(8);
     let allowance = seed.below(5).wrapping_mul(region_words / 2);
@@ -167,6 +168,7 @@ fn seeded_image(
         (region_log, allowance),
         words.as_slice(),
         live.as_slice(),
+        threads,
     )
 }
 
@@ -269,7 +271,7 @@ fn order_agrees<R: Threads + Wait + Sync>(
     sizes: (u64, u64),
     order: Order,
 ) -> Result<bool, Fail> {
-    let image = seeded_image(alloc, &mut Seed(seed), sizes)?;
+    let image = seeded_image(alloc, &mut Seed(seed), sizes, rt)?;
     let plain = compact_plainly(alloc, &image)?.into_parts();
     let found = outcome(alloc, image, order, rt)?;
     Ok(found.compacted == joined(alloc, plain.regions.as_slice())?)

@@ -6,6 +6,7 @@ use crate::Marks;
 use crate::tests::{Object, plain_image};
 use std::alloc::{AllocError, Global};
 use std::test::Fail;
+use std::thread::Threads;
 
 /// Numbers that look like chance, the same in each run.
 #[derive(Drop)]
@@ -91,9 +92,14 @@ fn sizes_agree(marks: &Marks, objects: &[Object]) -> bool {
 }
 
 /// Whether the marks of the heap that this seed makes are those that are searched and counted.
-fn seed_agrees(alloc: Global, seed: u64, (region_log, len): (u64, u64)) -> Result<bool, Fail> {
+fn seed_agrees(
+    threads: &(impl Threads + Sync),
+    alloc: Global,
+    seed: u64,
+    (region_log, len): (u64, u64),
+) -> Result<bool, Fail> {
     let objects = seeded_objects(alloc, Seed(seed), len)?;
-    let image = plain_image(alloc, region_log, len, objects.as_slice())?;
+    let image = plain_image(threads, alloc, region_log, len, objects.as_slice())?;
     let marks = Marks::of(alloc, &image)?;
     Ok(marks_agree(&marks, objects.as_slice(), image.len()))
 }
@@ -112,8 +118,11 @@ fn marks_agree(marks: &Marks, objects: &[Object], len: u64) -> bool
 #[test]
 fn seeded_heaps_have_the_marks_that_are_counted(rt: HostRuntime) -> Result<(), Fail> {
     for seed in 0..20 {
-        assert!(rt; seed_agrees(rt.alloc(), seed, (3, 24))?, "seed {seed}");
-        assert!(rt; seed_agrees(rt.alloc(), seed, (7, 384))?, "seed {seed}");
+        assert!(rt; seed_agrees(&rt, rt.alloc(), seed, (3, 24))?, "seed {seed}");
+        assert!(rt;
+            seed_agrees(&rt, rt.alloc(), seed, (7, 384))?,
+            "seed {seed}"
+        );
     }
     Ok(())
 }

@@ -279,7 +279,12 @@ fn seed_agrees(
     let len = region_words.wrapping_mul(8);
     let allowance = (seed % 6).wrapping_mul(region_words / 2);
     let objects = seeded_objects(alloc, Seed(seed), region_words, len)?;
-    let image = image_of(alloc, (region_log, len, allowance), objects.as_slice())?;
+    let image = image_of(
+        threads,
+        alloc,
+        (region_log, len, allowance),
+        objects.as_slice(),
+    )?;
     let new = compact_plainly(alloc, &image)?;
     let words = live_words(alloc, objects.as_slice(), new.live())?;
     plan_agrees(threads, alloc, &image, words.as_slice(), region_words)

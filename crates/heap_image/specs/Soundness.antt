@@ -1,0 +1,11 @@
+-- What is right with one object of a live list.
+use Rattle.std.specs.Prelude.{ℕ, ◌+◌, ◌<◌, ◌≤◌, IsTrue, length, slice_index}
+use Rattle.heap_image.specs.HeapImage.{HeapImage, HasSoundHeader, end_of, references_at, reference_at, is_null_or_live}
+
+-- the i-th live object has a sound header, ends before the next one begins, and its references lead to listed objects
+-- or nowhere
+pub record IsSoundObject (image : HeapImage) (i : ℕ) : Type 0 where
+  pub sound : HasSoundHeader image (slice_index image.live i)
+  pub apart : i + 1 < length image.live → end_of image (slice_index image.live i) ≤ slice_index image.live (i + 1)
+  pub references : (f : ℕ) → f < references_at image (slice_index image.live i)
+      → IsTrue (is_null_or_live image (reference_at image (slice_index image.live i) f))
