@@ -9,7 +9,6 @@ ghost use Rattle.summary.specs.Compaction.{compact, moved_word};
 ghost use Rattle.fill.specs.Heap.{moved_regions, cleared, words_where, updated_words, is_late_before, is_reference_behind};
 
 use crate::heap::{set_word, word};
-use crate::reference::redirected;
 use heap_image::header::references;
 use mark_bitmap::Marks;
 use raw_region::Region;
@@ -58,7 +57,7 @@ fn update_region(regions: &mut [Region], plan: &Plan, marks: &Marks, d: u32)
         let first = begin + 1;
         for p in first..first + u64::from(references(word(regions, log, begin))) {
             let reference = word(regions, log, p);
-            set_word(regions, log, p, redirected(plan, marks, reference));
+            set_word(regions, log, p, plan.redirected(marks, reference));
         }
     }
 }

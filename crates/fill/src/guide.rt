@@ -8,7 +8,6 @@ ghost use Rattle.summary.specs.Compaction.{redirected};
 ghost use Rattle.fill.specs.Runs.{IsNextRun};
 ghost use Rattle.fill.specs.Objects.{IsObject, IsNextObject, IsPastObjects};
 
-use crate::reference;
 use crate::runs::{Run, Span};
 use mark_bitmap::Marks;
 use std::marker::Model;
@@ -157,6 +156,6 @@ impl<'a> Guide<'a> {
         requires { IsTrue (is_null_or_live self.now reference) }
         ensures { result ≡ redirected self.now reference }
     {
-        reference::redirected(self.plan, self.marks, reference)
+        self.plan.redirected(self.marks, reference)
     }
 }

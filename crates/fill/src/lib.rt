@@ -27,7 +27,6 @@ mod moves;
 mod opened;
 mod prefix;
 mod redirect;
-mod reference;
 mod runs;
 mod sources;
 mod take;
