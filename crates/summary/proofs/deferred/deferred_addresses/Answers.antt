@@ -7,7 +7,7 @@ use Rattle.summary.specs.RegionData.{deferred}
 use Rattle.summary.proofs.deferred.deferred_addresses.Goals as goal
 
 pub loop-d-preserved : goal.loop-d-preserved
-loop-d-preserved g c =
+loop-d-preserved c =
     let image = c.args.image.now in
     let d : ℕ = c.loop-d.d in
     let n : ℕ = c.region_words-region_words.result in

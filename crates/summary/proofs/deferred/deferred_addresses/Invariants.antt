@@ -7,7 +7,7 @@ use Rattle.summary.specs.RegionData.{deferred}
 use Rattle.summary.proofs.deferred.deferred_addresses.Given as goal
 
 abbrev pub invariant-loop-d : goal.invariant-loop-d
-invariant-loop-d g l = record {
+invariant-loop-d l = record {
   made : l.addresses.items ≡ map (deferred l.image) (range_with_len 0 l.d);
   within : l.placed ≤ object_count l.image;
   known : (i : ℕ) → i < l.placed → new_address l.image (object_at l.image i) < start_of l.image l.d;
