@@ -170,7 +170,7 @@ fn redirects_to(
     objects: &[Object],
     expected: &[u64],
 ) -> Result<bool, Fail> {
-    let image = image_of(alloc, sizes, objects)?;
+    let image = image_of(threads, alloc, sizes, objects)?;
     let marks = Marks::of(alloc, &image)?;
     let plan = Plan::of(alloc, &image, &marks, threads)?;
     let found = references(alloc, &image, &marks, &plan)?;
