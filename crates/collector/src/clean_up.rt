@@ -39,12 +39,7 @@ pub(crate) fn clean_up(
 }
 
 /// Puts the new address of each live object in the place of the old one, by as many threads as there are processors.
-fn redirect_live(
-    live: &mut [u64],
-    plan: &Plan,
-    marks: &Marks,
-    threads: &(impl Threads + Sync),
-)
+fn redirect_live(live: &mut [u64], plan: &Plan, marks: &Marks, threads: &(impl Threads + Sync))
     requires marks { marks.now ≡ plan.now }
     requires live { live.old ≡ plan.now.live }
     ensures { live.new ≡ map (new_address plan.now) live.old }
