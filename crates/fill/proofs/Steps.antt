@@ -53,8 +53,8 @@ module _ (image : HeapImage) (sound : HasLiveList image) where
       let z : a + 0 ≡ a = omega arith in
       h.above (at - start) (omega arith) (omega arith) ∙ ap c k ∙ word-copied a 0 o size.0 ∙ ap (word_at image) z
 
-  pub header-size : (a start at w : ℕ) (xs : List ℕ) → IsMovedTo image at a → start ≤ at → at < start + length xs → IsSplit m c start xs at → w ≡ get_or xs (at - start) 0 → size_of w ≡ size_at image a
-  header-size a start at w xs on low high h e = ap size_of (e ∙ header-read a start at xs on.object on.place low high h)
+  pub header-size : (a start at w n : ℕ) (xs : List ℕ) → IsMovedTo image at a → start ≤ at → at < start + length xs → IsSplit m c start xs at → w ≡ get_or xs (at - start) 0 → n ≡ size_of w → n ≡ size_at image a
+  header-size a start at w n xs on low high h e f = f ∙ ap size_of (e ∙ header-read a start at xs on.object on.place low high h)
 
   pub object-begin : (a start at : ℕ) (xs : List ℕ) → IsObject image a → at ≡ new_address image a → IsSplit m c start xs at → IsSplit m c start xs (at + 1)
   object-begin a start at xs o e h = split_skip m c start xs at (at + 1) h (omega arith) (λ p l n k.

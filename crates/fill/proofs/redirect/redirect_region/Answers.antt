@@ -53,7 +53,7 @@ redirect_object-requires-clause-early c = λ b is.
     let below : at < c.span-span.result.end = c.if-at-span.false in
     let on = region-header image sound c.loop-a.from c.in-Some.a start at c.loop-a.target.words h.passed c.in-Some.ensures h.split c.new_address-at.ensures.value h.low (omega (arith, h.len)) in
     let low : start ≤ at = on.2 in
-    let size : c.from-words.result ≡ size_at image b = c.from-words.ensures ∙ c.size.ensures ∙ header-size image sound b start at c.get-header.result c.loop-a.target.words is low (omega (arith, h.len)) on.0 c.get-header.ensures in
+    let size : c.from-words.result ≡ size_at image b = header-size image sound b start at c.get-header.result c.from-words.result c.loop-a.target.words is low (omega (arith, h.len)) on.0 c.get-header.ensures (c.from-words.ensures ∙ c.size.ensures) in
     let goes : at ≡ new_address image b = is.place in
     let fits : at + c.from-words.result ≤ c.span-span.result.end = c.if-at-words.true in
     deferred-not image sound c.args.d b is.object (omega arith) (omega arith)
@@ -75,7 +75,7 @@ redirect_object-requires-clause-high c = λ b is.
     let below : at < c.span-span.result.end = c.if-at-span.false in
     let on = region-header image sound c.loop-a.from c.in-Some.a start at c.loop-a.target.words h.passed c.in-Some.ensures h.split c.new_address-at.ensures.value h.low (omega (arith, h.len)) in
     let low : start ≤ at = on.2 in
-    let size : c.from-words.result ≡ size_at image b = c.from-words.ensures ∙ c.size.ensures ∙ header-size image sound b start at c.get-header.result c.loop-a.target.words is low (omega (arith, h.len)) on.0 c.get-header.ensures in
+    let size : c.from-words.result ≡ size_at image b = header-size image sound b start at c.get-header.result c.from-words.result c.loop-a.target.words is low (omega (arith, h.len)) on.0 c.get-header.ensures (c.from-words.ensures ∙ c.size.ensures) in
     let goes : at ≡ new_address image b = is.place in
     let fits : at + c.from-words.result ≤ c.span-span.result.end = c.if-at-words.true in
     omega arith

@@ -69,9 +69,9 @@ redirect_object-requires-clause-early c = λ a on.
     let long : c.span-span.result.end ≡ start_of image c.args.d + region_words image = c.span-span.ensures.end in
     let limit : c.min-limit.result ≡ min c.new_top.result c.span-span.result.end = c.min-limit.ensures in
     let below : at < c.min-limit.result = c.loop-at-test.true in
-    let size : c.from.result ≡ size_at image a = c.from.ensures ∙ c.size.ensures ∙ header-size image sound a start at c.get-header.result c.loop-at.target.words on h.low (omega (arith, h.len)) h.split c.get-header.ensures in
+    let size : c.from.result ≡ size_at image a = header-size image sound a start at c.get-header.result c.from.result c.loop-at.target.words on h.low (omega (arith, h.len)) h.split c.get-header.ensures (c.from.ensures ∙ c.size.ensures) in
     let goes : at ≡ new_address image a = on.place in
-    let fits : at + c.from.result ≤ c.span-span.result.end = c.if-next-span.true in
+    let fits : at + c.from.result ≤ c.span-span.result.end = omega (arith, c.if-next-span.true) in
     deferred-not image sound c.args.d a on.object (omega (arith, h.low)) (omega arith)
 
 pub redirect_object-requires-clause-target : goal.redirect_object-requires-clause-target
@@ -94,9 +94,9 @@ redirect_object-requires-clause-high c = λ a on.
     let long : c.span-span.result.end ≡ start_of image c.args.d + region_words image = c.span-span.ensures.end in
     let limit : c.min-limit.result ≡ min c.new_top.result c.span-span.result.end = c.min-limit.ensures in
     let below : at < c.min-limit.result = c.loop-at-test.true in
-    let size : c.from.result ≡ size_at image a = c.from.ensures ∙ c.size.ensures ∙ header-size image sound a start at c.get-header.result c.loop-at.target.words on h.low (omega (arith, h.len)) h.split c.get-header.ensures in
+    let size : c.from.result ≡ size_at image a = header-size image sound a start at c.get-header.result c.from.result c.loop-at.target.words on h.low (omega (arith, h.len)) h.split c.get-header.ensures (c.from.ensures ∙ c.size.ensures) in
     let goes : at ≡ new_address image a = on.place in
-    let fits : at + c.from.result ≤ c.span-span.result.end = c.if-next-span.true in
+    let fits : at + c.from.result ≤ c.span-span.result.end = omega (arith, c.if-next-span.true) in
     omega arith
 
 pub redirect_object-requires-clause-split : goal.redirect_object-requires-clause-split
@@ -118,7 +118,7 @@ loop-at-smaller-then-next-span c =
     let found = object-at image sound at (omega (arith, h.low)) (omega arith) h.between in
     let a : ℕ = found.0 in
     let on : IsMovedTo image at a = found.1 in
-    let size : c.from.result ≡ size_at image a = c.from.ensures ∙ c.size.ensures ∙ header-size image sound a start at c.get-header.result c.loop-at.target.words on h.low (omega (arith, h.len)) h.split c.get-header.ensures in
+    let size : c.from.result ≡ size_at image a = header-size image sound a start at c.get-header.result c.from.result c.loop-at.target.words on h.low (omega (arith, h.len)) h.split c.get-header.ensures (c.from.ensures ∙ c.size.ensures) in
     let goes : at ≡ new_address image a = on.place in
     let sizes = object_size image sound a on.object in
     let some : 0 < size_at image a = sizes.0 in
@@ -141,7 +141,7 @@ loop-at-preserved-then-next-span c =
     let found = object-at image sound at (omega (arith, h.low)) (omega arith) h.between in
     let a : ℕ = found.0 in
     let on : IsMovedTo image at a = found.1 in
-    let size : c.from.result ≡ size_at image a = c.from.ensures ∙ c.size.ensures ∙ header-size image sound a start at c.get-header.result c.loop-at.target.words on h.low (omega (arith, h.len)) h.split c.get-header.ensures in
+    let size : c.from.result ≡ size_at image a = header-size image sound a start at c.get-header.result c.from.result c.loop-at.target.words on h.low (omega (arith, h.len)) h.split c.get-header.ensures (c.from.ensures ∙ c.size.ensures) in
     let goes : at ≡ new_address image a = on.place in
     let behind_object : new_address image a + size_at image a ≡ at + c.from.result = omega arith in
     let e = c.redirect_object.ensures in
@@ -169,10 +169,10 @@ loop-at-preserved c =
     let found = object-at image sound at (omega (arith, h.low)) (omega arith) h.between in
     let a : ℕ = found.0 in
     let on : IsMovedTo image at a = found.1 in
-    let size : c.from.result ≡ size_at image a = c.from.ensures ∙ c.size.ensures ∙ header-size image sound a start at c.get-header.result c.loop-at.target.words on h.low (omega (arith, h.len)) h.split c.get-header.ensures in
+    let size : c.from.result ≡ size_at image a = header-size image sound a start at c.get-header.result c.from.result c.loop-at.target.words on h.low (omega (arith, h.len)) h.split c.get-header.ensures (c.from.ensures ∙ c.size.ensures) in
     let goes : at ≡ new_address image a = on.place in
     let behind_object : new_address image a + size_at image a ≡ at + c.from.result = omega arith in
-    let over : c.span-span.result.end < at + c.from.result = c.if-next-span.false in
+    let over : c.span-span.result.end < at + c.from.result = omega (arith, c.if-next-span.false) in
     let late = deferred-over image sound c.args.d a on.object (omega (arith, h.low)) (omega arith) (omega arith) in
     record {
       low = omega (arith, h.low);
