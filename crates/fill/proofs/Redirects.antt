@@ -11,12 +11,12 @@ use Rattle.summary.specs.WordMoves.{slid, origin}
 use Rattle.summary.specs.Compaction.{moved_word, redirected, is_reference_of, is_deferred}
 use Rattle.summary.proofs.Addresses.{new_address-slid}
 use Rattle.summary.proofs.Origin.{slid-increasing, origin-Some}
-use Rattle.summary.proofs.Words.{owner, is_live, ends_before, slid-low, slid-high, slid-above}
+use Rattle.summary.proofs.Words.{owner, is_live, ends_before, slid-low, slid-high, slid-above, slid-onto}
 use Rattle.summary.proofs.Regions.{region_is, region_low, region_high, region-le, region_some}
 use Rattle.summary.proofs.Updates.{reference-owner}
 use Rattle.summary.specs.Compaction.{word_by}
 use Rattle.fill.specs.Filling.{copied_word}
-use Rattle.fill.specs.Objects.{IsObject, IsPassed}
+use Rattle.fill.specs.Objects.{IsObject, IsPassed, IsMovedTo, IsBetween}
 use Rattle.fill.proofs.Slides.{slid-run, slid-monotone, word_by-above, word_by-below, word_by-slid, copied-slid}
 
 module _ (image : HeapImage) where
@@ -160,6 +160,62 @@ module _ (image : HeapImage) (sound : HasLiveList image) where
       ]
     ];
   }
+
+  -- objects keep apart as they are moved
+  pub moved-apart : (a b : ℕ) → IsObject image a → IsObject image b → a < b → new_address image a + size_at image a ≤ new_address image b
+  moved-apart a b o u l =
+      let apart = objects_apart a b o u l in
+      let end = object_end a o in
+      let up = slid-ordered image (end_of image a) b apart in
+      let to = new_address-is b u in
+      omega arith
+
+  -- and none reaches over the place of another, or over its end
+  pub between-object : (a : ℕ) → IsObject image a → IsBetween image (new_address image a)
+  between-object a o = λ b u l. elim (cases_order b a) [
+    | inl same ↦ let e : new_address image b ≡ new_address image a = ap (new_address image) same in let no : ⊥ = omega arith in absurd no
+    | inr other ↦ elim other [
+      | inl less ↦ moved-apart b a u o less
+      | inr more ↦ let h = moved-apart a b o u more in let no : ⊥ = omega arith in absurd no
+    ]
+  ]
+
+  pub between-end : (a : ℕ) → IsObject image a → IsBetween image (new_address image a + size_at image a)
+  between-end a o = λ b u l. elim (cases_order b a) [
+    | inl same ↦
+        let to : new_address image b ≡ new_address image a = ap (new_address image) same in
+        let size : size_at image b ≡ size_at image a = ap (size_at image) same in
+        omega arith
+    | inr other ↦ elim other [
+      | inl less ↦ let h = moved-apart b a u o less in omega arith
+      | inr more ↦ let h = moved-apart a b o u more in let no : ⊥ = omega arith in absurd no
+    ]
+  ]
+
+  -- behind the prefix, an object goes to each such address
+  pub object-at : (at : ℕ) → prefix_end image ≤ at → at < new_top image → IsBetween image at → (a : ℕ) × IsMovedTo image at a
+  object-at at low high between =
+      let on = slid-onto image sound at low high in
+      let q : ℕ = on.0 in
+      let live : is_live_word image q ≡ true = on.2 in
+      let to : slid image q ≡ at = on.3 in
+      let o = owner image sound q live in
+      let i : ℕ = o.0 in
+      let l : i < length image.live = o.1 in
+      let b : ℕ = place i in
+      let on_it : b ≤ q = o.2 in
+      let end : q < end_of image b = o.3 in
+      let is : IsObject image b = record { index = i; inside = l; is = refl } in
+      let j : ℕ = q - b in
+      let word = new_address-slid image sound i j l (omega arith) in
+      let from : b + j ≡ q = omega arith in
+      let same : slid image (b + j) ≡ slid image q = ap (slid image) from in
+      let here : new_address image b + j ≡ at = omega arith in
+      let first : at ≡ new_address image b = elim (cases_lt (new_address image b) at) [
+        | inl less ↦ let over = between b is less in let no : ⊥ = omega arith in absurd no
+        | inr up ↦ omega arith
+      ] in
+      (b, record { object = is; place = first })
 
   -- an object begun before what goes to the start of a region, and reaching over it, is deferred
   pub passed-start : (d first : ℕ) → slid image first ≡ d * region_words image → IsPassed image first

@@ -6,15 +6,16 @@ use Rattle.std.proofs.lemmas.List.Folds.{list_any_at, Any-from_list_any}
 use Rattle.std.specs.Prelude.{MatchOption, Option, Some, None}
 use Rattle.mark_bitmap.specs.Bits.{NoneFrom, IsFirstFrom}
 use Rattle.mark_bitmap.specs.Marks.{is_begin}
-use Rattle.heap_image.specs.HeapImage.{HeapImage, HasLiveList, word_at, size_at, references_at, reference_at, is_null_or_live}
+use Rattle.heap_image.specs.Header.{size_of}
+use Rattle.heap_image.specs.HeapImage.{HeapImage, HasLiveList, start_of, word_at, size_at, references_at, reference_at, is_null_or_live}
 use Rattle.summary.specs.NewAddresses.{new_address}
 use Rattle.summary.specs.WordMoves.{slid}
 use Rattle.summary.specs.Compaction.{moved_word, redirected, is_deferred}
 use Rattle.fill.specs.Splits.{IsSplit, Shows}
 use Rattle.fill.specs.Filling.{copied_word}
-use Rattle.fill.specs.Objects.{IsObject, IsNextObject, IsPastObjects, IsPassed}
-use Rattle.fill.proofs.Writing.{split_skip, split_set, split_all}
-use Rattle.fill.proofs.Redirects.{slid-ordered, moved-object, moved-header, moved-rest, moved-reference, moved-deferred, moved-between, new_address-is, object_size}
+use Rattle.fill.specs.Objects.{IsObject, IsNextObject, IsPastObjects, IsPassed, IsMovedTo}
+use Rattle.fill.proofs.Writing.{split_none, split_skip, split_set, split_all}
+use Rattle.fill.proofs.Redirects.{slid-ordered, moved-object, moved-header, moved-rest, moved-reference, moved-deferred, moved-between, passed-start, new_address-is, object_size}
 
 module _ (image : HeapImage) (sound : HasLiveList image) where
   abbrev m : ℕ → ℕ
@@ -51,6 +52,9 @@ module _ (image : HeapImage) (sound : HasLiveList image) where
       let k : start + (at - start) ≡ new_address image a + 0 = omega arith in
       let z : a + 0 ≡ a = omega arith in
       h.above (at - start) (omega arith) (omega arith) ∙ ap c k ∙ word-copied a 0 o size.0 ∙ ap (word_at image) z
+
+  pub header-size : (a start at w n : ℕ) (xs : List ℕ) → IsMovedTo image at a → start ≤ at → at < start + length xs → IsSplit m c start xs at → w ≡ get_or xs (at - start) 0 → n ≡ size_of w → n ≡ size_at image a
+  header-size a start at w n xs on low high h e f = f ∙ ap size_of (e ∙ header-read a start at xs on.object on.place low high h)
 
   pub object-begin : (a start at : ℕ) (xs : List ℕ) → IsObject image a → at ≡ new_address image a → IsSplit m c start xs at → IsSplit m c start xs (at + 1)
   object-begin a start at xs o e h = split_skip m c start xs at (at + 1) h (omega arith) (λ p l n k.
@@ -108,6 +112,16 @@ module _ (image : HeapImage) (sound : HasLiveList image) where
   region-last from start xs passed none h =
       let end : ℕ = max (slid image from) (start + length xs) in
       split_all m c start xs end (split_skip m c start xs (slid image from) end h (omega arith) (λ p l less k. moved-between image sound from p passed (λ b u up. (let before = none b u in let no : ⊥ = omega arith in absurd no)) l)) (omega arith)
+
+  -- the same of a region whose words come from `first` on, before any object is redirected
+  region-begin : (d first : ℕ) (xs : List ℕ) → slid image first ≡ start_of image d → Shows c (start_of image d) xs → IsSplit m c (start_of image d) xs (slid image first)
+  region-begin d first xs e shows = subst (IsSplit m c (start_of image d) xs) (sym e) (split_none m c (start_of image d) xs shows)
+
+  pub region-first : (d first a : ℕ) (xs : List ℕ) → slid image first ≡ start_of image d → IsNextObject image first a → Shows c (start_of image d) xs → IsSplit m c (start_of image d) xs (new_address image a)
+  region-first d first a xs e n shows = region-next first a (start_of image d) xs (passed-start image sound d first e) n (region-begin d first xs e shows)
+
+  pub region-none : (d first : ℕ) (xs : List ℕ) → slid image first ≡ start_of image d → IsPastObjects image first → Shows c (start_of image d) xs → Shows m (start_of image d) xs
+  region-none d first xs e none shows = region-last first (start_of image d) xs (passed-start image sound d first e) none (region-begin d first xs e shows)
 
   pub region-header : (from a start at : ℕ) (xs : List ℕ) → IsPassed image from → IsNextObject image from a → IsSplit m c start xs (slid image from) → at ≡ new_address image a → start ≤ slid image from → at < start + length xs
       → IsSplit m c start xs at × (get_or xs (at - start) 0 ≡ word_at image a) × (start ≤ at)

@@ -186,6 +186,14 @@ module _ (image : HeapImage) (valid : IsValid image) where
       let e : s + (t - s) ≡ t = omega arith in
       written_to-gap d s (t - s) l m (omega arith) (λ u a b. unread u a (omega arith)) ∙ ap (λ r. written_to image (start_of image d) (start_of image r)) e
 
+  -- a region written up to what its last source gives is written whole
+  pub written_to-last : (d from to : ℕ) (xs : List ℕ) → prefix_end image ≤ start_of image d → d < from → from ≤ region_count image
+      → ((t : ℕ) → from ≤ t → t < region_count image → reads image d t ≡ false) → to ≡ written_to image (start_of image d) (start_of image from)
+      → length xs ≡ S → IsSplit (copied_word image) (word_at image) (start_of image d) xs to → Shows (copied_word image) (start_of image d) xs
+  written_to-last d from to xs l own within last place long h =
+      let rest = written_to-between d from (region_count image) l (omega arith) within (omega arith) last ∙ ap (written_to image (start_of image d)) all_regions in
+      written_to-all image valid.live_list (start_of image d) xs to long (place ∙ rest) h
+
   -- the source of a region to fill has the word that goes to its start
   pub source_place : (d s : ℕ) → prefix_end image ≤ start_of image d → start_of image d < new_top image → source image d ≡ Some s
       → (reads image d s ≡ true) × (d ≤ s) × (s < region_count image) × (slid image (start_of image s) ≤ start_of image d) × (start_of image d ≤ slid image (start_of image s + S))

@@ -1,13 +1,13 @@
 //! The references of a region that is filled.
 ghost use Rattle.std.specs.Prelude.{◌≡◌, ℕ, ◌+◌, ◌<◌, ◌≤◌, false, length};
 ghost use Rattle.heap_image.specs.HeapImage.{heap_words, region_words, region_count, start_of, word_at, size_at};
-ghost use Rattle.summary.specs.NewAddresses.{prefix_end, new_address, new_top};
+ghost use Rattle.summary.specs.NewAddresses.{prefix_end, new_top};
 ghost use Rattle.summary.specs.WordMoves.{slid, reads};
 ghost use Rattle.summary.specs.Compaction.{is_deferred, moved_word};
 ghost use Rattle.region_cells.specs.Blocks.{moved_block};
 ghost use Rattle.fill.specs.Splits.{IsSplit, Shows};
 ghost use Rattle.fill.specs.Filling.{copied_word, written_to};
-ghost use Rattle.fill.specs.Objects.{IsObject};
+ghost use Rattle.fill.specs.Objects.{IsMovedTo, IsBetween};
 ghost use Rattle.fill.specs.Hands.{SameHand};
 
 use crate::guide::Guide;
@@ -16,20 +16,20 @@ use crate::runs::Span;
 use heap_image::header::{references, size};
 use region_cells::Target;
 
-/// Redirects the references of the live object `a`, whose new words lie wholly in the target from its address `at` on.
-fn redirect_object(guide: &Guide<'_>, target: &mut Target<'_>, span: Span, a: u64, at: u64)
-    requires object { IsObject guide.now a }
-    requires place { at ≡ new_address guide.now a }
-    requires early { is_deferred guide.now a ≡ false }
+/// Redirects the references of the live object that goes to the address `at`, where its new words lie wholly in the
+/// target.
+fn redirect_object(guide: &Guide<'_>, target: &mut Target<'_>, span: Span, at: u64)
+    requires object { (a : ℕ) × IsMovedTo guide.now at a }
+    requires early { (a : ℕ) → IsMovedTo guide.now at a → is_deferred guide.now a ≡ false }
     requires target { target.old.image ≡ guide.now }
     requires words { length target.old.words ≡ region_words guide.now }
     requires span { span.end ≡ span.start + region_words guide.now }
     requires in_heap { span.end ≤ heap_words guide.now }
     requires low { span.start ≤ at }
-    requires high { at + size_at guide.now a ≤ span.end }
+    requires high { (a : ℕ) → IsMovedTo guide.now at a → at + size_at guide.now a ≤ span.end }
     requires split { IsSplit (moved_word guide.now) (copied_word guide.now) span.start target.old.words at }
-    ensures split { IsSplit (moved_word guide.now) (copied_word guide.now) span.start target.new.words
-        (at + size_at guide.now a) }
+    ensures split { (a : ℕ) → IsMovedTo guide.now at a → IsSplit (moved_word guide.now) (copied_word guide.now)
+        span.start target.new.words (at + size_at guide.now a) }
     ensures length { length target.new.words ≡ region_words guide.now }
     ensures hand { SameHand target.old target.new }
 {
@@ -65,9 +65,36 @@ pub(crate) fn redirect_region(guide: &Guide<'_>, target: &mut Target<'_>, d: u32
         let header = target.get((at - span.start) as usize);
         let words = u64::from(size(header));
         if at + words <= span.end {
-            redirect_object(guide, target, span, a, at);
+            redirect_object(guide, target, span, at);
         }
         from = a + words;
+    }
+}
+
+/// Redirects the references of the live objects that lie wholly in the region `d` behind the prefix, where they stand
+/// side by side from the address `at` on.
+fn redirect_row(guide: &Guide<'_>, target: &mut Target<'_>, d: u32, at: u64)
+    requires inside { d < region_count guide.now }
+    requires behind_prefix { prefix_end guide.now ≤ start_of guide.now d }
+    requires low { start_of guide.now d ≤ at }
+    requires between { IsBetween guide.now at }
+    requires target { target.old.image ≡ guide.now }
+    requires words { length target.old.words ≡ region_words guide.now }
+    requires split { IsSplit (moved_word guide.now) (copied_word guide.now) (start_of guide.now d) target.old.words at }
+    ensures moved { Shows (moved_word guide.now) (start_of guide.now d) target.new.words }
+    ensures length { length target.new.words ≡ region_words guide.now }
+    ensures hand { SameHand target.old target.new }
+{
+    let span = guide.span(d);
+    let limit = guide.plan().new_top().min(span.end);
+    let mut at = at;
+    while at < limit {
+        let header = target.get((at - span.start) as usize);
+        let next = at + u64::from(size(header));
+        if next <= span.end {
+            redirect_object(guide, target, span, at);
+        }
+        at = next;
     }
 }
 
@@ -90,5 +117,7 @@ pub(crate) fn redirect_moved(guide: &Guide<'_>, target: &mut Target<'_>, d: u32,
     let start = guide.span(d).start;
     let s = guide.source(d);
     let first = first_from(guide, guide.span(s), guide.destination(s), start);
-    redirect_region(guide, target, d, first);
+    if let Some(a) = guide.next_object(first) {
+        redirect_row(guide, target, d, guide.new_address(a));
+    }
 }

@@ -1,8 +1,13 @@
-use Rattle.std.proofs.Common.{◌≡◌, ◌+◌, ◌≤◌, ℕ, ◌∙◌, ap, arith}
-use Rattle.heap_image.specs.HeapImage.{HeapImage, start_of, region_words, region_count}
+use Rattle.std.proofs.Common.{◌≡◌, ◌+◌, ◌≤◌, ℕ, sym, ◌∙◌, ap, subst, arith}
+use Rattle.heap_image.specs.HeapImage.{HeapImage, start_of, region_words}
 use Rattle.summary.specs.WordMoves.{slid}
-use Rattle.fill.specs.Filling.{written_to}
-use Rattle.fill.proofs.Targets.{source_place, source_behind, shows_moved, all_regions, written_to-between, written_to-all}
+use Rattle.summary.specs.Compaction.{moved_word}
+use Rattle.fill.specs.Splits.{IsSplit}
+use Rattle.fill.specs.Filling.{copied_word}
+use Rattle.fill.specs.Objects.{IsBetween}
+use Rattle.fill.proofs.Targets.{source_place, source_behind, shows_moved, written_to-last}
+use Rattle.fill.proofs.Redirects.{between-object}
+use Rattle.fill.proofs.Steps.{next-place, region-first, region-none}
 use Rattle.fill.proofs.redirect.redirect_moved.Goals as goal
 
 pub span-requires : goal.span-requires
@@ -36,13 +41,36 @@ first_from-first-requires-clause-high c =
     let end : slid image c.span.result.end ≡ slid image (start_of image c.source-s.result + region_words image) = ap (slid image) c.span.ensures.end in
     omega (arith, c.span-start.ensures.start)
 
-pub returns-clause-moved : goal.returns-clause-moved
-returns-clause-moved c = shows_moved c.args.guide.now c.span-start.ensures.valid c.args.d c.redirect_region.new.target.words c.redirect_region.ensures.length c.redirect_region.ensures.moved
-
-pub redirect_region-requires-clause-copied : goal.redirect_region-requires-clause-copied
-redirect_region-requires-clause-copied c =
+pub redirect_row-requires-clause-low : goal.redirect_row-requires-clause-low
+redirect_row-requires-clause-low c =
     let image : HeapImage = c.args.guide.now in
-    let valid = c.span-start.ensures.valid in
-    let d : ℕ = c.args.d in
-    let rest = written_to-between image valid d c.args.from (region_count image) c.requires.behind_prefix (omega (arith, c.requires.own)) c.requires.within (omega arith) c.requires.last ∙ ap (written_to image (start_of image d)) (all_regions image valid) in
-    written_to-all image valid.live_list (start_of image d) c.args.target.now.words c.args.to c.requires.words (c.requires.place ∙ rest) c.requires.split
+    let up = next-place image c.span-start.ensures.valid.live_list c.first_from-first.result c.in-Some.a c.in-Some.ensures in
+    let first : slid image c.first_from-first.result ≡ c.span-start.result.start = c.first_from-first.ensures.place in
+    omega (arith, c.span-start.ensures.start, c.new_address.ensures.value)
+
+pub redirect_row-requires-clause-between : goal.redirect_row-requires-clause-between
+redirect_row-requires-clause-between c =
+    let image : HeapImage = c.args.guide.now in
+    subst (IsBetween image) (sym c.new_address.ensures.value) (between-object image c.span-start.ensures.valid.live_list c.in-Some.a c.in-Some.ensures.object)
+
+pub redirect_row-requires-clause-split : goal.redirect_row-requires-clause-split
+redirect_row-requires-clause-split c =
+    let image : HeapImage = c.args.guide.now in
+    let r = c.requires in
+    let start : ℕ = start_of image c.args.d in
+    let first : slid image c.first_from-first.result ≡ start = c.first_from-first.ensures.place ∙ c.span-start.ensures.start in
+    let shows = written_to-last image c.span-start.ensures.valid c.args.d c.args.from c.args.to c.args.target.now.words r.behind_prefix r.own r.within r.last r.place r.words r.split in
+    subst (IsSplit (moved_word image) (copied_word image) start c.args.target.now.words) (sym c.new_address.ensures.value)
+    (region-first image c.span-start.ensures.valid.live_list c.args.d c.first_from-first.result c.in-Some.a c.args.target.now.words first c.in-Some.ensures shows)
+
+pub returns-in-Some-clause-moved : goal.returns-in-Some-clause-moved
+returns-in-Some-clause-moved c = shows_moved c.args.guide.now c.span-start.ensures.valid c.args.d c.redirect_row.new.target.words c.redirect_row.ensures.length c.redirect_row.ensures.moved
+
+pub returns-in_default-clause-moved : goal.returns-in_default-clause-moved
+returns-in_default-clause-moved c =
+    let image : HeapImage = c.args.guide.now in
+    let r = c.requires in
+    let first : slid image c.first_from-first.result ≡ start_of image c.args.d = c.first_from-first.ensures.place ∙ c.span-start.ensures.start in
+    let shows = written_to-last image c.span-start.ensures.valid c.args.d c.args.from c.args.to c.args.target.now.words r.behind_prefix r.own r.within r.last r.place r.words r.split in
+    shows_moved image c.span-start.ensures.valid c.args.d c.args.target.now.words r.words
+    (region-none image c.span-start.ensures.valid.live_list c.args.d c.first_from-first.result c.args.target.now.words first c.in_default.ensures shows)

@@ -10,7 +10,7 @@ use Rattle.fill.specs.Hands.{SameHand}
 use Rattle.fill.specs.Objects.{IsNextObject, IsPastObjects, IsPassed}
 use Rattle.fill.proofs.Writing.{split_none, split_all}
 use Rattle.fill.proofs.Redirects.{object_size, object_end, passed-object, passed-start, deferred-not, deferred-over}
-use Rattle.fill.proofs.Steps.{region-header, region-next, region-last, object-late, next-place}
+use Rattle.fill.proofs.Steps.{header-size, region-header, region-next, region-last, object-late, next-place}
 use Rattle.fill.proofs.redirect.redirect_region.Goals as goal
 use Rattle.fill.proofs.redirect.redirect_region.Goals.{then-at-words, else-at-words}
 
@@ -38,21 +38,25 @@ overflow_sub-at c =
     let up = next-place image sound c.loop-a.from c.in-Some.a c.in-Some.ensures in
     omega (arith, c.loop-a.invariant.low, c.new_address-at.ensures.value)
 
+pub redirect_object-requires-clause-object : goal.redirect_object-requires-clause-object
+redirect_object-requires-clause-object c = (c.in-Some.a, record { object = c.in-Some.ensures.object; place = c.new_address-at.ensures.value })
+
 pub redirect_object-requires-clause-early : goal.redirect_object-requires-clause-early
-redirect_object-requires-clause-early c =
+redirect_object-requires-clause-early c = λ b is.
     let image : HeapImage = c.args.guide.now in
     let sound : HasLiveList image = c.span-span.ensures.valid.live_list in
     let h = c.loop-a.invariant in
-    let next : IsNextObject image c.loop-a.from c.in-Some.a = c.in-Some.ensures in
-    let on = region-header image sound c.loop-a.from c.in-Some.a (c.span-span.result.start) c.new_address-at.result c.loop-a.target.words h.passed next h.split c.new_address-at.ensures.value h.low (omega (arith, h.len, c.span-span.ensures.end, c.span-span.ensures.start, c.if-at-span.false)) in
-    let header : get_or c.loop-a.target.words (c.new_address-at.result - c.span-span.result.start) 0 ≡ word_at image c.in-Some.a = on.1 in
-    let size : c.from-words.result ≡ size_at image c.in-Some.a = c.from-words.ensures ∙ c.size.ensures ∙ ap size_of (c.get-header.ensures ∙ header) in
-    let low : c.span-span.result.start ≤ c.new_address-at.result = on.2 in
-    let at : c.span-span.result.start ≡ start_of image c.args.d = c.span-span.ensures.start in
-    let goes : c.new_address-at.result ≡ new_address image c.in-Some.a = c.new_address-at.ensures.value in
-    let fits : c.new_address-at.result + c.from-words.result ≤ c.span-span.result.end = c.if-at-words.true in
+    let start : ℕ = c.span-span.result.start in
+    let at : ℕ = c.new_address-at.result in
+    let begin : start ≡ start_of image c.args.d = c.span-span.ensures.start in
     let long : c.span-span.result.end ≡ start_of image c.args.d + region_words image = c.span-span.ensures.end in
-    deferred-not image sound c.args.d c.in-Some.a next.object (omega arith) (omega arith)
+    let below : at < c.span-span.result.end = c.if-at-span.false in
+    let on = region-header image sound c.loop-a.from c.in-Some.a start at c.loop-a.target.words h.passed c.in-Some.ensures h.split c.new_address-at.ensures.value h.low (omega (arith, h.len)) in
+    let low : start ≤ at = on.2 in
+    let size : c.from-words.result ≡ size_at image b = header-size image sound b start at c.get-header.result c.from-words.result c.loop-a.target.words is low (omega (arith, h.len)) on.0 c.get-header.ensures (c.from-words.ensures ∙ c.size.ensures) in
+    let goes : at ≡ new_address image b = is.place in
+    let fits : at + c.from-words.result ≤ c.span-span.result.end = c.if-at-words.true in
+    deferred-not image sound c.args.d b is.object (omega arith) (omega arith)
 
 pub redirect_object-requires-clause-low : goal.redirect_object-requires-clause-low
 redirect_object-requires-clause-low c =
@@ -60,16 +64,20 @@ redirect_object-requires-clause-low c =
     omega (arith, c.loop-a.invariant.low, c.new_address-at.ensures.value)
 
 pub redirect_object-requires-clause-high : goal.redirect_object-requires-clause-high
-redirect_object-requires-clause-high c =
+redirect_object-requires-clause-high c = λ b is.
     let image : HeapImage = c.args.guide.now in
     let sound : HasLiveList image = c.span-span.ensures.valid.live_list in
     let h = c.loop-a.invariant in
-    let next : IsNextObject image c.loop-a.from c.in-Some.a = c.in-Some.ensures in
-    let on = region-header image sound c.loop-a.from c.in-Some.a (c.span-span.result.start) c.new_address-at.result c.loop-a.target.words h.passed next h.split c.new_address-at.ensures.value h.low (omega (arith, h.len, c.span-span.ensures.end, c.span-span.ensures.start, c.if-at-span.false)) in
-    let header : get_or c.loop-a.target.words (c.new_address-at.result - c.span-span.result.start) 0 ≡ word_at image c.in-Some.a = on.1 in
-    let size : c.from-words.result ≡ size_at image c.in-Some.a = c.from-words.ensures ∙ c.size.ensures ∙ ap size_of (c.get-header.ensures ∙ header) in
-    let fits : c.new_address-at.result + c.from-words.result ≤ c.span-span.result.end = c.if-at-words.true in
+    let start : ℕ = c.span-span.result.start in
+    let at : ℕ = c.new_address-at.result in
+    let begin : start ≡ start_of image c.args.d = c.span-span.ensures.start in
     let long : c.span-span.result.end ≡ start_of image c.args.d + region_words image = c.span-span.ensures.end in
+    let below : at < c.span-span.result.end = c.if-at-span.false in
+    let on = region-header image sound c.loop-a.from c.in-Some.a start at c.loop-a.target.words h.passed c.in-Some.ensures h.split c.new_address-at.ensures.value h.low (omega (arith, h.len)) in
+    let low : start ≤ at = on.2 in
+    let size : c.from-words.result ≡ size_at image b = header-size image sound b start at c.get-header.result c.from-words.result c.loop-a.target.words is low (omega (arith, h.len)) on.0 c.get-header.ensures (c.from-words.ensures ∙ c.size.ensures) in
+    let goes : at ≡ new_address image b = is.place in
+    let fits : at + c.from-words.result ≤ c.span-span.result.end = c.if-at-words.true in
     omega arith
 
 pub redirect_object-requires-clause-split : goal.redirect_object-requires-clause-split
@@ -114,7 +122,7 @@ loop-a-preserved c =
     let begin : start ≡ start_of image c.args.d = c.span-span.ensures.start in
     let long : c.span-span.result.end ≡ start_of image c.args.d + region_words image = c.span-span.ensures.end in
     let step : IsSplit (moved_word image) (copied_word image) start c.if-at-words.target.words (at + size_at image a) = elim c.if-at-words.branch [
-      | then-at-words w ↦ subst (λ (xs : List ℕ). IsSplit (moved_word image) (copied_word image) start xs (at + size_at image a)) (sym (ap (λ t. t.words) w.target-is)) w.redirect_object.ensures.split
+      | then-at-words w ↦ subst (λ (xs : List ℕ). IsSplit (moved_word image) (copied_word image) start xs (at + size_at image a)) (sym (ap (λ t. t.words) w.target-is)) (w.redirect_object.ensures.split a (record { object = next.object; place = goes }))
       | else-at-words w ↦
           let over : c.span-span.result.end < at + c.from-words.result = w.if-at-words.false in
           let below : at < c.span-span.result.end = c.if-at-span.false in
