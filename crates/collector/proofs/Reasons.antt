@@ -2,7 +2,7 @@
 use Rattle.std.proofs.Common.{◌≡◌, ◌≢◌, ℕ, Bool, true, false, List, [], ◌∷◌, sym, ◌∙◌, subst, inl, inr, Option, Some, None, Result, Ok, Err}
 use Rattle.std.specs.Prelude.{IfSome, OnErr, option_map}
 use Rattle.heap_image.specs.declared.fault.Fault.{Fault}
-use Rattle.heap_image.specs.declared.fault.Fault.TheVariants.{TruncatedHeader, Magic, RegionLog, Length, TruncatedBody, LiveOrder, Header, Overlap, Reference, Trailing, Memory, Io, Schedule}
+use Rattle.heap_image.specs.declared.fault.Fault.TheVariants.{TruncatedHeader, Magic, RegionLog, Length, TruncatedBody, Root, LiveOrder, Header, Overlap, Reference, Trailing, Memory, Io, Schedule}
 use Rattle.heap_image.specs.ImageText.{fault_if, first_some, first_fault, faults}
 use Rattle.heap_image.specs.Refusals.{IsReason}
 use Rattle.collector.specs.Streams.{IsOfBytes}
@@ -28,7 +28,7 @@ mapped : {X : Type 0} (f : X → Fault) (o : Option X) → ((x : X) → IsOfByte
 mapped f None each = tt
 mapped f (Some x) each = each x
 
--- the first fault of an input is one of the first ten
+-- the first fault of an input is one of 1 to 10, or 17
 first_is : (input : List ℕ) (fault : Fault) → first_fault input ≡ Some fault → IsOfBytes fault
 first_is input fault is = first_of (faults input) fault all is
   where
@@ -44,14 +44,17 @@ first_is input fault is = first_of (faults input) fault all is
             (
               tested _ TruncatedBody tt,
               (
-                mapped LiveOrder _ (λ i. tt),
+                mapped Root _ (λ i. tt),
                 (
-                  mapped Header _ (λ a. tt),
+                  mapped LiveOrder _ (λ i. tt),
                   (
-                    mapped Overlap _ (λ a. tt),
+                    mapped Header _ (λ a. tt),
                     (
-                      mapped (λ p. Reference p.0 p.1) _ (λ p. tt),
-                      (tested _ Trailing tt, tt),
+                      mapped Overlap _ (λ a. tt),
+                      (
+                        mapped (λ p. Reference p.0 p.1) _ (λ p. tt),
+                        (tested _ Trailing tt, tt),
+                      ),
                     ),
                   ),
                 ),

@@ -1,26 +1,55 @@
 -- What the first difference tells, between an image and the compaction of another.
-use Rattle.std.proofs.Common.{◌≡◌, ℕ, ◌<◌, sym, ◌∙◌, subst, arith}
+use Rattle.std.proofs.Common.{◌≡◌, ℕ, ◌<◌, List, [], cond, length, get_or, refl, ap, sym, ◌∙◌, subst, arith}
+use Rattle.std.specs.Prelude.{Option, None, Some, map, option_map}
+use Rattle.std.specs.Option.{is_some}
 use Rattle.std.proofs.lemmas.List.{get_or-map, length-map, ext_get_or}
-use Rattle.heap_image.specs.HeapImage.{HeapImage, heap_words, word_at}
+use Rattle.heap_image.specs.HeapImage.{HeapImage, heap_words, word_at, roots_or, roots_of}
 use Rattle.summary.specs.LiveObjects.{object_count, object_at}
 use Rattle.summary.specs.NewAddresses.{new_address, new_live}
-use Rattle.summary.specs.Compaction.{compact}
+use Rattle.summary.specs.Compaction.{redirected, compact}
 use Rattle.collector.specs.Difference.{AreAlike, IsLeastDifference}
 use Rattle.collector.specs.Compared.{AreCompacted, IsFirstOther}
-use Rattle.collector.specs.Verdict.{HaveSameShape}
+use Rattle.collector.specs.Verdict.{HaveSameShape, root_count, root_at}
 
-pub same_image : (x y : HeapImage) → x.region_log ≡ y.region_log → x.allowance ≡ y.allowance → x.words ≡ y.words → x.live ≡ y.live → x ≡ y
-same_image x y a b c d = λ i. record { region_log = a i; allowance = b i; words = c i; live = d i }
+pub same_image : (x y : HeapImage) → x.region_log ≡ y.region_log → x.allowance ≡ y.allowance → x.words ≡ y.words → x.live ≡ y.live → x.roots ≡ y.roots → x ≡ y
+same_image x y a b c d e = λ i. record { region_log = a i; allowance = b i; words = c i; live = d i; roots = e i }
+
+-- of the same version and the same numbers
+same_roots : (o p : Option (List ℕ)) → cond {A = ℕ} (is_some o) 2 1 ≡ cond {A = ℕ} (is_some p) 2 1 → roots_or [] o ≡ roots_or [] p → o ≡ p
+same_roots None None v e = refl
+same_roots None (Some ys) v e = let no : ⊥ = omega arith in absurd no
+same_roots (Some xs) None v e = let no : ⊥ = omega arith in absurd no
+same_roots (Some xs) (Some ys) v e = ap Some e
+
+same_version : (f : List ℕ → List ℕ) (o : Option (List ℕ)) → cond {A = ℕ} (is_some (option_map f o)) 2 1 ≡ cond {A = ℕ} (is_some o) 2 1
+same_version f None = refl
+same_version f (Some xs) = refl
+
+new_roots : (f : ℕ → ℕ) (o : Option (List ℕ)) → roots_or [] (option_map (map f) o) ≡ map f (roots_or [] o)
+new_roots f None = refl
+new_roots f (Some xs) = refl
 
 module _ (before after : HeapImage) (long : heap_words (compact before) ≡ heap_words before) where
   live_count : object_count (compact before) ≡ object_count before
   live_count = length-map before.live (new_address before)
 
+  roots_are : roots_of (compact before) ≡ map (redirected before) (roots_of before)
+  roots_are = new_roots (redirected before) before.roots
+
+  root_count_same : root_count (compact before) ≡ root_count before
+  root_count_same = ap length roots_are ∙ length-map (roots_of before) (redirected before)
+
+  new_root_at : (k : ℕ) → k < root_count before → root_at (compact before) k ≡ redirected before (root_at before k)
+  new_root_at k l = ap (λ (xs : List ℕ). get_or xs k 0) roots_are ∙ get_or-map (redirected before) (roots_of before) k 0 0 l
+
+  abbrev new_root : ℕ → ℕ
+  new_root i = redirected before (root_at before i)
+
   pub shape : HaveSameShape before after → HaveSameShape (compact before) after
-  shape h = record { region_log = h.region_log; words = h.words ∙ sym long; allowance = h.allowance; live = h.live ∙ sym live_count }
+  shape h = record { region_log = h.region_log; words = h.words ∙ sym long; allowance = h.allowance; live = h.live ∙ sym live_count; version = h.version ∙ sym (same_version (map (redirected before)) before.roots); roots = h.roots ∙ sym root_count_same }
 
   pub shape_back : HaveSameShape (compact before) after → HaveSameShape before after
-  shape_back h = record { region_log = h.region_log; words = h.words ∙ long; allowance = h.allowance; live = h.live ∙ live_count }
+  shape_back h = record { region_log = h.region_log; words = h.words ∙ long; allowance = h.allowance; live = h.live ∙ live_count; version = h.version ∙ same_version (map (redirected before)) before.roots; roots = h.roots ∙ root_count_same }
 
   pub words_same : HaveSameShape before after → AreCompacted before after 0 (heap_words before) → after.words ≡ (compact before).words
   words_same h alike = ext_get_or 0 after.words (compact before).words (h.words ∙ sym long) (λ k l. alike.alike k (omega arith) (subst (λ n. k < n) h.words l))
@@ -49,5 +78,21 @@ module _ (before after : HeapImage) (long : heap_words (compact before) ≡ heap
       below : (k i n : ℕ) → k < i → i < n → k < n
       below k i n h m = omega (arith, h, m)
 
-  pub all_same : HaveSameShape before after → AreCompacted before after 0 (heap_words before) → AreAlike places (object_at after) (object_count before) → after ≡ compact before
-  all_same h words live = same_image after (compact before) h.region_log h.allowance (words_same h words) (live_same h live)
+  roots_same : HaveSameShape before after → AreAlike new_root (root_at after) (root_count before) → after.roots ≡ (compact before).roots
+  roots_same h alike = same_roots after.roots (compact before).roots (h.version ∙ sym (same_version (map (redirected before)) before.roots))
+      (ext_get_or 0 (roots_of after) (roots_of (compact before)) (h.roots ∙ sym root_count_same) (λ k l.
+          let m : k < root_count before = subst (λ n. k < n) h.roots l in
+          alike k m ∙ sym (new_root_at k m)))
+
+  pub root_other : (i : ℕ) → IsLeastDifference new_root (root_at after) (root_count before) i → IsLeastDifference (root_at (compact before)) (root_at after) (root_count (compact before)) i
+  root_other i other = record {
+    inside = subst (λ n. i < n) (sym root_count_same) other.inside;
+    differs = λ same. other.differs (same ∙ new_root_at i other.inside);
+    least = λ k l. other.least k l ∙ sym (new_root_at k (below k i (root_count before) l other.inside));
+  }
+    where
+      below : (k i n : ℕ) → k < i → i < n → k < n
+      below k i n h m = omega (arith, h, m)
+
+  pub all_same : HaveSameShape before after → AreCompacted before after 0 (heap_words before) → AreAlike places (object_at after) (object_count before) → AreAlike new_root (root_at after) (root_count before) → after ≡ compact before
+  all_same h words live roots = same_image after (compact before) h.region_log h.allowance (words_same h words) (live_same h live) (roots_same h roots)

@@ -5,16 +5,17 @@ use Rattle.heap_image.specs.HeapImage.{HeapImage, IsValid}
 use Rattle.heap_image.specs.ImageText.{text}
 use Rattle.heap_image.specs.Outgoing.{TakesBeginning}
 use Rattle.heap_image.specs.declared.fault.Fault.{Fault}
-use Rattle.heap_image.specs.declared.fault.Fault.TheVariants.{TruncatedHeader, Magic, RegionLog, Length, TruncatedBody, LiveOrder, Header, Overlap, Reference, Trailing}
+use Rattle.heap_image.specs.declared.fault.Fault.TheVariants.{TruncatedHeader, Magic, RegionLog, Length, TruncatedBody, Root, LiveOrder, Header, Overlap, Reference, Trailing}
 use Rattle.summary.specs.Compaction.{compact}
 
--- a fault of an image's bytes, one of the first ten
+-- a fault of an image's bytes, one of 1 to 10, or 17
 abbrev pub IsOfBytes : Fault → Type 0
 IsOfBytes TruncatedHeader = Unit {0}
 IsOfBytes Magic = Unit {0}
 IsOfBytes RegionLog = Unit {0}
 IsOfBytes Length = Unit {0}
 IsOfBytes TruncatedBody = Unit {0}
+IsOfBytes (Root i) = Unit {0}
 IsOfBytes (LiveOrder i) = Unit {0}
 IsOfBytes (Header a) = Unit {0}
 IsOfBytes (Overlap a) = Unit {0}

@@ -1,21 +1,31 @@
 -- The first difference between an image and the one that it should be.
-use Rattle.std.specs.Prelude.{◌≡◌}
-use Rattle.heap_image.specs.HeapImage.{HeapImage, heap_words, word_at}
+use Rattle.std.specs.Prelude.{◌≡◌, ℕ, length, slice_index}
+use Rattle.heap_image.specs.HeapImage.{HeapImage, heap_words, word_at, version_of, roots_of}
 use Rattle.summary.specs.LiveObjects.{object_count, object_at}
 use Rattle.collector.specs.Difference.{IsLeastDifference}
 use Rattle.collector.specs.declared.verdict.Verdict.{Verdict}
-use Rattle.collector.specs.declared.verdict.Verdict.TheVariants.{Same, Shape, Word, Live}
+use Rattle.collector.specs.declared.verdict.Verdict.TheVariants.{Same, Shape, Word, Live, Root}
 
--- two images are alike in all but their words and their live addresses
+-- how many roots an image has, and the i-th of them, from 0
+abbrev pub root_count : HeapImage → ℕ
+root_count image = length (roots_of image)
+
+abbrev pub root_at : HeapImage → ℕ → ℕ
+root_at image i = slice_index (roots_of image) i
+
+-- two images are alike in all but their words, their live addresses and their roots
 pub record HaveSameShape (wanted found : HeapImage) : Type 0 where
   pub region_log : found.region_log ≡ wanted.region_log
   pub words : heap_words found ≡ heap_words wanted
   pub allowance : found.allowance ≡ wanted.allowance
   pub live : object_count found ≡ object_count wanted
+  pub version : version_of found ≡ version_of wanted
+  pub roots : root_count found ≡ root_count wanted
 
--- The first difference decides: that of the shapes, or else the least of the words, or else the least of the live list.
+-- The first difference decides: that of the shapes, or else the least of the words, of the live list, or of the roots.
 abbrev pub IsVerdict : HeapImage → HeapImage → Verdict → Type 0
 IsVerdict wanted found Same = found ≡ wanted
 IsVerdict wanted found Shape = ¬ (HaveSameShape wanted found)
 IsVerdict wanted found (Word a) = HaveSameShape wanted found × IsLeastDifference (word_at wanted) (word_at found) (heap_words wanted) a
 IsVerdict wanted found (Live i) = HaveSameShape wanted found × (found.words ≡ wanted.words) × IsLeastDifference (object_at wanted) (object_at found) (object_count wanted) i
+IsVerdict wanted found (Root i) = HaveSameShape wanted found × (found.words ≡ wanted.words) × (found.live ≡ wanted.live) × IsLeastDifference (root_at wanted) (root_at found) (root_count wanted) i

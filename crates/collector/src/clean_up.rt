@@ -1,12 +1,12 @@
 //! The end of a collection, once all regions have moved.
-ghost use Rattle.std.specs.Prelude.{◌≡◌, IfOk, IfErr, Contains, map};
-ghost use Rattle.heap_image.specs.HeapImage.{IsValid};
+ghost use Rattle.std.specs.Prelude.{◌≡◌, IfOk, IfErr, IsTrue, All, Contains, map, option_map};
+ghost use Rattle.heap_image.specs.HeapImage.{IsValid, AreBlocks, rooted_image_of, is_null_or_live};
 ghost use Rattle.summary.specs.NewAddresses.{new_address};
-ghost use Rattle.summary.specs.Compaction.{compact};
+ghost use Rattle.summary.specs.Compaction.{redirected, compact};
 ghost use Rattle.fill.specs.Drains.{IsOverwritten};
 
 use fill::{clear_above, update_deferred};
-use heap_image::{Fault, Image};
+use heap_image::{Fault, Image, ImageParts};
 use mark_bitmap::Marks;
 use rayon::prelude::*;
 use region_cells::Cells;
@@ -35,7 +35,58 @@ pub(crate) fn clean_up(
     update_deferred(parts.regions.as_mut_slice(), plan, marks);
     clear_above(parts.regions.as_mut_slice(), plan.new_top());
     redirect_live(parts.live.as_mut_slice(), plan, marks, threads);
-    Ok(Image::of_parts(parts.region_log, parts.allowance, parts.regions, parts.live))
+    let parts = ImageParts {
+        roots: redirected_roots(parts.roots, plan, marks, threads),
+        ..parts
+    };
+    Ok(image_of_parts(parts))
+}
+
+fn image_of_parts(parts: ImageParts) -> Image
+    requires regions { AreBlocks parts.region_log parts.regions.items }
+    requires valid { IsValid (rooted_image_of parts.region_log parts.allowance parts.regions.items parts.live.items (option_map (λ v. v.items) parts.roots)) }
+    ensures { result ≡ rooted_image_of parts.region_log parts.allowance parts.regions.items parts.live.items (option_map (λ v. v.items) parts.roots) }
+{
+    parts.into_image()
+}
+
+/// The roots of an image of version 2, redirected.
+fn redirected_roots(
+    roots: Option<Vec<u64>>,
+    plan: &Plan,
+    marks: &Marks,
+    threads: &(impl Threads + Sync),
+) -> Option<Vec<u64>>
+    requires marks { marks.now ≡ plan.now }
+    requires valid { IsValid plan.now }
+    requires roots { option_map (λ v. v.items) roots ≡ plan.now.roots }
+    ensures { option_map (λ v. v.items) result ≡ option_map (map (redirected plan.now)) plan.now.roots }
+{
+    match roots {
+        Some(mut roots) => {
+            redirect_all(roots.as_mut_slice(), plan, marks, threads);
+            Some(roots)
+        }
+        None => None,
+    }
+}
+
+/// Redirects each of these references, by as many threads as there are processors.
+fn redirect_all(words: &mut [u64], plan: &Plan, marks: &Marks, threads: &(impl Threads + Sync))
+    requires marks { marks.now ≡ plan.now }
+    requires words { All (λ w. IsTrue (is_null_or_live plan.now w)) words.old }
+    ensures { words.new ≡ map (redirected plan.now) words.old }
+{
+    par_for_each_mut(
+        threads,
+        words,
+        |_, w: &mut u64|
+            requires { (marks.now ≡ plan.now) × IsTrue (is_null_or_live plan.now w.old) }
+            ensures { w.new ≡ redirected plan.entry.now w.old }
+        {
+            *w = plan.redirected(marks, *w);
+        },
+    );
 }
 
 /// Puts the new address of each live object in the place of the old one, by as many threads as there are processors.

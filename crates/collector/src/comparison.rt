@@ -7,7 +7,7 @@ ghost use Rattle.summary.specs.Fillers.{IsDeadRun};
 ghost use Rattle.summary.specs.Compaction.{redirected, compact};
 ghost use Rattle.collector.specs.Difference.{AreAlike, IsLeastDifference};
 ghost use Rattle.collector.specs.Compared.{AreCompacted, IsFirstOther, IsPlaced, AreKnown};
-ghost use Rattle.collector.specs.Verdict.{IsVerdict, HaveSameShape};
+ghost use Rattle.collector.specs.Verdict.{IsVerdict, HaveSameShape, root_count, root_at};
 
 use crate::difference::{first_nonzero, first_unlike};
 use crate::verdict::Verdict;
@@ -54,8 +54,11 @@ impl Comparison<'_> {
         if let Some(a) = comparison.other_word() {
             return Verdict::Word(a);
         }
-        match comparison.other_live() {
-            Some(i) => Verdict::Live(i),
+        if let Some(i) = comparison.other_live() {
+            return Verdict::Live(i);
+        }
+        match comparison.other_root() {
+            Some(i) => Verdict::Root(i),
             None => Verdict::Same,
         }
     }
@@ -193,6 +196,24 @@ impl Comparison<'_> {
         }
         None
     }
+
+    /// The least index at which the roots are not the compaction's.
+    fn other_root(&self) -> Option<u64>
+        requires { root_count self.now.after.now ≡ root_count self.now.before.now }
+        ensures { MatchOption result
+            (AreAlike (λ i. redirected self.now.before.now (root_at self.now.before.now i))
+            (root_at self.now.after.now) (root_count self.now.before.now))
+            (IsLeastDifference (λ i. redirected self.now.before.now (root_at self.now.before.now i))
+            (root_at self.now.after.now) (root_count self.now.before.now)) }
+    {
+        let found = self.after.roots();
+        for (i, &w) in self.before.roots().iter().enumerate() {
+            if found[i] != self.redirected(w) {
+                return Some(i as u64);
+            }
+        }
+        None
+    }
 }
 
 /// Where the live objects of an image go. It does nothing: its contract is what is known of that.
@@ -217,6 +238,8 @@ fn have_same_shape(before: &Image, after: &Image) -> bool
         && after.len() == before.len()
         && after.allowance() == before.allowance()
         && after.live().len() == before.live().len()
+        && after.version() == before.version()
+        && after.roots().len() == before.roots().len()
 }
 
 /// The size in words of the object at `a`.

@@ -1,19 +1,21 @@
 -- The text of a valid image has no fault.
-use Rattle.std.proofs.Common.{◌≡◌, ℕ, zero, suc, ◌+◌, ◌-◌, ◌*◌, ◌/◌, ◌%◌, ◌≤◌, ◌<◌, ◌^◌, Bool, true, false, ◌&&◌, ◌||◌, List, [], ◌∷◌, ◌++◌, length, get_or, drop, refl, sym, ◌∙◌, ap, arith, length-append, ltb, leb, eqb, add-one}
+use Rattle.std.proofs.Common.{◌≡◌, ℕ, zero, suc, ◌+◌, ◌-◌, ◌*◌, ◌/◌, ◌%◌, ◌≤◌, ◌<◌, ◌^◌, Bool, true, false, ◌&&◌, ◌||◌, List, [], ◌∷◌, ◌++◌, length, get_or, drop, take, refl, sym, ◌∙◌, ap, subst, arith, length-append, ltb, leb, eqb, add-one}
 use Rattle.std.proofs.lemmas.Bool.{cond-false, le-ltb, lt-ltb, lt-leb, eq-eqb, ne_eqb, or_from, and_right}
 use Rattle.std.proofs.lemmas.List.FromFn.{get_or-range_with_len, length-range_with_len}
-use Rattle.std.specs.Prelude.{find, zip, flat_map, map, Option, Some, None, option_map, not}
+use Rattle.std.specs.Prelude.{find, zip, flat_map, map, Option, Some, None, option_map, not, IfSome}
+use Rattle.std.specs.Option.{is_some}
+use Rattle.std.specs.Str.{bytes_eq}
 use Rattle.std.specs.List.{range_with_len}
 use Rattle.std.specs.Option.{option_or}
 use Rattle.std.proofs.lemmas.List.{append-nil}
 use Rattle.std.proofs.lemmas.List.Folds.{find-append}
-use Rattle.heap_image.specs.declared.fault.Fault.TheVariants.{TruncatedHeader, RegionLog, Length, TruncatedBody, LiveOrder, Header, Overlap, Reference, Trailing}
-use Rattle.heap_image.specs.HeapImage.{HeapImage, IsValid, IsWithinLimits, HasLiveList, heap_words, end_of, size_at, references_at, kind_at, reference_at, is_null_or_live}
-use Rattle.heap_image.specs.ImageText.{front, numbers, text, told_image, front_faults, layout_faults, live_list_faults, told_words, told_live_count, told_region_log, told_length, told_region_words, first_fault, first_some, fault_if, is_misplaced, misplaced_index, unsound_header, overlapping, dangling}
+use Rattle.heap_image.specs.declared.fault.Fault.TheVariants.{TruncatedHeader, RegionLog, Length, TruncatedBody, LiveOrder, Header, Overlap, Reference, Trailing, Magic, Root}
+use Rattle.heap_image.specs.HeapImage.{HeapImage, IsValid, IsWithinLimits, HasLiveList, heap_words, end_of, size_at, references_at, kind_at, reference_at, is_null_or_live, AreRoots, roots_or}
+use Rattle.heap_image.specs.ImageText.{front, numbers, text, listed_text, with_tail, from_tail, magic, is_rooted, misplaced_root, told_image, front_faults, layout_faults, live_list_faults, told_words, told_count, told_region_log, told_length, told_region_words, first_fault, first_some, fault_if, is_misplaced, misplaced_index, unsound_header, overlapping, dangling}
 use Rattle.heap_image.specs.declared.fault.Fault.{Fault}
 use Rattle.heap_image.proofs.Spans.{Apart}
 use Rattle.heap_image.proofs.LiveWords.{live_apart, live_end-le}
-use Rattle.heap_image.proofs.TextLaws.{HasFittingNumbers, valid_numbers, told_image-append, length_told, fronted, front_log, front_live, front_words, front_length}
+use Rattle.heap_image.proofs.TextLaws.{HasFittingNumbers, valid_numbers, told_image-append, from_tail-with_tail, length_told, fronted, front_log, front_live, front_words, front_length}
 
 find_none : {X : Type 0} (t : X → Bool) (xs : List X) (d : X) → ((i : ℕ) → i < length xs → t (get_or xs i d) ≡ false) → find t xs ≡ None
 find_none t [] d h = refl
@@ -103,34 +105,38 @@ module _ (image : HeapImage) (sound : HasLiveList image) where
   dangling-None = find_none_in_flat_map (λ (p : ℕ × ℕ). not (is_null_or_live image (reference_at image p.0 p.1))) (λ a. map (λ f. (a, f)) (range_with_len 0 (references_at image a))) image.live (λ i l.
       find_none_in_fields (λ (p : ℕ × ℕ). not (is_null_or_live image (reference_at image p.0 p.1))) (get_or image.live i 0) 0 (references_at image (get_or image.live i 0)) (λ f k. ap not (sound.references i 0 l f (omega arith))))
 
+known_magic : (rooted : Bool) → not (bytes_eq (magic rooted) (magic false) || bytes_eq (magic rooted) (magic true)) ≡ false
+known_magic true = refl
+known_magic false = refl
+
 -- a front within the limits is without a fault, whatever stands behind it
-module _ (log live_count words allowance : ℕ) (limits : IsWithinLimits log words live_count) (behind : List ℕ) where
+module _ (rooted : Bool) (log live_count words allowance : ℕ) (limits : IsWithinLimits log words live_count) (behind : List ℕ) where
   abbrev whole : List ℕ
-  whole = fronted log live_count words allowance limits behind
+  whole = fronted rooted log live_count words allowance limits behind
 
   region_words_told : told_region_words whole ≡ 2 ^ log
-  region_words_told = ap (λ n. 2 ^ n) (front_log log live_count words allowance limits behind)
+  region_words_told = ap (λ n. 2 ^ n) (front_log rooted log live_count words allowance limits behind)
 
-  lengths : (eqb (told_words whole) 0 || not (eqb (told_words whole % told_region_words whole) 0) || ltb 4194304 (told_words whole) || ltb 16384 (told_words whole / told_region_words whole) || ltb (told_words whole) (told_live_count whole)) ≡ false
+  lengths : (eqb (told_words whole) 0 || not (eqb (told_words whole % told_region_words whole) 0) || ltb 4194304 (told_words whole) || ltb 16384 (told_words whole / told_region_words whole) || ltb (told_words whole) (told_count whole)) ≡ false
   lengths =
       let one : eqb words 0 ≡ false = ne_eqb words 0 (λ z. let s = limits.not_empty in omega arith) in
       let two : not (eqb (words % 2 ^ log) 0) ≡ false = ap not (eq-eqb (words % 2 ^ log) 0 limits.whole_regions) in
       let three : ltb 4194304 words ≡ false = le-ltb 4194304 words limits.few_words in
       let four : ltb 16384 (words / 2 ^ log) ≡ false = le-ltb 16384 (words / 2 ^ log) limits.few_regions in
       let five : ltb words live_count ≡ false = le-ltb words live_count limits.few_live in
-      rw (front_words log live_count words allowance limits behind) (rw region_words_told (rw (front_live log live_count words allowance limits behind) (rw (one, two, three, four, five) refl)))
+      rw (front_words rooted log live_count words allowance limits behind) (rw region_words_told (rw (front_live rooted log live_count words allowance limits behind) (rw (one, two, three, four, five) refl)))
 
   pub front_faults-None : first_some (front_faults whole) ≡ None
   front_faults-None =
-      let long : length whole ≡ 32 + length behind = length-append (front log live_count words allowance) behind in
-      let logs : (ltb (told_region_log whole) 3 || ltb 16 (told_region_log whole)) ≡ false = rw (front_log log live_count words allowance limits behind) (or_from (ltb log 3) (ltb 16 log) (le-ltb log 3 limits.region_log_low) (le-ltb 16 log limits.region_log_high)) in
+      let long : length whole ≡ 32 + length behind = length-append (front rooted log live_count words allowance) behind in
+      let logs : (ltb (told_region_log whole) 3 || ltb 16 (told_region_log whole)) ≡ false = rw (front_log rooted log live_count words allowance limits behind) (or_from (ltb log 3) (ltb 16 log) (le-ltb log 3 limits.region_log_low) (le-ltb 16 log limits.region_log_high)) in
       first_some-None (front_faults whole) (
         fault_if-None (ltb (length whole) 32) TruncatedHeader (le-ltb (length whole) 32 (omega arith)),
         (
-          refl,
+          fault_if-None (not (bytes_eq (take 8 whole) (magic false) || is_rooted whole)) Magic (known_magic rooted),
           (
             fault_if-None (ltb (told_region_log whole) 3 || ltb 16 (told_region_log whole)) RegionLog logs,
-            (fault_if-None (eqb (told_words whole) 0 || not (eqb (told_words whole % told_region_words whole) 0) || ltb 4194304 (told_words whole) || ltb 16384 (told_words whole / told_region_words whole) || ltb (told_words whole) (told_live_count whole)) Length lengths, tt),
+            (fault_if-None (eqb (told_words whole) 0 || not (eqb (told_words whole % told_region_words whole) 0) || ltb 4194304 (told_words whole) || ltb 16384 (told_words whole / told_region_words whole) || ltb (told_words whole) (told_count whole)) Length lengths, tt),
           ),
         ),
       )
@@ -138,50 +144,72 @@ module _ (log live_count words allowance : ℕ) (limits : IsWithinLimits log wor
   -- too few bytes stand behind it
   pub first_fault-truncated : length behind < 8 * (words + live_count) → first_fault whole ≡ Some TruncatedBody
   first_fault-truncated few =
-      let long : length whole ≡ 32 + length behind = length-append (front log live_count words allowance) behind in
-      let told = front_length log live_count words allowance limits behind in
+      let long : length whole ≡ 32 + length behind = length-append (front rooted log live_count words allowance) behind in
+      let told = front_length rooted log live_count words allowance limits behind in
       let short : ltb (length whole) (told_length whole) ≡ true = lt-ltb (length whole) (told_length whole) (omega arith) in
       first_some-append (layout_faults whole) (live_list_faults (told_image whole) ++ (fault_if (ltb (told_length whole) (length whole)) Trailing ∷ [])) TruncatedBody (
       first_some_past (front_faults whole) (fault_if (ltb (length whole) (told_length whole)) TruncatedBody ∷ []) front_faults-None
       ∙ ap (λ b. first_some (fault_if b TruncatedBody ∷ [])) short)
 
 -- of the text of an image, and what follows it
-module _ (image : HeapImage) (fits : HasFittingNumbers image) (rest : List ℕ) where
+module _ (rooted : Bool) (image : HeapImage) (fits : HasFittingNumbers image) (rest : List ℕ) where
   abbrev said : List ℕ
-  said = text image ++ rest
+  said = listed_text rooted image ++ rest
 
   pub layout_faults-None : first_some (layout_faults said) ≡ None
   layout_faults-None =
-      let whole = length-append (text image) rest in
-      let told = length_told image fits rest in
-      first_some_past (front_faults said) (fault_if (ltb (length said) (told_length said)) TruncatedBody ∷ []) (front_faults-None image.region_log (length image.live) (heap_words image) image.allowance fits.limits ((numbers image.words ++ numbers image.live) ++ rest))
+      let whole = length-append (listed_text rooted image) rest in
+      let told = length_told rooted image fits rest in
+      first_some_past (front_faults said) (fault_if (ltb (length said) (told_length said)) TruncatedBody ∷ []) (front_faults-None rooted image.region_log (length image.live) (heap_words image) image.allowance fits.limits ((numbers image.words ++ numbers image.live) ++ rest))
       ∙ first_some-None (fault_if (ltb (length said) (told_length said)) TruncatedBody ∷ []) (fault_if-None (ltb (length said) (told_length said)) TruncatedBody (le-ltb (length said) (told_length said) (omega arith)), tt)
 
   -- what is first wrong is what is wrong with the live list, and else the rest
-  pub first_fault-append : first_fault said ≡ first_some (live_list_faults image ++ (fault_if (ltb (length (text image)) (length said)) Trailing ∷ []))
+  pub first_fault-append : first_fault said ≡ first_some (live_list_faults (from_tail rooted image) ++ (fault_if (ltb (length (listed_text rooted image)) (length said)) Trailing ∷ []))
   first_fault-append =
       first_some_past (layout_faults said) (live_list_faults (told_image said) ++ (fault_if (ltb (told_length said) (length said)) Trailing ∷ [])) layout_faults-None
-      ∙ ap (λ i. first_some (live_list_faults i ++ (fault_if (ltb (told_length said) (length said)) Trailing ∷ []))) (told_image-append image fits rest)
-      ∙ ap (λ n. first_some (live_list_faults image ++ (fault_if (ltb n (length said)) Trailing ∷ []))) (length_told image fits rest)
+      ∙ ap (λ i. first_some (live_list_faults i ++ (fault_if (ltb (told_length said) (length said)) Trailing ∷ []))) (told_image-append rooted image fits rest)
+      ∙ ap (λ n. first_some (live_list_faults (from_tail rooted image) ++ (fault_if (ltb n (length said)) Trailing ∷ []))) (length_told rooted image fits rest)
 
-pub live_list_faults-None : (image : HeapImage) → HasLiveList image → first_some (live_list_faults image) ≡ None
-live_list_faults-None image sound =
+-- a live list without a fault, under roots without one
+pub live_list_faults-None : (image : HeapImage) → HasLiveList image → misplaced_root image ≡ None → first_some (live_list_faults image) ≡ None
+live_list_faults-None image sound placed =
     first_some-None (live_list_faults image) (
-      ap (option_map LiveOrder) (misplaced_index-None image sound),
+      ap (option_map Root) placed,
       (
-        ap (option_map Header) (unsound_header-None image sound),
+        ap (option_map LiveOrder) (misplaced_index-None image sound),
         (
-          ap (option_map Overlap) (overlapping-None image sound),
-          (ap (option_map (λ (p : ℕ × ℕ). Reference p.0 p.1)) (dangling-None image sound), tt),
+          ap (option_map Header) (unsound_header-None image sound),
+          (
+            ap (option_map Overlap) (overlapping-None image sound),
+            (ap (option_map (λ (p : ℕ × ℕ). Reference p.0 p.1)) (dangling-None image sound), tt),
+          ),
         ),
       ),
     )
+
+-- the roots of a valid image lead into the heap
+placed_roots : (image : HeapImage) → IsValid image → (roots : Option (List ℕ)) → image.roots ≡ roots → find (λ i. ltb (heap_words image) (get_or (roots_or [] roots) i 0)) (range_with_len 0 (length (roots_or [] roots))) ≡ None
+placed_roots image valid None e = refl
+placed_roots image valid (Some roots) e =
+    let rooted : AreRoots image roots = subst (λ o. IfSome o (AreRoots image)) e valid.rooted in
+    find_none (λ i. ltb (heap_words image) (get_or roots i 0)) (range_with_len 0 (length roots)) 0 (λ i l.
+    let n = length-range_with_len 0 (length roots) in
+    let inside : i < length roots = omega arith in
+    let at : get_or (range_with_len 0 (length roots)) i 0 ≡ i = get_or-range_with_len 0 (length roots) i 0 inside ∙ zero_plus i in
+    ap (λ k. ltb (heap_words image) (get_or roots k 0)) at ∙ le-ltb (heap_words image) (get_or roots i 0) (rooted.inside i 0 inside))
+  where
+    zero_plus : (k : ℕ) → 0 + k ≡ k
+    zero_plus k = omega arith
+
+pub misplaced_root-None : (image : HeapImage) → IsValid image → misplaced_root image ≡ None
+misplaced_root-None image valid = placed_roots image valid image.roots refl
 
 pub first_fault-text : (image : HeapImage) → IsValid image → first_fault (text image) ≡ None
 first_fault-text image valid =
     let none = append-nil (text image) in
     let same : length (text image) ≡ length (text image ++ []) = ap length (sym none) in
     ap first_fault (sym none)
-    ∙ first_fault-append image (valid_numbers image valid) []
-    ∙ first_some_past (live_list_faults image) (fault_if (ltb (length (text image)) (length (text image ++ []))) Trailing ∷ []) (live_list_faults-None image valid.live_list)
+    ∙ first_fault-append (is_some image.roots) (with_tail image) (valid_numbers image valid) []
+    ∙ ap (λ i. first_some (live_list_faults i ++ (fault_if (ltb (length (text image)) (length (text image ++ []))) Trailing ∷ []))) (from_tail-with_tail image valid)
+    ∙ first_some_past (live_list_faults image) (fault_if (ltb (length (text image)) (length (text image ++ []))) Trailing ∷ []) (live_list_faults-None image valid.live_list (misplaced_root-None image valid))
     ∙ first_some-None (fault_if (ltb (length (text image)) (length (text image ++ []))) Trailing ∷ []) (fault_if-None (ltb (length (text image)) (length (text image ++ []))) Trailing (le-ltb (length (text image)) (length (text image ++ [])) (omega arith)), tt)

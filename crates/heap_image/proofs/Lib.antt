@@ -20,3 +20,13 @@ pub mod Refusing
 pub mod Sending
 pub mod WholeBytes
 pub mod SoundObjects
+pub mod Listed
+pub mod Reaches
+pub mod Marking
+pub mod RootedFaults
+pub mod Marked
+pub mod RootsToLive
+pub mod Following
+pub mod FromTail
+pub mod InOrder
+pub mod Upgrades

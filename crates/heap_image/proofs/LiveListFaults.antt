@@ -7,8 +7,8 @@ use Rattle.std.proofs.lemmas.List.FromFn.{length-map-range_with_len, get_or-map-
 use Rattle.std.specs.Prelude.{find, zip, flat_map, map, Option, Some, None, option_map, not}
 use Rattle.std.specs.Option.{option_or}
 use Rattle.std.specs.List.{range_with_len}
-use Rattle.heap_image.specs.HeapImage.{HeapImage, HasLiveList, HasSoundHeader, heap_words, end_of, size_at, references_at, kind_at, reference_at, is_null_or_live}
-use Rattle.heap_image.specs.ImageText.{first_some, fault_if, live_list_faults, is_unsound, unsound_header, overlapping, is_dangling, dangling}
+use Rattle.heap_image.specs.HeapImage.{HeapImage, HasLiveList, HasSoundHeader, heap_words, end_of, size_at, references_at, kind_at, reference_at, is_null_or_live, is_unsound}
+use Rattle.heap_image.specs.ImageText.{first_some, fault_if, live_list_faults, unsound_header, overlapping, is_dangling, dangling}
 use Rattle.heap_image.specs.declared.fault.Fault.{Fault}
 use Rattle.heap_image.specs.declared.fault.Fault.TheVariants.{Header, Overlap, Reference}
 use Rattle.heap_image.proofs.Faultless.{AllNone}
@@ -110,4 +110,4 @@ module _ (image : HeapImage) where
   pub sound_live_list : first_some (live_list_faults image) ≡ None → HasLiveList image
   sound_live_list none =
       let all : AllNone (live_list_faults image) = AllNone-from_first_some (live_list_faults image) none in
-      faultless-HasLiveList (map_None Header (unsound_header image) all.1.0) (map_None Overlap (overlapping image) all.1.1.0) (map_None (λ (p : ℕ × ℕ). Reference p.0 p.1) (dangling image) all.1.1.1.0)
+      faultless-HasLiveList (map_None Header (unsound_header image) all.1.1.0) (map_None Overlap (overlapping image) all.1.1.1.0) (map_None (λ (p : ℕ × ℕ). Reference p.0 p.1) (dangling image) all.1.1.1.1.0)

@@ -6,8 +6,8 @@ use Rattle.std.specs.Bool.{then_some}
 use Rattle.std.specs.Option.{option_or}
 use Rattle.std.specs.List.{concat}
 use Rattle.heap_image.specs.Header.{size_of, references_of, kind_of}
-use Rattle.heap_image.specs.HeapImage.{HeapImage, image_of, size_at}
-use Rattle.heap_image.specs.ImageText.{is_unsound, unsound_header, overlapping, dangling, first_some}
+use Rattle.heap_image.specs.HeapImage.{HeapImage, image_of, size_at, is_unsound}
+use Rattle.heap_image.specs.ImageText.{unsound_header, overlapping, dangling, first_some}
 use Rattle.heap_image.specs.declared.fault.Fault.TheVariants.{Header, Overlap, Reference}
 use Rattle.heap_image.proofs.Finds.{find_first}
 use Rattle.heap_image.proofs.Overlaps.{last_end_of, overlap_of, one_if, overlap_more, last_end_more}

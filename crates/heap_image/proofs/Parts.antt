@@ -1,16 +1,16 @@
 -- What an image and its regions have to do with one another.
-use Rattle.std.proofs.Common.{◌≡◌, ℕ, ◌-◌, ◌*◌, ◌%◌, ◌^◌, ◌≤◌, ◌<◌, List, [], length, get_or, sym, ◌∙◌, ap, arith, bit_and}
+use Rattle.std.proofs.Common.{◌≡◌, ℕ, ◌-◌, ◌*◌, ◌%◌, ◌^◌, ◌≤◌, ◌<◌, List, [], length, get_or, sym, ◌∙◌, ap, arith, bit_and, Option}
 use Rattle.std.proofs.lemmas.Nat.{and_mask, pow_below}
 use Rattle.std.proofs.Math.Nat.{one-le-pow, mod-eq_of_lt}
-use Rattle.heap_image.specs.HeapImage.{HeapImage, AreValidParts, image_of, heap_words, region_count, block_of}
+use Rattle.heap_image.specs.HeapImage.{HeapImage, AreValidParts, rooted_image_of, heap_words, region_count, block_of}
 use Rattle.heap_image.proofs.BlockWords.{length-concat, count, concat_part}
 
 pub region_some : (log : ℕ) → 0 < 2 ^ log
 region_some log = let h : 1 ≤ 2 ^ log = one-le-pow log 2 (omega arith) in omega arith
 
-module _ (log allowance : ℕ) (blocks : List (List ℕ)) (live : List ℕ) (parts : AreValidParts log allowance blocks live) where
+module _ (log allowance : ℕ) (blocks : List (List ℕ)) (live : List ℕ) (roots : Option (List ℕ)) (parts : AreValidParts log allowance blocks live roots) where
   abbrev image : HeapImage
-  image = image_of log allowance blocks live
+  image = rooted_image_of log allowance blocks live roots
 
   pub words_by_blocks : heap_words image ≡ length blocks * 2 ^ log
   words_by_blocks = length-concat (2 ^ log) blocks parts.whole

@@ -1,6 +1,6 @@
 -- A text without a fault is that of the image which it tells, and that image is valid.
-use Rattle.std.proofs.Common.{◌≡◌, ℕ, zero, suc, ◌+◌, ◌-◌, ◌*◌, ◌/◌, ◌%◌, ◌≤◌, ◌<◌, ◌^◌, inl, inr, Bool, false, ◌||◌, List, [], ◌++◌, length, get_or, take, drop, refl, sym, ◌∙◌, ap, subst, arith, ltb, eqb, add-zero, length-take, length-drop}
-use Rattle.std.proofs.lemmas.Bool.{cases_lt, ltb-false, eqb-true, eqb-false, or_parts, not-false}
+use Rattle.std.proofs.Common.{◌≡◌, ℕ, zero, suc, ◌+◌, ◌-◌, ◌*◌, ◌/◌, ◌%◌, ◌≤◌, ◌<◌, ◌^◌, inl, inr, Bool, true, false, ◌||◌, ◌&&◌, List, [], ◌++◌, length, get_or, take, drop, refl, sym, ◌∙◌, ap, subst, arith, ltb, eqb, add-zero, length-take, length-drop}
+use Rattle.std.proofs.lemmas.Bool.{cases_lt, ltb-false, eqb-true, eqb-false, or_parts, or_cases, not-false, true≢false}
 use Rattle.std.proofs.lemmas.Nat.{le_bytes_4, le_bytes_8}
 use Rattle.std.proofs.lemmas.List.{append_assoc, append-nil, take-append-drop, get_or_past, drop_all}
 use Rattle.std.proofs.lemmas.List.Elements.{All-get_or, All-take, All-drop, All-map, All-from_get_or}
@@ -11,11 +11,24 @@ use Rattle.std.specs.Prelude.{map, All, None, not, slice_range}
 use Rattle.std.specs.Str.{bytes_eq}
 use Rattle.std.specs.List.{range_with_len}
 use Rattle.std.specs.Int.{w32, w64, to_le_bytes}
-use Rattle.heap_image.specs.HeapImage.{HeapImage, IsValid, HasLiveList}
-use Rattle.heap_image.specs.ImageText.{numbers, front, text, told_image, told_words, told_live_count, told_region_log, told_length, told_region_words, u32_at, u64_at, faults, first_fault, unsound_header, overlapping, dangling, magic}
-use Rattle.heap_image.specs.declared.fault.Fault.TheVariants.{TruncatedHeader, Magic, RegionLog, Length, TruncatedBody, Header, Overlap, Reference, Trailing}
-use Rattle.heap_image.proofs.Faultless.{AllNone}
-use Rattle.heap_image.proofs.LiveListFaults.{AllNone-from_first_some, no_fault, map_None, faultless-HasLiveList}
+use Rattle.heap_image.specs.HeapImage.{HeapImage, IsValid}
+use Rattle.heap_image.specs.ImageText.{numbers, front, text, from_tail, is_rooted, live_list_faults, first_some, told_image, told_numbers, told_words, told_count, told_region_log, told_length, told_region_words, u32_at, u64_at, faults, first_fault, magic}
+use Rattle.heap_image.specs.declared.fault.Fault.TheVariants.{TruncatedHeader, Magic, RegionLog, Length, TruncatedBody, Trailing}
+use Rattle.heap_image.proofs.Faultless.{AllNone, first_some-None}
+use Rattle.heap_image.proofs.TextLaws.{HasFittingNumbers}
+use Rattle.heap_image.proofs.FromTail.{text-from_tail, from_tail-IsValid}
+use Rattle.heap_image.proofs.LiveListFaults.{AllNone-from_first_some, no_fault}
+
+-- one of the two magics
+either_magic : (bytes : List ℕ) → not (bytes_eq (take 8 bytes) (magic false) || is_rooted bytes) ≡ false → take 8 bytes ≡ magic (is_rooted bytes)
+either_magic bytes h = by (is_rooted bytes) refl
+  where
+    by : (b : Bool) → is_rooted bytes ≡ b → take 8 bytes ≡ magic b
+    by true e = same_text (take 8 bytes) (magic true) (sym e)
+    by false e = elim (or_cases (bytes_eq (take 8 bytes) (magic false)) (is_rooted bytes) (not-false (bytes_eq (take 8 bytes) (magic false) || is_rooted bytes) h)) [
+      | inl plain ↦ same_text (take 8 bytes) (magic false) (sym plain)
+      | inr rooted ↦ absurd (true≢false (sym rooted ∙ e))
+    ]
 
 module _ (bytes : List ℕ) (fit : All (λ b. b < 256) bytes) where
   byte_fits : (xs : List ℕ) → All (λ b. b < 256) xs → (i : ℕ) → get_or xs i 0 < 256
@@ -49,24 +62,28 @@ module _ (bytes : List ℕ) (fit : All (λ b. b < 256) bytes) where
       ∙ sym (drop_split bytes (o + 8 * b) (o + 8 * b + 8) (omega arith))
 
   -- the front that the first 32 bytes tell, and the bytes behind it
-  pub front-back : 32 ≤ length bytes → take 8 bytes ≡ magic → front (u32_at bytes 8) (u32_at bytes 12) (u64_at bytes 16) (u64_at bytes 24) ++ drop 32 bytes ≡ bytes
-  front-back long magic_is =
+  pub front-back : (rooted : Bool) → 32 ≤ length bytes → take 8 bytes ≡ magic rooted → front rooted (u32_at bytes 8) (u32_at bytes 12) (u64_at bytes 16) (u64_at bytes 24) ++ drop 32 bytes ≡ bytes
+  front-back rooted long magic_is =
       let from_24 : to_le_bytes w64 (u64_at bytes 24) ++ drop 32 bytes ≡ drop 24 bytes = ap (λ xs. xs ++ drop 32 bytes) (u64_back 24 (omega arith)) ∙ sym (drop_split bytes 24 32 (omega arith)) in
       let from_16 : to_le_bytes w64 (u64_at bytes 16) ++ drop 24 bytes ≡ drop 16 bytes = ap (λ xs. xs ++ drop 24 bytes) (u64_back 16 (omega arith)) ∙ sym (drop_split bytes 16 24 (omega arith)) in
       let from_12 : to_le_bytes w32 (u32_at bytes 12) ++ drop 16 bytes ≡ drop 12 bytes = ap (λ xs. xs ++ drop 16 bytes) (u32_back 12 (omega arith)) ∙ sym (drop_split bytes 12 16 (omega arith)) in
       let from_8 : to_le_bytes w32 (u32_at bytes 8) ++ drop 12 bytes ≡ drop 8 bytes = ap (λ xs. xs ++ drop 12 bytes) (u32_back 8 (omega arith)) ∙ sym (drop_split bytes 8 12 (omega arith)) in
-      let grouped : front (u32_at bytes 8) (u32_at bytes 12) (u64_at bytes 16) (u64_at bytes 24) ++ drop 32 bytes ≡ magic ++ (to_le_bytes w32 (u32_at bytes 8) ++ (to_le_bytes w32 (u32_at bytes 12) ++ (to_le_bytes w64 (u64_at bytes 16) ++ (to_le_bytes w64 (u64_at bytes 24) ++ drop 32 bytes)))) = refl in
+      let grouped : front rooted (u32_at bytes 8) (u32_at bytes 12) (u64_at bytes 16) (u64_at bytes 24) ++ drop 32 bytes ≡ magic rooted ++ (to_le_bytes w32 (u32_at bytes 8) ++ (to_le_bytes w32 (u32_at bytes 12) ++ (to_le_bytes w64 (u64_at bytes 16) ++ (to_le_bytes w64 (u64_at bytes 24) ++ drop 32 bytes)))) = refl in
       grouped
-      ∙ ap (λ xs. magic ++ (to_le_bytes w32 (u32_at bytes 8) ++ (to_le_bytes w32 (u32_at bytes 12) ++ (to_le_bytes w64 (u64_at bytes 16) ++ xs)))) from_24
-      ∙ ap (λ xs. magic ++ (to_le_bytes w32 (u32_at bytes 8) ++ (to_le_bytes w32 (u32_at bytes 12) ++ xs))) from_16
-      ∙ ap (λ xs. magic ++ (to_le_bytes w32 (u32_at bytes 8) ++ xs)) from_12
-      ∙ ap (λ xs. magic ++ xs) from_8
+      ∙ ap (λ xs. magic rooted ++ (to_le_bytes w32 (u32_at bytes 8) ++ (to_le_bytes w32 (u32_at bytes 12) ++ (to_le_bytes w64 (u64_at bytes 16) ++ xs)))) from_24
+      ∙ ap (λ xs. magic rooted ++ (to_le_bytes w32 (u32_at bytes 8) ++ (to_le_bytes w32 (u32_at bytes 12) ++ xs))) from_16
+      ∙ ap (λ xs. magic rooted ++ (to_le_bytes w32 (u32_at bytes 8) ++ xs)) from_12
+      ∙ ap (λ xs. magic rooted ++ xs) from_8
       ∙ ap (λ xs. xs ++ drop 8 bytes) (sym magic_is)
       ∙ take-append-drop 8 bytes
 
   module _ (none : first_fault bytes ≡ None) where
+    abbrev rooted : Bool
+    rooted = is_rooted bytes
+
+    -- with the numbers behind the words for its live list
     abbrev image : HeapImage
-    image = told_image bytes
+    image = told_numbers bytes
 
     abbrev ok : AllNone (faults bytes)
     ok = AllNone-from_first_some (faults bytes) none
@@ -74,17 +91,17 @@ module _ (bytes : List ℕ) (fit : All (λ b. b < 256) bytes) where
     header : 32 ≤ length bytes
     header = ltb-false (length bytes) 32 (no_fault (ltb (length bytes) 32) TruncatedHeader ok.0)
 
-    magic_is : take 8 bytes ≡ magic
-    magic_is = same_text (take 8 bytes) magic (sym (not-false (bytes_eq (take 8 bytes) magic) (no_fault (not (bytes_eq (take 8 bytes) magic)) Magic ok.1.0)))
+    magic_is : take 8 bytes ≡ magic rooted
+    magic_is = either_magic bytes (no_fault (not (bytes_eq (take 8 bytes) (magic false) || is_rooted bytes)) Magic ok.1.0)
 
     body : told_length bytes ≤ length bytes
     body = ltb-false (length bytes) (told_length bytes) (no_fault (ltb (length bytes) (told_length bytes)) TruncatedBody ok.1.1.1.1.0)
 
     no_more : length bytes ≤ told_length bytes
-    no_more = ltb-false (told_length bytes) (length bytes) (no_fault (ltb (told_length bytes) (length bytes)) Trailing ok.1.1.1.1.1.1.1.1.1.0)
+    no_more = ltb-false (told_length bytes) (length bytes) (no_fault (ltb (told_length bytes) (length bytes)) Trailing ok.1.1.1.1.1.1.1.1.1.1.0)
 
-    count_of : length image.live ≡ told_live_count bytes
-    count_of = length-map-range_with_len (λ i. u64_at bytes (32 + 8 * told_words bytes + 8 * i)) 0 (told_live_count bytes)
+    count_of : length image.live ≡ told_count bytes
+    count_of = length-map-range_with_len (λ i. u64_at bytes (32 + 8 * told_words bytes + 8 * i)) 0 (told_count bytes)
 
     words_of : length image.words ≡ told_words bytes
     words_of = length-map-range_with_len (λ a. u64_at bytes (32 + 8 * a)) 0 (told_words bytes)
@@ -92,7 +109,7 @@ module _ (bytes : List ℕ) (fit : All (λ b. b < 256) bytes) where
     live_back : numbers image.live ≡ drop (32 + 8 * told_words bytes) bytes
     live_back =
         let n : ℕ = told_words bytes in
-        let l : ℕ = told_live_count bytes in
+        let l : ℕ = told_count bytes in
         let top = no_more in
         let all = body in
         let zero' : 32 + 8 * n + 8 * 0 ≡ 32 + 8 * n = omega arith in
@@ -106,12 +123,12 @@ module _ (bytes : List ℕ) (fit : All (λ b. b < 256) bytes) where
         let e : 32 + 8 * n ≡ 32 + 8 * (0 + n) = omega arith in
         ap (λ xs. numbers image.words ++ xs) (live_back ∙ ap (λ c. drop c bytes) e) ∙ numbers_back 32 0 n (omega arith)
 
-    pub text-told : text image ≡ bytes
-    text-told = joined (length image.live) (told_live_count bytes) (length image.words) (told_words bytes) count_of words_of ∙ ap (λ xs. front (u32_at bytes 8) (u32_at bytes 12) (u64_at bytes 16) (u64_at bytes 24) ++ xs) numbers_are ∙ front-back header magic_is
+    pub text-told : text (told_image bytes) ≡ bytes
+    text-told = text-from_tail rooted image refl ∙ joined (length image.live) (told_count bytes) (length image.words) (told_words bytes) count_of words_of ∙ ap (λ xs. front rooted (u32_at bytes 8) (u32_at bytes 12) (u64_at bytes 16) (u64_at bytes 24) ++ xs) numbers_are ∙ front-back rooted header magic_is
       where
         joined : (l l' n n' : ℕ) → l ≡ l' → n ≡ n'
-            → front (u32_at bytes 8) l n (u64_at bytes 24) ++ numbers image.words ++ numbers image.live
-            ≡ front (u32_at bytes 8) l' n' (u64_at bytes 24) ++ (numbers image.words ++ numbers image.live)
+            → front rooted (u32_at bytes 8) l n (u64_at bytes 24) ++ numbers image.words ++ numbers image.live
+            ≡ front rooted (u32_at bytes 8) l' n' (u64_at bytes 24) ++ (numbers image.words ++ numbers image.live)
         joined l l' n n' e h = rw (e, h) refl
 
     logs : (ltb (told_region_log bytes) 3 ≡ false) × (ltb 16 (told_region_log bytes) ≡ false)
@@ -123,28 +140,30 @@ module _ (bytes : List ℕ) (fit : All (λ b. b < 256) bytes) where
     abbrev r : ℕ
     r = told_region_words bytes
 
-    lengths : (((((eqb n 0 ≡ false) × (not (eqb (n % r) 0) ≡ false)) × (ltb 4194304 n ≡ false)) × (ltb 16384 (n / r) ≡ false)) × (ltb n (told_live_count bytes) ≡ false))
+    lengths : (((((eqb n 0 ≡ false) × (not (eqb (n % r) 0) ≡ false)) × (ltb 4194304 n ≡ false)) × (ltb 16384 (n / r) ≡ false)) × (ltb n (told_count bytes) ≡ false))
     lengths =
         let a : Bool = eqb n 0 in
         let b : Bool = not (eqb (n % r) 0) in
         let c : Bool = ltb 4194304 n in
         let d : Bool = ltb 16384 (n / r) in
-        let e : Bool = ltb n (told_live_count bytes) in
+        let e : Bool = ltb n (told_count bytes) in
         let five = or_parts (a || b || c || d) e (no_fault (a || b || c || d || e) Length ok.1.1.1.0) in
         let four = or_parts (a || b || c) d five.0 in
         let three = or_parts (a || b) c four.0 in
         (((or_parts a b three.0, three.1), four.1), five.1)
 
-    pub told-HasLiveList : HasLiveList image
-    told-HasLiveList = faultless-HasLiveList image (map_None Header (unsound_header image) ok.1.1.1.1.1.1.0) (map_None Overlap (overlapping image) ok.1.1.1.1.1.1.1.0) (map_None (λ (p : ℕ × ℕ). Reference p.0 p.1) (dangling image) ok.1.1.1.1.1.1.1.1.0)
+    nothing_wrong : first_some (live_list_faults (told_image bytes)) ≡ None
+    nothing_wrong =
+        let objects = ok.1.1.1.1.1 in
+        first_some-None (live_list_faults (told_image bytes)) (objects.0, (objects.1.0, (objects.1.1.0, (objects.1.1.1.0, (objects.1.1.1.1.0, tt)))))
 
-    pub told-IsValid : IsValid image
-    told-IsValid =
+    numbers_fit : HasFittingNumbers image
+    numbers_fit =
         let some : (n ≡ 0 → ⊥) = eqb-false n 0 lengths.0.0.0.0 in
         let whole : n % r ≡ 0 = eqb-true (n % r) 0 (not-false (eqb (n % r) 0) lengths.0.0.0.1) in
         let few : n ≤ 4194304 = ltb-false 4194304 n lengths.0.0.1 in
         let regions : n / r ≤ 16384 = ltb-false 16384 (n / r) lengths.0.1 in
-        let live : told_live_count bytes ≤ n = ltb-false n (told_live_count bytes) lengths.1 in
+        let live : told_count bytes ≤ n = ltb-false n (told_count bytes) lengths.1 in
         let words = words_of in
         let counted = count_of in
         record {
@@ -157,25 +176,32 @@ module _ (bytes : List ℕ) (fit : All (λ b. b < 256) bytes) where
             few_regions = subst (λ m. m / r ≤ 16384) (sym words_of) regions;
             few_live = omega arith;
           };
-          allowance_fits = u64_fits 24;
-          words_fit = All-map (λ w. w < 2 ^ 64) (λ a. u64_at bytes (32 + 8 * a)) (range_with_len 0 n) (λ k d l. u64_fits (32 + 8 * get_or (range_with_len 0 n) k d));
-          live_list = told-HasLiveList;
+          allowance = u64_fits 24;
+          words = All-map (λ w. w < 2 ^ 64) (λ a. u64_at bytes (32 + 8 * a)) (range_with_len 0 n) (λ k d l. u64_fits (32 + 8 * get_or (range_with_len 0 n) k d));
+          live = All-map (λ w. w < 2 ^ 64) (λ i. u64_at bytes (32 + 8 * n + 8 * i)) (range_with_len 0 (told_count bytes)) (λ k d l. u64_fits (32 + 8 * n + 8 * get_or (range_with_len 0 (told_count bytes)) k d));
+          plain = refl;
         }
 
+    pub told-IsValid : IsValid (told_image bytes)
+    told-IsValid = from_tail-IsValid rooted image numbers_fit nothing_wrong
+
 -- 32 bytes that begin with the magic are the front that they tell
-pub front_of_bytes : (bytes : List ℕ) → ((i : ℕ) → get_or bytes i 0 < 256) → length bytes ≡ 32 → take 8 bytes ≡ magic → (log count words allowance : ℕ)
+pub front_of_bytes : (rooted : Bool) (bytes : List ℕ) → ((i : ℕ) → get_or bytes i 0 < 256) → length bytes ≡ 32 → take 8 bytes ≡ magic rooted → (log count words allowance : ℕ)
     → log ≡ u32_at bytes 8 → count ≡ u32_at bytes 12 → words ≡ u64_at bytes 16 → allowance ≡ u64_at bytes 24
-    → bytes ≡ front log count words allowance
-front_of_bytes bytes fit long magic_is log count words allowance a b c d =
+    → bytes ≡ front rooted log count words allowance
+front_of_bytes rooted bytes fit long magic_is log count words allowance a b c d =
     let all : All (λ b. b < 256) bytes = All-from_get_or (λ b. b < 256) bytes 0 (λ i l. fit i) in
     let none : drop 32 bytes ≡ [] = drop_all 32 bytes (omega arith) in
-    sym (front-back bytes all (omega arith) magic_is)
-    ∙ ap (λ xs. front (u32_at bytes 8) (u32_at bytes 12) (u64_at bytes 16) (u64_at bytes 24) ++ xs) none
-    ∙ append-nil (front (u32_at bytes 8) (u32_at bytes 12) (u64_at bytes 16) (u64_at bytes 24))
-    ∙ ap (λ l. front l (u32_at bytes 12) (u64_at bytes 16) (u64_at bytes 24)) (sym a)
-    ∙ ap (λ n. front log n (u64_at bytes 16) (u64_at bytes 24)) (sym b)
-    ∙ ap (λ n. front log count n (u64_at bytes 24)) (sym c)
-    ∙ ap (λ n. front log count words n) (sym d)
+    sym (front-back bytes all rooted (omega arith) magic_is)
+    ∙ ap (λ xs. front rooted (u32_at bytes 8) (u32_at bytes 12) (u64_at bytes 16) (u64_at bytes 24) ++ xs) none
+    ∙ append-nil (front rooted (u32_at bytes 8) (u32_at bytes 12) (u64_at bytes 16) (u64_at bytes 24))
+    ∙ ap (λ l. front rooted l (u32_at bytes 12) (u64_at bytes 16) (u64_at bytes 24)) (sym a)
+    ∙ ap (λ n. front rooted log n (u64_at bytes 16) (u64_at bytes 24)) (sym b)
+    ∙ ap (λ n. front rooted log count n (u64_at bytes 24)) (sym c)
+    ∙ ap (λ n. front rooted log count words n) (sym d)
 
-pub magic_by_test : (bytes : List ℕ) (differs : Bool) → differs ≡ false → differs ≡ not (bytes_eq (take 8 bytes) magic) → take 8 bytes ≡ magic
-magic_by_test bytes differs h e = same_text (take 8 bytes) magic (sym (not-false (bytes_eq (take 8 bytes) magic) (sym e ∙ h)))
+-- the magic, by the tests of both
+pub magic_by_tests : (bytes : List ℕ) (rooted differs : Bool) → rooted ≡ is_rooted bytes → differs ≡ not (bytes_eq (take 8 bytes) (magic false)) → (differs && not rooted) ≡ false → take 8 bytes ≡ magic rooted
+magic_by_tests bytes true differs r d h = same_text (take 8 bytes) (magic true) r
+magic_by_tests bytes false true r d h = absurd (true≢false h)
+magic_by_tests bytes false false r d h = same_text (take 8 bytes) (magic false) (sym (not-false (bytes_eq (take 8 bytes) (magic false)) (sym d)))

@@ -7,12 +7,11 @@ use Rattle.std.specs.Str.{bytes_eq}
 use Rattle.std.specs.Int.{w32, w64, from_le_bytes}
 use Rattle.std.specs.Io.KnownBytes.{Consumes, IsAtEnd}
 use Rattle.heap_image.specs.declared.fault.Fault.{Fault}
-use Rattle.heap_image.specs.declared.fault.Fault.TheVariants.{TruncatedHeader, Magic, RegionLog, Length, TruncatedBody, LiveOrder, Header, Overlap, Reference, Trailing, Memory, Io, Workers, Schedule, Overwritten, Gate}
-use Rattle.heap_image.specs.ImageText.{magic, fault_if, first_some, first_fault, front_faults, front, numbers, text, told_length, live_list_faults, misplaced_index, unsound_header, overlapping, dangling}
-use Rattle.heap_image.specs.HeapImage.{HeapImage, IsValid, IsWithinLimits, heap_words, image_of}
+use Rattle.heap_image.specs.declared.fault.Fault.TheVariants.{TruncatedHeader, Magic, RegionLog, Length, TruncatedBody, LiveOrder, Header, Overlap, Reference, Trailing, Memory, Io, Workers, Schedule, Overwritten, Gate, Root}
+use Rattle.heap_image.specs.ImageText.{magic, fault_if, first_some, first_fault, front_faults, front, numbers, text, listed_text, from_tail, misplaced_root, told_length, live_list_faults, misplaced_index, unsound_header, overlapping, dangling}
+use Rattle.heap_image.specs.HeapImage.{HeapImage, IsValid, IsWithinLimits, heap_words, image_of, rooted_image_of, reachable}
 use Rattle.heap_image.specs.Device.{is_io}
 use Rattle.heap_image.proofs.Known.{consumes_more}
-use Rattle.heap_image.proofs.LiveListFaults.{sound_live_list}
 use Rattle.std.specs.List.{concat}
 use Rattle.heap_image.proofs.Faultless.{first_some-append, first_some_past, first_fault-truncated, first_fault-append}
 use Rattle.heap_image.proofs.TextLaws.{HasFittingNumbers, length_told, length-numbers}
@@ -23,7 +22,7 @@ use Rattle.heap_image.specs.Refusals.{IsReason, LeavesRest, IsOfFront}
 abbrev numbers_faults : Bool → List ℕ → List ℕ → List ℕ → List ℕ → List (Option Fault)
 numbers_faults short first log count words =
     fault_if short TruncatedHeader
-    ∷ fault_if (not (bytes_eq first magic)) Magic
+    ∷ fault_if (not (bytes_eq first (magic false) || bytes_eq first (magic true))) Magic
     ∷ fault_if (ltb (from_le_bytes w32 log) 3 || ltb 16 (from_le_bytes w32 log)) RegionLog
     ∷ fault_if (eqb (from_le_bytes w64 words) 0 || not (eqb (from_le_bytes w64 words % 2 ^ from_le_bytes w32 log) 0) || ltb 4194304 (from_le_bytes w64 words) || ltb 16384 (from_le_bytes w64 words / 2 ^ from_le_bytes w32 log) || ltb (from_le_bytes w64 words) (from_le_bytes w32 count)) Length
     ∷ []
@@ -82,6 +81,7 @@ leaves_front Io input left f h = absurd f
 leaves_front (Schedule _) input left f h = absurd f
 leaves_front (Overwritten _) input left f h = absurd f
 leaves_front Gate input left f h = absurd f
+leaves_front (Root _) input left f h = absurd f
 
 pub front_leaves : {A : Type 0} (bytes : List ℕ) → length bytes ≡ 32 → (before after : Option (List ℕ)) → Consumes before after bytes → (answer : Result A Fault) → IfErr answer IsOfFront → IfErr answer (λ fault. IfSome before (λ input. LeavesRest fault input after))
 front_leaves bytes long before after h (Ok x) of = tt
@@ -90,11 +90,11 @@ front_leaves bytes long (Some input) after h (Err fault) of = leaves_front fault
 
 -- ---- too few bytes behind a front
 
-pub truncated_reason : (log live_count words allowance : ℕ) (limits : IsWithinLimits log words live_count) (before after : Option (List ℕ)) → Consumes before after (front log live_count words allowance) → IfSome after (λ rest. length rest < 8 * (words + live_count)) → IfSome before (λ input. IsReason input TruncatedBody)
-truncated_reason log live_count words allowance limits None after h few = tt
-truncated_reason log live_count words allowance limits (Some input) None h few = absurd h
-truncated_reason log live_count words allowance limits (Some input) (Some rest) h few =
-    inr (inr (ap first_fault h ∙ first_fault-truncated log live_count words allowance limits rest few))
+pub truncated_reason : (rooted : Bool) (log live_count words allowance : ℕ) (limits : IsWithinLimits log words live_count) (before after : Option (List ℕ)) → Consumes before after (front rooted log live_count words allowance) → IfSome after (λ rest. length rest < 8 * (words + live_count)) → IfSome before (λ input. IsReason input TruncatedBody)
+truncated_reason rooted log live_count words allowance limits None after h few = tt
+truncated_reason rooted log live_count words allowance limits (Some input) None h few = absurd h
+truncated_reason rooted log live_count words allowance limits (Some input) (Some rest) h few =
+    inr (inr (ap first_fault h ∙ first_fault-truncated rooted log live_count words allowance limits rest few))
 
 pub nothing_left : (before after : Option (List ℕ)) (came : List ℕ) → Consumes before after came → IsAtEnd after → IfSome before (λ input. after ≡ Some [])
 nothing_left None after came h e = tt
@@ -104,60 +104,61 @@ nothing_left (Some input) (Some rest) came h e = ap Some e
 -- ---- a fault of the live list, or bytes behind it
 
 -- every fault that the list can give leaves what the first of its kind does
-leaves_live : (order header overlap : Option ℕ) (reference : Option (ℕ × ℕ)) (fault : Fault) (input : List ℕ) (left : Option (List ℕ))
-    → first_some (option_map LiveOrder order ∷ option_map Header header ∷ option_map Overlap overlap ∷ option_map (λ (p : ℕ × ℕ). Reference p.0 p.1) reference ∷ []) ≡ Some fault
+leaves_live : (root order header overlap : Option ℕ) (reference : Option (ℕ × ℕ)) (fault : Fault) (input : List ℕ) (left : Option (List ℕ))
+    → first_some (option_map Root root ∷ option_map LiveOrder order ∷ option_map Header header ∷ option_map Overlap overlap ∷ option_map (λ (p : ℕ × ℕ). Reference p.0 p.1) reference ∷ []) ≡ Some fault
     → left ≡ Some (drop (told_length input) input) → LeavesRest fault input left
-leaves_live (Some i) header overlap reference fault input left h q = let e : LiveOrder i ≡ fault = cc in subst (λ f. LeavesRest f input left) e q
-leaves_live None (Some a) overlap reference fault input left h q = let e : Header a ≡ fault = cc in subst (λ f. LeavesRest f input left) e q
-leaves_live None None (Some a) reference fault input left h q = let e : Overlap a ≡ fault = cc in subst (λ f. LeavesRest f input left) e q
-leaves_live None None None (Some p) fault input left h q = let e : Reference p.0 p.1 ≡ fault = cc in subst (λ f. LeavesRest f input left) e q
-leaves_live None None None None fault input left h q = cc
+leaves_live (Some i) order header overlap reference fault input left h q = let e : Root i ≡ fault = cc in subst (λ f. LeavesRest f input left) e q
+leaves_live None (Some i) header overlap reference fault input left h q = let e : LiveOrder i ≡ fault = cc in subst (λ f. LeavesRest f input left) e q
+leaves_live None None (Some a) overlap reference fault input left h q = let e : Header a ≡ fault = cc in subst (λ f. LeavesRest f input left) e q
+leaves_live None None None (Some a) reference fault input left h q = let e : Overlap a ≡ fault = cc in subst (λ f. LeavesRest f input left) e q
+leaves_live None None None None (Some p) fault input left h q = let e : Reference p.0 p.1 ≡ fault = cc in subst (λ f. LeavesRest f input left) e q
+leaves_live None None None None None fault input left h q = cc
 
-module _ (image : HeapImage) (fits : HasFittingNumbers image) (before after : Option (List ℕ)) (read : Consumes before after (text image)) where
-  pub live_list_reason : (fault : Fault) → first_some (live_list_faults image) ≡ Some fault → IfSome before (λ input. IsReason input fault)
+module _ (rooted : Bool) (image : HeapImage) (fits : HasFittingNumbers image) (before after : Option (List ℕ)) (read : Consumes before after (listed_text rooted image)) where
+  pub live_list_reason : (fault : Fault) → first_some (live_list_faults (from_tail rooted image)) ≡ Some fault → IfSome before (λ input. IsReason input fault)
   live_list_reason fault first = by before after read
     where
-      by : (before after : Option (List ℕ)) → Consumes before after (text image) → IfSome before (λ input. IsReason input fault)
+      by : (before after : Option (List ℕ)) → Consumes before after (listed_text rooted image) → IfSome before (λ input. IsReason input fault)
       by None after h = tt
       by (Some input) None h = absurd h
-      by (Some input) (Some rest) h = inr (inr (ap first_fault h ∙ first_fault-append image fits rest ∙ first_some-append (live_list_faults image) (fault_if (ltb (length (text image)) (length (text image ++ rest))) Trailing ∷ []) fault first))
+      by (Some input) (Some rest) h = inr (inr (ap first_fault h ∙ first_fault-append rooted image fits rest ∙ first_some-append (live_list_faults (from_tail rooted image)) (fault_if (ltb (length (listed_text rooted image)) (length (listed_text rooted image ++ rest))) Trailing ∷ []) fault first))
 
-  pub live_list_leaves : (fault : Fault) → first_some (live_list_faults image) ≡ Some fault → IfSome before (λ input. LeavesRest fault input after)
+  pub live_list_leaves : (fault : Fault) → first_some (live_list_faults (from_tail rooted image)) ≡ Some fault → IfSome before (λ input. LeavesRest fault input after)
   live_list_leaves fault first = by before after read
     where
-      by : (before after : Option (List ℕ)) → Consumes before after (text image) → IfSome before (λ input. LeavesRest fault input after)
+      by : (before after : Option (List ℕ)) → Consumes before after (listed_text rooted image) → IfSome before (λ input. LeavesRest fault input after)
       by None after h = tt
       by (Some input) None h = absurd h
       by (Some input) (Some rest) h =
-          let told : told_length input ≡ length (text image) = ap told_length h ∙ length_told image fits rest in
-          leaves_live (misplaced_index (heap_words image) image.live) (unsound_header image) (overlapping image) (dangling image) fault input (Some rest) first (ap Some (sym (drop_at (text image) rest (told_length input) (sym told)) ∙ ap (drop (told_length input)) (sym h)))
+          let told : told_length input ≡ length (listed_text rooted image) = ap told_length h ∙ length_told rooted image fits rest in
+          let all = from_tail rooted image in leaves_live (misplaced_root all) (misplaced_index (heap_words all) all.live) (unsound_header all) (overlapping all) (dangling all) fault input (Some rest) first (ap Some (sym (drop_at (listed_text rooted image) rest (told_length input) (sym told)) ∙ ap (drop (told_length input)) (sym h)))
 
-  module _ (sound : first_some (live_list_faults image) ≡ None) (more : List ℕ) (last : Option (List ℕ)) (then : Consumes after last more) (one : length more ≡ 1) where
+  module _ (sound : first_some (live_list_faults (from_tail rooted image)) ≡ None) (more : List ℕ) (last : Option (List ℕ)) (then : Consumes after last more) (one : length more ≡ 1) where
     pub trailing_reason : IfSome before (λ input. IsReason input Trailing)
     trailing_reason = by before after last read then
       where
-        by : (before after last : Option (List ℕ)) → Consumes before after (text image) → Consumes after last more → IfSome before (λ input. IsReason input Trailing)
+        by : (before after last : Option (List ℕ)) → Consumes before after (listed_text rooted image) → Consumes after last more → IfSome before (λ input. IsReason input Trailing)
         by None after last h k = tt
         by (Some input) None last h k = absurd h
         by (Some input) (Some rest) None h k = absurd k
         by (Some input) (Some rest) (Some end) h k =
-            let longer = length-append (text image) rest in
+            let longer = length-append (listed_text rooted image) rest in
             let some = ap length k ∙ length-append more end in
-            let behind : ltb (length (text image)) (length (text image ++ rest)) ≡ true = lt-ltb (length (text image)) (length (text image ++ rest)) (omega arith) in
-            inr (inr (ap first_fault h ∙ first_fault-append image fits rest ∙ first_some_past (live_list_faults image) (fault_if (ltb (length (text image)) (length (text image ++ rest))) Trailing ∷ []) sound ∙ ap (λ b. first_some (fault_if b Trailing ∷ [])) behind))
+            let behind : ltb (length (listed_text rooted image)) (length (listed_text rooted image ++ rest)) ≡ true = lt-ltb (length (listed_text rooted image)) (length (listed_text rooted image ++ rest)) (omega arith) in
+            inr (inr (ap first_fault h ∙ first_fault-append rooted image fits rest ∙ first_some_past (live_list_faults (from_tail rooted image)) (fault_if (ltb (length (listed_text rooted image)) (length (listed_text rooted image ++ rest))) Trailing ∷ []) sound ∙ ap (λ b. first_some (fault_if b Trailing ∷ [])) behind))
 
     pub trailing_leaves : IfSome before (λ input. last ≡ Some (drop (told_length input + 1) input))
     trailing_leaves = by before after last read then
       where
-        by : (before after last : Option (List ℕ)) → Consumes before after (text image) → Consumes after last more → IfSome before (λ input. last ≡ Some (drop (told_length input + 1) input))
+        by : (before after last : Option (List ℕ)) → Consumes before after (listed_text rooted image) → Consumes after last more → IfSome before (λ input. last ≡ Some (drop (told_length input + 1) input))
         by None after last h k = tt
         by (Some input) None last h k = absurd h
         by (Some input) (Some rest) None h k = absurd k
         by (Some input) (Some rest) (Some end) h k =
-            let told : told_length input ≡ length (text image) = ap told_length h ∙ length_told image fits rest in
-            let both = length-append (text image) more in
-            let joined : input ≡ (text image ++ more) ++ end = h ∙ ap (λ l. text image ++ l) k ∙ sym (append_assoc (text image) more end) in
-            ap Some (sym (drop_at (text image ++ more) end (told_length input + 1) (omega arith)) ∙ ap (drop (told_length input + 1)) (sym joined))
+            let told : told_length input ≡ length (listed_text rooted image) = ap told_length h ∙ length_told rooted image fits rest in
+            let both = length-append (listed_text rooted image) more in
+            let joined : input ≡ (listed_text rooted image ++ more) ++ end = h ∙ ap (λ l. listed_text rooted image ++ l) k ∙ sym (append_assoc (listed_text rooted image) more end) in
+            ap Some (sym (drop_at (listed_text rooted image ++ more) end (told_length input + 1) (omega arith)) ∙ ap (drop (told_length input + 1)) (sym joined))
 
 -- some memory was taken, so some byte behind the front had come
 pub memory_behind : (front : List ℕ) (before after : Option (List ℕ)) → length front ≡ 32 → Consumes before after front → IfSome after (λ rest. 0 < length rest) → IfSome before (λ input. 32 < length input)
@@ -165,12 +166,13 @@ memory_behind front None after l h some = tt
 memory_behind front (Some input) None l h some = absurd h
 memory_behind front (Some input) (Some rest) l h some = let long = ap length h ∙ length-append front rest in omega arith
 
-not_io : (A : Type 0) (order header overlap : Option ℕ) (reference : Option (ℕ × ℕ)) (fault : Fault) → first_some (option_map LiveOrder order ∷ option_map Header header ∷ option_map Overlap overlap ∷ option_map (λ (p : ℕ × ℕ). Reference p.0 p.1) reference ∷ []) ≡ Some fault → is_io {A = A} (Err fault) ≡ false
-not_io A (Some i) header overlap reference fault h = let e : fault ≡ LiveOrder i = cc in ap (λ f. is_io {A = A} (Err f)) e
-not_io A None (Some a) overlap reference fault h = let e : fault ≡ Header a = cc in ap (λ f. is_io {A = A} (Err f)) e
-not_io A None None (Some a) reference fault h = let e : fault ≡ Overlap a = cc in ap (λ f. is_io {A = A} (Err f)) e
-not_io A None None None (Some p) fault h = let e : fault ≡ Reference p.0 p.1 = cc in ap (λ f. is_io {A = A} (Err f)) e
-not_io A None None None None fault h = cc
+not_io : (A : Type 0) (root order header overlap : Option ℕ) (reference : Option (ℕ × ℕ)) (fault : Fault) → first_some (option_map Root root ∷ option_map LiveOrder order ∷ option_map Header header ∷ option_map Overlap overlap ∷ option_map (λ (p : ℕ × ℕ). Reference p.0 p.1) reference ∷ []) ≡ Some fault → is_io {A = A} (Err fault) ≡ false
+not_io A (Some i) order header overlap reference fault h = let e : fault ≡ Root i = cc in ap (λ f. is_io {A = A} (Err f)) e
+not_io A None (Some i) header overlap reference fault h = let e : fault ≡ LiveOrder i = cc in ap (λ f. is_io {A = A} (Err f)) e
+not_io A None None (Some a) overlap reference fault h = let e : fault ≡ Header a = cc in ap (λ f. is_io {A = A} (Err f)) e
+not_io A None None None (Some a) reference fault h = let e : fault ≡ Overlap a = cc in ap (λ f. is_io {A = A} (Err f)) e
+not_io A None None None None (Some p) fault h = let e : fault ≡ Reference p.0 p.1 = cc in ap (λ f. is_io {A = A} (Err f)) e
+not_io A None None None None None fault h = cc
 
 -- ---- how the steps of reading an image fit together
 
@@ -180,15 +182,16 @@ fitting_parts log allowance blocks live words live_count limits w l a fit live_f
   allowance = a;
   words = fit;
   live = live_fit;
+  plain = refl;
 }
 
 -- the front and the numbers behind it are the text
-pub read_parts : (log allowance : ℕ) (blocks : List (List ℕ)) (live : List ℕ) (words live_count : ℕ) → length (concat blocks) ≡ words → length live ≡ live_count → (before middle after : Option (List ℕ))
-    → Consumes before middle (front log live_count words allowance) → Consumes middle after (numbers (concat blocks) ++ numbers live) → Consumes before after (text (image_of log allowance blocks live))
-read_parts log allowance blocks live words live_count w l before middle after h k =
-    let same : front log live_count words allowance ++ (numbers (concat blocks) ++ numbers live) ≡ text (image_of log allowance blocks live) =
-    ap (λ n. front log n words allowance ++ (numbers (concat blocks) ++ numbers live)) (sym l) ∙ ap (λ n. front log (length live) n allowance ++ (numbers (concat blocks) ++ numbers live)) (sym w) in
-    subst (λ bytes. Consumes before after bytes) same (consumes_more before middle after (front log live_count words allowance) (numbers (concat blocks) ++ numbers live) h k)
+pub read_parts : (rooted : Bool) (log allowance : ℕ) (blocks : List (List ℕ)) (live : List ℕ) (words live_count : ℕ) → length (concat blocks) ≡ words → length live ≡ live_count → (before middle after : Option (List ℕ))
+    → Consumes before middle (front rooted log live_count words allowance) → Consumes middle after (numbers (concat blocks) ++ numbers live) → Consumes before after (listed_text rooted (image_of log allowance blocks live))
+read_parts rooted log allowance blocks live words live_count w l before middle after h k =
+    let same : front rooted log live_count words allowance ++ (numbers (concat blocks) ++ numbers live) ≡ listed_text rooted (image_of log allowance blocks live) =
+    ap (λ n. front rooted log n words allowance ++ (numbers (concat blocks) ++ numbers live)) (sym l) ∙ ap (λ n. front rooted log (length live) n allowance ++ (numbers (concat blocks) ++ numbers live)) (sym w) in
+    subst (λ bytes. Consumes before after bytes) same (consumes_more before middle after (front rooted log live_count words allowance) (numbers (concat blocks) ++ numbers live) h k)
 
 pub body_leaves : (fault : Fault) (before middle after : Option (List ℕ)) (first came : List ℕ) → Consumes before middle first → Consumes middle after came
     → ((fault ≡ Memory) ⊎ ((fault ≡ Io) ⊎ (fault ≡ TruncatedBody))) → (fault ≡ TruncatedBody → IsAtEnd after) → IfSome before (λ input. LeavesRest fault input after)
@@ -196,67 +199,89 @@ body_leaves fault before middle after first came h k (inl memory) end = subst (�
 body_leaves fault before middle after first came h k (inr (inl io)) end = subst (λ f. IfSome before (λ input. LeavesRest f input after)) (sym io) (some_rest before after (first ++ came) (consumes_more before middle after first came h k))
 body_leaves fault before middle after first came h k (inr (inr short)) end = subst (λ f. IfSome before (λ input. LeavesRest f input after)) (sym short) (nothing_left before after (first ++ came) (consumes_more before middle after first came h k) (end short))
 
-pub body_reason : (fault : Fault) (log live_count words allowance : ℕ) (limits : IsWithinLimits log words live_count) (before middle : Option (List ℕ)) → Consumes before middle (front log live_count words allowance)
+pub body_reason : (rooted : Bool) (fault : Fault) (log live_count words allowance : ℕ) (limits : IsWithinLimits log words live_count) (before middle : Option (List ℕ)) → Consumes before middle (front rooted log live_count words allowance)
     → ((fault ≡ Memory) ⊎ ((fault ≡ Io) ⊎ (fault ≡ TruncatedBody))) → (fault ≡ TruncatedBody → IfSome middle (λ rest. length rest < 8 * (words + live_count))) → IfSome before (λ input. IsReason input fault)
-body_reason fault log live_count words allowance limits before middle h (inl memory) few = for_all before
+body_reason rooted fault log live_count words allowance limits before middle h (inl memory) few = for_all before
   where
     for_all : (o : Option (List ℕ)) → IfSome o (λ input. IsReason input fault)
     for_all None = tt
     for_all (Some input) = inl memory
-body_reason fault log live_count words allowance limits before middle h (inr (inl io)) few = for_all before
+body_reason rooted fault log live_count words allowance limits before middle h (inr (inl io)) few = for_all before
   where
     for_all : (o : Option (List ℕ)) → IfSome o (λ input. IsReason input fault)
     for_all None = tt
     for_all (Some input) = inr (inl io)
-body_reason fault log live_count words allowance limits before middle h (inr (inr short)) few = subst (λ f. IfSome before (λ input. IsReason input f)) (sym short) (truncated_reason log live_count words allowance limits before middle h (few short))
+body_reason rooted fault log live_count words allowance limits before middle h (inr (inr short)) few = subst (λ f. IfSome before (λ input. IsReason input f)) (sym short) (truncated_reason rooted log live_count words allowance limits before middle h (few short))
 
-module _ (image : HeapImage) (fits : HasFittingNumbers image) (before after : Option (List ℕ)) (read : Consumes before after (text image)) (fault : Fault) where
-  pub check_reason : ((fault ≡ Memory) ⊎ (first_some (live_list_faults image) ≡ Some fault)) → IfSome before (λ input. IsReason input fault)
+module _ (rooted : Bool) (image : HeapImage) (fits : HasFittingNumbers image) (before after : Option (List ℕ)) (read : Consumes before after (listed_text rooted image)) (fault : Fault) where
+  pub check_reason : ((fault ≡ Memory) ⊎ (first_some (live_list_faults (from_tail rooted image)) ≡ Some fault)) → IfSome before (λ input. IsReason input fault)
   check_reason (inl memory) = for_all before
     where
       for_all : (o : Option (List ℕ)) → IfSome o (λ input. IsReason input fault)
       for_all None = tt
       for_all (Some input) = inl memory
-  check_reason (inr first) = live_list_reason image fits before after read fault first
+  check_reason (inr first) = live_list_reason rooted image fits before after read fault first
 
-  pub check_leaves : ((fault ≡ Memory) ⊎ (first_some (live_list_faults image) ≡ Some fault)) → IfSome before (λ input. LeavesRest fault input after)
-  check_leaves (inl memory) = subst (λ f. IfSome before (λ input. LeavesRest f input after)) (sym memory) (some_rest before after (text image) read)
-  check_leaves (inr first) = live_list_leaves image fits before after read fault first
+  pub check_leaves : ((fault ≡ Memory) ⊎ (first_some (live_list_faults (from_tail rooted image)) ≡ Some fault)) → IfSome before (λ input. LeavesRest fault input after)
+  check_leaves (inl memory) = subst (λ f. IfSome before (λ input. LeavesRest f input after)) (sym memory) (some_rest before after (listed_text rooted image) read)
+  check_leaves (inr first) = live_list_leaves rooted image fits before after read fault first
 
 -- no fault of the live list is the device's
-pub check_is_not_io : (A : Type 0) (image : HeapImage) (fault : Fault) → ((fault ≡ Memory) ⊎ (first_some (live_list_faults image) ≡ Some fault)) → is_io {A = A} (Err fault) ≡ false
-check_is_not_io A image fault (inl memory) = ap (λ f. is_io {A = A} (Err f)) memory
-check_is_not_io A image fault (inr first) = not_io A (misplaced_index (heap_words image) image.live) (unsound_header image) (overlapping image) (dangling image) fault first
+pub check_is_not_io : (A : Type 0) (rooted : Bool) (image : HeapImage) (fault : Fault) → ((fault ≡ Memory) ⊎ (first_some (live_list_faults (from_tail rooted image)) ≡ Some fault)) → is_io {A = A} (Err fault) ≡ false
+check_is_not_io A rooted image fault (inl memory) = ap (λ f. is_io {A = A} (Err f)) memory
+check_is_not_io A rooted image fault (inr first) = let all = from_tail rooted image in not_io A (misplaced_root all) (misplaced_index (heap_words all) all.live) (unsound_header all) (overlapping all) (dangling all) fault first
 
 -- a text is longer than its front
-pub more_than_front : (image : HeapImage) → HasFittingNumbers image → (before after : Option (List ℕ)) → Consumes before after (text image) → IfSome before (λ input. 32 < length input)
-more_than_front image fits None after h = tt
-more_than_front image fits (Some input) None h = absurd h
-more_than_front image fits (Some input) (Some rest) h =
+pub more_than_front : (rooted : Bool) (image : HeapImage) → HasFittingNumbers image → (before after : Option (List ℕ)) → Consumes before after (listed_text rooted image) → IfSome before (λ input. 32 < length input)
+more_than_front rooted image fits None after h = tt
+more_than_front rooted image fits (Some input) None h = absurd h
+more_than_front rooted image fits (Some input) (Some rest) h =
     let some = fits.limits.not_empty in
-    let said = ap length h ∙ length-append (text image) rest in
+    let said = ap length h ∙ length-append (listed_text rooted image) rest in
     let both = length-append (numbers image.words) (numbers image.live) in
     let ws = length-numbers image.words in
-    let first = front image.region_log (length image.live) (heap_words image) image.allowance in
-    let whole : length (text image) ≡ 32 + length (numbers image.words ++ numbers image.live) = length-append first (numbers image.words ++ numbers image.live) in
+    let first = front rooted image.region_log (length image.live) (heap_words image) image.allowance in
+    let whole : length (listed_text rooted image) ≡ 32 + length (numbers image.words ++ numbers image.live) = length-append first (numbers image.words ++ numbers image.live) in
     omega arith
 
 pub one_taken : (buffer : List ℕ) (n : ℕ) → length buffer ≡ 1 → n ≤ length buffer → 0 < n → length (take n buffer) ≡ 1
 one_taken buffer n l within some = let t = length-take n buffer in omega arith
 
--- the checks speak of the slices of two vectors, and the allowance plays no part in them
-pub check_of_parts : (log allowance : ℕ) (blocks blocks' : List (List ℕ)) (live live' : List ℕ) → blocks ≡ blocks' → live ≡ live' → (fault : Fault)
-    → ((fault ≡ Memory) ⊎ (first_some (live_list_faults (image_of log 0 blocks live)) ≡ Some fault)) → ((fault ≡ Memory) ⊎ (first_some (live_list_faults (image_of log allowance blocks' live')) ≡ Some fault))
-check_of_parts log allowance blocks blocks' live live' b l fault (inl memory) = inl memory
-check_of_parts log allowance blocks blocks' live live' b l fault (inr first) = inr (ap (λ xs. first_some (live_list_faults (image_of log 0 xs live'))) (sym b) ∙ ap (λ xs. first_some (live_list_faults (image_of log 0 blocks xs))) (sym l) ∙ first)
+-- no fault depends on the allowance
+faults_same : (rooted : Bool) (log allowance : ℕ) (blocks : List (List ℕ)) (tail : List ℕ) → live_list_faults (from_tail rooted (image_of log allowance blocks tail)) ≡ live_list_faults (from_tail rooted (image_of log 0 blocks tail))
+unfolding reachable
+faults_same true log allowance blocks tail = refl
+faults_same false log allowance blocks tail = refl
 
-pub no_fault_of_parts : (log allowance : ℕ) (blocks blocks' : List (List ℕ)) (live live' : List ℕ) → blocks ≡ blocks' → live ≡ live' → first_some (live_list_faults (image_of log 0 blocks live)) ≡ None → first_some (live_list_faults (image_of log allowance blocks' live')) ≡ None
-no_fault_of_parts log allowance blocks blocks' live live' b l none = ap (λ xs. first_some (live_list_faults (image_of log 0 xs live'))) (sym b) ∙ ap (λ xs. first_some (live_list_faults (image_of log 0 blocks xs))) (sym l) ∙ none
+live_same : (rooted : Bool) (log allowance : ℕ) (blocks : List (List ℕ)) (tail : List ℕ) → (from_tail rooted (image_of log allowance blocks tail)).live ≡ (from_tail rooted (image_of log 0 blocks tail)).live
+unfolding reachable
+live_same true log allowance blocks tail = refl
+live_same false log allowance blocks tail = refl
 
-pub valid_parts : (log allowance : ℕ) (blocks : List (List ℕ)) (live : List ℕ) → HasFittingNumbers (image_of log allowance blocks live) → first_some (live_list_faults (image_of log allowance blocks live)) ≡ None → IsValid (image_of log allowance blocks live)
-valid_parts log allowance blocks live fits none = record {
-  limits = fits.limits;
-  allowance_fits = fits.allowance;
-  words_fit = fits.words;
-  live_list = sound_live_list (image_of log allowance blocks live) none;
-}
+roots_same : (rooted : Bool) (log allowance : ℕ) (blocks : List (List ℕ)) (tail : List ℕ) → (from_tail rooted (image_of log allowance blocks tail)).roots ≡ (from_tail rooted (image_of log 0 blocks tail)).roots
+roots_same true log allowance blocks tail = refl
+roots_same false log allowance blocks tail = refl
+
+-- the checks speak of the slice of a vector, and the allowance plays no part in them
+pub check_of_parts : (rooted : Bool) (log allowance : ℕ) (blocks blocks' : List (List ℕ)) (tail : List ℕ) → blocks ≡ blocks' → (fault : Fault)
+    → ((fault ≡ Memory) ⊎ (first_some (live_list_faults (from_tail rooted (image_of log 0 blocks tail))) ≡ Some fault)) → ((fault ≡ Memory) ⊎ (first_some (live_list_faults (from_tail rooted (image_of log allowance blocks' tail))) ≡ Some fault))
+check_of_parts rooted log allowance blocks blocks' tail b fault (inl memory) = inl memory
+check_of_parts rooted log allowance blocks blocks' tail b fault (inr first) =
+    inr (ap first_some (faults_same rooted log allowance blocks' tail) ∙ ap (λ xs. first_some (live_list_faults (from_tail rooted (image_of log 0 xs tail)))) (sym b) ∙ first)
+
+pub no_fault_of_parts : (rooted : Bool) (log allowance : ℕ) (blocks blocks' : List (List ℕ)) (tail : List ℕ) → blocks ≡ blocks' → first_some (live_list_faults (from_tail rooted (image_of log 0 blocks tail))) ≡ None → first_some (live_list_faults (from_tail rooted (image_of log allowance blocks' tail))) ≡ None
+no_fault_of_parts rooted log allowance blocks blocks' tail b none =
+    ap first_some (faults_same rooted log allowance blocks' tail) ∙ ap (λ xs. first_some (live_list_faults (from_tail rooted (image_of log 0 xs tail)))) (sym b) ∙ none
+
+-- the parts that were found are those of the image
+pub parts_are : (rooted : Bool) (log allowance : ℕ) (blocks blocks' : List (List ℕ)) (tail live : List ℕ) (roots : Option (List ℕ)) → blocks ≡ blocks'
+    → live ≡ (from_tail rooted (image_of log 0 blocks tail)).live → roots ≡ (from_tail rooted (image_of log 0 blocks tail)).roots
+    → rooted_image_of log allowance blocks' live roots ≡ from_tail rooted (image_of log allowance blocks' tail)
+parts_are rooted log allowance blocks blocks' tail live roots b l r =
+    let ls : live ≡ (from_tail rooted (image_of log allowance blocks' tail)).live = l ∙ ap (λ xs. (from_tail rooted (image_of log 0 xs tail)).live) b ∙ sym (live_same rooted log allowance blocks' tail) in
+    let rs : roots ≡ (from_tail rooted (image_of log allowance blocks' tail)).roots = r ∙ ap (λ xs. (from_tail rooted (image_of log 0 xs tail)).roots) b ∙ sym (roots_same rooted log allowance blocks' tail) in
+    ap (λ xs. rooted_image_of log allowance blocks' xs roots) ls ∙ ap (λ o. rooted_image_of log allowance blocks' (from_tail rooted (image_of log allowance blocks' tail)).live o) rs ∙ whole rooted
+  where
+    whole : (rooted : Bool) → rooted_image_of log allowance blocks' (from_tail rooted (image_of log allowance blocks' tail)).live (from_tail rooted (image_of log allowance blocks' tail)).roots ≡ from_tail rooted (image_of log allowance blocks' tail)
+    whole true = refl
+    whole false = refl

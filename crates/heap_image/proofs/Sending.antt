@@ -1,10 +1,11 @@
 -- Bytes that are held and given, over several calls.
-use Rattle.std.proofs.Common.{◌≡◌, ℕ, ◌+◌, ◌*◌, ◌/◌, List, [], ◌++◌, length, take, drop, refl, sym, ◌∙◌, ap, subst, arith, append_assoc, length-take, Option}
+use Rattle.std.proofs.Common.{◌≡◌, ℕ, ◌+◌, ◌*◌, ◌/◌, Bool, true, false, cond, eqb, List, [], ◌++◌, length, take, drop, refl, sym, ◌∙◌, ap, subst, arith, append_assoc, length-take, Option}
 use Rattle.std.proofs.lemmas.List.{append-nil, take-append-le, take-append-drop, take-take, take_all}
 use Rattle.std.proofs.lemmas.List.Concat.{flat_map-append}
+use Rattle.std.specs.Option.{is_some}
 use Rattle.std.specs.Int.{w64, to_le_bytes}
-use Rattle.heap_image.specs.ImageText.{front, numbers, text}
-use Rattle.heap_image.specs.HeapImage.{HeapImage, IsValid, heap_words, region_words, region_count, block_of}
+use Rattle.heap_image.specs.ImageText.{front, numbers, text, with_tail}
+use Rattle.heap_image.specs.HeapImage.{HeapImage, IsValid, heap_words, region_words, region_count, block_of, version_of}
 use Rattle.std.proofs.Math.Nat.{div-add-mod'}
 use Rattle.std.specs.Io.KnownBytes.{Appends}
 use Rattle.heap_image.specs.Outgoing.{Sends, TakesBeginning}
@@ -71,15 +72,19 @@ pub all_sent : (a b c : Option (List ℕ)) (held x : List ℕ) → Sends a b [] 
 all_sent a b c held x s h = subst (λ bytes. Appends a c bytes) s.2 (appends_more a b c s.0 held s.1 h)
 
 module _ (image : HeapImage) where
+  -- the numbers behind the words
+  abbrev pub tail : List ℕ
+  tail = (with_tail image).live
+
   abbrev pub first : List ℕ
-  first = front image.region_log (length image.live) (heap_words image) image.allowance
+  first = front (is_some image.roots) image.region_log (length tail) (heap_words image) image.allowance
 
   -- the front with the first words, and the others with the live list
-  pub text_split : (k : ℕ) → (first ++ numbers (take k image.words)) ++ (numbers (drop k image.words) ++ numbers image.live) ≡ text image
+  pub text_split : (k : ℕ) → (first ++ numbers (take k image.words)) ++ (numbers (drop k image.words) ++ numbers tail) ≡ text image
   text_split k =
-      append_assoc first (numbers (take k image.words)) (numbers (drop k image.words) ++ numbers image.live)
-      ∙ ap (λ l. first ++ l) (sym (append_assoc (numbers (take k image.words)) (numbers (drop k image.words)) (numbers image.live)) ∙ ap (λ l. l ++ numbers image.live) (sym (numbers_split image.words k)))
-      ∙ sym (append_assoc first (numbers image.words) (numbers image.live))
+      append_assoc first (numbers (take k image.words)) (numbers (drop k image.words) ++ numbers tail)
+      ∙ ap (λ l. first ++ l) (sym (append_assoc (numbers (take k image.words)) (numbers (drop k image.words)) (numbers tail)) ∙ ap (λ l. l ++ numbers tail) (sym (numbers_split image.words k)))
+      ∙ sym (append_assoc first (numbers image.words) (numbers tail))
 
   -- the words from a region on are its block and what is behind it
   pub block_first : (r : ℕ) → numbers (drop (r * region_words image) image.words) ≡ numbers (block_of image r) ++ numbers (drop (region_words image) (drop (r * region_words image) image.words))
@@ -98,7 +103,12 @@ module _ (image : HeapImage) where
       let rows : r * region_words image ≡ heap_words image / region_words image * region_words image = ap (λ n. n * region_words image) e in
       take_all (r * region_words image) image.words (omega arith)
 
+is_two : (b : Bool) → eqb (cond {A = ℕ} b 2 1) 2 ≡ b
+is_two true = refl
+is_two false = refl
+
 -- the front of an image, by the numbers that its calls answer
-pub front_is : (image : HeapImage) (log : ℕ) (live : List ℕ) (words allowance : ℕ) (bytes : List ℕ) → log ≡ image.region_log → live ≡ image.live → words ≡ heap_words image → allowance ≡ image.allowance → bytes ≡ front log (length live) words allowance → bytes ≡ first image
-front_is image log live words allowance bytes a b c d e =
-    e ∙ ap (λ n. front n (length live) words allowance) a ∙ ap (λ xs. front image.region_log (length xs) words allowance) b ∙ ap (λ n. front image.region_log (length image.live) n allowance) c ∙ ap (λ n. front image.region_log (length image.live) (heap_words image) n) d
+pub front_is : (image : HeapImage) (version log : ℕ) (behind : List ℕ) (words allowance : ℕ) (bytes : List ℕ) → version ≡ version_of image → log ≡ image.region_log → behind ≡ (with_tail image).live → words ≡ heap_words image → allowance ≡ image.allowance
+    → bytes ≡ front (eqb version 2) log (length behind) words allowance → bytes ≡ first image
+front_is image version log behind words allowance bytes v a b c d e =
+    e ∙ ap (λ n. front (eqb n 2) log (length behind) words allowance) v ∙ ap (λ r. front r log (length behind) words allowance) (is_two (is_some image.roots)) ∙ ap (λ n. front (is_some image.roots) n (length behind) words allowance) a ∙ ap (λ xs. front (is_some image.roots) image.region_log (length xs) words allowance) b ∙ ap (λ n. front (is_some image.roots) image.region_log (length (with_tail image).live) n allowance) c ∙ ap (λ n. front (is_some image.roots) image.region_log (length (with_tail image).live) (heap_words image) n) d

@@ -1,14 +1,15 @@
 -- The text of a valid image tells that image.
-use Rattle.std.proofs.Common.{◌≡◌, ℕ, zero, suc, ◌+◌, ◌-◌, ◌*◌, ◌<◌, ◌^◌, List, [], ◌∷◌, ◌++◌, length, get_or, take, drop, refl, sym, ◌∙◌, ap, arith, append_assoc, length-append}
+use Rattle.std.proofs.Common.{◌≡◌, ℕ, zero, suc, ◌+◌, ◌-◌, ◌*◌, ◌≤◌, ◌<◌, ◌^◌, Bool, true, false, List, [], ◌∷◌, ◌++◌, length, get_or, take, drop, refl, sym, ◌∙◌, ap, subst, arith, append_assoc, length-append, Option, Some, None}
 use Rattle.std.proofs.lemmas.Nat.{from_le_bytes-to_le_bytes_4, from_le_bytes-to_le_bytes_8}
 use Rattle.std.proofs.lemmas.List.{drop-drop, drop_at, append-nil}
 use Rattle.std.proofs.lemmas.List.Elements.{All-from_get_or}
 use Rattle.std.proofs.lemmas.List.FromFn.{fill_by_all}
-use Rattle.std.specs.Prelude.{map, All}
+use Rattle.std.specs.Prelude.{map, All, IfSome}
+use Rattle.std.specs.Option.{is_some}
 use Rattle.std.specs.List.{range_with_len}
 use Rattle.std.specs.Int.{w64, to_le_bytes, from_le_bytes}
-use Rattle.heap_image.specs.HeapImage.{HeapImage, IsValid, IsWithinLimits, heap_words}
-use Rattle.heap_image.specs.ImageText.{front, numbers, text, told_image, told_words, told_live_count, told_region_log, told_length, u64_at}
+use Rattle.heap_image.specs.HeapImage.{HeapImage, IsValid, IsWithinLimits, AreRoots, heap_words, reachable, roots_or}
+use Rattle.heap_image.specs.ImageText.{front, numbers, text, listed_text, with_tail, from_tail, is_rooted, told_image, told_numbers, told_words, told_count, told_region_log, told_length, u64_at}
 use Rattle.heap_image.proofs.LiveWords.{live_end-le}
 
 pub length-numbers : (xs : List ℕ) → length (numbers xs) ≡ 8 * length xs
@@ -34,14 +35,14 @@ u64_at-behind bytes rest n i x e at fits =
     ∙ from_le_bytes-to_le_bytes_8 x fits
 
 -- what a front tells, whatever stands behind it
-module _ (log live_count words allowance : ℕ) (limits : IsWithinLimits log words live_count) (behind : List ℕ) where
+module _ (rooted : Bool) (log live_count words allowance : ℕ) (limits : IsWithinLimits log words live_count) (behind : List ℕ) where
   abbrev pub fronted : List ℕ
-  fronted = front log live_count words allowance ++ behind
+  fronted = front rooted log live_count words allowance ++ behind
 
   pub front_log : told_region_log fronted ≡ log
   front_log = let low = limits.region_log_high in from_le_bytes-to_le_bytes_4 log (omega arith)
 
-  pub front_live : told_live_count fronted ≡ live_count
+  pub front_live : told_count fronted ≡ live_count
   front_live = let few = limits.few_live in let less = limits.few_words in from_le_bytes-to_le_bytes_4 live_count (omega arith)
 
   pub front_words : told_words fronted ≡ words
@@ -50,25 +51,64 @@ module _ (log live_count words allowance : ℕ) (limits : IsWithinLimits log wor
   pub front_length : told_length fronted ≡ 32 + 8 * words + 8 * live_count
   front_length = let w = front_words in let l = front_live in omega arith
 
--- an image whose numbers fit the format, be its live list sound or not
+-- an image whose numbers fit the format, be they of a sound live list or not
 pub record HasFittingNumbers (image : HeapImage) : Type 0 where
   pub limits : IsWithinLimits image.region_log (heap_words image) (length image.live)
   pub allowance : image.allowance < 2 ^ 64
   pub words : All (λ w. w < 2 ^ 64) image.words
   pub live : All (λ a. a < 2 ^ 64) image.live
+  pub plain : image.roots ≡ None
 
-pub valid_numbers : (image : HeapImage) → IsValid image → HasFittingNumbers image
-valid_numbers image valid = record {
-  limits = valid.limits;
-  allowance = valid.allowance_fits;
-  words = valid.words_fit;
-  live = All-from_get_or (λ a. a < 2 ^ 64) image.live 0 (λ i l. let e = live_end-le image valid.live_list i l in let less = valid.limits.few_words in omega arith);
-}
+-- the numbers behind the words are no more than the words, and fit
+tail_fits : (image : HeapImage) → IsValid image → (roots : Option (List ℕ)) → image.roots ≡ roots
+    → (length (roots_or image.live roots) ≤ heap_words image) × All (λ a. a < 2 ^ 64) (roots_or image.live roots)
+tail_fits image valid None e = (
+  valid.limits.few_live,
+  All-from_get_or (λ a. a < 2 ^ 64) image.live 0 (λ i l. let e = live_end-le image valid.live_list i l in let less = valid.limits.few_words in omega arith),
+)
+tail_fits image valid (Some roots) e =
+    let rooted : AreRoots image roots = subst (λ o. IfSome o (AreRoots image)) e valid.rooted in
+    (rooted.few, All-from_get_or (λ a. a < 2 ^ 64) roots 0 (λ i l. let inside = rooted.inside i 0 l in let less = valid.limits.few_words in omega arith))
+
+pub valid_numbers : (image : HeapImage) → IsValid image → HasFittingNumbers (with_tail image)
+valid_numbers image valid =
+    let fits = tail_fits image valid image.roots refl in
+    record {
+      limits = record {
+        region_log_low = valid.limits.region_log_low;
+        region_log_high = valid.limits.region_log_high;
+        not_empty = valid.limits.not_empty;
+        whole_regions = valid.limits.whole_regions;
+        few_words = valid.limits.few_words;
+        few_regions = valid.limits.few_regions;
+        few_live = fits.0;
+      };
+      allowance = valid.allowance_fits;
+      words = valid.words_fit;
+      live = fits.1;
+      plain = refl;
+    }
+
+-- what is reached depends on the words alone
+pub reachable-words : (image : HeapImage) (live : List ℕ) (other : Option (List ℕ)) (roots : List ℕ) → reachable (record image { live = live; roots = other }) roots ≡ reachable image roots
+unfolding reachable
+reachable-words image live other roots = refl
+
+-- a valid image is told by its words and the numbers behind them
+from_tail-of : (image : HeapImage) → IsValid image → (roots : Option (List ℕ)) → image.roots ≡ roots → from_tail (is_some roots) (record image { live = roots_or image.live roots; roots = None }) ≡ image
+from_tail-of image valid None e = λ i. record { region_log = image.region_log; allowance = image.allowance; words = image.words; live = image.live; roots = sym e i }
+from_tail-of image valid (Some roots) e =
+    let rooted : AreRoots image roots = subst (λ o. IfSome o (AreRoots image)) e valid.rooted in
+    let same = reachable-words image roots None roots ∙ sym rooted.reached in
+    λ i. record { region_log = image.region_log; allowance = image.allowance; words = image.words; live = same i; roots = sym e i }
+
+pub from_tail-with_tail : (image : HeapImage) → IsValid image → from_tail (is_some image.roots) (with_tail image) ≡ image
+from_tail-with_tail image valid = from_tail-of image valid image.roots refl
 
 -- a text, and what follows it
-module _ (image : HeapImage) (fits : HasFittingNumbers image) (rest : List ℕ) where
+module _ (rooted : Bool) (image : HeapImage) (fits : HasFittingNumbers image) (rest : List ℕ) where
   abbrev pub bytes : List ℕ
-  bytes = text image ++ rest
+  bytes = listed_text rooted image ++ rest
 
   behind_front : drop 32 bytes ≡ (numbers image.words ++ numbers image.live) ++ rest
   behind_front = refl
@@ -80,13 +120,13 @@ module _ (image : HeapImage) (fits : HasFittingNumbers image) (rest : List ℕ) 
       ∙ drop_at (numbers image.words) (numbers image.live ++ rest) (8 * heap_words image) (length-numbers image.words)
 
   pub log_told : told_region_log bytes ≡ image.region_log
-  log_told = front_log image.region_log (length image.live) (heap_words image) image.allowance fits.limits ((numbers image.words ++ numbers image.live) ++ rest)
+  log_told = front_log rooted image.region_log (length image.live) (heap_words image) image.allowance fits.limits ((numbers image.words ++ numbers image.live) ++ rest)
 
-  pub live_told : told_live_count bytes ≡ length image.live
-  live_told = front_live image.region_log (length image.live) (heap_words image) image.allowance fits.limits ((numbers image.words ++ numbers image.live) ++ rest)
+  pub live_told : told_count bytes ≡ length image.live
+  live_told = front_live rooted image.region_log (length image.live) (heap_words image) image.allowance fits.limits ((numbers image.words ++ numbers image.live) ++ rest)
 
   pub words_told : told_words bytes ≡ heap_words image
-  words_told = front_words image.region_log (length image.live) (heap_words image) image.allowance fits.limits ((numbers image.words ++ numbers image.live) ++ rest)
+  words_told = front_words rooted image.region_log (length image.live) (heap_words image) image.allowance fits.limits ((numbers image.words ++ numbers image.live) ++ rest)
 
   allowance_told : u64_at bytes 24 ≡ image.allowance
   allowance_told = from_le_bytes-to_le_bytes_8 image.allowance fits.allowance
@@ -97,27 +137,41 @@ module _ (image : HeapImage) (fits : HasFittingNumbers image) (rest : List ℕ) 
   address_told : (i : ℕ) → i < length image.live → get_or image.live i 0 ≡ u64_at bytes (32 + 8 * heap_words image + 8 * i)
   address_told i l = sym (u64_at-behind bytes (numbers image.live ++ rest) (32 + 8 * heap_words image) i (get_or image.live i 0) behind_words (number_bytes image.live rest i l) (fits.live i 0 l))
 
-  pub told_image-append : told_image bytes ≡ image
-  told_image-append =
-      let ws : (told_image bytes).words ≡ image.words = ap (λ n. map (λ a. u64_at bytes (32 + 8 * a)) (range_with_len 0 n)) words_told ∙ sym (fill_by_all (λ a. u64_at bytes (32 + 8 * a)) image.words (heap_words image) 0 refl word_told) in
-      let ls : (told_image bytes).live ≡ image.live =
-      ap (λ n. map (λ i. u64_at bytes (32 + 8 * n + 8 * i)) (range_with_len 0 (told_live_count bytes))) words_told
+  pub told_numbers-append : told_numbers bytes ≡ image
+  told_numbers-append =
+      let ws : (told_numbers bytes).words ≡ image.words = ap (λ n. map (λ a. u64_at bytes (32 + 8 * a)) (range_with_len 0 n)) words_told ∙ sym (fill_by_all (λ a. u64_at bytes (32 + 8 * a)) image.words (heap_words image) 0 refl word_told) in
+      let ls : (told_numbers bytes).live ≡ image.live =
+      ap (λ n. map (λ i. u64_at bytes (32 + 8 * n + 8 * i)) (range_with_len 0 (told_count bytes))) words_told
       ∙ ap (λ n. map (λ i. u64_at bytes (32 + 8 * heap_words image + 8 * i)) (range_with_len 0 n)) live_told
       ∙ sym (fill_by_all (λ i. u64_at bytes (32 + 8 * heap_words image + 8 * i)) image.live (length image.live) 0 refl address_told) in
-      λ i. record { region_log = log_told i; allowance = allowance_told i; words = ws i; live = ls i }
+      λ i. record { region_log = log_told i; allowance = allowance_told i; words = ws i; live = ls i; roots = sym fits.plain i }
 
-  pub length_told : told_length bytes ≡ length (text image)
+  pub length_told : told_length bytes ≡ length (listed_text rooted image)
   length_told =
       let both = length-append (numbers image.words) (numbers image.live) in
       let ws = length-numbers image.words in
       let ls = length-numbers image.live in
-      let all : length (text image) ≡ 32 + length (numbers image.words ++ numbers image.live) = omega arith in
+      let all : length (listed_text rooted image) ≡ 32 + length (numbers image.words ++ numbers image.live) = omega arith in
       let w = words_told in
       let l = live_told in
       omega arith
 
+  -- the magic tells the version
+  pub rooted_told : is_rooted bytes ≡ rooted
+  rooted_told = by rooted
+    where
+      by : (b : Bool) → is_rooted (listed_text b image ++ rest) ≡ b
+      by true = refl
+      by false = refl
+
+  pub told_image-append : told_image bytes ≡ from_tail rooted image
+  told_image-append = ap (λ b. from_tail b (told_numbers bytes)) rooted_told ∙ ap (from_tail rooted) told_numbers-append
+
 pub told_image-text : (image : HeapImage) → IsValid image → told_image (text image) ≡ image
-told_image-text image valid = ap told_image (sym (append-nil (text image))) ∙ told_image-append image (valid_numbers image valid) []
+told_image-text image valid =
+    ap told_image (sym (append-nil (text image)))
+    ∙ told_image-append (is_some image.roots) (with_tail image) (valid_numbers image valid) []
+    ∙ from_tail-with_tail image valid
 
 -- two valid images with one text are equal
 pub text-injective : (image other : HeapImage) → IsValid image → IsValid other → text image ≡ text other → image ≡ other

@@ -1,5 +1,5 @@
 -- What decoding bytes in memory says of them.
-use Rattle.std.proofs.Common.{◌≡◌, ℕ, ◌+◌, ◌*◌, ◌≤◌, ◌<◌, ◌⊎◌, inl, inr, false, ltb, List, [], ◌∷◌, ◌++◌, length, take, drop, sym, ◌∙◌, ap, arith, length-take, length-drop, Option, Some, None, Result, Ok, Err}
+use Rattle.std.proofs.Common.{◌≡◌, ℕ, ◌+◌, ◌*◌, ◌≤◌, ◌<◌, ◌⊎◌, inl, inr, Bool, false, ltb, List, [], ◌∷◌, ◌++◌, length, take, drop, sym, ◌∙◌, ap, arith, length-take, length-drop, Option, Some, None, Result, Ok, Err}
 use Rattle.std.proofs.lemmas.Bool.{le-ltb, true≢false}
 use Rattle.std.proofs.lemmas.List.{take-append-drop, append-nil}
 use Rattle.std.specs.Prelude.{IfOk, OnOk, IfErr, IfSome}
@@ -20,22 +20,22 @@ front_fault_first bytes long fault first =
     ap first_fault (sym (take-append-drop 32 bytes))
     ∙ first_some-append (front_faults (take 32 bytes ++ drop 32 bytes)) _ fault (ap first_some (front_faults-append (take 32 bytes) (drop 32 bytes) (omega arith)) ∙ first)
 
-module _ (bytes : List ℕ) (log live_count words allowance : ℕ) (limits : IsWithinLimits log words live_count) (told : take 32 bytes ≡ front log live_count words allowance) where
-  whole : front log live_count words allowance ++ drop 32 bytes ≡ bytes
+module _ (bytes : List ℕ) (rooted : Bool) (log live_count words allowance : ℕ) (limits : IsWithinLimits log words live_count) (told : take 32 bytes ≡ front rooted log live_count words allowance) where
+  whole : front rooted log live_count words allowance ++ drop 32 bytes ≡ bytes
   whole = ap (λ l. l ++ drop 32 bytes) (sym told) ∙ take-append-drop 32 bytes
 
   pub truncated_first : 32 ≤ length bytes → length bytes < 32 + 8 * words + 8 * live_count → first_fault bytes ≡ Some TruncatedBody
   truncated_first long short =
       let d = length-drop 32 bytes in
-      ap first_fault (sym whole) ∙ first_fault-truncated log live_count words allowance limits (drop 32 bytes) (omega arith)
+      ap first_fault (sym whole) ∙ first_fault-truncated rooted log live_count words allowance limits (drop 32 bytes) (omega arith)
 
   pub layout_none : 32 + 8 * words + 8 * live_count ≤ length bytes → first_some (layout_faults bytes) ≡ None
   layout_none enough =
-      let said : List ℕ = front log live_count words allowance ++ drop 32 bytes in
+      let said : List ℕ = front rooted log live_count words allowance ++ drop 32 bytes in
       let long = ap length whole in
-      let tells = front_length log live_count words allowance limits (drop 32 bytes) in
+      let tells = front_length rooted log live_count words allowance limits (drop 32 bytes) in
       ap (λ b. first_some (layout_faults b)) (sym whole)
-      ∙ first_some_past (front_faults said) (fault_if (ltb (length said) (told_length said)) TruncatedBody ∷ []) (front_faults-None log live_count words allowance limits (drop 32 bytes))
+      ∙ first_some_past (front_faults said) (fault_if (ltb (length said) (told_length said)) TruncatedBody ∷ []) (front_faults-None rooted log live_count words allowance limits (drop 32 bytes))
       ∙ first_some-None (fault_if (ltb (length said) (told_length said)) TruncatedBody ∷ []) (fault_if-None (ltb (length said) (told_length said)) TruncatedBody (le-ltb (length said) (told_length said) (omega arith)), tt)
 
 -- a text of a valid image is not refused as such

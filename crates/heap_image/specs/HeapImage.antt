@@ -1,15 +1,28 @@
 -- A heap with its live objects, as contracts see an image.
-use Rattle.std.specs.Prelude.{◌≡◌, ℕ, ◌+◌, ◌-◌, ◌*◌, ◌/◌, ◌%◌, ◌^◌, ◌<◌, ◌≤◌, Bool, not, ◌&&◌, ◌||◌, nat_lt, nat_le, ◌==◌, IsTrue, List, length, take, drop, fold, All, count_by, slice_index}
+use Rattle.std.specs.Prelude.{◌≡◌, ℕ, zero, suc, ◌+◌, ◌-◌, ◌*◌, ◌/◌, ◌%◌, ◌^◌, ◌<◌, ◌≤◌, Bool, true, false, not, ◌&&◌, ◌||◌, nat_lt, nat_le, ◌==◌, IsTrue, if◌then◌else◌, List, [], length, take, drop, fold, filter, All, count_by, slice_index, Option, None, Some, IfSome}
 use Rattle.std.specs.List.{concat, list_any, range_with_len, AllAdjacentBelow}
+use Rattle.std.specs.Option.{is_some}
 use Rattle.heap_image.specs.Header.{size_of, references_of, kind_of}
 
 -- Address a is the a-th word. A region is 2 ^ region_log words in a row. The allowance is the number of dead words that
--- the dense prefix may keep. The live list has the address of each live object.
+-- the dense prefix may keep. The live list has the address of each live object. An image of version 2 has roots.
 pub record HeapImage : Type 0 where
   pub region_log : ℕ
   pub allowance : ℕ
   pub words : List ℕ
   pub live : List ℕ
+  pub roots : Option (List ℕ)
+
+-- roots, or where there are none other numbers
+abbrev pub roots_or : List ℕ → Option (List ℕ) → List ℕ
+roots_or others None = others
+roots_or others (Some roots) = roots
+
+abbrev pub roots_of : HeapImage → List ℕ
+roots_of image = roots_or [] image.roots
+
+abbrev pub version_of : HeapImage → ℕ
+version_of image = if is_some image.roots then 2 else 1
 
 module _ (image : HeapImage) where
   abbrev pub region_words : ℕ
@@ -71,6 +84,10 @@ module _ (image : HeapImage) where
   abbrev pub live_words : ℕ → ℕ → ℕ
   live_words from to = count_by is_live_word (range_with_len from (to - from))
 
+  -- the word at an address is not the header of an object that fits
+  abbrev pub is_unsound : ℕ → Bool
+  is_unsound a = not (kind_at a == 1) || (size_at a == 0) || nat_le (size_at a) (references_at a) || nat_lt heap_words (end_of a)
+
   -- the end of the last live object, or 0 where there is none
   abbrev pub last_end : ℕ
   last_end = fold (λ _ a. end_of a) 0 image.live
@@ -90,6 +107,34 @@ pub record HasLiveList (image : HeapImage) : Type 0 where
   pub references : All (λ a. (f : ℕ) → f < references_at image a
       → IsTrue (is_null_or_live image (reference_at image a f))) image.live
 
+-- a reference or a root that leads to an address is 1 plus it; 0 is null
+abbrev pub leads_to : ℕ → ℕ → Bool
+leads_to w b = w == b + 1
+
+module _ (image : HeapImage) where
+  -- the object at a has a sound header, and one of its references leads to b
+  abbrev pub refers_to : ℕ → ℕ → Bool
+  refers_to a b = not (is_unsound image a) && list_any (λ f. leads_to (reference_at image a f) b) (range_with_len 0 (references_at image a))
+
+  -- the addresses of the heap that are listed, or to which a listed object refers
+  abbrev pub with_referred : List ℕ → List ℕ
+  with_referred xs = filter (λ b. list_any (λ a. (b == a) || refers_to a b) xs) (range_with_len 0 (heap_words image))
+
+  -- the addresses of the heap that are reached from these roots by so many references or fewer
+  abbrev pub reached_in : List ℕ → ℕ → List ℕ
+  reached_in roots zero = filter (λ b. list_any (λ w. leads_to w b) roots) (range_with_len 0 (heap_words image))
+  reached_in roots (suc n) = with_referred (reached_in roots n)
+
+  -- The addresses that are reached from these roots, ascending. No way to one needs more references than there are words.
+  unfoldable pub reachable : List ℕ → List ℕ
+  reachable roots = reached_in roots (heap_words image)
+
+-- roots lead into the heap or nowhere, and the live objects are those that are reached from them
+pub record AreRoots (image : HeapImage) (roots : List ℕ) : Type 0 where
+  pub few : length roots ≤ heap_words image
+  pub inside : All (λ w. w ≤ heap_words image) roots
+  pub reached : image.live ≡ reachable image roots
+
 -- the sizes that the format allows
 pub record IsWithinLimits (region_log words live_count : ℕ) : Type 0 where
   pub region_log_low : 3 ≤ region_log
@@ -105,6 +150,7 @@ pub record IsValid (image : HeapImage) : Type 0 where
   pub allowance_fits : image.allowance < 2 ^ 64
   pub words_fit : All (λ w. w < 2 ^ 64) image.words
   pub live_list : HasLiveList image
+  pub rooted : IfSome image.roots (AreRoots image)
 
 -- each of these blocks has the words of one region
 abbrev pub AreBlocks : ℕ → List (List ℕ) → Type 0
@@ -113,7 +159,12 @@ AreBlocks region_log blocks = All (λ block. length block ≡ 2 ^ region_log) bl
 -- the image of the heap whose regions hold these blocks, one after the other
 abbrev pub image_of : ℕ → ℕ → List (List ℕ) → List ℕ → HeapImage
 image_of region_log allowance blocks live =
-    record { region_log = region_log; allowance = allowance; words = concat blocks; live = live }
+    record { region_log = region_log; allowance = allowance; words = concat blocks; live = live; roots = None }
+
+-- the same, with roots or without
+abbrev pub rooted_image_of : ℕ → ℕ → List (List ℕ) → List ℕ → Option (List ℕ) → HeapImage
+rooted_image_of region_log allowance blocks live roots =
+    record { region_log = region_log; allowance = allowance; words = concat blocks; live = live; roots = roots }
 
 -- blocks of this size form a heap that is not too large
 pub record FormHeap (region_log : ℕ) (blocks : List (List ℕ)) : Type 0 where
@@ -122,6 +173,6 @@ pub record FormHeap (region_log : ℕ) (blocks : List (List ℕ)) : Type 0 where
   pub few : length (concat blocks) ≤ 4194304
 
 -- these parts are those of a valid image
-pub record AreValidParts (region_log allowance : ℕ) (blocks : List (List ℕ)) (live : List ℕ) : Type 0 where
+pub record AreValidParts (region_log allowance : ℕ) (blocks : List (List ℕ)) (live : List ℕ) (roots : Option (List ℕ)) : Type 0 where
   pub whole : AreBlocks region_log blocks
-  pub valid : IsValid (image_of region_log allowance blocks live)
+  pub valid : IsValid (rooted_image_of region_log allowance blocks live roots)

@@ -1,20 +1,22 @@
 -- The text of an image, in bytes, and the first fault of a byte list.
-use Rattle.std.specs.Prelude.{◌≡◌, ℕ, ◌+◌, ◌-◌, ◌*◌, ◌/◌, ◌%◌, ◌^◌, ◌<◌, Bool, true, false, not, ◌&&◌, ◌||◌, nat_lt, nat_le, ◌==◌, List, [], ◌∷◌, ◌++◌, length, map, take, drop, slice_index, slice_range, codes, All, Option, None, Some, option_map, find, flat_map, zip}
+use Rattle.std.specs.Prelude.{◌≡◌, ℕ, ◌+◌, ◌-◌, ◌*◌, ◌/◌, ◌%◌, ◌^◌, ◌<◌, Bool, true, false, not, ◌&&◌, ◌||◌, nat_lt, nat_le, ◌==◌, if◌then◌else◌, List, [], ◌∷◌, ◌++◌, length, map, take, drop, slice_index, slice_range, codes, All, Option, None, Some, option_map, find, flat_map, zip}
 use Rattle.std.specs.List.{range_with_len}
+use Rattle.std.specs.Option.{is_some}
 use Rattle.std.specs.Str.{bytes_eq}
 use Rattle.std.specs.Int.{w32, w64, to_le_bytes, from_le_bytes}
-use Rattle.heap_image.specs.HeapImage.{HeapImage, IsValid, heap_words, size_at, references_at, kind_at, end_of, reference_at, is_null_or_live}
+use Rattle.heap_image.specs.HeapImage.{HeapImage, IsValid, heap_words, references_at, end_of, reference_at, is_null_or_live, is_unsound, reachable, roots_of, roots_or}
 use Rattle.heap_image.specs.declared.fault.Fault.{Fault}
-use Rattle.heap_image.specs.declared.fault.Fault.TheVariants.{TruncatedHeader, Magic, RegionLog, Length, TruncatedBody, LiveOrder, Header, Overlap, Reference, Trailing}
+use Rattle.heap_image.specs.declared.fault.Fault.TheVariants.{TruncatedHeader, Magic, RegionLog, Length, TruncatedBody, LiveOrder, Header, Overlap, Reference, Trailing, Root}
 
-abbrev pub magic : List ℕ
-magic = codes "PCHEAP01"
+-- PCHEAP01 for an image of version 1, and PCHEAP02 for one of version 2, which has roots
+abbrev pub magic : Bool → List ℕ
+magic rooted = codes "PCHEAP0" ++ (if rooted then 50 else 49) ∷ []
 
 -- The first 32 bytes of a text. Numbers are little endian.
-abbrev pub front : (region_log live_count words allowance : ℕ) → List ℕ
-front region_log live_count words allowance = magic
+abbrev pub front : (rooted : Bool) (region_log count words allowance : ℕ) → List ℕ
+front rooted region_log count words allowance = magic rooted
     ++ to_le_bytes w32 region_log
-    ++ to_le_bytes w32 live_count
+    ++ to_le_bytes w32 count
     ++ to_le_bytes w64 words
     ++ to_le_bytes w64 allowance
 
@@ -22,11 +24,24 @@ front region_log live_count words allowance = magic
 abbrev pub numbers : List ℕ → List ℕ
 numbers xs = flat_map (to_le_bytes w64) xs
 
--- the front, then the words, and then the live addresses
-abbrev pub text : HeapImage → List ℕ
-text image = front image.region_log (length image.live) (heap_words image) image.allowance
+-- the front, then the words, and then the numbers behind them, which here are the live list's
+abbrev pub listed_text : Bool → HeapImage → List ℕ
+listed_text rooted image = front rooted image.region_log (length image.live) (heap_words image) image.allowance
     ++ numbers image.words
     ++ numbers image.live
+
+-- the image whose live list are the numbers behind the words of a text: those of the live list, or of the roots
+abbrev pub with_tail : HeapImage → HeapImage
+with_tail image = record image { live = roots_or image.live image.roots; roots = None }
+
+abbrev pub text : HeapImage → List ℕ
+text image = listed_text (is_some image.roots) (with_tail image)
+
+-- The image of a text of this version with these numbers behind the words: in version 2 they are roots, and the live
+-- objects are what is reached from them.
+abbrev pub from_tail : Bool → HeapImage → HeapImage
+from_tail false image = image
+from_tail true image = record image { live = reachable image image.live; roots = Some image.live }
 
 -- What the numbers of a byte list say, whether or not the bytes are an image's text.
 module _ (bytes : List ℕ) where
@@ -39,8 +54,12 @@ module _ (bytes : List ℕ) where
   abbrev pub told_region_log : ℕ
   told_region_log = u32_at 8
 
-  abbrev pub told_live_count : ℕ
-  told_live_count = u32_at 12
+  abbrev pub told_count : ℕ
+  told_count = u32_at 12
+
+  -- the magic is that of version 2
+  abbrev pub is_rooted : Bool
+  is_rooted = bytes_eq (take 8 bytes) (magic true)
 
   abbrev pub told_words : ℕ
   told_words = u64_at 16
@@ -49,15 +68,19 @@ module _ (bytes : List ℕ) where
   told_region_words = 2 ^ told_region_log
 
   abbrev pub told_length : ℕ
-  told_length = 32 + 8 * told_words + 8 * told_live_count
+  told_length = 32 + 8 * told_words + 8 * told_count
 
-  abbrev pub told_image : HeapImage
-  told_image = record {
+  abbrev pub told_numbers : HeapImage
+  told_numbers = record {
     region_log = told_region_log;
     allowance = u64_at 24;
     words = map (λ a. u64_at (32 + 8 * a)) (range_with_len 0 told_words);
-    live = map (λ i. u64_at (32 + 8 * told_words + 8 * i)) (range_with_len 0 told_live_count);
+    live = map (λ i. u64_at (32 + 8 * told_words + 8 * i)) (range_with_len 0 told_count);
+    roots = None;
   }
+
+  abbrev pub told_image : HeapImage
+  told_image = from_tail is_rooted told_numbers
 
 -- the i-th address is outside a heap of so many words or not above the one before it
 abbrev pub is_misplaced : ℕ → List ℕ → ℕ → Bool
@@ -70,14 +93,13 @@ misplaced_index words live = find (is_misplaced words live) (range_with_len 0 (l
 
 -- What is wrong with the objects of an image.
 module _ (image : HeapImage) where
-  -- the word at an address is not the header of an object that fits
-  abbrev pub is_unsound : ℕ → Bool
-  is_unsound a = not (kind_at image a == 1) || (size_at image a == 0)
-      || nat_le (size_at image a) (references_at image a) || nat_lt (heap_words image) (end_of image a)
+  -- the least index of a root that is above the number of words
+  abbrev pub misplaced_root : Option ℕ
+  misplaced_root = find (λ i. nat_lt (heap_words image) (slice_index (roots_of image) i)) (range_with_len 0 (length (roots_of image)))
 
-  -- the least such address
+  -- the least live address without a sound header
   abbrev pub unsound_header : Option ℕ
-  unsound_header = find is_unsound image.live
+  unsound_header = find (is_unsound image) image.live
 
   -- the least address below the end of the object before it
   abbrev pub overlapping : Option ℕ
@@ -108,21 +130,23 @@ first_some (Some x ∷ more) = Some x
 abbrev pub front_faults : List ℕ → List (Option Fault)
 front_faults bytes =
     fault_if (nat_lt (length bytes) 32) TruncatedHeader
-    ∷ fault_if (not (bytes_eq (take 8 bytes) magic)) Magic
+    ∷ fault_if (not (bytes_eq (take 8 bytes) (magic false) || is_rooted bytes)) Magic
     ∷ fault_if (nat_lt (told_region_log bytes) 3 || nat_lt 16 (told_region_log bytes)) RegionLog
     ∷ fault_if ((told_words bytes == 0) || not (told_words bytes % told_region_words bytes == 0)
     || nat_lt 4194304 (told_words bytes) || nat_lt 16384 (told_words bytes / told_region_words bytes)
-    || nat_lt (told_words bytes) (told_live_count bytes)) Length
+    || nat_lt (told_words bytes) (told_count bytes)) Length
     ∷ []
 
 -- what can be wrong before a word is looked at: the front, and too few bytes behind it
 abbrev pub layout_faults : List ℕ → List (Option Fault)
 layout_faults bytes = front_faults bytes ++ (fault_if (nat_lt (length bytes) (told_length bytes)) TruncatedBody ∷ [])
 
--- what can be wrong with the live list
+-- What can be wrong with the roots and the live list. In version 1 there are no roots, and in version 2 the live list
+-- is in order.
 abbrev pub live_list_faults : HeapImage → List (Option Fault)
 live_list_faults image =
-    option_map LiveOrder (misplaced_index (heap_words image) image.live)
+    option_map Root (misplaced_root image)
+    ∷ option_map LiveOrder (misplaced_index (heap_words image) image.live)
     ∷ option_map Header (unsound_header image)
     ∷ option_map Overlap (overlapping image)
     ∷ option_map (λ p. Reference p.0 p.1) (dangling image)

@@ -8,3 +8,6 @@ pub mod Begins
 pub mod Refusals
 pub mod Outgoing
 pub mod Soundness
+pub mod Reachable
+pub mod Marking
+pub mod Upgrade

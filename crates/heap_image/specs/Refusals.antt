@@ -1,7 +1,7 @@
 -- What reading says of an input that it refuses, and what it leaves of it.
 use Rattle.std.specs.Prelude.{◌≡◌, ℕ, ◌+◌, List, [], drop, Option, Some, ◌⊎◌}
 use Rattle.heap_image.specs.declared.fault.Fault.{Fault}
-use Rattle.heap_image.specs.declared.fault.Fault.TheVariants.{TruncatedHeader, Magic, RegionLog, Length, TruncatedBody, LiveOrder, Header, Overlap, Reference, Trailing, Memory, Io}
+use Rattle.heap_image.specs.declared.fault.Fault.TheVariants.{TruncatedHeader, Magic, RegionLog, Length, TruncatedBody, LiveOrder, Header, Overlap, Reference, Trailing, Memory, Io, Root}
 use Rattle.heap_image.specs.ImageText.{first_fault, told_length}
 
 -- memory was refused, the device failed, or this is the first fault of the input
@@ -24,6 +24,7 @@ LeavesRest (LiveOrder i) input left = left ≡ Some (drop (told_length input) in
 LeavesRest (Header a) input left = left ≡ Some (drop (told_length input) input)
 LeavesRest (Overlap a) input left = left ≡ Some (drop (told_length input) input)
 LeavesRest (Reference a f) input left = left ≡ Some (drop (told_length input) input)
+LeavesRest (Root i) input left = left ≡ Some (drop (told_length input) input)
 LeavesRest Trailing input left = left ≡ Some (drop (told_length input + 1) input)
 LeavesRest _ input left = (n : ℕ) × (left ≡ Some (drop n input))
 

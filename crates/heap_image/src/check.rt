@@ -77,7 +77,7 @@ pub(crate) fn is_unsound(word: u64, a: u64, words: u64) -> bool
 
 /// Whether each live address has the header of an object that fits, no object begins before the end of the one before
 /// it, and each reference is null or to a live object, whose addresses are marked. Each object is visited once.
-fn check_objects(
+pub(crate) fn check_objects(
     regions: &[Region],
     region_log: u32,
     words: u64,

@@ -59,6 +59,9 @@ pub enum Fault {
     /// The gate answered no.
     #[error("16 gate")]
     Gate,
+    /// The root at this index, the least, is above the number of words.
+    #[error("17 root at index {0}")]
+    Root(u32),
 }
 
 impl From<AllocError> for Fault {

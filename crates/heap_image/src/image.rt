@@ -1,7 +1,8 @@
 //! `Image`: a heap with its live objects.
-ghost use Rattle.std.specs.Prelude.{◌≡◌, ◌<◌, ◌≤◌, length, map};
+ghost use Rattle.std.specs.Prelude.{◌≡◌, ◌<◌, ◌≤◌, Option, Some, None, length, map, option_map};
 ghost use Rattle.std.specs.List.{concat, range_with_len};
-ghost use Rattle.heap_image.specs.HeapImage.{HeapImage, IsValid, AreBlocks, AreValidParts, image_of, heap_words, region_count, word_at, block_of};
+ghost use Rattle.heap_image.specs.HeapImage.{HeapImage, IsValid, AreBlocks, AreValidParts, image_of, rooted_image_of, roots_of, version_of, heap_words, region_count, word_at, block_of};
+ghost use Rattle.heap_image.specs.ImageText.{with_tail};
 
 use crate::blocks::word_of;
 use raw_region::Region;
@@ -18,6 +19,7 @@ pub struct Image {
     allowance: u64,
     regions: Vec<Region>,
     live: Vec<u64>,
+    roots: Option<Vec<u64>>,
 }
 
 /// What an [`Image`] is made of.
@@ -31,16 +33,19 @@ pub struct ImageParts {
     pub regions: Vec<Region>,
     /// The addresses of the live objects, ascending.
     pub live: Vec<u64>,
+    /// The roots, in an image of version 2.
+    pub roots: Option<Vec<u64>>,
 }
 
 impl Model for Image {
-    ghost use Rattle.heap_image.specs.HeapImage.{HeapImage, AreValidParts, image_of};
+    ghost use Rattle.std.specs.Prelude.{option_map};
+    ghost use Rattle.heap_image.specs.HeapImage.{HeapImage, AreValidParts, rooted_image_of};
 
     ghost Value = { HeapImage };
 
-    ghost view = { λ i. image_of i.region_log i.allowance i.regions.items i.live.items };
+    ghost view = { λ i. rooted_image_of i.region_log i.allowance i.regions.items i.live.items (option_map (λ v. v.items) i.roots) };
 
-    ghost invariant = { λ i. AreValidParts i.region_log i.allowance i.regions.items i.live.items };
+    ghost invariant = { λ i. AreValidParts i.region_log i.allowance i.regions.items i.live.items (option_map (λ v. v.items) i.roots) };
 }
 
 impl Image {
@@ -56,13 +61,36 @@ impl Image {
             allowance,
             regions,
             live,
+            roots: None,
         }
     }
 
-    /// The parts of this image, from which [`of_parts`](Image::of_parts) makes it again.
+    /// The image of version 2 of these parts: as those of [`of_parts`](Image::of_parts), and the roots, from which just
+    /// these live objects are reached.
+    pub fn of_rooted_parts(
+        region_log: u32,
+        allowance: u64,
+        regions: Vec<Region>,
+        live: Vec<u64>,
+        roots: Vec<u64>,
+    ) -> Image
+        requires regions { AreBlocks region_log regions.items }
+        requires valid { IsValid (rooted_image_of region_log allowance regions.items live.items (Some roots.items)) }
+        ensures { result ≡ rooted_image_of region_log allowance regions.items live.items (Some roots.items) }
+    {
+        Image {
+            region_log,
+            allowance,
+            regions,
+            live,
+            roots: Some(roots),
+        }
+    }
+
+    /// The parts of this image, from which [`ImageParts::into_image`] makes it again.
     pub fn into_parts(self) -> ImageParts
-        ensures parts { AreValidParts result.region_log result.allowance result.regions.items result.live.items }
-        ensures whole { self ≡ image_of result.region_log result.allowance result.regions.items result.live.items }
+        ensures parts { AreValidParts result.region_log result.allowance result.regions.items result.live.items (option_map (λ v. v.items) result.roots) }
+        ensures whole { self ≡ rooted_image_of result.region_log result.allowance result.regions.items result.live.items (option_map (λ v. v.items) result.roots) }
         ensures blocks { result.regions.items ≡ map (block_of self) (range_with_len 0 (region_count self)) }
     {
         let Image {
@@ -70,12 +98,14 @@ impl Image {
             allowance,
             regions,
             live,
+            roots,
         } = self;
         ImageParts {
             region_log,
             allowance,
             regions,
             live,
+            roots,
         }
     }
 
@@ -132,5 +162,58 @@ impl Image {
         ensures valid { IsValid self.now }
     {
         self.live.as_slice()
+    }
+
+    /// The roots, in any order; none in an image of version 1.
+    pub fn roots(&self) -> &[u64]
+        ensures value { result.now ≡ roots_of self.now }
+        ensures valid { IsValid self.now }
+    {
+        match &self.roots {
+            Some(roots) => roots.as_slice(),
+            None => &[],
+        }
+    }
+
+    /// The numbers that stand behind the words in the text: the roots, or else the live list.
+    pub(crate) fn tail(&self) -> &[u64]
+        ensures value { result.now ≡ (with_tail self.now).live }
+        ensures few { length result.now ≤ heap_words self.now }
+        ensures valid { IsValid self.now }
+    {
+        match &self.roots {
+            Some(roots) => roots.as_slice(),
+            None => self.live.as_slice(),
+        }
+    }
+
+    /// The version: 2 where it has roots, and else 1.
+    pub fn version(&self) -> u32
+        ensures { result ≡ version_of self.now }
+    {
+        if self.roots.is_some() { 2 } else { 1 }
+    }
+}
+
+impl ImageParts {
+    /// The image of these parts.
+    pub fn into_image(self) -> Image
+        requires { AreValidParts self.region_log self.allowance self.regions.items self.live.items (option_map (λ v. v.items) self.roots) }
+        ensures { result ≡ rooted_image_of self.region_log self.allowance self.regions.items self.live.items (option_map (λ v. v.items) self.roots) }
+    {
+        let ImageParts {
+            region_log,
+            allowance,
+            regions,
+            live,
+            roots,
+        } = self;
+        Image {
+            region_log,
+            allowance,
+            regions,
+            live,
+            roots,
+        }
     }
 }

@@ -1,7 +1,9 @@
 //! Laws of the text. The functions do nothing: each promises its law.
-ghost use Rattle.std.specs.Prelude.{◌≡◌};
-ghost use Rattle.heap_image.specs.HeapImage.{HeapImage, IsValid};
-ghost use Rattle.heap_image.specs.ImageText.{text, FaultlessIsText, TextIsFaultless};
+ghost use Rattle.std.specs.Prelude.{◌≡◌, ◌+◌, ℕ, List, Bool, true, None, filter, map};
+ghost use Rattle.std.specs.List.{range_with_len};
+ghost use Rattle.heap_image.specs.HeapImage.{HeapImage, IsValid, HasLiveList, heap_words, reachable};
+ghost use Rattle.heap_image.specs.ImageText.{text, from_tail, misplaced_index, unsound_header, dangling, FaultlessIsText, TextIsFaultless};
+ghost use Rattle.heap_image.specs.Reachable.{is_listed, beyond, IsClosed};
 
 /// Bytes without a fault are the text of the valid image that they tell.
 pub fn faultless_is_text()
@@ -17,4 +19,26 @@ pub fn text_is_faultless()
 pub fn one_text()
     ensures { (image other : HeapImage) → IsValid image → IsValid other → text image ≡ text other
         → image ≡ other }
+{}
+
+/// The addresses that are reached from roots are the least that are closed, and they ascend.
+pub fn reachable_is_the_least_closed()
+    ensures closed { (image : HeapImage) (roots : List ℕ) → IsClosed image roots (is_listed (reachable image roots)) }
+    ensures least { (image : HeapImage) (roots : List ℕ) (passes : ℕ → Bool) → IsClosed image roots passes
+        → (a : ℕ) → is_listed (reachable image roots) a ≡ true → passes a ≡ true }
+    ensures ascending { (image : HeapImage) (roots : List ℕ) → reachable image roots
+        ≡ filter (is_listed (reachable image roots)) (range_with_len 0 (heap_words image)) }
+{}
+
+/// In an image with roots the live list is always in order, and where all headers are sound, a reference that is neither
+/// null nor to a live object leads out of the heap.
+pub fn faults_of_roots()
+    ensures order { (image : HeapImage) (roots : List ℕ) → misplaced_index (heap_words image) (reachable image roots) ≡ None }
+    ensures references { (image : HeapImage) → unsound_header (from_tail true image) ≡ None
+        → dangling (from_tail true image) ≡ beyond (from_tail true image) }
+{}
+
+/// The live objects are what is reached from a root to each of them.
+pub fn live_objects_are_reached()
+    ensures { (image : HeapImage) → HasLiveList image → image.live ≡ reachable image (map (λ a. a + 1) image.live) }
 {}

@@ -32,10 +32,12 @@ mod laws;
 mod numbers;
 mod outgoing;
 mod outlet;
+mod reach;
 mod read;
 mod soundness;
 #[cfg(test)]
 mod tests;
+mod upgrading;
 mod write;
 
 pub use decoding::decode;
@@ -43,7 +45,12 @@ pub use encoding::encode;
 pub use fault::Fault;
 pub use image::{Image, ImageParts};
 pub use intake::{Failed, FromRead, Intake};
-pub use laws::{faultless_is_text, one_text, text_is_faultless};
+pub use laws::{
+    faultless_is_text, faults_of_roots, live_objects_are_reached, one_text,
+    reachable_is_the_least_closed, text_is_faultless,
+};
 pub use outlet::{Outlet, ToWrite};
+pub use reach::mark_from_roots;
 pub use read::read_image;
+pub use upgrading::{upgrade, upgrade_stream};
 pub use write::write_image;

@@ -1,10 +1,10 @@
 //! Reading an image.
-ghost use Rattle.std.specs.Prelude.{◌≡◌, ◌≢◌, ◌<◌, ◌≤◌, ◌+◌, ◌*◌, ◌++◌, ◌⊎◌, ◌↔◌, ◌||◌, ◌^◌, ℕ, List, All, Some, None, length, IfOk, OnOk, IfErr, IfSome, IsErrOf, IsTrue};
+ghost use Rattle.std.specs.Prelude.{◌≡◌, ◌≢◌, ◌<◌, ◌≤◌, ◌+◌, ◌*◌, ◌++◌, ◌⊎◌, ◌↔◌, ◌||◌, ◌^◌, ℕ, List, All, Some, None, length, IfOk, OnOk, IfErr, IfSome, IsErrOf, IsTrue, option_map};
 ghost use Rattle.std.specs.List.{concat};
 ghost use Rattle.std.specs.Io.KnownBytes.{Consumes, IsAtEnd};
 ghost use Rattle.heap_image.specs.Device.{is_io};
-ghost use Rattle.heap_image.specs.HeapImage.{HeapImage, IsValid, IsWithinLimits, FormHeap, AreBlocks};
-ghost use Rattle.heap_image.specs.ImageText.{text, front, numbers, front_faults, first_fault, first_some};
+ghost use Rattle.heap_image.specs.HeapImage.{HeapImage, IsValid, IsWithinLimits, FormHeap, AreBlocks, image_of};
+ghost use Rattle.heap_image.specs.ImageText.{text, front, from_tail, numbers, front_faults, live_list_faults, first_fault, first_some};
 ghost use Rattle.heap_image.specs.Refusals.{IsReason, IsOfBody, LeavesRest};
 ghost use Rattle.heap_image.specs.Incoming.{IsInRange, FallsShort, expected, known_rest};
 
@@ -12,7 +12,8 @@ use crate::check::check_live_list;
 use crate::front::{FRONT_BYTES, Front};
 use crate::incoming::Incoming;
 use crate::intake::{Intake, fill};
-use crate::{Fault, Image};
+use crate::reach::mark_from_roots;
+use crate::{Fault, Image, ImageParts};
 use raw_region::Region;
 use std::alloc::Global;
 use std::thread::Threads;
@@ -43,28 +44,64 @@ pub fn read_image<R: Intake>(
     ensures io { R.has_failed reader.new ≡ is_io result }
 {
     let front = read_front(reader)?;
-    let Body { regions, live } = read_body(alloc, reader, front)?;
-    check_live_list(
-        alloc,
-        regions.as_slice(),
-        front.region_log,
-        front.words,
-        live.as_slice(),
-        threads,
-    )?;
+    let Body { regions, tail } = read_body(alloc, reader, front)?;
+    let (live, roots) = live_objects(alloc, regions.as_slice(), front, tail, threads)?;
     if fill(reader, &mut [0; 1])? > 0 {
         return Err(Fault::Trailing);
     }
-    Ok(Image::of_parts(front.region_log, front.allowance, regions, live))
+    let parts = ImageParts {
+        region_log: front.region_log,
+        allowance: front.allowance,
+        regions,
+        live,
+        roots,
+    };
+    Ok(parts.into_image())
+}
+
+/// The live objects of what was read, whose words lie in these regions, and its roots if it has some. `tail` are the
+/// numbers behind the words.
+fn live_objects(
+    alloc: Global,
+    regions: &[Region],
+    front: Front,
+    tail: Vec<u64>,
+    threads: &(impl Threads + Sync),
+) -> Result<(Vec<u64>, Option<Vec<u64>>), Fault>
+    requires heap { FormHeap front.region_log regions.now }
+    requires words { front.words ≡ length (concat regions.now) }
+    requires few { length tail.items ≤ front.words }
+    ensures live { let image = from_tail front.rooted (image_of front.region_log 0 regions.now tail.items) in
+        IfOk result (λ found. found.0.items ≡ image.live) }
+    ensures roots { let image = from_tail front.rooted (image_of front.region_log 0 regions.now tail.items) in
+        IfOk result (λ found. option_map (λ v. v.items) found.1 ≡ image.roots) }
+    ensures ok { let faults = live_list_faults (from_tail front.rooted (image_of front.region_log 0 regions.now tail.items)) in
+        OnOk result (first_some faults ≡ None) }
+    ensures fault { let faults = live_list_faults (from_tail front.rooted (image_of front.region_log 0 regions.now tail.items)) in
+        IfErr result (λ fault. (fault ≡ Fault.Memory) ⊎ (first_some faults ≡ Some fault)) }
+{
+    if !front.rooted {
+        check_live_list(
+            alloc,
+            regions,
+            front.region_log,
+            front.words,
+            tail.as_slice(),
+            threads,
+        )?;
+        return Ok((tail, None));
+    }
+    let live = mark_from_roots(alloc, front.region_log, regions, tail.as_slice())?;
+    Ok((live, Some(tail)))
 }
 
 /// Reads the first 32 bytes, and no byte behind them.
 fn read_front<R: Intake>(reader: &mut R) -> Result<Front, Fault>
     ensures told { IfOk result
         (λ told. Consumes (R.left reader.old) (R.left reader.new)
-        (front told.region_log told.live_count told.words told.allowance)) }
+        (front told.rooted told.region_log told.count told.words told.allowance)) }
     ensures limits { IfOk result
-        (λ told. IsWithinLimits told.region_log told.words told.live_count) }
+        (λ told. IsWithinLimits told.region_log told.words told.count) }
     ensures fit { IfOk result (λ told. told.allowance < 2 ^ 64) }
     ensures fault { IfErr result
         (λ fault. IfSome (R.left reader.old) (λ input. IsReason input fault)) }
@@ -80,38 +117,38 @@ fn read_front<R: Intake>(reader: &mut R) -> Result<Front, Fault>
     Front::parse(&bytes)
 }
 
-/// What stands behind the front: the regions with the words, and the live list.
+/// What stands behind the front: the regions with the words, and the numbers behind them, live addresses or roots.
 #[derive(Drop)]
 struct Body {
     regions: Vec<Region>,
-    live: Vec<u64>,
+    tail: Vec<u64>,
 }
 
 /// Reads what stands behind this front, and no byte behind that. It takes no memory before a byte has come.
 fn read_body<R: Intake>(alloc: Global, reader: &mut R, front: Front) -> Result<Body, Fault>
-    requires { IsWithinLimits front.region_log front.words front.live_count }
+    requires { IsWithinLimits front.region_log front.words front.count }
     ensures bytes { IfOk result
         (λ body. Consumes (R.left reader.old) (R.left reader.new)
-        (numbers (concat body.regions.items) ++ numbers body.live.items)) }
+        (numbers (concat body.regions.items) ++ numbers body.tail.items)) }
     ensures regions { IfOk result (λ body. AreBlocks front.region_log body.regions.items) }
     ensures fit { IfOk result (λ body. All (λ w. w < 2 ^ 64) (concat body.regions.items)) }
     ensures words { IfOk result (λ body. length (concat body.regions.items) ≡ front.words) }
-    ensures live { IfOk result (λ body. length body.live.items ≡ front.live_count) }
-    ensures live_fit { IfOk result (λ body. All (λ a. a < 2 ^ 64) body.live.items) }
+    ensures tail { IfOk result (λ body. length body.tail.items ≡ front.count) }
+    ensures tail_fit { IfOk result (λ body. All (λ a. a < 2 ^ 64) body.tail.items) }
     ensures truncated { result ≡ Err Fault.TruncatedBody → FallsShort
-        (R.left reader.old) (R.left reader.new) (front.words + front.live_count) }
+        (R.left reader.old) (R.left reader.new) (front.words + front.count) }
     ensures memory { result ≡ Err Fault.Memory
         → IfSome (R.left reader.old) (λ rest. 0 < length rest) }
     ensures fault { IfErr result IsOfBody }
     ensures lost { (came : List ℕ) × Consumes (R.left reader.old) (R.left reader.new) came }
     ensures failed { R.has_failed reader.new ≡ (is_io result || R.has_failed reader.old) }
 {
-    let mut incoming = Incoming::new(front.words as usize + front.live_count as usize);
+    let mut incoming = Incoming::new(front.words as usize + front.count as usize);
     incoming.top_up(reader)?;
     let regions = read_regions(alloc, &mut incoming, reader, front)?;
-    let mut live = vec![in alloc; 0u64; front.live_count as usize]?;
-    incoming.read(reader, live.as_mut_slice())?;
-    Ok(Body { regions, live })
+    let mut tail = vec![in alloc; 0u64; front.count as usize]?;
+    incoming.read(reader, tail.as_mut_slice())?;
+    Ok(Body { regions, tail })
 }
 
 /// Reads the words of a heap into regions, each a block of its own.
@@ -121,7 +158,7 @@ fn read_regions<R: Intake>(
     reader: &mut R,
     front: Front,
 ) -> Result<Vec<Region>, Fault>
-    requires limits { IsWithinLimits front.region_log front.words front.live_count }
+    requires limits { IsWithinLimits front.region_log front.words front.count }
     requires in_range { IsInRange incoming.old }
     requires enough { front.words ≤ expected incoming.old }
     ensures in_range { OnOk result (IsInRange incoming.new) }

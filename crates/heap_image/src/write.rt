@@ -20,8 +20,9 @@ pub fn write_image<W: Outlet>(image: &Image, writer: &mut W) -> Result<(), Fault
     ensures io { W.has_failed writer.new ≡ is_io result }
 {
     let front = Front {
+        rooted: image.version() == 2,
         region_log: image.region_log(),
-        live_count: image.live().len() as u32,
+        count: image.tail().len() as u32,
         words: image.len(),
         allowance: image.allowance(),
     };
@@ -30,7 +31,7 @@ pub fn write_image<W: Outlet>(image: &Image, writer: &mut W) -> Result<(), Fault
     for r in 0..image.regions() {
         outgoing.write(writer, image.region(r).words())?;
     }
-    outgoing.write(writer, image.live())?;
+    outgoing.write(writer, image.tail())?;
     outgoing.flush(writer)?;
     Ok(())
 }

@@ -1,10 +1,10 @@
 //! What carries each word to its place.
 
-ghost use Rattle.std.specs.Prelude.{◌≡◌, ◌⊎◌, ◌+◌, ◌<◌, ◌≤◌, ℕ, Some, IfOk, length, slice_index, map};
+ghost use Rattle.std.specs.Prelude.{◌≡◌, ◌⊎◌, ◌+◌, ◌<◌, ◌≤◌, ℕ, Some, IfOk, length, slice_index, map, option_map};
 ghost use Rattle.heap_image.specs.HeapImage.{HeapImage, IsValid, heap_words, region_words, region_count, word_at, start_of};
 ghost use Rattle.summary.specs.NewAddresses.{new_top, new_live};
 ghost use Rattle.summary.specs.WordMoves.{origin};
-ghost use Rattle.summary.specs.Compaction.{moved_word, compacted_word, compact};
+ghost use Rattle.summary.specs.Compaction.{moved_word, compacted_word, redirected, compact};
 ghost use Rattle.summary.specs.RegionData.{addresses};
 ghost use Rattle.history.specs.Slide.{word_for};
 ghost use Rattle.history.specs.WordMachine.{image_slide};
@@ -12,7 +12,7 @@ ghost use Rattle.history.specs.Carrier.{IsCarrier};
 
 use crate::origins::{filler_word, is_live, origins_of};
 use crate::references::{early_references, late_references};
-use heap_image::Image;
+use heap_image::{Image, ImageParts};
 use mark_bitmap::Marks;
 use raw_region::Region;
 use std::alloc::{AllocError, Global};
@@ -76,7 +76,31 @@ impl<'a> Carrier<'a> {
             regions.push(self.finished_region(alloc, heap, r)?)?;
         }
         let live = self.new_live(alloc, image)?;
-        Ok(Image::of_parts(image.region_log(), image.allowance(), regions, live))
+        let roots = self.new_roots(alloc, image)?;
+        let parts = ImageParts {
+            region_log: image.region_log(),
+            allowance: image.allowance(),
+            regions,
+            live,
+            roots,
+        };
+        Ok(parts.into_image())
+    }
+
+    /// The roots of an image of version 2, redirected.
+    fn new_roots(&self, alloc: Global, image: &Image) -> Result<Option<Vec<u64>>, AllocError>
+        requires kept { IsCarrier self.now }
+        requires image { self.now.plan.now ≡ image.now }
+        ensures { IfOk result (λ roots. option_map (λ v. v.items) roots ≡ option_map (map (redirected image.now)) image.now.roots) }
+    {
+        if image.version() == 1 {
+            return Ok(None);
+        }
+        let mut roots = Vec::new(alloc);
+        for w in image.roots() {
+            roots.push(self.plan.redirected(self.marks, *w))?;
+        }
+        Ok(Some(roots))
     }
 
     /// The new addresses of the live objects.

@@ -127,5 +127,6 @@ fn tell_difference<B: Write>(verdict: Verdict, err: &mut B) -> io::Result<()> {
         Verdict::Shape => writeln!(err, "pcompact: differs shape"),
         Verdict::Word(address) => writeln!(err, "pcompact: differs word {address}"),
         Verdict::Live(index) => writeln!(err, "pcompact: differs live {index}"),
+        Verdict::Root(index) => writeln!(err, "pcompact: differs root {index}"),
     }
 }

@@ -1,5 +1,5 @@
 -- What the cells of an image keep.
-use Rattle.std.specs.Prelude.{◌≡◌, ℕ, ◌≤◌, List, [], ◌∷◌, map}
+use Rattle.std.specs.Prelude.{◌≡◌, ℕ, ◌≤◌, List, [], ◌∷◌, map, None, option_map}
 use Rattle.std.specs.List.{range_with_len}
 use Rattle.std.specs.Vec.{vec_capacity}
 use Rattle.heap_image.specs.HeapImage.{HeapImage, IsValid, region_count}
@@ -9,7 +9,7 @@ use Rattle.region_cells.specs.Views.{ImageRegion}
 
 -- the image of which these are places; an empty one where there are none
 abbrev pub image_in : List ImageRegion → HeapImage
-image_in [] = record { region_log = 0; allowance = 0; words = []; live = [] }
+image_in [] = record { region_log = 0; allowance = 0; words = []; live = []; roots = None }
 image_in (place ∷ places) = place.image
 
 module _ (image : HeapImage) where
@@ -25,6 +25,7 @@ module _ (image : HeapImage) where
     pub region_log : parts.region_log ≡ image.region_log
     pub allowance : parts.allowance ≡ image.allowance
     pub live : parts.live.items ≡ image.live
+    pub roots : option_map (λ v. v.items) parts.roots ≡ image.roots
     pub empty : parts.regions.items ≡ []
     pub room : region_count image ≤ vec_capacity parts.regions
 

@@ -1,5 +1,5 @@
 //! `Cells`: the regions of a heap, each read by many or written by one.
-ghost use Rattle.std.specs.Prelude.{◌≡◌, ℕ, ◌+◌, ◌<◌, ◌≤◌, ◌∷◌, [], ◌++◌, length, map, IfOk, IfErr, vec_len};
+ghost use Rattle.std.specs.Prelude.{◌≡◌, ℕ, ◌+◌, ◌<◌, ◌≤◌, ◌∷◌, [], ◌++◌, length, map, option_map, IfOk, IfErr, vec_len};
 ghost use Rattle.std.specs.List.{range_with_len};
 ghost use Rattle.std.specs.Vec.{vec_capacity};
 ghost use Rattle.heap_image.specs.HeapImage.{IsValid, region_words, region_count, block_of};
@@ -137,6 +137,7 @@ impl Cells {
     pub fn into_regions(self) -> Result<ImageParts, Fault>
         ensures regions { IfOk result (λ parts. parts.regions.items ≡ map (moved_block self) (range_with_len 0 (region_count self))) }
         ensures live { IfOk result (λ parts. parts.live.items ≡ self.live) }
+        ensures roots { IfOk result (λ parts. option_map (λ v. v.items) parts.roots ≡ self.roots) }
         ensures numbers { IfOk result (λ parts. (parts.region_log ≡ self.region_log) × (parts.allowance ≡ self.allowance)) }
         ensures fault { IfErr result (λ fault. (r : ℕ) × (r < region_count self) × (fault ≡ Overwritten r)) }
     {

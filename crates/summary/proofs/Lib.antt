@@ -27,3 +27,4 @@ pub mod Filters
 pub mod SourceRows
 pub mod Crossings
 pub mod BlockAddresses
+pub mod Compacted

@@ -7,9 +7,9 @@ use Rattle.std.proofs.lemmas.List.Elements.{All-from_get_or, All-map}
 use Rattle.std.proofs.lemmas.List.Folds.{list_any_none, list_any_at, Any-from_list_any}
 use Rattle.std.proofs.lemmas.List.FromFn.{length-range_with_len}
 use Rattle.std.proofs.lemmas.List.Sums.{count_by-le-length, prefix_len-le-length}
-use Rattle.std.specs.Prelude.{IsTrue, Option, Some, None}
+use Rattle.std.specs.Prelude.{IsTrue, IfSome, Option, Some, None}
 use Rattle.std.specs.List.{range_with_len, list_any}
-use Rattle.heap_image.specs.HeapImage.{HeapImage, IsValid, region_words, is_dead_word, HasLiveList, HasSoundHeader, heap_words, word_at, size_at, references_at, end_of, reference_at, is_word_of, is_live_word, is_null_or_live, live_words}
+use Rattle.heap_image.specs.HeapImage.{HeapImage, AreRoots, IsValid, region_words, is_dead_word, HasLiveList, HasSoundHeader, heap_words, word_at, size_at, references_at, end_of, reference_at, is_word_of, is_live_word, is_null_or_live, live_words}
 use Rattle.heap_image.proofs.Spans.{is_in_inside}
 use Rattle.heap_image.proofs.LiveWords.{live_apart, live_end-le}
 use Rattle.summary.specs.NewAddresses.{prefix_end, new_address, new_top}
@@ -251,8 +251,8 @@ module _ (image : HeapImage) (valid : IsValid image) where
       each (Some q) = carried_fits q
       each None = filler_fits p
 
-  pub compact-IsValid : IsValid (compact image)
-  compact-IsValid =
+  pub valid_with : IfSome (compact image).roots (AreRoots (compact image)) → IsValid (compact image)
+  valid_with rooted =
       let long = length-compact image valid.live_list in
       let count : length (compact image).live ≡ length image.live = length-map image.live (new_address image) in
       let some = valid.limits.not_empty in
@@ -271,4 +271,5 @@ module _ (image : HeapImage) (valid : IsValid image) where
         allowance_fits = valid.allowance_fits;
         words_fit = All-map (λ w. w < 2 ^ 64) (compacted_word image) (range_with_len 0 (heap_words image)) (λ k d l. compacted_fits (get_or (range_with_len 0 (heap_words image)) k d));
         live_list = compact-HasLiveList image valid.live_list;
+        rooted = rooted;
       }

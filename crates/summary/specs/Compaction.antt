@@ -1,5 +1,5 @@
 -- The compacted heap, and the heap between the moves and the update of deferred objects.
-use Rattle.std.specs.Prelude.{ℕ, ◌+◌, ◌-◌, Bool, true, not, ◌&&◌, nat_lt, nat_le, ◌==◌, if◌then◌else◌, List, map, Option, Some, None}
+use Rattle.std.specs.Prelude.{ℕ, ◌+◌, ◌-◌, Bool, true, not, ◌&&◌, nat_lt, nat_le, ◌==◌, if◌then◌else◌, List, map, Option, Some, None, option_map}
 use Rattle.std.specs.List.{list_any, range_with_len}
 use Rattle.heap_image.specs.HeapImage.{HeapImage, heap_words, region_of, word_at, size_at, references_at}
 use Rattle.summary.specs.NewAddresses.{new_address, new_end_of, new_live, new_top}
@@ -50,6 +50,10 @@ module _ (image : HeapImage) where
   moved = record image { words = map moved_word (range_with_len 0 (heap_words image)) }
 
   -- The compaction of the image: the dense prefix with fillers in its gaps, then all other live words in their order
-  -- without a gap, and zeros from the new top up.
+  -- without a gap, and zeros from the new top up. Roots lead to the new addresses.
   abbrev pub compact : HeapImage
-  compact = record image { words = map compacted_word (range_with_len 0 (heap_words image)); live = new_live image }
+  compact = record image {
+    words = map compacted_word (range_with_len 0 (heap_words image));
+    live = new_live image;
+    roots = option_map (map redirected) image.roots;
+  }

@@ -3,7 +3,7 @@
 //! Nothing here is clever or fast: it takes as many steps as the heap has words, times the number of live objects.
 //! Tests compare with it.
 
-ghost use Rattle.std.specs.Prelude.{true, ◌≡◌, ◌+◌, ◌-◌, ◌*◌, ◌^◌, ◌<◌, ◌≤◌, IfOk, IfNone, map, count_by};
+ghost use Rattle.std.specs.Prelude.{true, ◌≡◌, ◌+◌, ◌-◌, ◌*◌, ◌^◌, ◌<◌, ◌≤◌, IfOk, IfNone, map, option_map, count_by};
 ghost use Rattle.std.specs.List.{list_any, range_with_len};
 ghost use Rattle.heap_image.specs.HeapImage.{region_count, word_at, size_at, references_at, is_word_of, is_live_word, is_dead_word, last_end};
 ghost use Rattle.summary.specs.NewAddresses.{prefix_end, next_after, next_at, new_address, new_live, new_top};
@@ -14,7 +14,7 @@ ghost use Rattle.summary.specs.RegionData.{addresses};
 ghost use Rattle.summary.specs.Placement.{IsPrefix, IsPlacement};
 
 use crate::region_words::region_words;
-use heap_image::{Image, header};
+use heap_image::{Image, ImageParts, header};
 use raw_region::Region;
 use std::alloc::{AllocError, Global};
 
@@ -56,8 +56,31 @@ pub fn compact_plainly(alloc: Global, image: &Image) -> Result<Image, AllocError
     for r in 0..image.regions() {
         regions.push(compacted_region(alloc, image, &places, r)?)?;
     }
+    let roots = new_roots(alloc, image, places.prefix_end)?;
     let Placement { new_live, .. } = places;
-    Ok(Image::of_parts(image.region_log(), image.allowance(), regions, new_live))
+    let parts = ImageParts {
+        region_log: image.region_log(),
+        allowance: image.allowance(),
+        regions,
+        live: new_live,
+        roots,
+    };
+    Ok(parts.into_image())
+}
+
+/// The roots of an image of version 2, redirected.
+fn new_roots(alloc: Global, image: &Image, prefix: u64) -> Result<Option<Vec<u64>>, AllocError>
+    requires { IsPrefix image.now prefix }
+    ensures { IfOk result (λ roots. option_map (λ v. v.items) roots ≡ option_map (map (redirected image.now)) image.now.roots) }
+{
+    if image.version() == 1 {
+        return Ok(None);
+    }
+    let mut roots = Vec::new(alloc);
+    for w in image.roots() {
+        roots.push(redirected(image, prefix, *w))?;
+    }
+    Ok(Some(roots))
 }
 
 fn compacted_region(

@@ -1,9 +1,9 @@
 use Rattle.std.proofs.Common.{◌≡◌, ℕ, List, get_or, not, sym, ◌∙◌, ap, Option}
 use Rattle.std.specs.Prelude.{find, map}
 use Rattle.std.specs.List.{concat, range_with_len}
-use Rattle.heap_image.specs.HeapImage.{image_of}
+use Rattle.heap_image.specs.HeapImage.{image_of, is_unsound}
 use Rattle.heap_image.specs.Header.{references_of}
-use Rattle.heap_image.specs.ImageText.{is_unsound, is_dangling, fields_of}
+use Rattle.heap_image.specs.ImageText.{is_dangling, fields_of}
 use Rattle.heap_image.proofs.Fields.{dangling_searched, dangling_kept}
 use Rattle.heap_image.proofs.Finds.{find_none_more}
 use Rattle.heap_image.proofs.Objects.{unsound_tested, end_more, overlaps_more, header_first}

@@ -1,7 +1,7 @@
 use Rattle.std.proofs.Common.{◌≡◌, take, None}
 use Rattle.std.specs.Prelude.{find, flat_map}
-use Rattle.heap_image.specs.HeapImage.{image_of, size_at}
-use Rattle.heap_image.specs.ImageText.{is_unsound, is_dangling, fields_of}
+use Rattle.heap_image.specs.HeapImage.{image_of, size_at, is_unsound}
+use Rattle.heap_image.specs.ImageText.{is_dangling, fields_of}
 use Rattle.heap_image.proofs.Overlaps.{last_end_of, overlap_of}
 use Rattle.heap_image.proofs.check.check_objects.Given as goal
 

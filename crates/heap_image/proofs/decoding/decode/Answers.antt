@@ -14,14 +14,14 @@ returns-then-bytes-text_len-clause-only g c = λ image valid is.
     let front = c.in_ok-front.front in
     let long = c.text_len.ensures in
     let short = c.if-bytes-text_len.true in
-    absurd (no_refusal c.args.bytes.now image TruncatedBody valid is (truncated_first c.args.bytes.now front.region_log front.live_count front.words front.allowance c.in_ok-front.ensures.limits c.in_ok-front.ensures.told c.if-bytes-lt-FRONT_BYTES.false (omega arith)))
+    absurd (no_refusal c.args.bytes.now image TruncatedBody valid is (truncated_first c.args.bytes.now front.rooted front.region_log front.count front.words front.allowance c.in_ok-front.ensures.limits c.in_ok-front.ensures.told c.if-bytes-lt-FRONT_BYTES.false (omega arith)))
 
 pub returns-then-bytes-text_len-clause-fault : goal.returns-then-bytes-text_len-clause-fault
 returns-then-bytes-text_len-clause-fault g c =
     let front = c.in_ok-front.front in
     let long = c.text_len.ensures in
     let short = c.if-bytes-text_len.true in
-    inr (truncated_first c.args.bytes.now front.region_log front.live_count front.words front.allowance c.in_ok-front.ensures.limits c.in_ok-front.ensures.told c.if-bytes-lt-FRONT_BYTES.false (omega arith))
+    inr (truncated_first c.args.bytes.now front.rooted front.region_log front.count front.words front.allowance c.in_ok-front.ensures.limits c.in_ok-front.ensures.told c.if-bytes-lt-FRONT_BYTES.false (omega arith))
 
 pub returns-clause-only : goal.returns-clause-only
 returns-clause-only g c = decodes_only c.args.bytes.now c.read_image.result (Some c.read_image.new.reader.0.now) c.read_image.ensures.valid c.read_image.ensures.text c.read_image.ensures.end c.read_image.ensures.fault c.read_image.ensures.io
@@ -31,4 +31,4 @@ returns-clause-memory g c =
     let front = c.in_ok-front.front in
     let long = c.text_len.ensures in
     let enough = c.if-bytes-text_len.false in
-    for_each_fault c.read_image.result Memory (layout_none c.args.bytes.now front.region_log front.live_count front.words front.allowance c.in_ok-front.ensures.limits c.in_ok-front.ensures.told (omega arith))
+    for_each_fault c.read_image.result Memory (layout_none c.args.bytes.now front.rooted front.region_log front.count front.words front.allowance c.in_ok-front.ensures.limits c.in_ok-front.ensures.told (omega arith))

@@ -11,8 +11,8 @@ use Rattle.heap_image.proofs.read.read_body.Goals as goal
 pub returns-in_err-regions-clause-memory : goal.returns-in_err-regions-clause-memory
 returns-in_err-regions-clause-memory g c = λ _. let some = c.requires.not_empty in let due = c.new-incoming.ensures.due in c.in_ok-top_up.ensures.came c.new-incoming.ensures.none_held (omega arith)
 
-pub returns-in_err-live-clause-memory : goal.returns-in_err-live-clause-memory
-returns-in_err-live-clause-memory g c = λ _. let some = c.requires.not_empty in let due = c.new-incoming.ensures.due in c.in_ok-top_up.ensures.came c.new-incoming.ensures.none_held (omega arith)
+pub returns-in_err-tail-clause-memory : goal.returns-in_err-tail-clause-memory
+returns-in_err-tail-clause-memory g c = λ _. let some = c.requires.not_empty in let due = c.new-incoming.ensures.due in c.in_ok-top_up.ensures.came c.new-incoming.ensures.none_held (omega arith)
 
 pub returns-in_err-regions-clause-lost : goal.returns-in_err-regions-clause-lost
 returns-in_err-regions-clause-lost g c =
@@ -20,8 +20,8 @@ returns-in_err-regions-clause-lost g c =
     let two = c.read_regions.ensures.lost in
     (one.0 ++ two.0, consumes_more (g.R.Intake.left c.args.reader.now) (g.R.Intake.left c.top_up.new.reader) (g.R.Intake.left c.read_regions.new.reader) one.0 two.0 one.1 two.1)
 
-pub returns-in_err-live-clause-lost : goal.returns-in_err-live-clause-lost
-returns-in_err-live-clause-lost g c =
+pub returns-in_err-tail-clause-lost : goal.returns-in_err-tail-clause-lost
+returns-in_err-tail-clause-lost g c =
     let one = c.top_up.ensures.lost in
     let two = c.read_regions.ensures.lost in
     (one.0 ++ two.0, consumes_more (g.R.Intake.left c.args.reader.now) (g.R.Intake.left c.top_up.new.reader) (g.R.Intake.left c.read_regions.new.reader) one.0 two.0 one.1 two.1)
@@ -40,7 +40,7 @@ returns-in_err-read-clause-truncated g c =
     let none = c.new-incoming.ensures.none_held in
     rw (p.1, p.2) (λ e. let t = c.in_err-read.ensures.truncated (same_error c.in_err-read.field-0.0 TruncatedBody e) in
     let short = still_short start worded (concat c.in_ok-regions.regions.items) (expected c.new-incoming.result) (expected c.read_regions.new.incoming) taken (omega arith) t.1 in
-    let wanted : expected c.new-incoming.result ≡ c.args.front.words + c.args.front.live_count = omega arith in
+    let wanted : expected c.new-incoming.result ≡ c.args.front.words + c.args.front.count = omega arith in
     (t.0, rw (← wanted) (short_of_device (held_bytes c.new-incoming.result) (g.R.Intake.left c.args.reader.now) (8 * expected c.new-incoming.result) (none_held c.new-incoming.result.bytes c.new-incoming.result.start c.new-incoming.result.end none) short)))
 
 pub returns-in_err-read-clause-lost : goal.returns-in_err-read-clause-lost

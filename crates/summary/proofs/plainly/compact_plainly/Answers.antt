@@ -1,11 +1,11 @@
 use Rattle.std.proofs.Common.{◌≡◌, [], ◌∷◌, ◌++◌, ◌∙◌, ap, sym, subst, arith}
-use Rattle.std.specs.Prelude.{map}
+use Rattle.std.specs.Prelude.{map, option_map}
 use Rattle.std.specs.List.{range_with_len}
 use Rattle.heap_image.specs.HeapImage.{IsValid, region_count}
 use Rattle.summary.specs.Compaction.{compacted_word}
 use Rattle.summary.specs.RegionData.{addresses}
 use Rattle.summary.proofs.PlainWords.{map-range-more, parts-of_blocks}
-use Rattle.summary.proofs.Valid.{compact-IsValid}
+use Rattle.summary.proofs.Compacted.{compact-IsValid}
 use Rattle.summary.proofs.plainly.compact_plainly.Goals as goal
 
 pub loop-r-preserved : goal.loop-r-preserved
@@ -16,18 +16,18 @@ loop-r-preserved c =
     ∙ ap (λ b. map (λ r. map (compacted_word image) (addresses image r)) (range_with_len 0 c.loop-r.r) ++ b ∷ []) c.in_ok-compacted_region.ensures
     ∙ map-range-more (λ r. map (compacted_word image) (addresses image r)) c.loop-r.r
 
-pub of_parts-requires : goal.of_parts-requires
-of_parts-requires c =
+pub into_image-requires : goal.into_image-requires
+into_image-requires c =
     let image = c.args.image.now in
     let valid = c.region_log.ensures.valid in
     let all : c.loop-r.r ≡ region_count image = let low = c.loop-r-test.false in let high = c.loop-r.auto.r-end in let is = c.regions-r-end.ensures.value in omega arith in
-    let parts = parts-of_blocks image c.region_log.result c.allowance.result c.loop-r.r c.loop-r.regions.items c.in_ok-places.places.new_live.items valid.limits.whole_regions c.region_log.ensures.value c.allowance.ensures c.loop-r.invariant all c.in_ok-places.ensures.live in
-    record { regions = parts.0; valid = subst IsValid (sym parts.1) (compact-IsValid image valid) }
+    let parts = parts-of_blocks image c.region_log.result c.allowance.result c.loop-r.r c.loop-r.regions.items c.in_ok-places.places.new_live.items (option_map (λ v. v.items) c.in_ok-roots.roots) valid.limits.whole_regions c.region_log.ensures.value c.allowance.ensures c.loop-r.invariant all c.in_ok-places.ensures.live c.in_ok-roots.ensures in
+    record { whole = parts.0; valid = subst IsValid (sym parts.1) (compact-IsValid image valid) }
 
 pub returns : goal.returns
 returns c =
     let image = c.args.image.now in
     let valid = c.region_log.ensures.valid in
     let all : c.loop-r.r ≡ region_count image = let low = c.loop-r-test.false in let high = c.loop-r.auto.r-end in let is = c.regions-r-end.ensures.value in omega arith in
-    let parts = parts-of_blocks image c.region_log.result c.allowance.result c.loop-r.r c.loop-r.regions.items c.in_ok-places.places.new_live.items valid.limits.whole_regions c.region_log.ensures.value c.allowance.ensures c.loop-r.invariant all c.in_ok-places.ensures.live in
-    c.of_parts.ensures ∙ parts.1
+    let parts = parts-of_blocks image c.region_log.result c.allowance.result c.loop-r.r c.loop-r.regions.items c.in_ok-places.places.new_live.items (option_map (λ v. v.items) c.in_ok-roots.roots) valid.limits.whole_regions c.region_log.ensures.value c.allowance.ensures c.loop-r.invariant all c.in_ok-places.ensures.live c.in_ok-roots.ensures in
+    c.into_image.ensures ∙ parts.1

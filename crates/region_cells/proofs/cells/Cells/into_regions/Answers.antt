@@ -96,6 +96,7 @@ loop-r-preserved c =
       inv.4,
       inv.5,
       inv.6,
+      inv.7,
     )
 
 pub returns-clause-regions : goal.returns-clause-regions

@@ -14,4 +14,5 @@ invariant-loop-r l =
     (region_count l.fn.self ≤ vec_capacity l.parts.regions) ×
     (l.parts.live ≡ l.initial.parts.live) ×
     (l.parts.region_log ≡ l.initial.parts.region_log) ×
-    (l.parts.allowance ≡ l.initial.parts.allowance)
+    (l.parts.allowance ≡ l.initial.parts.allowance) ×
+    (l.parts.roots ≡ l.initial.parts.roots)

@@ -26,6 +26,7 @@ invariant_of-result c =
         region_log = ap (λ i. i.region_log) (sym whole);
         allowance = ap (λ i. i.allowance) (sym whole);
         live = ap (λ i. i.live) (sym whole);
+        roots = ap (λ i. i.roots) (sym whole);
         empty = c.in-Ok-with_capacity.ensures.items;
         room = omega (arith, c.regions-count.ensures.value, c.in-Ok-with_capacity.ensures.capacity);
       };

@@ -1,0 +1,75 @@
+-- What was marked, as a live list.
+use Rattle.std.proofs.Common.{◌≡◌, ℕ, ◌+◌, ◌/◌, ◌≤◌, ◌<◌, Bool, true, false, List, [], ◌∷◌, length, get_or, refl, sym, ◌∙◌, ap, subst, arith, eqb, ltb, Option, Some, None}
+use Rattle.std.proofs.lemmas.Bool.{eq-eqb}
+use Rattle.std.proofs.lemmas.List.Folds.{list_any_at}
+use Rattle.std.proofs.lemmas.List.Elements.{All-from_get_or}
+use Rattle.std.specs.Prelude.{All, filter, find, option_map, slice_index}
+use Rattle.std.specs.List.{concat, list_any, range_with_len}
+use Rattle.heap_image.specs.declared.fault.Fault.{Fault}
+use Rattle.heap_image.specs.declared.fault.Fault.TheVariants.{LiveOrder, Header, Overlap, Reference, Root}
+use Rattle.heap_image.specs.HeapImage.{HeapImage, heap_words, image_of, reachable}
+use Rattle.heap_image.specs.ImageText.{unsound_header, overlapping, dangling, first_some, live_list_faults, misplaced_root, misplaced_index, from_tail}
+use Rattle.heap_image.specs.Begins.{MarkBegins, is_marked}
+use Rattle.heap_image.specs.Reachable.{is_listed}
+use Rattle.heap_image.specs.Marking.{AreReached}
+use Rattle.heap_image.proofs.Listed.{filter_same}
+use Rattle.heap_image.proofs.Reaches.{reachable-ascending, reachable-below}
+use Rattle.heap_image.proofs.InOrder.{reachable-in_order}
+use Rattle.heap_image.proofs.TextLaws.{reachable-words}
+
+module _ (image : HeapImage) (roots bits live : List ℕ) (words : ℕ) (are : words ≡ heap_words image) (reached : AreReached image roots bits) (is : live ≡ filter (is_marked bits) (range_with_len 0 words)) where
+  pub live_is : live ≡ reachable image roots
+  live_is =
+      is
+      ∙ ap (λ n. filter (is_marked bits) (range_with_len 0 n)) are
+      ∙ filter_same (is_marked bits) (is_listed (reachable image roots)) 0 (heap_words image) (λ a l m. reached.marked a (omega arith))
+      ∙ sym (reachable-ascending image roots)
+
+  pub live_inside : All (λ a. a < words) live
+  live_inside = All-from_get_or (λ a. a < words) live 0 (λ i l.
+      let listed : is_listed live (get_or live i 0) ≡ true = list_any_at (λ b. eqb (get_or live i 0) b) live i 0 l (eq-eqb (get_or live i 0) (get_or live i 0) refl) in
+      let below = reachable-below image roots (get_or live i 0) (subst (λ xs. is_listed xs (get_or live i 0) ≡ true) live_is listed) in
+      omega arith)
+
+  pub live_begins : MarkBegins live words bits
+  live_begins = record {
+    room = subst (λ n. n / 64 < length bits) (sym are) reached.room;
+    marked = λ a l. reached.marked a (omega arith) ∙ ap (λ xs. is_listed xs a) (sym live_is);
+  }
+
+module _ (log : ℕ) (regions : List (List ℕ)) (roots live : List ℕ) (words : ℕ) (are : words ≡ length (concat regions)) where
+  -- the image of these roots
+  abbrev image : HeapImage
+  image = from_tail true (image_of log 0 regions roots)
+
+  misplaced_is : find (λ i. ltb words (slice_index roots i)) (range_with_len 0 (length roots)) ≡ misplaced_root image
+  misplaced_is = ap (λ n. find (λ i. ltb n (slice_index roots i)) (range_with_len 0 (length roots))) are
+
+  pub root_fault : (i : ℕ) (found : Option ℕ) → found ≡ find (λ i. ltb words (slice_index roots i)) (range_with_len 0 (length roots)) → found ≡ Some i
+      → first_some (live_list_faults image) ≡ Some (Root i)
+  root_fault i found tested some =
+      ap (λ o. first_some (option_map Root o ∷ option_map LiveOrder (misplaced_index (heap_words image) image.live) ∷ option_map Header (unsound_header image) ∷ option_map Overlap (overlapping image) ∷ option_map (λ (p : ℕ × ℕ). Reference p.0 p.1) (dangling image) ∷ [])) (sym misplaced_is ∙ sym tested ∙ some)
+
+  module _ (found : Option ℕ) (tested : found ≡ find (λ i. ltb words (slice_index roots i)) (range_with_len 0 (length roots))) (none : found ≡ None) (is : live ≡ reachable (image_of log 0 regions []) roots) where
+    live_here : live ≡ image.live
+    live_here = is ∙ sym (reachable-words (image_of log 0 regions []) roots None roots)
+
+    faults_are : first_some (live_list_faults image)
+        ≡ first_some (option_map Header (unsound_header (image_of log 0 regions live)) ∷ option_map Overlap (overlapping (image_of log 0 regions live)) ∷ option_map (λ (p : ℕ × ℕ). Reference p.0 p.1) (dangling (image_of log 0 regions live)) ∷ [])
+    faults_are =
+        ap (λ o. first_some (option_map Root o ∷ option_map LiveOrder (misplaced_index (heap_words image) image.live) ∷ option_map Header (unsound_header image) ∷ option_map Overlap (overlapping image) ∷ option_map (λ (p : ℕ × ℕ). Reference p.0 p.1) (dangling image) ∷ [])) (sym misplaced_is ∙ sym tested ∙ none)
+        ∙ ap (λ o. first_some (option_map LiveOrder o ∷ option_map Header (unsound_header image) ∷ option_map Overlap (overlapping image) ∷ option_map (λ (p : ℕ × ℕ). Reference p.0 p.1) (dangling image) ∷ [])) (reachable-in_order (image_of log 0 regions roots) roots)
+        ∙ ap (λ xs. first_some (option_map Header (unsound_header (image_of log 0 regions xs)) ∷ option_map Overlap (overlapping (image_of log 0 regions xs)) ∷ option_map (λ (p : ℕ × ℕ). Reference p.0 p.1) (dangling (image_of log 0 regions xs)) ∷ [])) (sym live_here)
+
+    pub object_fault : (fault : Fault)
+        → first_some (option_map Header (unsound_header (image_of log 0 regions live)) ∷ option_map Overlap (overlapping (image_of log 0 regions live)) ∷ option_map (λ (p : ℕ × ℕ). Reference p.0 p.1) (dangling (image_of log 0 regions live)) ∷ []) ≡ Some fault
+        → first_some (live_list_faults image) ≡ Some fault
+    object_fault fault h = faults_are ∙ h
+
+    pub no_fault_found : (unsound_header (image_of log 0 regions live) ≡ None) × (overlapping (image_of log 0 regions live) ≡ None) × (dangling (image_of log 0 regions live) ≡ None)
+        → first_some (live_list_faults image) ≡ None
+    no_fault_found h =
+        faults_are
+        ∙ ap (λ o. first_some (option_map Header o ∷ option_map Overlap (overlapping (image_of log 0 regions live)) ∷ option_map (λ (p : ℕ × ℕ). Reference p.0 p.1) (dangling (image_of log 0 regions live)) ∷ [])) h.0
+        ∙ ap (λ o. first_some (option_map Overlap o ∷ option_map (λ (p : ℕ × ℕ). Reference p.0 p.1) (dangling (image_of log 0 regions live)) ∷ [])) h.1
+        ∙ ap (λ o. first_some (option_map (λ (p : ℕ × ℕ). Reference p.0 p.1) o ∷ [])) h.2

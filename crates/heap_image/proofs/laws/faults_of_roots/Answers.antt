@@ -1,0 +1,9 @@
+use Rattle.heap_image.proofs.InOrder.{reachable-in_order}
+use Rattle.heap_image.proofs.RootedFaults.{dangling_is_beyond}
+use Rattle.heap_image.proofs.laws.faults_of_roots.Goals as goal
+
+pub returns-clause-order : goal.returns-clause-order
+returns-clause-order c = reachable-in_order
+
+pub returns-clause-references : goal.returns-clause-references
+returns-clause-references c = λ image none. dangling_is_beyond image image.live none

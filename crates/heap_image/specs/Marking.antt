@@ -1,0 +1,40 @@
+-- Marks while they grow, and the addresses whose references are still to be followed.
+use Rattle.std.specs.Prelude.{◌≡◌, ◌⊎◌, ℕ, ◌+◌, ◌/◌, ◌<◌, ◌≤◌, Bool, true, not, List, All, Contains, length, count_by}
+use Rattle.std.specs.List.{list_any, range_with_len}
+use Rattle.heap_image.specs.HeapImage.{HeapImage, heap_words, leads_to, refers_to, reachable}
+use Rattle.heap_image.specs.Begins.{is_marked}
+use Rattle.heap_image.specs.Reachable.{is_listed}
+
+-- how many of the addresses below a number are not marked
+abbrev pub unmarked : ℕ → List ℕ → ℕ
+unmarked words bits = count_by (λ a. not (is_marked bits a)) (range_with_len 0 words)
+
+-- the addresses on the stack are below the number of words, and marked
+abbrev pub AreStacked : ℕ → List ℕ → List ℕ → Type 0
+AreStacked words bits stack = All (λ a. (a < words) × (is_marked bits a ≡ true)) stack
+
+-- The targets are marked, and no other address that was not. Those that were not are put on the stack.
+pub record IsGrown (words : ℕ) (targets : ℕ → Bool) (bits new_bits stack new_stack : List ℕ) : Type 0 where
+  pub room : length new_bits ≡ length bits
+  pub kept : (a : ℕ) → a < words → is_marked bits a ≡ true → is_marked new_bits a ≡ true
+  pub all : (a : ℕ) → a < words → targets a ≡ true → is_marked new_bits a ≡ true
+  pub none_else : (a : ℕ) → a < words → is_marked new_bits a ≡ true → (is_marked bits a ≡ true) ⊎ (targets a ≡ true)
+  pub pending : (a : ℕ) → a < words → is_marked new_bits a ≡ true → (is_marked bits a ≡ true) ⊎ Contains new_stack a
+  pub stacked : (a : ℕ) → Contains stack a → Contains new_stack a
+  pub total : length new_stack + unmarked words new_bits ≡ length stack + unmarked words bits
+  pub inside : AreStacked words bits stack → AreStacked words new_bits new_stack
+
+-- What is marked is reached, the roots are marked, and what is marked and does not wait on the stack has its references
+-- followed.
+pub record IsMarking (image : HeapImage) (roots bits stack : List ℕ) : Type 0 where
+  pub room : length bits ≡ heap_words image / 64 + 1
+  pub inside : AreStacked (heap_words image) bits stack
+  pub reached : (a : ℕ) → a < heap_words image → is_marked bits a ≡ true → is_listed (reachable image roots) a ≡ true
+  pub started : (a : ℕ) → a < heap_words image → list_any (λ w. leads_to w a) roots ≡ true → is_marked bits a ≡ true
+  pub followed : (a : ℕ) → a < heap_words image → is_marked bits a ≡ true
+      → Contains stack a ⊎ ((b : ℕ) → b < heap_words image → refers_to image a b ≡ true → is_marked bits b ≡ true)
+
+-- the marked addresses are the reachable ones
+pub record AreReached (image : HeapImage) (roots bits : List ℕ) : Type 0 where
+  pub room : heap_words image / 64 < length bits
+  pub marked : (a : ℕ) → a < heap_words image → is_marked bits a ≡ is_listed (reachable image roots) a

@@ -1,0 +1,87 @@
+//! Images of version 1 as ones of version 2.
+ghost use Rattle.std.specs.Prelude.{◌≡◌, ◌<◌, ◌⊎◌, ◌+◌, ◌^◌, None, Some, Err, All, length, map, IfOk, IfErr, OnErr, IfSome, IsTrue};
+ghost use Rattle.std.specs.Io.KnownBytes.{Appends};
+ghost use Rattle.heap_image.specs.HeapImage.{HeapImage, roots_of};
+ghost use Rattle.heap_image.specs.ImageText.{text};
+ghost use Rattle.heap_image.specs.Refusals.{IsReason};
+ghost use Rattle.heap_image.specs.Upgrade.{upgraded, IsRead, IsUpgradeBegun};
+
+use crate::intake::Intake;
+use crate::outlet::Outlet;
+use crate::read::read_image;
+use crate::write::write_image;
+use crate::{Fault, Image, ImageParts};
+use std::alloc::{AllocError, Global};
+use std::thread::Threads;
+
+/// The image as one of version 2, with a root to each live object, ascending: the live objects are the same. One of
+/// version 2 comes back as it is.
+///
+/// Where memory is refused the image comes back unchanged.
+pub fn upgrade(alloc: Global, image: Image) -> Result<Image, (Image, Fault)>
+    ensures upgraded { IfOk result (λ new. new ≡ upgraded image) }
+    ensures refused { IfErr result (λ refused. (refused.0 ≡ image) × (refused.1 ≡ Fault.Memory)) }
+{
+    if image.version() == 2 {
+        return Ok(image);
+    }
+    match roots_to(alloc, image.live()) {
+        Ok(roots) => Ok(with_roots(image, roots)),
+        Err(_) => Err((image, Fault::Memory)),
+    }
+}
+
+/// A root to each of these objects.
+fn roots_to(alloc: Global, live: &[u64]) -> Result<Vec<u64>, AllocError>
+    requires { All (λ a. a + 1 < 2 ^ 64) live.now }
+    ensures { IfOk result (λ roots. roots.items ≡ map (λ a. a + 1) live.now) }
+{
+    let mut roots = Vec::with_capacity(alloc, live.len())?;
+    for a in live {
+        roots.push(*a + 1)?;
+    }
+    Ok(roots)
+}
+
+/// An image of version 1 with these roots, one to each live object.
+fn with_roots(image: Image, roots: Vec<u64>) -> Image
+    requires none { image.roots ≡ None }
+    requires roots { roots.items ≡ map (λ a. a + 1) image.live }
+    ensures { result ≡ upgraded image }
+{
+    let parts = image.into_parts();
+    let parts = ImageParts {
+        roots: Some(roots),
+        ..parts
+    };
+    parts.into_image()
+}
+
+/// Reads an image, upgrades it and writes it, and answers how many roots it has.
+///
+/// Nothing is written before the upgrade is made. After fault 13 in writing, a beginning of the text was written.
+pub fn upgrade_stream<R: Intake, O: Outlet>(
+    alloc: Global,
+    reader: &mut R,
+    writer: &mut O,
+    threads: &(impl Threads + Sync),
+) -> Result<u32, Fault>
+    ensures text { IfOk result (λ count. (image : HeapImage)
+        × IsRead image (R.left reader.old) (R.left reader.new)
+        × Appends (O.took writer.old) (O.took writer.new) (text (upgraded image))
+        × (count ≡ length (roots_of (upgraded image)))) }
+    ensures written { OnErr result ((writer.new ≡ writer.old)
+        ⊎ IsUpgradeBegun (R.left reader.old) (R.left reader.new) (O.took writer.old) (O.took writer.new)) }
+    ensures fault { IfErr result
+        (λ fault. IfSome (R.left reader.old) (λ input. IsReason input fault)) }
+    ensures device { result ≡ Err Fault.Io
+        → IsTrue (R.has_failed reader.new) ⊎ IsTrue (O.has_failed writer.new) }
+{
+    let image = read_image(alloc, reader, threads)?;
+    let image = match upgrade(alloc, image) {
+        Ok(image) => image,
+        Err((_, fault)) => return Err(fault),
+    };
+    write_image(&image, writer)?;
+    Ok(image.roots().len() as u32)
+}
