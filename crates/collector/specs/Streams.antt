@@ -1,8 +1,8 @@
 -- A collection from bytes to bytes.
 use Rattle.std.specs.Prelude.{ℕ, List, Option}
-use Rattle.std.specs.Io.KnownBytes.{Consumes, IsAtEnd}
-use Rattle.heap_image.specs.HeapImage.{HeapImage, IsValid}
+use Rattle.heap_image.specs.HeapImage.{HeapImage}
 use Rattle.heap_image.specs.ImageText.{text}
+use Rattle.heap_image.specs.Reading.{IsRead}
 use Rattle.heap_image.specs.Outgoing.{TakesBeginning}
 use Rattle.heap_image.specs.declared.fault.Fault.{Fault}
 use Rattle.heap_image.specs.declared.fault.Fault.TheVariants.{TruncatedHeader, Magic, RegionLog, Length, TruncatedBody, Root, LiveOrder, Header, Overlap, Reference, Trailing}
@@ -22,12 +22,6 @@ IsOfBytes (Overlap a) = Unit {0}
 IsOfBytes (Reference a f) = Unit {0}
 IsOfBytes Trailing = Unit {0}
 IsOfBytes _ = ⊥
-
--- all of an input was read, and it is the text of this image
-pub record IsRead (image : HeapImage) (before after : Option (List ℕ)) : Type 0 where
-  pub valid : IsValid image
-  pub text : Consumes before after (Rattle.heap_image.specs.ImageText.text image)
-  pub end : IsAtEnd after
 
 -- all of the input was read, which is the text of some image, and a beginning of the text of its compaction was written
 pub record IsBegun (left left' took took' : Option (List ℕ)) : Type 0 where

@@ -6,7 +6,7 @@ ghost use Rattle.summary.specs.Compaction.{redirected, compact};
 ghost use Rattle.fill.specs.Drains.{IsOverwritten};
 
 use fill::{clear_above, update_deferred};
-use heap_image::{Fault, Image, ImageParts};
+use heap_image::{Fault, Image, ImageParts, roots_are_null_or_live};
 use mark_bitmap::Marks;
 use rayon::prelude::*;
 use region_cells::Cells;
@@ -39,15 +39,7 @@ pub(crate) fn clean_up(
         roots: redirected_roots(parts.roots, plan, marks, threads),
         ..parts
     };
-    Ok(image_of_parts(parts))
-}
-
-fn image_of_parts(parts: ImageParts) -> Image
-    requires regions { AreBlocks parts.region_log parts.regions.items }
-    requires valid { IsValid (rooted_image_of parts.region_log parts.allowance parts.regions.items parts.live.items (option_map (λ v. v.items) parts.roots)) }
-    ensures { result ≡ rooted_image_of parts.region_log parts.allowance parts.regions.items parts.live.items (option_map (λ v. v.items) parts.roots) }
-{
-    parts.into_image()
+    Ok(parts.into_image())
 }
 
 /// The roots of an image of version 2, redirected.
@@ -62,6 +54,7 @@ fn redirected_roots(
     requires roots { option_map (λ v. v.items) roots ≡ plan.now.roots }
     ensures { option_map (λ v. v.items) result ≡ option_map (map (redirected plan.now)) plan.now.roots }
 {
+    roots_are_null_or_live();
     match roots {
         Some(mut roots) => {
             redirect_all(roots.as_mut_slice(), plan, marks, threads);

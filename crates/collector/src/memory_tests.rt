@@ -3,7 +3,7 @@
 use crate::streaming_tests::Checked;
 use crate::tests::{BASE_LIVE, BASE_WORDS, image_text};
 use crate::{OpenGate, Ready, Refusal, Verdict, collect, collect_stream, verify};
-use heap_image::{Fault, FromRead, Image, ToWrite, decode, encode};
+use heap_image::{Fault, FromRead, Image, ToWrite, decode_by_threads, encode};
 use std::alloc::{AllocError, Global};
 use std::sync::Wait;
 use std::thread::Threads;
@@ -15,7 +15,7 @@ fn base_text(alloc: Global) -> Result<Vec<u8>, AllocError> {
 }
 
 fn base(alloc: Global, threads: &(impl Threads + Sync)) -> Result<Image, Fault> {
-    decode(alloc, base_text(alloc)?.as_slice(), threads)
+    decode_by_threads(alloc, base_text(alloc)?.as_slice(), threads)
 }
 
 /// Whether the image is the base heap.

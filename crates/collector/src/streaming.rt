@@ -7,12 +7,13 @@ ghost use Rattle.summary.specs.Compaction.{compact};
 ghost use Rattle.summary.specs.RegionData.{fill_count};
 ghost use Rattle.collector.specs.Collections.{figures_of, fault_of, AreNoneOrTooMany};
 ghost use Rattle.collector.specs.Halts.{MayBeRefused};
-ghost use Rattle.collector.specs.Streams.{IsRead, IsBegun, IsOfBytes};
+ghost use Rattle.heap_image.specs.Reading.{IsRead};
+ghost use Rattle.collector.specs.Streams.{IsBegun, IsOfBytes};
 
 use crate::collection::collect;
 use crate::gate::Gate;
 use crate::outcome::{Figures, Refusal};
-use heap_image::{Fault, Intake, Outlet, read_image, write_image};
+use heap_image::{Fault, Intake, Outlet, read_image_by_threads, write_image};
 use std::alloc::Global;
 use std::sync::Wait;
 use std::thread::Threads;
@@ -50,7 +51,7 @@ pub fn collect_stream<R: Intake, O: Outlet, G: Gate + Sync, T: Threads + Sync, W
     ensures schedule { IfErr result (λ fault. IfSome (R.left reader.old)
         (λ _. (line : ℕ) → fault ≢ Fault.Schedule line)) }
 {
-    let image = read_image(alloc, reader, threads)?;
+    let image = read_image_by_threads(alloc, reader, threads)?;
     match collect(alloc, image, workers, gate, threads, wait) {
         Ok((outcome, _finished)) => {
             write_image(&outcome.image, writer)?;

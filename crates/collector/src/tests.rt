@@ -1,7 +1,7 @@
 //! Tests of what no clause says: the worked verdicts, heaps made from seeds, and queues that two threads steal from.
 use crate::{Gate, OpenGate, Ready, Thief, Verdict, verify};
 use crossbeam_deque::Steal;
-use heap_image::{Image, decode};
+use heap_image::{Image, decode_by_threads};
 use std::alloc::{AllocError, Global};
 use std::test::Fail;
 use std::thread;
@@ -97,7 +97,7 @@ pub(crate) fn image_of(
     threads: &(impl Threads + Sync),
 ) -> Result<Image, Fail> {
     let text = image_text(alloc, (3, allowance), words, live)?;
-    Ok(decode(alloc, text.as_slice(), threads)?)
+    Ok(decode_by_threads(alloc, text.as_slice(), threads)?)
 }
 
 /// The text of the image with this region log and allowance, and these words and live addresses.

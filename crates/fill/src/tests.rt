@@ -9,7 +9,7 @@ mod seeded;
 
 use crate::{clear_above, fill_region, update_deferred};
 use claim_board::{Board, Pass};
-use heap_image::{Fault, Image, decode};
+use heap_image::{Fault, Image, decode_by_threads};
 use history::moves_of_images;
 use mark_bitmap::Marks;
 use raw_region::Region;
@@ -85,7 +85,7 @@ fn sized_image(
     for part in [front.as_slice(), words, live] {
         put_words(&mut bytes, part)?;
     }
-    Ok(decode(alloc, bytes.as_slice(), threads)?)
+    Ok(decode_by_threads(alloc, bytes.as_slice(), threads)?)
 }
 
 fn put_words(bytes: &mut Vec<u8>, words: &[u64]) -> Result<(), AllocError> {

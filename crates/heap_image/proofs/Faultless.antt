@@ -9,13 +9,14 @@ use Rattle.std.specs.List.{range_with_len}
 use Rattle.std.specs.Option.{option_or}
 use Rattle.std.proofs.lemmas.List.{append-nil}
 use Rattle.std.proofs.lemmas.List.Folds.{find-append}
+use Rattle.heap_image.specs.Reading.{HasFittingNumbers}
 use Rattle.heap_image.specs.declared.fault.Fault.TheVariants.{TruncatedHeader, RegionLog, Length, TruncatedBody, LiveOrder, Header, Overlap, Reference, Trailing, Magic, Root}
 use Rattle.heap_image.specs.HeapImage.{HeapImage, IsValid, IsWithinLimits, HasLiveList, heap_words, end_of, size_at, references_at, kind_at, reference_at, is_null_or_live, AreRoots, roots_or}
-use Rattle.heap_image.specs.ImageText.{front, numbers, text, listed_text, with_tail, from_tail, magic, is_rooted, misplaced_root, told_image, front_faults, layout_faults, live_list_faults, told_words, told_count, told_region_log, told_length, told_region_words, first_fault, first_some, fault_if, is_misplaced, misplaced_index, unsound_header, overlapping, dangling}
+use Rattle.heap_image.specs.ImageText.{front, numbers, text, listed_text, with_tail, from_tail, magic, is_rooted, misplaced_root, told_image, front_faults, layout_faults, live_list_faults, told_words, told_count, told_region_log, told_length, told_region_words, first_fault, first_some, fault_if, is_misplaced, misplaced_index, unsound_header, overlapping, dangling, object_faults, first_object_fault}
 use Rattle.heap_image.specs.declared.fault.Fault.{Fault}
 use Rattle.heap_image.proofs.Spans.{Apart}
 use Rattle.heap_image.proofs.LiveWords.{live_apart, live_end-le}
-use Rattle.heap_image.proofs.TextLaws.{HasFittingNumbers, valid_numbers, told_image-append, from_tail-with_tail, length_told, fronted, front_log, front_live, front_words, front_length}
+use Rattle.heap_image.proofs.TextLaws.{valid_numbers, told_image-append, from_tail-with_tail, length_told, fronted, front_log, front_live, front_words, front_length}
 
 find_none : {X : Type 0} (t : X → Bool) (xs : List X) (d : X) → ((i : ℕ) → i < length xs → t (get_or xs i d) ≡ false) → find t xs ≡ None
 find_none t [] d h = refl
@@ -142,14 +143,17 @@ module _ (rooted : Bool) (log live_count words allowance : ℕ) (limits : IsWith
       )
 
   -- too few bytes stand behind it
-  pub first_fault-truncated : length behind < 8 * (words + live_count) → first_fault whole ≡ Some TruncatedBody
-  first_fault-truncated few =
+  pub layout_fault-truncated : length behind < 8 * (words + live_count) → first_some (layout_faults whole) ≡ Some TruncatedBody
+  layout_fault-truncated few =
       let long : length whole ≡ 32 + length behind = length-append (front rooted log live_count words allowance) behind in
       let told = front_length rooted log live_count words allowance limits behind in
       let short : ltb (length whole) (told_length whole) ≡ true = lt-ltb (length whole) (told_length whole) (omega arith) in
-      first_some-append (layout_faults whole) (live_list_faults (told_image whole) ++ (fault_if (ltb (told_length whole) (length whole)) Trailing ∷ [])) TruncatedBody (
       first_some_past (front_faults whole) (fault_if (ltb (length whole) (told_length whole)) TruncatedBody ∷ []) front_faults-None
-      ∙ ap (λ b. first_some (fault_if b TruncatedBody ∷ [])) short)
+      ∙ ap (λ b. first_some (fault_if b TruncatedBody ∷ [])) short
+
+  pub first_fault-truncated : length behind < 8 * (words + live_count) → first_fault whole ≡ Some TruncatedBody
+  first_fault-truncated few =
+      first_some-append (layout_faults whole) (live_list_faults (told_image whole) ++ (fault_if (ltb (told_length whole) (length whole)) Trailing ∷ [])) TruncatedBody (layout_fault-truncated few)
 
 -- of the text of an image, and what follows it
 module _ (rooted : Bool) (image : HeapImage) (fits : HasFittingNumbers image) (rest : List ℕ) where
@@ -169,6 +173,17 @@ module _ (rooted : Bool) (image : HeapImage) (fits : HasFittingNumbers image) (r
       first_some_past (layout_faults said) (live_list_faults (told_image said) ++ (fault_if (ltb (told_length said) (length said)) Trailing ∷ [])) layout_faults-None
       ∙ ap (λ i. first_some (live_list_faults i ++ (fault_if (ltb (told_length said) (length said)) Trailing ∷ []))) (told_image-append rooted image fits rest)
       ∙ ap (λ n. first_some (live_list_faults (from_tail rooted image) ++ (fault_if (ltb n (length said)) Trailing ∷ []))) (length_told rooted image fits rest)
+
+-- sound objects have no fault
+pub first_object_fault-None : (image : HeapImage) → HasLiveList image → first_object_fault image ≡ None
+first_object_fault-None image sound =
+    first_some-None (object_faults image) (
+      ap (option_map Header) (unsound_header-None image sound),
+      (
+        ap (option_map Overlap) (overlapping-None image sound),
+        (ap (option_map (λ (p : ℕ × ℕ). Reference p.0 p.1)) (dangling-None image sound), tt),
+      ),
+    )
 
 -- a live list without a fault, under roots without one
 pub live_list_faults-None : (image : HeapImage) → HasLiveList image → misplaced_root image ≡ None → first_some (live_list_faults image) ≡ None

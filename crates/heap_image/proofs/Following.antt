@@ -1,14 +1,13 @@
 -- The references of one object, visited one after the other.
-use Rattle.std.proofs.Common.{◌≡◌, ℕ, ◌+◌, ◌≤◌, ◌<◌, Bool, true, false, not, ◌&&◌, ◌||◌, List, [], ◌∷◌, ◌++◌, length, get_or, refl, sym, ◌∙◌, ap, subst, arith, eqb, leb, ltb, add-one}
+use Rattle.std.proofs.Common.{◌≡◌, ℕ, ◌+◌, Bool, true, false, not, ◌&&◌, ◌||◌, List, [], ◌∷◌, ◌++◌, length, get_or, refl, sym, ◌∙◌, ap, arith, eqb, leb, ltb, add-one}
 use Rattle.std.proofs.lemmas.Bool.{true≢false}
 use Rattle.std.proofs.lemmas.List.Folds.{list_any-append}
 use Rattle.std.specs.List.{list_any, range_with_len, concat}
 use Rattle.heap_image.specs.Header.{size_of, references_of, kind_of}
 use Rattle.heap_image.specs.HeapImage.{HeapImage, image_of, references_at, reference_at, is_unsound, leads_to, refers_to}
-use Rattle.heap_image.specs.Begins.{is_marked}
 use Rattle.heap_image.specs.Marking.{IsGrown}
 use Rattle.heap_image.proofs.Listed.{range_suc}
-use Rattle.heap_image.proofs.Marking.{grown_same, grown_more, grown_as}
+use Rattle.heap_image.proofs.Growth.{grown_same, grown_more, grown_as}
 
 module _ (log : ℕ) (regions : List (List ℕ)) (words a : ℕ) (are : words ≡ length (concat regions)) where
   abbrev image : HeapImage

@@ -1,15 +1,16 @@
 -- An image of the numbers behind the words of a text.
-use Rattle.std.proofs.Common.{◌≡◌, ℕ, ◌+◌, ◌≤◌, ◌<◌, Bool, true, false, List, [], ◌∷◌, length, get_or, refl, sym, ◌∙◌, ap, subst, arith, ltb, Option, Some, None}
+use Rattle.std.proofs.Common.{◌≡◌, ℕ, ◌+◌, ◌≤◌, Bool, true, false, List, [], length, get_or, refl, sym, ◌∙◌, ap, subst, arith, ltb, Some, None}
 use Rattle.std.proofs.lemmas.Bool.{ltb-false}
 use Rattle.std.proofs.lemmas.List.Elements.{All-from_get_or}
 use Rattle.std.proofs.lemmas.List.FromFn.{get_or-range_with_len, length-range_with_len}
 use Rattle.std.specs.Prelude.{All, IfSome, find}
 use Rattle.std.specs.Option.{is_some}
 use Rattle.std.specs.List.{range_with_len}
+use Rattle.heap_image.specs.Reading.{HasFittingNumbers}
 use Rattle.heap_image.specs.declared.fault.Fault.TheVariants.{Root}
 use Rattle.heap_image.specs.HeapImage.{HeapImage, IsValid, AreRoots, heap_words, image_of, reachable, roots_or}
 use Rattle.heap_image.specs.ImageText.{text, listed_text, from_tail, live_list_faults, first_some, misplaced_root}
-use Rattle.heap_image.proofs.TextLaws.{HasFittingNumbers, reachable-words}
+use Rattle.heap_image.proofs.TextLaws.{reachable-words}
 use Rattle.heap_image.proofs.Faultless.{AllNone}
 use Rattle.heap_image.proofs.LiveListFaults.{AllNone-from_first_some, map_None, find_None-at, sound_live_list}
 use Rattle.heap_image.proofs.Reaches.{reachable-short}

@@ -21,11 +21,14 @@ pub mod Sending
 pub mod WholeBytes
 pub mod SoundObjects
 pub mod Listed
+pub mod Ones
 pub mod Reaches
-pub mod Marking
+pub mod Growth
+pub mod MarkingSteps
 pub mod RootedFaults
 pub mod Marked
 pub mod RootsToLive
+pub mod RootLive
 pub mod Following
 pub mod FromTail
 pub mod InOrder

@@ -1,14 +1,13 @@
 -- What was marked, as a live list.
-use Rattle.std.proofs.Common.{◌≡◌, ℕ, ◌+◌, ◌/◌, ◌≤◌, ◌<◌, Bool, true, false, List, [], ◌∷◌, length, get_or, refl, sym, ◌∙◌, ap, subst, arith, eqb, ltb, Option, Some, None}
+use Rattle.std.proofs.Common.{◌≡◌, ℕ, ◌<◌, true, List, [], ◌∷◌, length, get_or, refl, sym, ◌∙◌, ap, subst, arith, eqb, ltb, Option, Some, None}
 use Rattle.std.proofs.lemmas.Bool.{eq-eqb}
 use Rattle.std.proofs.lemmas.List.Folds.{list_any_at}
 use Rattle.std.proofs.lemmas.List.Elements.{All-from_get_or}
 use Rattle.std.specs.Prelude.{All, filter, find, option_map, slice_index}
-use Rattle.std.specs.List.{concat, list_any, range_with_len}
-use Rattle.heap_image.specs.declared.fault.Fault.{Fault}
-use Rattle.heap_image.specs.declared.fault.Fault.TheVariants.{LiveOrder, Header, Overlap, Reference, Root}
+use Rattle.std.specs.List.{concat, range_with_len}
+use Rattle.heap_image.specs.declared.fault.Fault.TheVariants.{LiveOrder, Root}
 use Rattle.heap_image.specs.HeapImage.{HeapImage, heap_words, image_of, reachable}
-use Rattle.heap_image.specs.ImageText.{unsound_header, overlapping, dangling, first_some, live_list_faults, misplaced_root, misplaced_index, from_tail}
+use Rattle.heap_image.specs.ImageText.{object_faults, first_object_fault, first_some, live_list_faults, misplaced_root, misplaced_index, from_tail}
 use Rattle.heap_image.specs.Begins.{MarkBegins, is_marked}
 use Rattle.heap_image.specs.Reachable.{is_listed}
 use Rattle.heap_image.specs.Marking.{AreReached}
@@ -33,7 +32,7 @@ module _ (image : HeapImage) (roots bits live : List ℕ) (words : ℕ) (are : w
 
   pub live_begins : MarkBegins live words bits
   live_begins = record {
-    room = subst (λ n. n / 64 < length bits) (sym are) reached.room;
+    room = let room = reached.room in omega arith;
     marked = λ a l. reached.marked a (omega arith) ∙ ap (λ xs. is_listed xs a) (sym live_is);
   }
 
@@ -48,28 +47,15 @@ module _ (log : ℕ) (regions : List (List ℕ)) (roots live : List ℕ) (words 
   pub root_fault : (i : ℕ) (found : Option ℕ) → found ≡ find (λ i. ltb words (slice_index roots i)) (range_with_len 0 (length roots)) → found ≡ Some i
       → first_some (live_list_faults image) ≡ Some (Root i)
   root_fault i found tested some =
-      ap (λ o. first_some (option_map Root o ∷ option_map LiveOrder (misplaced_index (heap_words image) image.live) ∷ option_map Header (unsound_header image) ∷ option_map Overlap (overlapping image) ∷ option_map (λ (p : ℕ × ℕ). Reference p.0 p.1) (dangling image) ∷ [])) (sym misplaced_is ∙ sym tested ∙ some)
+      ap (λ o. first_some (option_map Root o ∷ option_map LiveOrder (misplaced_index (heap_words image) image.live) ∷ object_faults image)) (sym misplaced_is ∙ sym tested ∙ some)
 
-  module _ (found : Option ℕ) (tested : found ≡ find (λ i. ltb words (slice_index roots i)) (range_with_len 0 (length roots))) (none : found ≡ None) (is : live ≡ reachable (image_of log 0 regions []) roots) where
-    live_here : live ≡ image.live
-    live_here = is ∙ sym (reachable-words (image_of log 0 regions []) roots None roots)
+  pub no_root_fault : (found : Option ℕ) → found ≡ find (λ i. ltb words (slice_index roots i)) (range_with_len 0 (length roots)) → found ≡ None → misplaced_root image ≡ None
+  no_root_fault found tested none = sym misplaced_is ∙ sym tested ∙ none
 
-    faults_are : first_some (live_list_faults image)
-        ≡ first_some (option_map Header (unsound_header (image_of log 0 regions live)) ∷ option_map Overlap (overlapping (image_of log 0 regions live)) ∷ option_map (λ (p : ℕ × ℕ). Reference p.0 p.1) (dangling (image_of log 0 regions live)) ∷ [])
-    faults_are =
-        ap (λ o. first_some (option_map Root o ∷ option_map LiveOrder (misplaced_index (heap_words image) image.live) ∷ option_map Header (unsound_header image) ∷ option_map Overlap (overlapping image) ∷ option_map (λ (p : ℕ × ℕ). Reference p.0 p.1) (dangling image) ∷ [])) (sym misplaced_is ∙ sym tested ∙ none)
-        ∙ ap (λ o. first_some (option_map LiveOrder o ∷ option_map Header (unsound_header image) ∷ option_map Overlap (overlapping image) ∷ option_map (λ (p : ℕ × ℕ). Reference p.0 p.1) (dangling image) ∷ [])) (reachable-in_order (image_of log 0 regions roots) roots)
-        ∙ ap (λ xs. first_some (option_map Header (unsound_header (image_of log 0 regions xs)) ∷ option_map Overlap (overlapping (image_of log 0 regions xs)) ∷ option_map (λ (p : ℕ × ℕ). Reference p.0 p.1) (dangling (image_of log 0 regions xs)) ∷ [])) (sym live_here)
-
-    pub object_fault : (fault : Fault)
-        → first_some (option_map Header (unsound_header (image_of log 0 regions live)) ∷ option_map Overlap (overlapping (image_of log 0 regions live)) ∷ option_map (λ (p : ℕ × ℕ). Reference p.0 p.1) (dangling (image_of log 0 regions live)) ∷ []) ≡ Some fault
-        → first_some (live_list_faults image) ≡ Some fault
-    object_fault fault h = faults_are ∙ h
-
-    pub no_fault_found : (unsound_header (image_of log 0 regions live) ≡ None) × (overlapping (image_of log 0 regions live) ≡ None) × (dangling (image_of log 0 regions live) ≡ None)
-        → first_some (live_list_faults image) ≡ None
-    no_fault_found h =
-        faults_are
-        ∙ ap (λ o. first_some (option_map Header o ∷ option_map Overlap (overlapping (image_of log 0 regions live)) ∷ option_map (λ (p : ℕ × ℕ). Reference p.0 p.1) (dangling (image_of log 0 regions live)) ∷ [])) h.0
-        ∙ ap (λ o. first_some (option_map Overlap o ∷ option_map (λ (p : ℕ × ℕ). Reference p.0 p.1) (dangling (image_of log 0 regions live)) ∷ [])) h.1
-        ∙ ap (λ o. first_some (option_map (λ (p : ℕ × ℕ). Reference p.0 p.1) o ∷ [])) h.2
+  -- where no root is above the number of words, only the objects can be wrong
+  pub only_objects : misplaced_root image ≡ None → live ≡ reachable (image_of log 0 regions []) roots → first_some (live_list_faults image) ≡ first_object_fault (image_of log 0 regions live)
+  only_objects none is =
+      let live_here : live ≡ image.live = is ∙ sym (reachable-words (image_of log 0 regions []) roots None roots) in
+      ap (λ o. first_some (option_map Root o ∷ option_map LiveOrder (misplaced_index (heap_words image) image.live) ∷ object_faults image)) none
+      ∙ ap (λ o. first_some (option_map LiveOrder o ∷ object_faults image)) (reachable-in_order (image_of log 0 regions roots) roots)
+      ∙ ap (λ xs. first_object_fault (image_of log 0 regions xs)) (sym live_here)

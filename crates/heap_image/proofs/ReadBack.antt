@@ -11,11 +11,11 @@ use Rattle.std.specs.Prelude.{map, All, None, not, slice_range}
 use Rattle.std.specs.Str.{bytes_eq}
 use Rattle.std.specs.List.{range_with_len}
 use Rattle.std.specs.Int.{w32, w64, to_le_bytes}
+use Rattle.heap_image.specs.Reading.{HasFittingNumbers}
 use Rattle.heap_image.specs.HeapImage.{HeapImage, IsValid}
-use Rattle.heap_image.specs.ImageText.{numbers, front, text, from_tail, is_rooted, live_list_faults, first_some, told_image, told_numbers, told_words, told_count, told_region_log, told_length, told_region_words, u32_at, u64_at, faults, first_fault, magic}
+use Rattle.heap_image.specs.ImageText.{numbers, front, text, is_rooted, live_list_faults, first_some, told_image, told_numbers, told_words, told_count, told_region_log, told_length, told_region_words, u32_at, u64_at, faults, first_fault, magic}
 use Rattle.heap_image.specs.declared.fault.Fault.TheVariants.{TruncatedHeader, Magic, RegionLog, Length, TruncatedBody, Trailing}
 use Rattle.heap_image.proofs.Faultless.{AllNone, first_some-None}
-use Rattle.heap_image.proofs.TextLaws.{HasFittingNumbers}
 use Rattle.heap_image.proofs.FromTail.{text-from_tail, from_tail-IsValid}
 use Rattle.heap_image.proofs.LiveListFaults.{AllNone-from_first_some, no_fault}
 

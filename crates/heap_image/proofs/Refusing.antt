@@ -6,16 +6,17 @@ use Rattle.std.specs.Prelude.{All, IfErr, IfSome, option_map, slice_range}
 use Rattle.std.specs.Str.{bytes_eq}
 use Rattle.std.specs.Int.{w32, w64, from_le_bytes}
 use Rattle.std.specs.Io.KnownBytes.{Consumes, IsAtEnd}
+use Rattle.heap_image.specs.Reading.{HasFittingNumbers}
 use Rattle.heap_image.specs.declared.fault.Fault.{Fault}
 use Rattle.heap_image.specs.declared.fault.Fault.TheVariants.{TruncatedHeader, Magic, RegionLog, Length, TruncatedBody, LiveOrder, Header, Overlap, Reference, Trailing, Memory, Io, Workers, Schedule, Overwritten, Gate, Root}
-use Rattle.heap_image.specs.ImageText.{magic, fault_if, first_some, first_fault, front_faults, front, numbers, text, listed_text, from_tail, misplaced_root, told_length, live_list_faults, misplaced_index, unsound_header, overlapping, dangling}
-use Rattle.heap_image.specs.HeapImage.{HeapImage, IsValid, IsWithinLimits, heap_words, image_of, rooted_image_of, reachable}
+use Rattle.heap_image.specs.ImageText.{magic, fault_if, first_some, first_fault, front_faults, front, numbers, listed_text, from_tail, misplaced_root, told_length, live_list_faults, misplaced_index, unsound_header, overlapping, dangling, first_object_fault}
+use Rattle.heap_image.specs.HeapImage.{HeapImage, IsWithinLimits, heap_words, image_of, rooted_image_of, reachable, roots_or}
 use Rattle.heap_image.specs.Device.{is_io}
 use Rattle.heap_image.proofs.Known.{consumes_more}
 use Rattle.std.specs.List.{concat}
-use Rattle.heap_image.proofs.Faultless.{first_some-append, first_some_past, first_fault-truncated, first_fault-append}
-use Rattle.heap_image.proofs.TextLaws.{HasFittingNumbers, length_told, length-numbers}
-use Rattle.heap_image.specs.Refusals.{IsReason, LeavesRest, IsOfFront}
+use Rattle.heap_image.proofs.Faultless.{first_some-append, first_some_past, front_faults-None, first_fault-truncated, first_fault-append}
+use Rattle.heap_image.proofs.TextLaws.{length_told, length-numbers}
+use Rattle.heap_image.specs.Refusals.{IsReason, IsOfReading, LeavesRest, IsOfFront}
 
 -- ---- the front of a longer text
 
@@ -166,13 +167,61 @@ memory_behind front None after l h some = tt
 memory_behind front (Some input) None l h some = absurd h
 memory_behind front (Some input) (Some rest) l h some = let long = ap length h ∙ length-append front rest in omega arith
 
-not_io : (A : Type 0) (root order header overlap : Option ℕ) (reference : Option (ℕ × ℕ)) (fault : Fault) → first_some (option_map Root root ∷ option_map LiveOrder order ∷ option_map Header header ∷ option_map Overlap overlap ∷ option_map (λ (p : ℕ × ℕ). Reference p.0 p.1) reference ∷ []) ≡ Some fault → is_io {A = A} (Err fault) ≡ false
-not_io A (Some i) order header overlap reference fault h = let e : fault ≡ Root i = cc in ap (λ f. is_io {A = A} (Err f)) e
-not_io A None (Some i) header overlap reference fault h = let e : fault ≡ LiveOrder i = cc in ap (λ f. is_io {A = A} (Err f)) e
-not_io A None None (Some a) overlap reference fault h = let e : fault ≡ Header a = cc in ap (λ f. is_io {A = A} (Err f)) e
-not_io A None None None (Some a) reference fault h = let e : fault ≡ Overlap a = cc in ap (λ f. is_io {A = A} (Err f)) e
-not_io A None None None None (Some p) fault h = let e : fault ≡ Reference p.0 p.1 = cc in ap (λ f. is_io {A = A} (Err f)) e
-not_io A None None None None None fault h = cc
+-- the same of an input whose front has no fault
+pub memory_behind_front : (rooted : Bool) (log live_count words allowance : ℕ) → IsWithinLimits log words live_count → (before after : Option (List ℕ)) → Consumes before after (front rooted log live_count words allowance)
+    → IfSome after (λ rest. 0 < length rest) → IfSome before (λ input. (32 < length input) × (first_some (front_faults input) ≡ None))
+memory_behind_front rooted log live_count words allowance limits None after h some = tt
+memory_behind_front rooted log live_count words allowance limits (Some input) None h some = absurd h
+memory_behind_front rooted log live_count words allowance limits (Some input) (Some rest) h some = (
+  memory_behind (front rooted log live_count words allowance) (Some input) (Some rest) refl h some,
+  ap (λ b. first_some (front_faults b)) h ∙ front_faults-None rooted log live_count words allowance limits rest,
+)
+
+-- a fault of the live list is one that reading may answer, and neither want of memory nor the device's
+list_kind : (root order header overlap : Option ℕ) (reference : Option (ℕ × ℕ)) (fault : Fault) → first_some (option_map Root root ∷ option_map LiveOrder order ∷ option_map Header header ∷ option_map Overlap overlap ∷ option_map (λ (p : ℕ × ℕ). Reference p.0 p.1) reference ∷ []) ≡ Some fault
+    → IsOfReading fault × (fault ≡ Memory → ⊥) × ((A : Type 0) → is_io {A = A} (Err fault) ≡ false)
+list_kind (Some i) order header overlap reference fault h = let e : fault ≡ Root i = cc in (subst IsOfReading (sym e) tt, λ m. cc, λ A. ap (λ f. is_io {A = A} (Err f)) e)
+list_kind None (Some i) header overlap reference fault h = let e : fault ≡ LiveOrder i = cc in (subst IsOfReading (sym e) tt, λ m. cc, λ A. ap (λ f. is_io {A = A} (Err f)) e)
+list_kind None None (Some a) overlap reference fault h = let e : fault ≡ Header a = cc in (subst IsOfReading (sym e) tt, λ m. cc, λ A. ap (λ f. is_io {A = A} (Err f)) e)
+list_kind None None None (Some a) reference fault h = let e : fault ≡ Overlap a = cc in (subst IsOfReading (sym e) tt, λ m. cc, λ A. ap (λ f. is_io {A = A} (Err f)) e)
+list_kind None None None None (Some p) fault h = let e : fault ≡ Reference p.0 p.1 = cc in (subst IsOfReading (sym e) tt, λ m. cc, λ A. ap (λ f. is_io {A = A} (Err f)) e)
+list_kind None None None None None fault h = cc
+
+pub object_kind : (image : HeapImage) (fault : Fault) → first_object_fault image ≡ Some fault → IsOfReading fault × (fault ≡ Memory → ⊥) × ((A : Type 0) → is_io {A = A} (Err fault) ≡ false)
+object_kind image fault h = list_kind None None (unsound_header image) (overlapping image) (dangling image) fault h
+
+-- so is what ends the search for live objects, but for want of memory
+pub search_kind : (image : HeapImage) (fault : Fault) → (fault ≡ Memory) ⊎ (first_some (live_list_faults image) ≡ Some fault) → IsOfReading fault × ((A : Type 0) → is_io {A = A} (Err fault) ≡ false)
+search_kind image fault (inl memory) = (subst IsOfReading (sym memory) tt, λ A. ap (λ f. is_io {A = A} (Err f)) memory)
+search_kind image fault (inr first) = let k = list_kind (misplaced_root image) (misplaced_index (heap_words image) image.live) (unsound_header image) (overlapping image) (dangling image) fault first in (k.0, k.2)
+
+front_kind : (fault : Fault) → IsOfFront fault → IsOfReading fault
+front_kind Magic f = tt
+front_kind RegionLog f = tt
+front_kind Length f = tt
+front_kind TruncatedHeader f = absurd f
+front_kind TruncatedBody f = absurd f
+front_kind (LiveOrder _) f = absurd f
+front_kind (Header _) f = absurd f
+front_kind (Overlap _) f = absurd f
+front_kind (Reference _ _) f = absurd f
+front_kind Trailing f = absurd f
+front_kind Memory f = absurd f
+front_kind Workers f = absurd f
+front_kind Io f = absurd f
+front_kind (Schedule _) f = absurd f
+front_kind (Overwritten _) f = absurd f
+front_kind Gate f = absurd f
+front_kind (Root _) f = absurd f
+
+pub front_is_kind : {A : Type 0} (answer : Result A Fault) → IfErr answer IsOfFront → IfErr answer IsOfReading
+front_is_kind (Ok x) h = tt
+front_is_kind (Err fault) h = front_kind fault h
+
+pub body_kind : (fault : Fault) → ((fault ≡ Memory) ⊎ ((fault ≡ Io) ⊎ (fault ≡ TruncatedBody))) → IsOfReading fault
+body_kind fault (inl memory) = subst IsOfReading (sym memory) tt
+body_kind fault (inr (inl io)) = subst IsOfReading (sym io) tt
+body_kind fault (inr (inr short)) = subst IsOfReading (sym short) tt
 
 -- ---- how the steps of reading an image fit together
 
@@ -226,13 +275,8 @@ module _ (rooted : Bool) (image : HeapImage) (fits : HasFittingNumbers image) (b
   check_leaves (inl memory) = subst (λ f. IfSome before (λ input. LeavesRest f input after)) (sym memory) (some_rest before after (listed_text rooted image) read)
   check_leaves (inr first) = live_list_leaves rooted image fits before after read fault first
 
--- no fault of the live list is the device's
-pub check_is_not_io : (A : Type 0) (rooted : Bool) (image : HeapImage) (fault : Fault) → ((fault ≡ Memory) ⊎ (first_some (live_list_faults (from_tail rooted image)) ≡ Some fault)) → is_io {A = A} (Err fault) ≡ false
-check_is_not_io A rooted image fault (inl memory) = ap (λ f. is_io {A = A} (Err f)) memory
-check_is_not_io A rooted image fault (inr first) = let all = from_tail rooted image in not_io A (misplaced_root all) (misplaced_index (heap_words all) all.live) (unsound_header all) (overlapping all) (dangling all) fault first
-
 -- a text is longer than its front
-pub more_than_front : (rooted : Bool) (image : HeapImage) → HasFittingNumbers image → (before after : Option (List ℕ)) → Consumes before after (listed_text rooted image) → IfSome before (λ input. 32 < length input)
+pub more_than_front : (rooted : Bool) (image : HeapImage) → HasFittingNumbers image → (before after : Option (List ℕ)) → Consumes before after (listed_text rooted image) → IfSome before (λ input. (32 < length input) × (first_some (front_faults input) ≡ None))
 more_than_front rooted image fits None after h = tt
 more_than_front rooted image fits (Some input) None h = absurd h
 more_than_front rooted image fits (Some input) (Some rest) h =
@@ -241,24 +285,27 @@ more_than_front rooted image fits (Some input) (Some rest) h =
     let both = length-append (numbers image.words) (numbers image.live) in
     let ws = length-numbers image.words in
     let first = front rooted image.region_log (length image.live) (heap_words image) image.allowance in
-    let whole : length (listed_text rooted image) ≡ 32 + length (numbers image.words ++ numbers image.live) = length-append first (numbers image.words ++ numbers image.live) in
-    omega arith
+    let whole : length (listed_text rooted image) ≡ 32 + length (numbers image.words ++ numbers image.live) = length-append first (numbers image.words ++ numbers image.live) in (
+      omega arith,
+      ap (λ b. first_some (front_faults b)) (h ∙ append_assoc first (numbers image.words ++ numbers image.live) rest)
+          ∙ front_faults-None rooted image.region_log (length image.live) (heap_words image) image.allowance fits.limits ((numbers image.words ++ numbers image.live) ++ rest),
+    )
 
 pub one_taken : (buffer : List ℕ) (n : ℕ) → length buffer ≡ 1 → n ≤ length buffer → 0 < n → length (take n buffer) ≡ 1
 one_taken buffer n l within some = let t = length-take n buffer in omega arith
 
 -- no fault depends on the allowance
-faults_same : (rooted : Bool) (log allowance : ℕ) (blocks : List (List ℕ)) (tail : List ℕ) → live_list_faults (from_tail rooted (image_of log allowance blocks tail)) ≡ live_list_faults (from_tail rooted (image_of log 0 blocks tail))
+pub faults_same : (rooted : Bool) (log allowance : ℕ) (blocks : List (List ℕ)) (tail : List ℕ) → live_list_faults (from_tail rooted (image_of log allowance blocks tail)) ≡ live_list_faults (from_tail rooted (image_of log 0 blocks tail))
 unfolding reachable
 faults_same true log allowance blocks tail = refl
 faults_same false log allowance blocks tail = refl
 
-live_same : (rooted : Bool) (log allowance : ℕ) (blocks : List (List ℕ)) (tail : List ℕ) → (from_tail rooted (image_of log allowance blocks tail)).live ≡ (from_tail rooted (image_of log 0 blocks tail)).live
+pub live_same : (rooted : Bool) (log allowance : ℕ) (blocks : List (List ℕ)) (tail : List ℕ) → (from_tail rooted (image_of log allowance blocks tail)).live ≡ (from_tail rooted (image_of log 0 blocks tail)).live
 unfolding reachable
 live_same true log allowance blocks tail = refl
 live_same false log allowance blocks tail = refl
 
-roots_same : (rooted : Bool) (log allowance : ℕ) (blocks : List (List ℕ)) (tail : List ℕ) → (from_tail rooted (image_of log allowance blocks tail)).roots ≡ (from_tail rooted (image_of log 0 blocks tail)).roots
+pub roots_same : (rooted : Bool) (log allowance : ℕ) (blocks : List (List ℕ)) (tail : List ℕ) → (from_tail rooted (image_of log allowance blocks tail)).roots ≡ (from_tail rooted (image_of log 0 blocks tail)).roots
 roots_same true log allowance blocks tail = refl
 roots_same false log allowance blocks tail = refl
 
@@ -285,3 +332,8 @@ parts_are rooted log allowance blocks blocks' tail live roots b l r =
     whole : (rooted : Bool) → rooted_image_of log allowance blocks' (from_tail rooted (image_of log allowance blocks' tail)).live (from_tail rooted (image_of log allowance blocks' tail)).roots ≡ from_tail rooted (image_of log allowance blocks' tail)
     whole true = refl
     whole false = refl
+
+-- the numbers behind the words are the roots, or else the live list
+pub tail_is : (rooted : Bool) (log : ℕ) (blocks : List (List ℕ)) (tail live : List ℕ) (roots : Option (List ℕ)) → live ≡ (from_tail rooted (image_of log 0 blocks tail)).live → roots ≡ (from_tail rooted (image_of log 0 blocks tail)).roots → roots_or live roots ≡ tail
+tail_is true log blocks tail live roots l r = ap (roots_or live) r
+tail_is false log blocks tail live roots l r = ap (roots_or live) r ∙ l

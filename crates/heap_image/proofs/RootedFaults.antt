@@ -1,16 +1,14 @@
 -- Where all headers are sound, a reference that leads to no live object leads out of the heap.
-use Rattle.std.proofs.Common.{◌≡◌, ◌⊎◌, ℕ, zero, suc, ◌+◌, ◌-◌, ◌≤◌, ◌<◌, inl, inr, Bool, true, false, cond, not, ◌||◌, ◌&&◌, List, [], ◌∷◌, length, get_or, refl, sym, ◌∙◌, ap, subst, arith, eqb, ltb, Option, Some, None}
+use Rattle.std.proofs.Common.{◌≡◌, ℕ, zero, suc, ◌+◌, ◌-◌, ◌<◌, inl, inr, Bool, true, false, cond, not, List, [], ◌∷◌, length, get_or, refl, sym, ◌∙◌, ap, subst, arith, eqb, Some, None}
 use Rattle.std.proofs.lemmas.Bool.{cases_lt, cases_eq, eq-eqb, ne_eqb, le-ltb, lt-ltb, or_left, or_right, or_from, and_from, eqb-true}
 use Rattle.std.proofs.lemmas.List.Folds.{list_any_none, list_any_at, Any-from_list_any, find-append}
 use Rattle.std.proofs.lemmas.List.Elements.{All-from_get_or}
 use Rattle.std.proofs.lemmas.List.FromFn.{length-range_with_len, get_or-range_with_len}
-use Rattle.std.specs.Prelude.{All, find, flat_map, map, option_map}
+use Rattle.std.specs.Prelude.{find, flat_map, map}
 use Rattle.std.specs.Option.{option_or}
 use Rattle.std.specs.List.{list_any, range_with_len}
-use Rattle.heap_image.specs.declared.fault.Fault.{Fault}
-use Rattle.heap_image.specs.declared.fault.Fault.TheVariants.{LiveOrder, Header, Overlap, Reference}
-use Rattle.heap_image.specs.HeapImage.{HeapImage, heap_words, references_at, reference_at, is_null_or_live, is_unsound, leads_to, refers_to, reachable}
-use Rattle.heap_image.specs.ImageText.{unsound_header, overlapping, dangling, is_dangling, fields_of, first_some}
+use Rattle.heap_image.specs.HeapImage.{HeapImage, heap_words, references_at, reference_at, is_unsound, leads_to, refers_to, reachable}
+use Rattle.heap_image.specs.ImageText.{unsound_header, dangling, is_dangling}
 use Rattle.heap_image.specs.Reachable.{is_listed, is_beyond, beyond}
 use Rattle.heap_image.proofs.LiveListFaults.{find_None-at}
 use Rattle.heap_image.proofs.Reaches.{reachable-IsClosed, reachable-below}

@@ -1,8 +1,8 @@
 -- A live list is closed: what is reached from roots that lead to live objects is live.
-use Rattle.std.proofs.Common.{◌≡◌, ◌⊎◌, ℕ, zero, suc, ◌+◌, ◌-◌, ◌≤◌, ◌<◌, inl, inr, Bool, true, false, cond, not, ◌||◌, ◌&&◌, List, [], ◌∷◌, length, get_or, refl, sym, ◌∙◌, ap, subst, arith, eqb, leb, ltb}
-use Rattle.std.proofs.lemmas.Bool.{false≢true, cases_lt, cases_eq, cases_Bool, cond-true, cond-false, eq-eqb, eqb-true, ne_eqb, le-ltb, lt-ltb, lt-leb, or_left, or_right, or_cases, or_from, and_from, and_parts, not-true}
+use Rattle.std.proofs.Common.{◌≡◌, ℕ, zero, suc, ◌+◌, ◌≤◌, ◌<◌, inl, inr, Bool, true, false, not, ◌||◌, List, [], ◌∷◌, length, get_or, refl, sym, ◌∙◌, ap, subst, arith, eqb, leb, ltb}
+use Rattle.std.proofs.lemmas.Bool.{false≢true, cases_eq, cond-true, cond-false, eq-eqb, eqb-true, ne_eqb, le-ltb, lt-leb, or_left, or_right, or_cases, or_from, and_from, and_parts, not-true}
 use Rattle.std.proofs.lemmas.List.{get_or_default, get_or-map, length-map}
-use Rattle.std.proofs.lemmas.List.Folds.{list_any_none, list_any_at, Any-from_list_any}
+use Rattle.std.proofs.lemmas.List.Folds.{list_any_at, Any-from_list_any}
 use Rattle.std.proofs.lemmas.List.Elements.{All-from_get_or, All-tail}
 use Rattle.std.proofs.lemmas.List.FromFn.{length-range_with_len, get_or-range_with_len}
 use Rattle.std.specs.Prelude.{All, filter, map}
@@ -10,10 +10,9 @@ use Rattle.std.specs.List.{list_any, range_with_len}
 use Rattle.heap_image.specs.HeapImage.{HeapImage, HasLiveList, HasSoundHeader, heap_words, kind_at, size_at, references_at, reference_at, end_of, is_null_or_live, is_unsound, leads_to, refers_to, reachable}
 use Rattle.heap_image.specs.Reachable.{is_listed, IsClosed}
 use Rattle.heap_image.proofs.Spans.{Apart}
-use Rattle.heap_image.proofs.LiveWords.{live_apart, live_end-le}
-use Rattle.heap_image.proofs.LiveListFaults.{sound_header}
-use Rattle.heap_image.proofs.Listed.{filter_same, any_listed, listed_one, listed_filter-back}
-use Rattle.heap_image.proofs.Reaches.{reachable-IsClosed, reachable-least, reachable-below, reachable-ascending}
+use Rattle.heap_image.proofs.LiveWords.{live_apart}
+use Rattle.heap_image.proofs.Listed.{filter_same, listed_one}
+use Rattle.heap_image.proofs.Reaches.{reachable-IsClosed, reachable-least, reachable-ascending}
 
 pub listed_at : (xs : List ℕ) (i : ℕ) → i < length xs → is_listed xs (get_or xs i 0) ≡ true
 listed_at xs i l = list_any_at (λ b. eqb (get_or xs i 0) b) xs i 0 l (eq-eqb (get_or xs i 0) (get_or xs i 0) refl)
@@ -149,7 +148,7 @@ module _ (image : HeapImage) (sound : HasLiveList image) where
   live_is_reachable roots lead reached =
       live_ascending
       ∙ filter_same (is_listed image.live) (is_listed (reachable image roots)) 0 (heap_words image) (λ a l m.
-          both_ways (is_listed image.live a) (is_listed (reachable image roots) a) (reached a) (reachable-least image roots (is_listed image.live) (live_closed roots lead) a))
+      both_ways (is_listed image.live a) (is_listed (reachable image roots) a) (reached a) (reachable-least image roots (is_listed image.live) (live_closed roots lead) a))
       ∙ sym (reachable-ascending image roots)
 
   -- a root to each live object

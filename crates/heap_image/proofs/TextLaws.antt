@@ -9,6 +9,7 @@ use Rattle.std.specs.Option.{is_some}
 use Rattle.std.specs.List.{range_with_len}
 use Rattle.std.specs.Int.{w64, to_le_bytes, from_le_bytes}
 use Rattle.heap_image.specs.HeapImage.{HeapImage, IsValid, IsWithinLimits, AreRoots, heap_words, reachable, roots_or}
+use Rattle.heap_image.specs.Reading.{HasFittingNumbers}
 use Rattle.heap_image.specs.ImageText.{front, numbers, text, listed_text, with_tail, from_tail, is_rooted, told_image, told_numbers, told_words, told_count, told_region_log, told_length, u64_at}
 use Rattle.heap_image.proofs.LiveWords.{live_end-le}
 
@@ -50,14 +51,6 @@ module _ (rooted : Bool) (log live_count words allowance : ℕ) (limits : IsWith
 
   pub front_length : told_length fronted ≡ 32 + 8 * words + 8 * live_count
   front_length = let w = front_words in let l = front_live in omega arith
-
--- an image whose numbers fit the format, be they of a sound live list or not
-pub record HasFittingNumbers (image : HeapImage) : Type 0 where
-  pub limits : IsWithinLimits image.region_log (heap_words image) (length image.live)
-  pub allowance : image.allowance < 2 ^ 64
-  pub words : All (λ w. w < 2 ^ 64) image.words
-  pub live : All (λ a. a < 2 ^ 64) image.live
-  pub plain : image.roots ≡ None
 
 -- the numbers behind the words are no more than the words, and fit
 tail_fits : (image : HeapImage) → IsValid image → (roots : Option (List ℕ)) → image.roots ≡ roots

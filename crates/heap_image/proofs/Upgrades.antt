@@ -1,11 +1,11 @@
 -- A root to each live object.
-use Rattle.std.proofs.Common.{◌≡◌, ℕ, ◌+◌, ◌≤◌, ◌<◌, ◌^◌, Bool, true, false, cond, eqb, List, [], ◌∷◌, length, get_or, refl, sym, ◌∙◌, ap, subst, arith, Option, Some, None}
+use Rattle.std.proofs.Common.{◌≡◌, ℕ, ◌+◌, ◌≤◌, ◌<◌, ◌^◌, Bool, true, false, cond, eqb, List, length, get_or, refl, sym, ◌∙◌, ap, subst, arith, Option, Some, None}
 use Rattle.std.proofs.lemmas.Bool.{true≢false}
 use Rattle.std.proofs.lemmas.List.{get_or-map, length-map}
 use Rattle.std.proofs.lemmas.List.Elements.{All-from_get_or}
 use Rattle.std.specs.Prelude.{All, map}
 use Rattle.std.specs.Option.{is_some}
-use Rattle.heap_image.specs.HeapImage.{HeapImage, IsValid, AreRoots, HasSoundHeader, heap_words, reachable, roots_or, version_of}
+use Rattle.heap_image.specs.HeapImage.{HeapImage, IsValid, HasSoundHeader, heap_words, reachable, roots_or, version_of}
 use Rattle.heap_image.specs.Upgrade.{upgraded}
 use Rattle.heap_image.proofs.LiveWords.{live_end-le}
 use Rattle.heap_image.proofs.TextLaws.{reachable-words}

@@ -10,24 +10,28 @@ use Rattle.heap_image.specs.Device.{is_io}
 use Rattle.heap_image.specs.HeapImage.{HeapImage, IsValid, IsWithinLimits}
 use Rattle.heap_image.specs.ImageText.{front, text, fault_if, first_some, first_fault, front_faults, layout_faults, told_length}
 use Rattle.heap_image.specs.Refusals.{IsReason}
-use Rattle.heap_image.proofs.Faultless.{first_some-append, first_some_past, first_some-None, fault_if-None, front_faults-None, first_fault-truncated, first_fault-text}
+use Rattle.heap_image.proofs.Faultless.{first_some-append, first_some_past, first_some-None, fault_if-None, front_faults-None, layout_fault-truncated, first_fault-text}
 use Rattle.heap_image.proofs.Refusing.{front_faults-append}
 use Rattle.heap_image.proofs.TextLaws.{text-injective, front_length}
 
-pub front_fault_first : (bytes : List ℕ) → 32 ≤ length bytes → (fault : Fault) → first_some (front_faults (take 32 bytes)) ≡ Some fault → first_fault bytes ≡ Some fault
+pub front_fault_first : (bytes : List ℕ) → 32 ≤ length bytes → (fault : Fault) → first_some (front_faults (take 32 bytes)) ≡ Some fault → first_some (layout_faults bytes) ≡ Some fault
 front_fault_first bytes long fault first =
     let t = length-take 32 bytes in
-    ap first_fault (sym (take-append-drop 32 bytes))
+    ap (λ b. first_some (layout_faults b)) (sym (take-append-drop 32 bytes))
     ∙ first_some-append (front_faults (take 32 bytes ++ drop 32 bytes)) _ fault (ap first_some (front_faults-append (take 32 bytes) (drop 32 bytes) (omega arith)) ∙ first)
+
+-- a fault of the layout comes before all others
+pub layout_fault_first : (bytes : List ℕ) (fault : Fault) → first_some (layout_faults bytes) ≡ Some fault → first_fault bytes ≡ Some fault
+layout_fault_first bytes fault first = first_some-append (layout_faults bytes) _ fault first
 
 module _ (bytes : List ℕ) (rooted : Bool) (log live_count words allowance : ℕ) (limits : IsWithinLimits log words live_count) (told : take 32 bytes ≡ front rooted log live_count words allowance) where
   whole : front rooted log live_count words allowance ++ drop 32 bytes ≡ bytes
   whole = ap (λ l. l ++ drop 32 bytes) (sym told) ∙ take-append-drop 32 bytes
 
-  pub truncated_first : 32 ≤ length bytes → length bytes < 32 + 8 * words + 8 * live_count → first_fault bytes ≡ Some TruncatedBody
-  truncated_first long short =
+  pub truncated_layout : 32 ≤ length bytes → length bytes < 32 + 8 * words + 8 * live_count → first_some (layout_faults bytes) ≡ Some TruncatedBody
+  truncated_layout long short =
       let d = length-drop 32 bytes in
-      ap first_fault (sym whole) ∙ first_fault-truncated rooted log live_count words allowance limits (drop 32 bytes) (omega arith)
+      ap (λ b. first_some (layout_faults b)) (sym whole) ∙ layout_fault-truncated rooted log live_count words allowance limits (drop 32 bytes) (omega arith)
 
   pub layout_none : 32 + 8 * words + 8 * live_count ≤ length bytes → first_some (layout_faults bytes) ≡ None
   layout_none enough =
@@ -45,6 +49,10 @@ no_refusal bytes image fault valid is first = let none : first_fault bytes ≡ N
     some_none : {A : Type 0} {x : A} → Some x ≡ None → ⊥
     some_none h = cc
 
+-- so what has a fault of the layout is not its text
+pub refused_only : {P : Type 0} (bytes : List ℕ) (image : HeapImage) (fault : Fault) (answer : Result HeapImage Fault) → IsValid image → bytes ≡ text image → first_some (layout_faults bytes) ≡ Some fault → P
+refused_only bytes image fault answer valid is first = absurd (no_refusal bytes image fault valid is (layout_fault_first bytes fault first))
+
 pub decodes_only : (bytes : List ℕ) (answer : Result HeapImage Fault) (left : Option (List ℕ)) → IfOk answer IsValid → IfOk answer (λ i. Consumes (Some bytes) left (text i)) → OnOk answer (IsAtEnd left)
     → IfErr answer (λ fault. IfSome (Some bytes) (λ input. IsReason input fault)) → false ≡ is_io answer
     → (image : HeapImage) → IsValid image → bytes ≡ text image → (answer ≡ Ok image) ⊎ (answer ≡ Err Memory)
@@ -54,8 +62,3 @@ decodes_only bytes (Ok found) (Some rest) valid read end why io image sound is =
 decodes_only bytes (Err fault) left valid read end (inl memory) io image sound is = inr (ap Err memory)
 decodes_only bytes (Err fault) left valid read end (inr (inl device)) io image sound is = absurd (true≢false (sym (io ∙ ap (λ f. is_io {A = HeapImage} (Err f)) device)))
 decodes_only bytes (Err fault) left valid read end (inr (inr first)) io image sound is = absurd (no_refusal bytes image fault sound is first)
-
--- what holds is so for each fault
-pub for_each_fault : {A P : Type 0} (answer : Result A Fault) (fault : Fault) → P → IfErr answer (λ f. f ≡ fault → P)
-for_each_fault (Ok x) fault p = tt
-for_each_fault (Err f) fault p = λ _. p

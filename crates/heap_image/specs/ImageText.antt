@@ -141,16 +141,24 @@ front_faults bytes =
 abbrev pub layout_faults : List ℕ → List (Option Fault)
 layout_faults bytes = front_faults bytes ++ (fault_if (nat_lt (length bytes) (told_length bytes)) TruncatedBody ∷ [])
 
+-- what can be wrong with the objects of a live list that is in order
+abbrev pub object_faults : HeapImage → List (Option Fault)
+object_faults image =
+    option_map Header (unsound_header image)
+    ∷ option_map Overlap (overlapping image)
+    ∷ option_map (λ p. Reference p.0 p.1) (dangling image)
+    ∷ []
+
+abbrev pub first_object_fault : HeapImage → Option Fault
+first_object_fault image = first_some (object_faults image)
+
 -- What can be wrong with the roots and the live list. In version 1 there are no roots, and in version 2 the live list
 -- is in order.
 abbrev pub live_list_faults : HeapImage → List (Option Fault)
 live_list_faults image =
     option_map Root (misplaced_root image)
     ∷ option_map LiveOrder (misplaced_index (heap_words image) image.live)
-    ∷ option_map Header (unsound_header image)
-    ∷ option_map Overlap (overlapping image)
-    ∷ option_map (λ p. Reference p.0 p.1) (dangling image)
-    ∷ []
+    ∷ object_faults image
 
 -- each fault of a text, if its condition holds, in the order in which they are tested
 abbrev pub faults : List ℕ → List (Option Fault)

@@ -6,6 +6,7 @@ pub mod StdDevices
 pub mod Incoming
 pub mod Begins
 pub mod Refusals
+pub mod Reading
 pub mod Outgoing
 pub mod Soundness
 pub mod Reachable

@@ -1,13 +1,18 @@
 -- Marks while they grow, and the addresses whose references are still to be followed.
-use Rattle.std.specs.Prelude.{◌≡◌, ◌⊎◌, ℕ, ◌+◌, ◌/◌, ◌<◌, ◌≤◌, Bool, true, not, List, All, Contains, length, count_by}
+use Rattle.std.specs.Prelude.{◌≡◌, ◌⊎◌, ℕ, ◌+◌, ◌/◌, ◌<◌, Bool, true, not, List, All, Contains, length, count_by, map}
 use Rattle.std.specs.List.{list_any, range_with_len}
 use Rattle.heap_image.specs.HeapImage.{HeapImage, heap_words, leads_to, refers_to, reachable}
 use Rattle.heap_image.specs.Begins.{is_marked}
 use Rattle.heap_image.specs.Reachable.{is_listed}
+use Rattle.heap_image.specs.declared.marking.Waiting.{Waiting}
 
 -- how many of the addresses below a number are not marked
 abbrev pub unmarked : ℕ → List ℕ → ℕ
 unmarked words bits = count_by (λ a. not (is_marked bits a)) (range_with_len 0 words)
+
+-- the addresses of objects that wait
+abbrev pub addresses : List Waiting → List ℕ
+addresses batch = map (λ w. w.address) batch
 
 -- the addresses on the stack are below the number of words, and marked
 abbrev pub AreStacked : ℕ → List ℕ → List ℕ → Type 0
@@ -36,5 +41,5 @@ pub record IsMarking (image : HeapImage) (roots bits stack : List ℕ) : Type 0 
 
 -- the marked addresses are the reachable ones
 pub record AreReached (image : HeapImage) (roots bits : List ℕ) : Type 0 where
-  pub room : heap_words image / 64 < length bits
+  pub room : length bits ≡ heap_words image / 64 + 1
   pub marked : (a : ℕ) → a < heap_words image → is_marked bits a ≡ is_listed (reachable image roots) a

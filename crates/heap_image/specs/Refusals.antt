@@ -1,7 +1,7 @@
 -- What reading says of an input that it refuses, and what it leaves of it.
 use Rattle.std.specs.Prelude.{◌≡◌, ℕ, ◌+◌, List, [], drop, Option, Some, ◌⊎◌}
 use Rattle.heap_image.specs.declared.fault.Fault.{Fault}
-use Rattle.heap_image.specs.declared.fault.Fault.TheVariants.{TruncatedHeader, Magic, RegionLog, Length, TruncatedBody, LiveOrder, Header, Overlap, Reference, Trailing, Memory, Io, Root}
+use Rattle.heap_image.specs.declared.fault.Fault.TheVariants.{TruncatedHeader, Magic, RegionLog, Length, TruncatedBody, LiveOrder, Header, Overlap, Reference, Trailing, Memory, Io, Root, Workers, Schedule, Overwritten, Gate}
 use Rattle.heap_image.specs.ImageText.{first_fault, told_length}
 
 -- memory was refused, the device failed, or this is the first fault of the input
@@ -12,8 +12,16 @@ IsReason input fault = (fault ≡ Memory) ⊎ ((fault ≡ Io) ⊎ (first_fault i
 abbrev pub IsOfBody : Fault → Type 0
 IsOfBody fault = (fault ≡ Memory) ⊎ ((fault ≡ Io) ⊎ (fault ≡ TruncatedBody))
 
+-- What reading an image may answer at all: a fault of its bytes, want of memory, or the device's failure.
+abbrev pub IsOfReading : Fault → Type 0
+IsOfReading Workers = ⊥
+IsOfReading (Schedule line) = ⊥
+IsOfReading (Overwritten r) = ⊥
+IsOfReading Gate = ⊥
+IsOfReading _ = Unit {0}
+
 -- What is left after a fault: behind the front where it is the front's; behind the whole text where it is the live
--- list's, and one byte less where a byte follows; nothing where there are too few bytes; and else some rest.
+-- list's or the roots', and one byte less where a byte follows; nothing where there are too few bytes; and else some rest.
 abbrev pub LeavesRest : Fault → List ℕ → Option (List ℕ) → Type 0
 LeavesRest TruncatedHeader input left = left ≡ Some []
 LeavesRest Magic input left = left ≡ Some (drop 32 input)

@@ -1,19 +1,13 @@
 -- An image of version 1 as one of version 2.
 use Rattle.std.specs.Prelude.{ℕ, ◌+◌, List, map, Option, Some}
-use Rattle.std.specs.Io.KnownBytes.{Consumes, IsAtEnd}
-use Rattle.heap_image.specs.HeapImage.{HeapImage, IsValid, roots_or}
+use Rattle.heap_image.specs.HeapImage.{HeapImage, roots_or}
 use Rattle.heap_image.specs.ImageText.{text}
+use Rattle.heap_image.specs.Reading.{IsRead}
 use Rattle.heap_image.specs.Outgoing.{TakesBeginning}
 
 -- Where there are no roots, one to each live object, in their order. All else stays.
 abbrev pub upgraded : HeapImage → HeapImage
 upgraded image = record image { roots = Some (roots_or (map (λ a. a + 1) image.live) image.roots) }
-
--- all of an input was read, and it is the text of this image
-pub record IsRead (image : HeapImage) (before after : Option (List ℕ)) : Type 0 where
-  pub valid : IsValid image
-  pub text : Consumes before after (Rattle.heap_image.specs.ImageText.text image)
-  pub end : IsAtEnd after
 
 -- all of the input was read, which is the text of some image, and a beginning of the text of the upgraded one was written
 pub record IsUpgradeBegun (left left' took took' : Option (List ℕ)) : Type 0 where

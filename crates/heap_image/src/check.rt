@@ -3,50 +3,16 @@ ghost use Rattle.std.specs.Prelude.{◌≡◌, ◌<◌, ◌≤◌, ◌+◌, ◌/
 ghost use Rattle.std.specs.List.{concat, list_any, range_with_len};
 ghost use Rattle.heap_image.specs.Header.{size_of, references_of, kind_of};
 ghost use Rattle.heap_image.specs.HeapImage.{FormHeap, image_of, references_at, end_of};
-ghost use Rattle.heap_image.specs.ImageText.{live_list_faults, first_some, misplaced_index, unsound_header, overlapping, dangling, fields_of, is_dangling};
+ghost use Rattle.heap_image.specs.ImageText.{first_object_fault, misplaced_index, is_dangling};
 ghost use Rattle.heap_image.specs.Begins.{MarkBegins};
 
-use crate::begins::{begin_bits, is_marked};
+use crate::begins::is_marked;
 use crate::blocks::word_of;
-use crate::soundness::are_sound;
 use crate::{Fault, header};
 use raw_region::Region;
-use std::alloc::Global;
-use std::thread::Threads;
-
-/// What is first wrong with a live list over a heap that lies in these regions, if anything is. `words` is how many
-/// words they have.
-///
-/// Most lists are sound, so all processors are asked first whether this one is. Where it is not, one of them looks for
-/// the fault that comes first.
-pub(crate) fn check_live_list(
-    alloc: Global,
-    regions: &[Region],
-    region_log: u32,
-    words: u64,
-    live: &[u64],
-    threads: &(impl Threads + Sync),
-) -> Result<(), Fault>
-    requires heap { FormHeap region_log regions.now }
-    requires words { words ≡ length (concat regions.now) }
-    requires few { length live.now ≤ words }
-    ensures ok { let faults = live_list_faults (image_of region_log 0 regions.now live.now) in
-        OnOk result (first_some faults ≡ None) }
-    ensures fault { let faults = live_list_faults (image_of region_log 0 regions.now live.now) in
-        IfErr result (λ fault. (fault ≡ Fault.Memory) ⊎ (first_some faults ≡ Some fault)) }
-{
-    if let Some(index) = misplaced_index(live, words) {
-        return Err(Fault::LiveOrder(index));
-    }
-    let bits = begin_bits(alloc, live, words)?;
-    if are_sound(regions, region_log, words, live, bits.as_slice(), threads) {
-        return Ok(());
-    }
-    check_objects(regions, region_log, words, live, bits.as_slice())
-}
 
 /// The least index of an address that is outside the heap or not above the one before it.
-fn misplaced_index(live: &[u64], words: u64) -> Option<u32>
+pub(crate) fn misplaced_index(live: &[u64], words: u64) -> Option<u32>
     requires few { length live.now ≤ words }
     requires fits { words ≤ 4194304 }
     ensures { result ≡ misplaced_index words live.now }
@@ -88,12 +54,9 @@ pub(crate) fn check_objects(
     requires words { words ≡ length (concat regions.now) }
     requires inside { All (λ a. a < words) live.now }
     requires bits { MarkBegins live.now words bits.now }
-    ensures ok { let image = image_of region_log 0 regions.now live.now in
-        OnOk result ((unsound_header image ≡ None) × (overlapping image ≡ None) × (dangling image ≡ None)) }
-    ensures fault { let image = image_of region_log 0 regions.now live.now in
-        IfErr result (λ fault. first_some (option_map Fault.Header (unsound_header image)
-        ∷ option_map Fault.Overlap (overlapping image)
-        ∷ option_map (λ p. Fault.Reference p.0 p.1) (dangling image) ∷ []) ≡ Some fault) }
+    ensures ok { OnOk result (first_object_fault (image_of region_log 0 regions.now live.now) ≡ None) }
+    ensures fault { IfErr result
+        (λ fault. first_object_fault (image_of region_log 0 regions.now live.now) ≡ Some fault) }
 {
     let mut end = 0;
     let mut overlap = None;

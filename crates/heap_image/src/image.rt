@@ -1,7 +1,7 @@
 //! `Image`: a heap with its live objects.
-ghost use Rattle.std.specs.Prelude.{◌≡◌, ◌<◌, ◌≤◌, Option, Some, None, length, map, option_map};
+ghost use Rattle.std.specs.Prelude.{◌≡◌, ◌<◌, ◌≤◌, All, IsTrue, Option, Some, None, length, map, option_map};
 ghost use Rattle.std.specs.List.{concat, range_with_len};
-ghost use Rattle.heap_image.specs.HeapImage.{HeapImage, IsValid, AreBlocks, AreValidParts, image_of, rooted_image_of, roots_of, version_of, heap_words, region_count, word_at, block_of};
+ghost use Rattle.heap_image.specs.HeapImage.{HeapImage, IsValid, AreBlocks, AreValidParts, image_of, rooted_image_of, is_null_or_live, roots_of, version_of, heap_words, region_count, word_at, block_of};
 ghost use Rattle.heap_image.specs.ImageText.{with_tail};
 
 use crate::blocks::word_of;
@@ -164,9 +164,11 @@ impl Image {
         self.live.as_slice()
     }
 
-    /// The roots, in any order; none in an image of version 1.
+    /// The roots, in any order; none in an image of version 1. Each is 0, which is null, or 1 plus the address of a live
+    /// object.
     pub fn roots(&self) -> &[u64]
         ensures value { result.now ≡ roots_of self.now }
+        ensures live { All (λ w. IsTrue (is_null_or_live self.now w)) result.now }
         ensures valid { IsValid self.now }
     {
         match &self.roots {
@@ -198,7 +200,8 @@ impl Image {
 impl ImageParts {
     /// The image of these parts.
     pub fn into_image(self) -> Image
-        requires { AreValidParts self.region_log self.allowance self.regions.items self.live.items (option_map (λ v. v.items) self.roots) }
+        requires regions { AreBlocks self.region_log self.regions.items }
+        requires valid { IsValid (rooted_image_of self.region_log self.allowance self.regions.items self.live.items (option_map (λ v. v.items) self.roots)) }
         ensures { result ≡ rooted_image_of self.region_log self.allowance self.regions.items self.live.items (option_map (λ v. v.items) self.roots) }
     {
         let ImageParts {

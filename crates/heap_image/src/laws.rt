@@ -1,7 +1,7 @@
 //! Laws of the text. The functions do nothing: each promises its law.
-ghost use Rattle.std.specs.Prelude.{◌≡◌, ◌+◌, ℕ, List, Bool, true, None, filter, map};
+ghost use Rattle.std.specs.Prelude.{◌≡◌, ◌+◌, ℕ, List, Bool, true, None, All, IsTrue, filter, map};
 ghost use Rattle.std.specs.List.{range_with_len};
-ghost use Rattle.heap_image.specs.HeapImage.{HeapImage, IsValid, HasLiveList, heap_words, reachable};
+ghost use Rattle.heap_image.specs.HeapImage.{HeapImage, IsValid, HasLiveList, heap_words, is_null_or_live, reachable, roots_of};
 ghost use Rattle.heap_image.specs.ImageText.{text, from_tail, misplaced_index, unsound_header, dangling, FaultlessIsText, TextIsFaultless};
 ghost use Rattle.heap_image.specs.Reachable.{is_listed, beyond, IsClosed};
 
@@ -41,4 +41,9 @@ pub fn faults_of_roots()
 /// The live objects are what is reached from a root to each of them.
 pub fn live_objects_are_reached()
     ensures { (image : HeapImage) → HasLiveList image → image.live ≡ reachable image (map (λ a. a + 1) image.live) }
+{}
+
+/// Each root of an image is null or leads to a live object.
+pub fn roots_are_null_or_live()
+    ensures { (image : HeapImage) → IsValid image → All (λ w. IsTrue (is_null_or_live image w)) (roots_of image) }
 {}

@@ -29,6 +29,8 @@ mod image;
 mod incoming;
 mod intake;
 mod laws;
+mod live_list;
+mod marking;
 mod numbers;
 mod outgoing;
 mod outlet;
@@ -37,20 +39,21 @@ mod read;
 mod soundness;
 #[cfg(test)]
 mod tests;
+mod unchecked;
 mod upgrading;
 mod write;
 
-pub use decoding::decode;
+pub use decoding::{decode, decode_by_threads};
 pub use encoding::encode;
 pub use fault::Fault;
 pub use image::{Image, ImageParts};
 pub use intake::{Failed, FromRead, Intake};
 pub use laws::{
     faultless_is_text, faults_of_roots, live_objects_are_reached, one_text,
-    reachable_is_the_least_closed, text_is_faultless,
+    reachable_is_the_least_closed, roots_are_null_or_live, text_is_faultless,
 };
 pub use outlet::{Outlet, ToWrite};
 pub use reach::mark_from_roots;
-pub use read::read_image;
+pub use read::{read_image, read_image_by_threads};
 pub use upgrading::{upgrade, upgrade_stream};
 pub use write::write_image;

@@ -1,18 +1,18 @@
 //! Reading an image.
-ghost use Rattle.std.specs.Prelude.{◌≡◌, ◌≢◌, ◌<◌, ◌≤◌, ◌+◌, ◌*◌, ◌++◌, ◌⊎◌, ◌↔◌, ◌||◌, ◌^◌, ℕ, List, All, Some, None, length, IfOk, OnOk, IfErr, IfSome, IsErrOf, IsTrue, option_map};
+ghost use Rattle.std.specs.Prelude.{◌≡◌, ◌≢◌, ◌<◌, ◌≤◌, ◌+◌, ◌*◌, ◌++◌, ◌⊎◌, ◌↔◌, ◌||◌, ◌^◌, ℕ, List, All, Option, Some, None, false, length, IfOk, OnOk, IfErr, IfSome, IsErrOf, IsTrue, option_map};
 ghost use Rattle.std.specs.List.{concat};
 ghost use Rattle.std.specs.Io.KnownBytes.{Consumes, IsAtEnd};
 ghost use Rattle.heap_image.specs.Device.{is_io};
-ghost use Rattle.heap_image.specs.HeapImage.{HeapImage, IsValid, IsWithinLimits, FormHeap, AreBlocks, image_of};
-ghost use Rattle.heap_image.specs.ImageText.{text, front, from_tail, numbers, front_faults, live_list_faults, first_fault, first_some};
-ghost use Rattle.heap_image.specs.Refusals.{IsReason, IsOfBody, LeavesRest};
+ghost use Rattle.heap_image.specs.HeapImage.{IsValid, IsWithinLimits, AreBlocks, image_of};
+ghost use Rattle.heap_image.specs.ImageText.{text, listed_text, front, numbers, front_faults, first_object_fault, first_some};
+ghost use Rattle.heap_image.specs.Reading.{HasFittingNumbers, IsFound, numbers_of};
+ghost use Rattle.heap_image.specs.Refusals.{IsReason, IsOfReading, IsOfBody, LeavesRest};
 ghost use Rattle.heap_image.specs.Incoming.{IsInRange, FallsShort, expected, known_rest};
 
-use crate::check::check_live_list;
 use crate::front::{FRONT_BYTES, Front};
 use crate::incoming::Incoming;
 use crate::intake::{Intake, fill};
-use crate::reach::mark_from_roots;
+use crate::unchecked::{Found, find_live_objects};
 use crate::{Fault, Image, ImageParts};
 use raw_region::Region;
 use std::alloc::Global;
@@ -20,11 +20,38 @@ use std::thread::Threads;
 
 /// Reads an image up to the end of the input, and decides as [`decode`](crate::decode) does of these bytes.
 ///
-/// Faults 2 to 4 are found before a byte behind the first 32 is asked for, and faults 6 to 9 before a byte behind the
-/// live list is. No memory is taken before the first byte behind the front has come. Fault 13 comes where the device
-/// has failed, which is not asked again. After a fault what was read is gone. As many threads as there are processors
-/// check the live objects, and the answer does not depend on how many.
-pub fn read_image<R: Intake>(
+/// Faults 2 to 4 are found before a byte behind the first 32 is asked for, and faults 6 to 9 and 17 before a byte behind
+/// the body is. No memory is taken before the first byte behind the front has come. Fault 13 comes where the device has
+/// failed, which is not asked again. After a fault what was read is gone. One thread does it all.
+pub fn read_image<R: Intake>(alloc: Global, reader: &mut R) -> Result<Image, Fault>
+    ensures valid { IfOk result (λ image. IsValid image) }
+    // The input is the text of the image, all of it.
+    ensures text { IfOk result
+        (λ image. Consumes (R.left reader.old) (R.left reader.new) (text image)) }
+    ensures end { OnOk result (IsAtEnd (R.left reader.new)) }
+    // Memory was refused, the device failed, or it is the first fault of the input.
+    ensures fault { IfErr result
+        (λ fault. IfSome (R.left reader.old) (λ input. IsReason input fault)) }
+    // Also of an input that is not told.
+    ensures kind { IfErr result IsOfReading }
+    ensures left { IfErr result (λ fault. IfSome (R.left reader.old)
+        (λ input. LeavesRest fault input (R.left reader.new))) }
+    // Memory is asked for once a byte behind a front without fault has come.
+    ensures memory { IfErr result
+        (λ fault. fault ≡ Fault.Memory → IfSome (R.left reader.old)
+        (λ input. (32 < length input) × (first_some (front_faults input) ≡ None))) }
+    ensures io { R.has_failed reader.new ≡ is_io result }
+{
+    let read = read_unchecked(alloc, reader)?;
+    let checked = read
+        .found
+        .check(read.regions.as_slice(), read.front.region_log);
+    read.finish(reader, checked)
+}
+
+/// As [`read_image`]. As many threads as there are processors check the live objects, and the answer does not depend on
+/// how many.
+pub fn read_image_by_threads<R: Intake>(
     alloc: Global,
     reader: &mut R,
     threads: &(impl Threads + Sync),
@@ -37,62 +64,103 @@ pub fn read_image<R: Intake>(
     // Memory was refused, the device failed, or it is the first fault of the input.
     ensures fault { IfErr result
         (λ fault. IfSome (R.left reader.old) (λ input. IsReason input fault)) }
+    // Also of an input that is not told.
+    ensures kind { IfErr result IsOfReading }
+    ensures left { IfErr result (λ fault. IfSome (R.left reader.old)
+        (λ input. LeavesRest fault input (R.left reader.new))) }
+    // Memory is asked for once a byte behind a front without fault has come.
+    ensures memory { IfErr result
+        (λ fault. fault ≡ Fault.Memory → IfSome (R.left reader.old)
+        (λ input. (32 < length input) × (first_some (front_faults input) ≡ None))) }
+    ensures io { R.has_failed reader.new ≡ is_io result }
+{
+    let read = read_unchecked(alloc, reader)?;
+    let checked = read
+        .found
+        .check_by_threads(read.regions.as_slice(), read.front.region_log, threads);
+    read.finish(reader, checked)
+}
+
+/// What was read of an image, up to the end of its body.
+///
+/// Contracts see it as the numbers that were told, and know that these fit.
+#[derive(Drop)]
+struct Unchecked {
+    front: Front,
+    regions: Vec<Region>,
+    found: Found,
+}
+
+/// Reads an image up to the end of its body, and finds its live objects, which are not checked yet.
+fn read_unchecked<R: Intake>(alloc: Global, reader: &mut R) -> Result<Unchecked, Fault>
+    ensures fits { IfOk result (λ read. HasFittingNumbers (numbers_of read)) }
+    ensures blocks { IfOk result (λ read. AreBlocks read.front.region_log read.regions.items) }
+    ensures text { IfOk result
+        (λ read. Consumes (R.left reader.old) (R.left reader.new) (listed_text read.front.rooted (numbers_of read))) }
+    ensures found { IfOk result IsFound }
+    ensures fault { IfErr result
+        (λ fault. IfSome (R.left reader.old) (λ input. IsReason input fault)) }
+    ensures kind { IfErr result IsOfReading }
     ensures left { IfErr result (λ fault. IfSome (R.left reader.old)
         (λ input. LeavesRest fault input (R.left reader.new))) }
     ensures memory { IfErr result
-        (λ fault. fault ≡ Fault.Memory → IfSome (R.left reader.old) (λ input. 32 < length input)) }
+        (λ fault. fault ≡ Fault.Memory → IfSome (R.left reader.old)
+        (λ input. (32 < length input) × (first_some (front_faults input) ≡ None))) }
     ensures io { R.has_failed reader.new ≡ is_io result }
 {
     let front = read_front(reader)?;
     let Body { regions, tail } = read_body(alloc, reader, front)?;
-    let (live, roots) = live_objects(alloc, regions.as_slice(), front, tail, threads)?;
-    if fill(reader, &mut [0; 1])? > 0 {
-        return Err(Fault::Trailing);
-    }
-    let parts = ImageParts {
-        region_log: front.region_log,
-        allowance: front.allowance,
+    let found = find_live_objects(alloc, regions.as_slice(), front, tail)?;
+    Ok(Unchecked {
+        front,
         regions,
-        live,
-        roots,
-    };
-    Ok(parts.into_image())
+        found,
+    })
 }
 
-/// The live objects of what was read, whose words lie in these regions, and its roots if it has some. `tail` are the
-/// numbers behind the words.
-fn live_objects(
-    alloc: Global,
-    regions: &[Region],
-    front: Front,
-    tail: Vec<u64>,
-    threads: &(impl Threads + Sync),
-) -> Result<(Vec<u64>, Option<Vec<u64>>), Fault>
-    requires heap { FormHeap front.region_log regions.now }
-    requires words { front.words ≡ length (concat regions.now) }
-    requires few { length tail.items ≤ front.words }
-    ensures live { let image = from_tail front.rooted (image_of front.region_log 0 regions.now tail.items) in
-        IfOk result (λ found. found.0.items ≡ image.live) }
-    ensures roots { let image = from_tail front.rooted (image_of front.region_log 0 regions.now tail.items) in
-        IfOk result (λ found. option_map (λ v. v.items) found.1 ≡ image.roots) }
-    ensures ok { let faults = live_list_faults (from_tail front.rooted (image_of front.region_log 0 regions.now tail.items)) in
-        OnOk result (first_some faults ≡ None) }
-    ensures fault { let faults = live_list_faults (from_tail front.rooted (image_of front.region_log 0 regions.now tail.items)) in
-        IfErr result (λ fault. (fault ≡ Fault.Memory) ⊎ (first_some faults ≡ Some fault)) }
-{
-    if !front.rooted {
-        check_live_list(
-            alloc,
+impl Unchecked {
+    /// The image, if its live objects were found in order and no byte follows.
+    ///
+    /// A clause that asks for `before` speaks of a device that had these bytes left before the image was read.
+    fn finish<R: Intake>(self, reader: &mut R, checked: Result<(), Fault>) -> Result<Image, Fault>
+        requires fits { HasFittingNumbers (numbers_of self) }
+        requires blocks { AreBlocks self.front.region_log self.regions.items }
+        requires found { IsFound self }
+        requires ok { OnOk checked
+            (first_object_fault (image_of self.front.region_log 0 self.regions.items self.found.live.items) ≡ None) }
+        requires why { IfErr checked
+            (λ fault. first_object_fault (image_of self.front.region_log 0 self.regions.items self.found.live.items) ≡ Some fault) }
+        requires works { R.has_failed reader.old ≡ false }
+        ensures valid { IfOk result (λ image. IsValid image) }
+        ensures text { (before : Option (List ℕ)) → Consumes before (R.left reader.old) (listed_text self.front.rooted (numbers_of self))
+            → IfOk result (λ image. Consumes before (R.left reader.new) (text image)) }
+        ensures end { OnOk result (IsAtEnd (R.left reader.new)) }
+        ensures fault { (before : Option (List ℕ)) → Consumes before (R.left reader.old) (listed_text self.front.rooted (numbers_of self))
+            → IfErr result (λ fault. IfSome before (λ input. IsReason input fault)) }
+        ensures kind { IfErr result IsOfReading }
+        ensures left { (before : Option (List ℕ)) → Consumes before (R.left reader.old) (listed_text self.front.rooted (numbers_of self))
+            → IfErr result (λ fault. IfSome before (λ input. LeavesRest fault input (R.left reader.new))) }
+        ensures memory { IfErr result (λ fault. fault ≢ Fault.Memory) }
+        ensures io { R.has_failed reader.new ≡ is_io result }
+    {
+        checked?;
+        if fill(reader, &mut [0; 1])? > 0 {
+            return Err(Fault::Trailing);
+        }
+        let Unchecked {
+            front,
             regions,
-            front.region_log,
-            front.words,
-            tail.as_slice(),
-            threads,
-        )?;
-        return Ok((tail, None));
+            found,
+        } = self;
+        let parts = ImageParts {
+            region_log: front.region_log,
+            allowance: front.allowance,
+            regions,
+            live: found.live,
+            roots: found.roots,
+        };
+        Ok(parts.into_image())
     }
-    let live = mark_from_roots(alloc, front.region_log, regions, tail.as_slice())?;
-    Ok((live, Some(tail)))
 }
 
 /// Reads the first 32 bytes, and no byte behind them.
@@ -107,6 +175,7 @@ fn read_front<R: Intake>(reader: &mut R) -> Result<Front, Fault>
         (λ fault. IfSome (R.left reader.old) (λ input. IsReason input fault)) }
     ensures left { IfErr result (λ fault. IfSome (R.left reader.old)
         (λ input. LeavesRest fault input (R.left reader.new))) }
+    ensures kind { IfErr result IsOfReading }
     ensures memory { IfErr result (λ fault. fault ≢ Fault.Memory) }
     ensures failed { R.has_failed reader.new ≡ is_io result }
 {

@@ -1,10 +1,11 @@
 //! Images of version 1 as ones of version 2.
-ghost use Rattle.std.specs.Prelude.{◌≡◌, ◌<◌, ◌⊎◌, ◌+◌, ◌^◌, None, Some, Err, All, length, map, IfOk, IfErr, OnErr, IfSome, IsTrue};
+ghost use Rattle.std.specs.Prelude.{◌≡◌, ◌≢◌, ◌<◌, ◌⊎◌, ◌+◌, ◌^◌, None, Some, Err, All, length, map, IfOk, IfErr, OnErr, IfSome, IsTrue};
 ghost use Rattle.std.specs.Io.KnownBytes.{Appends};
 ghost use Rattle.heap_image.specs.HeapImage.{HeapImage, roots_of};
 ghost use Rattle.heap_image.specs.ImageText.{text};
-ghost use Rattle.heap_image.specs.Refusals.{IsReason};
-ghost use Rattle.heap_image.specs.Upgrade.{upgraded, IsRead, IsUpgradeBegun};
+ghost use Rattle.heap_image.specs.Reading.{IsRead};
+ghost use Rattle.heap_image.specs.Refusals.{IsReason, IsOfReading};
+ghost use Rattle.heap_image.specs.Upgrade.{upgraded, IsUpgradeBegun};
 
 use crate::intake::Intake;
 use crate::outlet::Outlet;
@@ -12,7 +13,6 @@ use crate::read::read_image;
 use crate::write::write_image;
 use crate::{Fault, Image, ImageParts};
 use std::alloc::{AllocError, Global};
-use std::thread::Threads;
 
 /// The image as one of version 2, with a root to each live object, ascending: the live objects are the same. One of
 /// version 2 comes back as it is.
@@ -64,7 +64,6 @@ pub fn upgrade_stream<R: Intake, O: Outlet>(
     alloc: Global,
     reader: &mut R,
     writer: &mut O,
-    threads: &(impl Threads + Sync),
 ) -> Result<u32, Fault>
     ensures text { IfOk result (λ count. (image : HeapImage)
         × IsRead image (R.left reader.old) (R.left reader.new)
@@ -74,10 +73,14 @@ pub fn upgrade_stream<R: Intake, O: Outlet>(
         ⊎ IsUpgradeBegun (R.left reader.old) (R.left reader.new) (O.took writer.old) (O.took writer.new)) }
     ensures fault { IfErr result
         (λ fault. IfSome (R.left reader.old) (λ input. IsReason input fault)) }
+    // Also of an input that is not told.
+    ensures kind { IfErr result IsOfReading }
+    // Only the device stops it once it writes.
+    ensures nothing_yet { IfErr result (λ fault. fault ≢ Fault.Io → writer.new ≡ writer.old) }
     ensures device { result ≡ Err Fault.Io
         → IsTrue (R.has_failed reader.new) ⊎ IsTrue (O.has_failed writer.new) }
 {
-    let image = read_image(alloc, reader, threads)?;
+    let image = read_image(alloc, reader)?;
     let image = match upgrade(alloc, image) {
         Ok(image) => image,
         Err((_, fault)) => return Err(fault),

@@ -5,7 +5,7 @@ use crate::replaying::replay;
 use crate::schedule::Schedule;
 use crate::schedule_reading::read_schedule;
 use crate::schedule_text::write_schedule;
-use heap_image::{Fault, decode, encode};
+use heap_image::{Fault, decode_by_threads, encode};
 use mark_bitmap::Marks;
 use std::alloc::{AllocError, Global};
 use std::test::Fail;
@@ -203,7 +203,7 @@ fn with_allowance(allowance: u64) -> [u64; 40] {
 
 /// The plan of the image with this text.
 fn plan_of(alloc: Global, threads: &(impl Threads + Sync), words: &[u64]) -> Result<Plan, Fault> {
-    let image = decode(alloc, bytes_of(alloc, words)?.as_slice(), threads)?;
+    let image = decode_by_threads(alloc, bytes_of(alloc, words)?.as_slice(), threads)?;
     let marks = Marks::of(alloc, &image)?;
     Plan::of(alloc, &image, &marks, threads)
 }
@@ -215,7 +215,7 @@ fn replayed(
     words: &[u64],
     schedule: &Schedule,
 ) -> Result<Replayed, Fault> {
-    let image = decode(alloc, bytes_of(alloc, words)?.as_slice(), threads)?;
+    let image = decode_by_threads(alloc, bytes_of(alloc, words)?.as_slice(), threads)?;
     let marks = Marks::of(alloc, &image)?;
     let plan = Plan::of(alloc, &image, &marks, threads)?;
     replay(alloc, &image, &marks, &plan, schedule)

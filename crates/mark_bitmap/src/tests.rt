@@ -2,7 +2,7 @@
 mod seeded;
 
 use crate::Marks;
-use heap_image::{Image, decode};
+use heap_image::{Image, decode_by_threads};
 use std::alloc::{AllocError, Global};
 use std::test::Fail;
 use std::thread::Threads;
@@ -37,7 +37,7 @@ fn image_of(
     for part in [front.as_slice(), words, live] {
         put_words(&mut bytes, part)?;
     }
-    Ok(decode(alloc, bytes.as_slice(), threads)?)
+    Ok(decode_by_threads(alloc, bytes.as_slice(), threads)?)
 }
 
 fn put_words(bytes: &mut Vec<u8>, words: &[u64]) -> Result<(), AllocError> {

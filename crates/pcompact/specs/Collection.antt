@@ -5,7 +5,8 @@ use Rattle.heap_image.specs.ImageText.{text, first_fault}
 use Rattle.heap_image.specs.declared.fault.Fault.{Fault}
 use Rattle.summary.specs.Compaction.{compact}
 use Rattle.collector.specs.Collections.{figures_of}
-use Rattle.collector.specs.Streams.{IsRead, IsOfBytes}
+use Rattle.heap_image.specs.Reading.{IsRead}
+use Rattle.collector.specs.Streams.{IsOfBytes}
 use Rattle.collector.specs.declared.outcome.Figures.{Figures}
 
 -- the line with the figures of a collection

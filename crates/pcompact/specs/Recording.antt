@@ -7,7 +7,7 @@ use Rattle.history.specs.Schedule.{ScheduleView}
 use Rattle.history.specs.ScheduleText.{schedule_text}
 use Rattle.history.specs.Record.{IsRecord}
 use Rattle.collector.specs.Collections.{figures_of}
-use Rattle.collector.specs.Streams.{IsRead}
+use Rattle.heap_image.specs.Reading.{IsRead}
 use Rattle.pcompact.specs.Collection.{figures_line}
 
 -- All of the input was read, which is the text of some image. The text of its compaction was written, and that of a

@@ -8,7 +8,7 @@ ghost use Rattle.pcompact.specs.Recording.{IsRecording};
 
 use crate::collection::{LINE_ROOM, tell_figures};
 use collector::{OpenGate, Outcome, record};
-use heap_image::{Fault, Image, Intake, Outlet, read_image, write_image};
+use heap_image::{Fault, Image, Intake, Outlet, read_image_by_threads, write_image};
 use history::{Schedule, write_schedule};
 use std::alloc::Global;
 use std::io::Write;
@@ -33,7 +33,7 @@ pub fn record_into<R: Intake, O: Outlet, S: Write, T: Threads + Sync, W: Wait + 
         (S.contents schedule.old) (S.contents schedule.new) (string_bytes shown)) }
 {
     let mut line = String::with_capacity(alloc, LINE_ROOM)?;
-    let image = read_image(alloc, input, threads)?;
+    let image = read_image_by_threads(alloc, input, threads)?;
     let (outcome, recorded) = recorded(alloc, image, workers, threads, wait)?;
     let text = write_schedule(alloc, &recorded)?;
     write_image(&outcome.image, output)?;

@@ -3,7 +3,7 @@ ghost use Rattle.std.specs.Prelude.{◌≡◌, IfOk, IfSome, codes};
 ghost use Rattle.history.specs.ScheduleText.{schedule_text};
 ghost use Rattle.pcompact.specs.Replaying.{IsReplayOf, end_line};
 
-use heap_image::{Fault, Intake, read_image};
+use heap_image::{Fault, Intake, read_image_by_threads};
 use history::{End, Schedule, read_schedule, replay, write_schedule};
 use mark_bitmap::Marks;
 use std::alloc::Global;
@@ -22,7 +22,7 @@ pub fn replay_text<R: Intake, S: Read, T: Threads + Sync>(
     ensures { IfOk result (λ shown. IsReplayOf (R.left input.old) (R.left input.new)
         (S.remaining schedule.old) shown.items) }
 {
-    let image = read_image(alloc, input, threads)?;
+    let image = read_image_by_threads(alloc, input, threads)?;
     let asked = schedule_in(alloc, schedule)?;
     let marks = Marks::of(alloc, &image)?;
     let plan = Plan::of(alloc, &image, &marks, threads)?;

@@ -3,7 +3,7 @@ ghost use Rattle.std.specs.Prelude.{◌≡◌, IfOk, IfErr, IfSome, string_bytes
 ghost use Rattle.heap_image.specs.Refusals.{IsReason};
 ghost use Rattle.pcompact.specs.Summary.{summary_of, IsSummaryOf};
 
-use heap_image::{Fault, Intake, read_image};
+use heap_image::{Fault, Intake, read_image_by_threads};
 use mark_bitmap::Marks;
 use std::alloc::{AllocError, Global};
 use std::thread::Threads;
@@ -19,7 +19,7 @@ pub fn summarize<R: Intake, T: Threads + Sync>(
         IsSummaryOf (R.left input.old) (R.left input.new) (string_bytes text)) }
     ensures fault { IfErr result (λ fault. IfSome (R.left input.old) (λ bytes. IsReason bytes fault)) }
 {
-    let image = read_image(alloc, input, threads)?;
+    let image = read_image_by_threads(alloc, input, threads)?;
     let marks = Marks::of(alloc, &image)?;
     let plan = Plan::of(alloc, &image, &marks, threads)?;
     Ok(text_of(alloc, &plan)?)

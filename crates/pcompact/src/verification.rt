@@ -3,7 +3,7 @@ ghost use Rattle.std.specs.Prelude.{◌≡◌, IfOk};
 ghost use Rattle.pcompact.specs.Verification.{IsVerdictOf};
 
 use collector::{Verdict, verify};
-use heap_image::{Fault, Intake, read_image};
+use heap_image::{Fault, Intake, read_image_by_threads};
 use std::alloc::Global;
 use std::thread::Threads;
 
@@ -19,7 +19,7 @@ pub fn verify_images<R: Intake, S: Intake, T: Threads + Sync>(
     ensures { IfOk result (λ verdict. IsVerdictOf (R.left before.old) (R.left before.new)
         (S.left after.old) (S.left after.new) verdict) }
 {
-    let was = read_image(alloc, before, threads)?;
-    let is = read_image(alloc, after, threads)?;
+    let was = read_image_by_threads(alloc, before, threads)?;
+    let is = read_image_by_threads(alloc, after, threads)?;
     verify(alloc, &was, &is, threads)
 }

@@ -7,7 +7,7 @@ ghost use Rattle.claim_board.specs.Tickets.{IsTicketOf};
 
 use crate::{Cells, Target};
 use claim_board::{Board, Opening, Pass, Right, Ticket, one_more_source_is_drained};
-use heap_image::{Fault, Image, decode};
+use heap_image::{Fault, Image, decode_by_threads};
 use history::{GivenMoves, Moves};
 use mark_bitmap::Marks;
 use std::alloc::{AllocError, Global};
@@ -58,7 +58,7 @@ fn image_of(alloc: Global, live: &[u64], threads: &(impl Threads + Sync)) -> Res
     for part in [front.as_slice(), BASE.as_flattened(), live] {
         put_words(&mut bytes, part)?;
     }
-    Ok(decode(alloc, bytes.as_slice(), threads)?)
+    Ok(decode_by_threads(alloc, bytes.as_slice(), threads)?)
 }
 
 fn put_words(bytes: &mut Vec<u8>, words: &[u64]) -> Result<(), AllocError> {

@@ -16,6 +16,7 @@ use Rattle.summary.proofs.Valid.{valid_with, compact-HasLiveList, header_of_move
 use Rattle.heap_image.specs.Reachable.{is_listed, IsClosed}
 use Rattle.heap_image.proofs.Listed.{any_listed, listed_one}
 use Rattle.heap_image.proofs.Reaches.{reachable-IsClosed, reachable-least, reachable-below}
+use Rattle.heap_image.proofs.RootLive.{root_leads}
 use Rattle.heap_image.proofs.RootsToLive.{listed_at, place_of, live_sound, live_below, live_ascending, not_unsound, field_of, refers_by, leads_to_live, live_is_reachable}
 
 module _ (image : HeapImage) (roots : List ℕ) (sound : HasLiveList image) (few : All (λ w. w ≤ heap_words image) roots) (lives : image.live ≡ reachable image roots) where
@@ -30,18 +31,6 @@ module _ (image : HeapImage) (roots : List ℕ) (sound : HasLiveList image) (few
 
   live_is : (a : ℕ) → is_listed image.live a ≡ is_listed (reachable image roots) a
   live_is a = ap (λ xs. is_listed xs a) lives
-
-  -- a root is null or leads to a live object
-  root_leads : (w : ℕ) → w ≤ heap_words image → list_any (λ x. eqb w x) roots ≡ true → is_null_or_live image w ≡ true
-  root_leads w l root = elim (cases_eq w 0) [
-    | inl null ↦ or_left (eqb w 0) (list_any (λ a. eqb w (a + 1)) image.live) (eq-eqb w 0 null)
-    | inr some ↦
-        let b : ℕ = w - 1 in
-        let is : w ≡ b + 1 = omega arith in
-        let leads : list_any (λ x. leads_to x b) roots ≡ true = any_listed (λ x. leads_to x b) roots w root (eq-eqb w (b + 1) is) in
-        let reached : is_listed image.live b ≡ true = live_is b ∙ (reachable-IsClosed image roots).from_roots b (omega arith) leads in
-        or_right (eqb w 0) (list_any (λ a. eqb w (a + 1)) image.live) (any_listed (λ a. eqb w (a + 1)) image.live b reached (eq-eqb w (b + 1) is))
-  ]
 
   redirected-some : (w b : ℕ) → w ≡ b + 1 → redirected image w ≡ new_address image b + 1
   redirected-some w b e =
@@ -75,7 +64,7 @@ module _ (image : HeapImage) (roots : List ℕ) (sound : HasLiveList image) (few
       let long = length-map roots (redirected image) in
       let m : i < length roots = omega arith in
       let at : get_or new_roots i 0 ≡ redirected image (get_or roots i 0) = get_or-map (redirected image) roots i 0 0 m in
-      subst (λ w. is_null_or_live after w ≡ true) (sym at) (redirected_leads (get_or roots i 0) (root_leads (get_or roots i 0) (few i 0 m) (listed_at roots i m))))
+      subst (λ w. is_null_or_live after w ≡ true) (sym at) (redirected_leads (get_or roots i 0) (root_leads image roots lives (get_or roots i 0) (few i 0 m) (listed_at roots i m))))
 
   passes : ℕ → Bool
   passes a = is_listed image.live a && is_listed (reachable after new_roots) (new_address image a)
@@ -161,11 +150,3 @@ rooted_after image valid (Some roots) h =
 
 pub compact-IsValid : (image : HeapImage) → IsValid image → IsValid (compact image)
 compact-IsValid image valid = valid_with image valid (rooted_after image valid image.roots valid.rooted)
-
--- a root is null or leads to a live object
-pub root_live : (image : HeapImage) → IsValid image → (i : ℕ) → i < length (roots_of image) → is_null_or_live image (get_or (roots_of image) i 0) ≡ true
-root_live image valid i l = each image.roots valid.rooted i l
-  where
-    each : (roots : Option (List ℕ)) → IfSome roots (AreRoots image) → (i : ℕ) → i < length (roots_or [] roots) → is_null_or_live image (get_or (roots_or [] roots) i 0) ≡ true
-    each None h i l = let no : ⊥ = omega arith in absurd no
-    each (Some roots) h i l = root_leads image roots valid.live_list h.inside h.reached (get_or roots i 0) (h.inside i 0 l) (listed_at roots i l)

@@ -4,7 +4,7 @@ ghost use Rattle.std.specs.Prelude.{◌≡◌};
 mod seeded;
 
 use crate::Plan;
-use heap_image::{Image, decode};
+use heap_image::{Image, decode_by_threads};
 use mark_bitmap::Marks;
 use std::alloc::{AllocError, Global};
 use std::test::Fail;
@@ -82,7 +82,7 @@ fn image_of(
     for (a, _) in objects {
         put_word(&mut bytes, *a)?;
     }
-    Ok(decode(alloc, bytes.as_slice(), threads)?)
+    Ok(decode_by_threads(alloc, bytes.as_slice(), threads)?)
 }
 
 fn put_word(bytes: &mut Vec<u8>, word: u64) -> Result<(), AllocError> {

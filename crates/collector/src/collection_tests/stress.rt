@@ -1,7 +1,7 @@
 //! Heaps made from seeds, collected by 1 to 8 workers and compared with the plain compaction.
 use crate::tests::{Seed, image_text};
 use crate::{OpenGate, collect};
-use heap_image::{Fault, decode, encode};
+use heap_image::{Fault, decode_by_threads, encode};
 use std::alloc::{AllocError, Global};
 use std::sync::Wait;
 use std::test::Fail;
@@ -142,7 +142,7 @@ fn gives<R: Threads + Wait + Sync>(
 ) -> Result<bool, Fault> {
     match collect(
         alloc,
-        decode(alloc, before, rt)?,
+        decode_by_threads(alloc, before, rt)?,
         workers,
         &OpenGate,
         rt,
@@ -161,7 +161,7 @@ fn is_compacted<R: Threads + Wait + Sync>(
     shape: Shape,
 ) -> Result<bool, Fault> {
     let before = seeded_text(alloc, seed, shape)?;
-    let image = decode(alloc, before.as_slice(), rt)?;
+    let image = decode_by_threads(alloc, before.as_slice(), rt)?;
     let after = encode(alloc, &compact_plainly(alloc, &image)?)?;
     let texts = (before.as_slice(), after.as_slice());
     let few = (seed % 4) as u32 + 1;

@@ -2,7 +2,7 @@
 use super::replays;
 use crate::tests::{BASE_LIVE, BASE_WORDS};
 use crate::{OpenGate, Outcome, Refusal, Verdict, record, verify};
-use heap_image::{Fault, Image, decode, encode};
+use heap_image::{Fault, Image, decode_by_threads, encode};
 use history::Schedule;
 use std::alloc::{AllocError, Global};
 use std::sync::Wait;
@@ -23,7 +23,7 @@ fn base_text(alloc: Global) -> Result<Vec<u8>, AllocError> {
 /// that was kept isn't as it was.
 fn comes_through<R: Threads + Wait + Sync>(alloc: Global, rt: &R) -> Result<bool, Fault> {
     let text = base_text(alloc)?;
-    match record(alloc, decode(alloc, &text, rt)?, 2, &OpenGate, rt, rt) {
+    match record(alloc, decode_by_threads(alloc, &text, rt)?, 2, &OpenGate, rt, rt) {
         Ok((outcome, schedule)) => is_right(alloc, rt, &text, &outcome, &schedule),
         Err(Refusal::Kept(image, fault)) => {
             if encode(alloc, &image)?.as_slice() == text.as_slice() {
@@ -44,7 +44,7 @@ fn is_right(
     outcome: &Outcome,
     schedule: &Schedule,
 ) -> Result<bool, Fault> {
-    let before = decode(alloc, text, threads)?;
+    let before = decode_by_threads(alloc, text, threads)?;
     let is_same = verify(alloc, &before, &outcome.image, threads)? == Verdict::Same;
     Ok(is_same && replays(alloc, threads, &before, schedule)?)
 }

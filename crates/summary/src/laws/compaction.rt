@@ -2,19 +2,40 @@
 //!
 //! The functions do nothing: each one's contract is a law.
 
-ghost use Rattle.std.specs.Prelude.{◌≡◌, ◌+◌, ◌-◌, ◌<◌, ◌≤◌, ◌&&◌, true, ℕ, slice_range, replicate, map, flat_map, cond, Bool};
+ghost use Rattle.std.specs.Prelude.{◌≡◌, ◌+◌, ◌-◌, ◌<◌, ◌≤◌, ◌&&◌, true, ℕ, List, All, Option, slice_range, replicate, map, flat_map, cond, Bool};
 ghost use Rattle.std.specs.List.{range_with_len};
-ghost use Rattle.heap_image.specs.HeapImage.{HeapImage, IsValid, HasLiveList, heap_words, region_count, start_of, word_at, block_of, references_at, end_of, reference_at, is_live_word};
+ghost use Rattle.heap_image.specs.HeapImage.{HeapImage, IsValid, HasLiveList, heap_words, region_count, start_of, word_at, block_of, references_at, end_of, reference_at, is_live_word, reachable};
 ghost use Rattle.summary.specs.LiveObjects.{object_count, object_at};
-ghost use Rattle.summary.specs.NewAddresses.{new_address, new_end_of, new_top};
+ghost use Rattle.summary.specs.NewAddresses.{new_address, new_end_of, new_top, prefix_end};
 ghost use Rattle.summary.specs.WordMoves.{slid};
 ghost use Rattle.summary.specs.Compaction.{redirected, is_reference_of, object_image, carried, moved_word, compacted_word, moved, compact};
 ghost use Rattle.summary.specs.SameGraph.{IsSameGraph};
-ghost use Rattle.summary.specs.RegionData.{addresses};
+ghost use Rattle.summary.specs.RegionData.{addresses, fill_count};
 
 /// The image after a collection is valid again.
 pub fn compaction_is_valid()
     ensures { (image : HeapImage) → IsValid image → IsValid (compact image) }
+{}
+
+/// The live objects of the compacted heap are what is reached from its roots, if those of the heap are.
+pub fn compaction_keeps_the_reachable()
+    ensures { (image : HeapImage) (roots : List ℕ) → HasLiveList image → All (λ w. w ≤ heap_words image) roots
+        → image.live ≡ reachable image roots
+        → (compact image).live ≡ reachable (compact image) (map (redirected image) roots) }
+{}
+
+/// What a collection does to the words and the live list doesn't depend on the roots, nor do its figures.
+pub fn roots_change_nothing_else()
+    ensures words { (image : HeapImage) (roots : Option (List ℕ))
+        → (compact (record image { roots = roots })).words ≡ (compact image).words }
+    ensures live { (image : HeapImage) (roots : Option (List ℕ))
+        → (compact (record image { roots = roots })).live ≡ (compact image).live }
+    ensures prefix { (image : HeapImage) (roots : Option (List ℕ))
+        → prefix_end (record image { roots = roots }) ≡ prefix_end image }
+    ensures top { (image : HeapImage) (roots : Option (List ℕ))
+        → new_top (record image { roots = roots }) ≡ new_top image }
+    ensures filled { (image : HeapImage) (roots : Option (List ℕ))
+        → fill_count (record image { roots = roots }) ≡ fill_count image }
 {}
 
 /// The compacted heap has the same live objects in the same order, and the same references between them.

@@ -13,8 +13,8 @@ use Rattle.collector.proofs.clean_up.clean_up.Goals as goal
 all_new : {X : Type 0} (n : ℕ) (new old : List X) → length new ≡ n → take n (new ++ drop (length new) old) ≡ new
 all_new n new old e = ap (λ k. take k (new ++ drop (length new) old)) (sym e) ∙ take-append_seam new (drop (length new) old)
 
-pub image_of_parts-requires-clause-regions : goal.image_of_parts-requires-clause-regions
-image_of_parts-requires-clause-regions g c =
+pub into_image-requires-clause-regions : goal.into_image-requires-clause-regions
+into_image-requires-clause-regions g c =
     let plan : HeapImage = c.args.plan.now in
     let parts = c.in_ok-parts.parts in
     let updated : List (List ℕ) = c.update_deferred.new.regions in
@@ -28,8 +28,8 @@ image_of_parts-requires-clause-regions g c =
     let whole : AreBlocks plan.region_log cleared' = c.clear_above.ensures.blocks plan.region_log (subst (AreBlocks plan.region_log) (sym first) c.update_deferred.ensures.blocks) in
     subst (AreBlocks parts.region_log) (sym second) (subst (λ l. AreBlocks l cleared') (sym log) whole)
 
-pub image_of_parts-requires-clause-valid : goal.image_of_parts-requires-clause-valid
-image_of_parts-requires-clause-valid g c =
+pub into_image-requires-clause-valid : goal.into_image-requires-clause-valid
+into_image-requires-clause-valid g c =
     let plan : HeapImage = c.args.plan.now in
     let parts = c.in_ok-parts.parts in
     let updated : List (List ℕ) = c.update_deferred.new.regions in

@@ -1,4 +1,4 @@
-use Rattle.std.proofs.Common.{ℕ, ◌≤◌, ◌<◌, length, get_or, ltb, sym, arith}
+use Rattle.std.proofs.Common.{length, get_or, ltb, sym, arith}
 use Rattle.std.proofs.lemmas.Bool.{lt-ltb, le-ltb}
 use Rattle.heap_image.proofs.Finds.{find_least_from_zero, find_none_in_range}
 use Rattle.heap_image.proofs.reach.misplaced_root.Goals as goal

@@ -2,7 +2,7 @@ use Rattle.std.proofs.Common.{◌≡◌, length, take, subst, arith}
 use Rattle.std.proofs.lemmas.List.{take_all}
 use Rattle.std.proofs.lemmas.Result.{err_from_is_err_and}
 use Rattle.std.specs.Io.KnownBytes.{Consumes}
-use Rattle.heap_image.proofs.Refusing.{reason_in_front, front_leaves, some_rest}
+use Rattle.heap_image.proofs.Refusing.{reason_in_front, front_leaves, front_is_kind, some_rest}
 use Rattle.heap_image.proofs.read.read_front.Goals as goal
 
 pub returns-in_err-fill-clause-left : goal.returns-in_err-fill-clause-left
@@ -19,3 +19,6 @@ pub returns-clause-left : goal.returns-clause-left
 returns-clause-left g c =
     let all : take c.in_ok-fill.field-0 c.fill.new.buffer ≡ c.fill.new.buffer = take_all c.in_ok-fill.field-0 c.fill.new.buffer (let long : length c.fill.new.buffer ≡ 32 = c.fill.auto.buffer in let enough = c.if-branch-lt-FRONT_BYTES.false in omega arith) in
     front_leaves c.fill.new.buffer c.fill.auto.buffer (g.R.Intake.left c.args.reader.now) (g.R.Intake.left c.fill.new.reader) (subst (λ bytes. Consumes (g.R.Intake.left c.args.reader.now) (g.R.Intake.left c.fill.new.reader) bytes) all c.in_ok-fill.ensures.bytes) c.parse.result c.parse.ensures.of_front
+
+pub returns-clause-kind : goal.returns-clause-kind
+returns-clause-kind g c = front_is_kind c.parse.result c.parse.ensures.of_front

@@ -1,4 +1,4 @@
-use Rattle.std.proofs.Common.{◌≡◌, ℕ, ◌+◌, sym, ◌∙◌, ap, Some}
+use Rattle.std.proofs.Common.{ℕ, ◌+◌, sym, ◌∙◌, ap, Some}
 use Rattle.std.specs.Prelude.{map, option_map}
 use Rattle.heap_image.specs.HeapImage.{HeapImage, rooted_image_of}
 use Rattle.heap_image.proofs.Upgrades.{upgraded-IsValid, upgraded-rootless}
@@ -10,7 +10,7 @@ into_image-requires c =
     let old = c.into_parts-parts.ensures in
     let image : HeapImage = rooted_image_of parts.region_log parts.allowance parts.regions.items parts.live.items (option_map (λ v. v.items) parts.roots) in
     let e = c.requires.roots ∙ ap (λ (i : HeapImage). map (λ (a : ℕ). a + 1) i.live) old.whole in
-    record { whole = old.parts.whole; valid = upgraded-IsValid image old.parts.valid c.args.roots.items e }
+    record { regions = old.parts.whole; valid = upgraded-IsValid image old.parts.valid c.args.roots.items e }
 
 pub returns : goal.returns
 returns c =

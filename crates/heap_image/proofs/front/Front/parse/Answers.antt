@@ -1,4 +1,4 @@
-use Rattle.std.proofs.Common.{◌≡◌, Bool, false, not, ◌&&◌, take, ap, arith}
+use Rattle.std.proofs.Common.{◌≡◌, false, not, ◌&&◌, take, ap, arith}
 use Rattle.std.proofs.lemmas.Bool.{and_left, and_right}
 use Rattle.heap_image.specs.ImageText.{magic}
 use Rattle.heap_image.proofs.ReadBack.{front_of_bytes, magic_by_tests}

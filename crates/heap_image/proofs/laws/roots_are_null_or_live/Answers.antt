@@ -1,0 +1,5 @@
+use Rattle.heap_image.proofs.RootLive.{roots-live}
+use Rattle.heap_image.proofs.laws.roots_are_null_or_live.Goals as goal
+
+pub returns : goal.returns
+returns c = roots-live

@@ -1,0 +1,23 @@
+use Rattle.std.proofs.Common.{◌≡◌, ◌+◌, ◌++◌, ◌<◌, ℕ, List, [], length, get_or, All}
+use Rattle.std.specs.List.{concat}
+use Rattle.std.specs.Vec.{vec_capacity}
+use Rattle.heap_image.specs.HeapImage.{image_of}
+use Rattle.heap_image.specs.Marking.{IsMarking, unmarked, addresses}
+use Rattle.heap_image.proofs.marking.Marking.follow_batch.Given as goal
+
+abbrev pub invariant-loop-object : goal.invariant-loop-object
+invariant-loop-object l = record {
+  marking : (roots : List ℕ) → IsMarking (image_of l.region_log 0 l.regions []) roots l.initial.self.bits.items (l.initial.self.stack.items ++ addresses l.initial.batch.items)
+      → IsMarking (image_of l.region_log 0 l.regions []) roots l.self.bits.items (l.self.stack.items ++ addresses l.batch.items);
+  inside : All (λ a. a < l.self.words) (addresses l.batch.items);
+  fetched : All (λ w. w.header ≡ get_or (concat l.regions) w.address 0) l.batch.items;
+  room : length l.self.bits.items ≡ length l.initial.self.bits.items;
+  total : length l.self.stack.items + unmarked l.self.words l.self.bits.items ≡ length l.initial.self.stack.items + unmarked l.initial.self.words l.initial.self.bits.items;
+  words : l.self.words ≡ l.initial.self.words;
+  capacity : vec_capacity l.self.stack ≡ vec_capacity l.initial.self.stack;
+  batch_capacity : vec_capacity l.batch ≡ vec_capacity l.initial.batch;
+}
+
+-- each turn takes one object from the batch
+abbrev pub decreases-loop-object : goal.decreases-loop-object
+decreases-loop-object l = length l.batch.items

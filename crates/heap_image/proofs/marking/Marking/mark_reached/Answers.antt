@@ -1,0 +1,54 @@
+use Rattle.std.proofs.Common.{◌≡◌, [], length, sym, ◌∙◌, ap, arith}
+use Rattle.std.proofs.lemmas.Bool.{eqb-true}
+use Rattle.std.specs.Vec.{vec_len}
+use Rattle.heap_image.specs.HeapImage.{HeapImage, image_of}
+use Rattle.heap_image.specs.Marking.{addresses, unmarked}
+use Rattle.heap_image.proofs.MarkingSteps.{unmarked_few, none_left, marking_begins, marking_ends, batch_inside}
+use Rattle.heap_image.proofs.marking.Marking.mark_reached.Goals as goal
+
+pub visit_all-requires-clause-room : goal.visit_all-requires-clause-room
+visit_all-requires-clause-room c = omega (arith, ap length c.requires.empty, unmarked_few c.args.self.now.words c.args.self.now.bits.items, c.requires.room)
+
+pub loop-self-init : goal.loop-self-init
+loop-self-init c =
+    let image : HeapImage = image_of c.args.region_log 0 c.args.regions.now [] in
+    let grown = c.visit_all.ensures.grown in
+    let old = c.args.self.now in
+    let new = c.visit_all.new.self in
+    record {
+      marking = marking_begins image c.args.roots.now old.words c.requires.words old.bits.items new.bits.items old.stack.items new.stack.items c.requires.empty c.requires.bits c.requires.clear grown;
+      words = c.visit_all.ensures.words ∙ c.requires.words;
+      room = rw (c.visit_all.ensures.words) (omega (arith, grown.total, c.visit_all.ensures.capacity, ap length c.requires.empty, unmarked_few old.words old.bits.items, c.requires.room));
+      batch = c.requires.batch;
+      batch_room = c.requires.batch_room;
+    }
+
+pub follow_batch-requires-clause-inside : goal.follow_batch-requires-clause-inside
+follow_batch-requires-clause-inside c =
+    let image : HeapImage = image_of c.args.region_log 0 c.args.regions.now [] in
+    let new = c.take_batch.new.self in
+    let taken = c.take_batch.ensures.marking c.args.roots.now c.loop-self.invariant.marking in
+    let words = c.take_batch.ensures.words ∙ c.loop-self.invariant.words in
+    batch_inside image c.args.roots.now new.words words new.bits.items new.stack.items (addresses c.take_batch.new.batch.items) taken
+
+pub loop-self-preserved : goal.loop-self-preserved
+loop-self-preserved c =
+    let before = c.loop-self.invariant in
+    let taken = c.take_batch.ensures in
+    let followed = c.follow_batch.ensures in
+    let held = c.take_batch.new.self in
+    let bits = ap (λ v. v.items) taken.bits in
+    let same : unmarked held.words held.bits.items ≡ unmarked c.loop-self.self.words c.loop-self.self.bits.items = ap (λ n. unmarked n held.bits.items) taken.words ∙ ap (unmarked c.loop-self.self.words) bits in
+    record {
+      marking = followed.marking c.args.roots.now (taken.marking c.args.roots.now before.marking);
+      words = followed.words ∙ taken.words ∙ before.words;
+      room = omega (arith, followed.total, taken.total, same, followed.capacity, taken.capacity, before.room);
+      batch = followed.empty;
+      batch_room = omega (arith, followed.batch_capacity, taken.batch_capacity, before.batch_room);
+    }
+
+pub returns : goal.returns
+returns c =
+    let stack = c.loop-self.self.stack.items in
+    let empty : stack ≡ [] = none_left stack (omega (arith, eqb-true (vec_len c.loop-self.self.stack) 0 (sym (c.loop-self-test.ensures)), c.loop-self.self.stack.ok.0)) in
+    marking_ends (image_of c.args.region_log 0 c.args.regions.now []) c.args.roots.now c.loop-self.self.words c.loop-self.invariant.words c.loop-self.self.bits.items stack empty c.loop-self.invariant.marking

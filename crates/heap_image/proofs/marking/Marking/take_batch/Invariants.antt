@@ -1,0 +1,23 @@
+use Rattle.std.proofs.Common.{◌≡◌, ◌+◌, ◌++◌, ℕ, List, [], length, get_or, All}
+use Rattle.std.specs.List.{concat}
+use Rattle.std.specs.Vec.{vec_capacity}
+use Rattle.heap_image.specs.HeapImage.{image_of}
+use Rattle.heap_image.specs.Marking.{IsMarking, AreStacked, addresses}
+use Rattle.heap_image.proofs.marking.Marking.take_batch.Given as goal
+
+abbrev pub invariant-loop-self : goal.invariant-loop-self
+invariant-loop-self l = record {
+  marking : (roots : List ℕ) → IsMarking (image_of l.region_log 0 l.regions []) roots l.initial.self.bits.items l.initial.self.stack.items
+      → IsMarking (image_of l.region_log 0 l.regions []) roots l.self.bits.items (l.self.stack.items ++ addresses l.batch.items);
+  fetched : All (λ w. w.header ≡ get_or (concat l.regions) w.address 0) l.batch.items;
+  inside : AreStacked l.self.words l.self.bits.items l.self.stack.items;
+  total : length l.self.stack.items + length l.batch.items ≡ length l.initial.self.stack.items;
+  bits : l.self.bits ≡ l.initial.self.bits;
+  words : l.self.words ≡ l.initial.self.words;
+  capacity : vec_capacity l.self.stack ≡ vec_capacity l.initial.self.stack;
+  batch_capacity : vec_capacity l.batch ≡ vec_capacity l.initial.batch;
+}
+
+-- each turn takes one address from the stack
+abbrev pub decreases-loop-self : goal.decreases-loop-self
+decreases-loop-self l = length l.self.stack.items

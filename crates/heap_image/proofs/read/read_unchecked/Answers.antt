@@ -1,0 +1,146 @@
+use Rattle.std.proofs.Common.{◌<◌, length, ap, sym, subst, ◌∙◌, Err}
+use Rattle.std.proofs.lemmas.Result.{err_from_is_err_and}
+use Rattle.std.specs.Prelude.{All, option_map}
+use Rattle.std.specs.List.{concat}
+use Rattle.std.specs.Io.KnownBytes.{Consumes}
+use Rattle.heap_image.specs.Begins.{MarkBegins}
+use Rattle.heap_image.specs.HeapImage.{HeapImage, image_of}
+use Rattle.heap_image.specs.ImageText.{listed_text, from_tail, first_some, first_object_fault, live_list_faults}
+use Rattle.heap_image.specs.Reading.{HasFittingNumbers}
+use Rattle.heap_image.specs.declared.read.Unchecked.{Unchecked}
+use Rattle.heap_image.proofs.Refusing.{fitting_parts, read_parts, body_leaves, body_reason, body_kind, check_reason, check_leaves, check_of_parts, search_kind, memory_behind_front, more_than_front, faults_same, live_same, roots_same, tail_is}
+use Rattle.heap_image.proofs.read.read_unchecked.Goals as goal
+
+pub returns-in_err-regions-clause-fault : goal.returns-in_err-regions-clause-fault
+returns-in_err-regions-clause-fault g c =
+    let p = err_from_is_err_and c.from_residual-in_err-regions.result c.from_residual-in_err-regions.ensures.1 in
+    let front = c.in_ok-front.front in
+    let fault = c.in_err-regions.field-0.0 in
+    rw (p.1, p.2) (body_reason front.rooted fault front.region_log front.count front.words front.allowance c.in_ok-front.ensures.limits (g.R.Intake.left c.args.reader.now) (g.R.Intake.left c.read_front.new.reader) c.in_ok-front.ensures.told c.in_err-regions.ensures.fault (λ e. (c.in_err-regions.ensures.truncated (ap Err e)).1))
+
+pub returns-in_err-regions-clause-kind : goal.returns-in_err-regions-clause-kind
+returns-in_err-regions-clause-kind g c =
+    let p = err_from_is_err_and c.from_residual-in_err-regions.result c.from_residual-in_err-regions.ensures.1 in
+    rw (p.1, p.2) (body_kind c.in_err-regions.field-0.0 c.in_err-regions.ensures.fault)
+
+pub returns-in_err-regions-clause-left : goal.returns-in_err-regions-clause-left
+returns-in_err-regions-clause-left g c =
+    let p = err_from_is_err_and c.from_residual-in_err-regions.result c.from_residual-in_err-regions.ensures.1 in
+    let fault = c.in_err-regions.field-0.0 in
+    rw (p.1, p.2) (body_leaves fault (g.R.Intake.left c.args.reader.now) (g.R.Intake.left c.read_front.new.reader) (g.R.Intake.left c.read_body.new.reader) _ c.read_body.ensures.lost.0 c.in_ok-front.ensures.told c.read_body.ensures.lost.1 c.in_err-regions.ensures.fault (λ e. (c.in_err-regions.ensures.truncated (ap Err e)).0))
+
+pub returns-in_err-regions-clause-memory : goal.returns-in_err-regions-clause-memory
+returns-in_err-regions-clause-memory g c =
+    let p = err_from_is_err_and c.from_residual-in_err-regions.result c.from_residual-in_err-regions.ensures.1 in
+    let front = c.in_ok-front.front in
+    rw (p.1, p.2) (λ e. memory_behind_front front.rooted front.region_log front.count front.words front.allowance c.in_ok-front.ensures.limits (g.R.Intake.left c.args.reader.now) (g.R.Intake.left c.read_front.new.reader) c.in_ok-front.ensures.told (c.in_err-regions.ensures.memory (ap Err e)))
+
+pub returns-in_err-found-clause-fault : goal.returns-in_err-found-clause-fault
+returns-in_err-found-clause-fault g c =
+    let p = err_from_is_err_and c.from_residual-in_err-found.result c.from_residual-in_err-found.ensures.1 in
+    let front = c.in_ok-front.front in
+    let body = c.in_ok-regions.field-0 in
+    let image : HeapImage = image_of front.region_log front.allowance body.regions.items body.tail.items in
+    let before = g.R.Intake.left c.args.reader.now in
+    let after = g.R.Intake.left c.read_body.new.reader in
+    let done = c.in_ok-regions.ensures in
+    let fits : HasFittingNumbers image = fitting_parts front.region_log front.allowance body.regions.items body.tail.items front.words front.count c.in_ok-front.ensures.limits done.words done.tail c.in_ok-front.ensures.fit done.fit done.tail_fit in
+    let read : Consumes before after (listed_text front.rooted image) = read_parts front.rooted front.region_log front.allowance body.regions.items body.tail.items front.words front.count done.words done.tail before (g.R.Intake.left c.read_front.new.reader) after c.in_ok-front.ensures.told done.bytes in
+    let fault = c.in_err-found.field-0.0 in
+    let why = check_of_parts front.rooted front.region_log front.allowance c.as_slice.result.now body.regions.items body.tail.items c.as_slice.ensures.value fault c.in_err-found.ensures.fault in
+    rw (p.1, p.2) (check_reason front.rooted image fits before after read fault why)
+
+pub returns-in_err-found-clause-kind : goal.returns-in_err-found-clause-kind
+returns-in_err-found-clause-kind g c =
+    let front = c.in_ok-front.front in
+    let tail = c.in_ok-regions.field-0.tail.items in
+    let p = err_from_is_err_and c.from_residual-in_err-found.result c.from_residual-in_err-found.ensures.1 in
+    rw (p.1, p.2) (search_kind (from_tail front.rooted (image_of front.region_log 0 c.as_slice.result.now tail)) c.in_err-found.field-0.0 c.in_err-found.ensures.fault).0
+
+pub returns-in_err-found-clause-left : goal.returns-in_err-found-clause-left
+returns-in_err-found-clause-left g c =
+    let p = err_from_is_err_and c.from_residual-in_err-found.result c.from_residual-in_err-found.ensures.1 in
+    let front = c.in_ok-front.front in
+    let body = c.in_ok-regions.field-0 in
+    let image : HeapImage = image_of front.region_log front.allowance body.regions.items body.tail.items in
+    let before = g.R.Intake.left c.args.reader.now in
+    let after = g.R.Intake.left c.read_body.new.reader in
+    let done = c.in_ok-regions.ensures in
+    let fits : HasFittingNumbers image = fitting_parts front.region_log front.allowance body.regions.items body.tail.items front.words front.count c.in_ok-front.ensures.limits done.words done.tail c.in_ok-front.ensures.fit done.fit done.tail_fit in
+    let read : Consumes before after (listed_text front.rooted image) = read_parts front.rooted front.region_log front.allowance body.regions.items body.tail.items front.words front.count done.words done.tail before (g.R.Intake.left c.read_front.new.reader) after c.in_ok-front.ensures.told done.bytes in
+    let fault = c.in_err-found.field-0.0 in
+    let why = check_of_parts front.rooted front.region_log front.allowance c.as_slice.result.now body.regions.items body.tail.items c.as_slice.ensures.value fault c.in_err-found.ensures.fault in
+    rw (p.1, p.2) (check_leaves front.rooted image fits before after read fault why)
+
+pub returns-in_err-found-clause-memory : goal.returns-in_err-found-clause-memory
+returns-in_err-found-clause-memory g c =
+    let p = err_from_is_err_and c.from_residual-in_err-found.result c.from_residual-in_err-found.ensures.1 in
+    let front = c.in_ok-front.front in
+    let body = c.in_ok-regions.field-0 in
+    let image : HeapImage = image_of front.region_log front.allowance body.regions.items body.tail.items in
+    let before = g.R.Intake.left c.args.reader.now in
+    let after = g.R.Intake.left c.read_body.new.reader in
+    let done = c.in_ok-regions.ensures in
+    let fits : HasFittingNumbers image = fitting_parts front.region_log front.allowance body.regions.items body.tail.items front.words front.count c.in_ok-front.ensures.limits done.words done.tail c.in_ok-front.ensures.fit done.fit done.tail_fit in
+    let read : Consumes before after (listed_text front.rooted image) = read_parts front.rooted front.region_log front.allowance body.regions.items body.tail.items front.words front.count done.words done.tail before (g.R.Intake.left c.read_front.new.reader) after c.in_ok-front.ensures.told done.bytes in
+    rw (p.1, p.2) (λ _. more_than_front front.rooted image fits before after read)
+
+pub returns-in_err-found-clause-io : goal.returns-in_err-found-clause-io
+returns-in_err-found-clause-io g c =
+    let front = c.in_ok-front.front in
+    let tail = c.in_ok-regions.field-0.tail.items in
+    let p = err_from_is_err_and c.from_residual-in_err-found.result c.from_residual-in_err-found.ensures.1 in
+    rw (p.1, p.2) (c.in_ok-regions.ensures.failed ∙ c.in_ok-front.ensures.failed ∙ sym ((search_kind (from_tail front.rooted (image_of front.region_log 0 c.as_slice.result.now tail)) c.in_err-found.field-0.0 c.in_err-found.ensures.fault).1 Unchecked))
+
+pub returns-clause-fits : goal.returns-clause-fits
+returns-clause-fits g c =
+    let front = c.in_ok-front.front in
+    let body = c.in_ok-regions.field-0 in
+    let image : HeapImage = image_of front.region_log front.allowance body.regions.items body.tail.items in
+    let before = g.R.Intake.left c.args.reader.now in
+    let after = g.R.Intake.left c.read_body.new.reader in
+    let done = c.in_ok-regions.ensures in
+    let fits : HasFittingNumbers image = fitting_parts front.region_log front.allowance body.regions.items body.tail.items front.words front.count c.in_ok-front.ensures.limits done.words done.tail c.in_ok-front.ensures.fit done.fit done.tail_fit in
+    let read : Consumes before after (listed_text front.rooted image) = read_parts front.rooted front.region_log front.allowance body.regions.items body.tail.items front.words front.count done.words done.tail before (g.R.Intake.left c.read_front.new.reader) after c.in_ok-front.ensures.told done.bytes in
+    let found = c.in_ok-found.ensures in
+    let tail = tail_is front.rooted front.region_log c.as_slice.result.now body.tail.items c.in_ok-found.found.live.items (option_map (λ v. v.items) c.in_ok-found.found.roots) found.live found.roots in
+    subst (λ xs. HasFittingNumbers (image_of front.region_log front.allowance body.regions.items xs)) (sym tail) fits
+
+pub returns-clause-text : goal.returns-clause-text
+returns-clause-text g c =
+    let front = c.in_ok-front.front in
+    let body = c.in_ok-regions.field-0 in
+    let image : HeapImage = image_of front.region_log front.allowance body.regions.items body.tail.items in
+    let before = g.R.Intake.left c.args.reader.now in
+    let after = g.R.Intake.left c.read_body.new.reader in
+    let done = c.in_ok-regions.ensures in
+    let fits : HasFittingNumbers image = fitting_parts front.region_log front.allowance body.regions.items body.tail.items front.words front.count c.in_ok-front.ensures.limits done.words done.tail c.in_ok-front.ensures.fit done.fit done.tail_fit in
+    let read : Consumes before after (listed_text front.rooted image) = read_parts front.rooted front.region_log front.allowance body.regions.items body.tail.items front.words front.count done.words done.tail before (g.R.Intake.left c.read_front.new.reader) after c.in_ok-front.ensures.told done.bytes in
+    let found = c.in_ok-found.ensures in
+    let tail = tail_is front.rooted front.region_log c.as_slice.result.now body.tail.items c.in_ok-found.found.live.items (option_map (λ v. v.items) c.in_ok-found.found.roots) found.live found.roots in
+    subst (λ xs. Consumes before after (listed_text front.rooted (image_of front.region_log front.allowance body.regions.items xs))) (sym tail) read
+
+pub returns-clause-found : goal.returns-clause-found
+returns-clause-found g c =
+    let front = c.in_ok-front.front in
+    let log = front.region_log in
+    let rooted = front.rooted in
+    let blocks = c.in_ok-regions.field-0.regions.items in
+    let tail = c.in_ok-regions.field-0.tail.items in
+    let live = c.in_ok-found.found.live.items in
+    let roots = option_map (λ v. v.items) c.in_ok-found.found.roots in
+    let found = c.in_ok-found.ensures in
+    let same = c.as_slice.ensures.value in
+    let told = sym (tail_is rooted log c.as_slice.result.now tail live roots found.live found.roots) in
+    record {
+      live = found.live ∙ ap (λ bs. (from_tail rooted (image_of log 0 bs tail)).live) same ∙ sym (live_same rooted log front.allowance blocks tail) ∙ ap (λ xs. (from_tail rooted (image_of log front.allowance blocks xs)).live) told;
+      roots = found.roots ∙ ap (λ bs. (from_tail rooted (image_of log 0 bs tail)).roots) same ∙ sym (roots_same rooted log front.allowance blocks tail) ∙ ap (λ xs. (from_tail rooted (image_of log front.allowance blocks xs)).roots) told;
+      inside = subst (λ bs. All (λ a. a < length (concat bs)) live) same found.inside;
+      begins = subst (λ bs. MarkBegins live (length (concat bs)) c.in_ok-found.found.begins.items) same found.begins;
+      ordered =
+          ap (λ xs. first_some (live_list_faults (from_tail rooted (image_of log front.allowance blocks xs)))) (sym told)
+          ∙ ap first_some (faults_same rooted log front.allowance blocks tail)
+          ∙ ap (λ bs. first_some (live_list_faults (from_tail rooted (image_of log 0 bs tail)))) (sym same)
+          ∙ found.ordered
+          ∙ ap (λ bs. first_object_fault (image_of log 0 bs live)) same;
+    }

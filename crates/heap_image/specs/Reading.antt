@@ -1,0 +1,36 @@
+-- An image that was read, and what was read of it before it is checked.
+use Rattle.std.specs.Prelude.{◌≡◌, ℕ, ◌<◌, ◌^◌, List, All, Option, None, length, option_map}
+use Rattle.std.specs.List.{concat}
+use Rattle.std.specs.Io.KnownBytes.{Consumes, IsAtEnd}
+use Rattle.heap_image.specs.HeapImage.{HeapImage, IsValid, IsWithinLimits, heap_words, image_of, roots_or}
+use Rattle.heap_image.specs.ImageText.{text, from_tail, first_some, first_object_fault, live_list_faults}
+use Rattle.heap_image.specs.Begins.{MarkBegins}
+use Rattle.heap_image.specs.declared.read.Unchecked.{Unchecked}
+
+-- all of an input was read, and it is the text of this image
+pub record IsRead (image : HeapImage) (before after : Option (List ℕ)) : Type 0 where
+  pub valid : IsValid image
+  pub text : Consumes before after (Rattle.heap_image.specs.ImageText.text image)
+  pub end : IsAtEnd after
+
+-- the sizes are allowed, and each number fits its eight bytes
+pub record HasFittingNumbers (image : HeapImage) : Type 0 where
+  pub limits : IsWithinLimits image.region_log (heap_words image) (length image.live)
+  pub allowance : image.allowance < 2 ^ 64
+  pub words : All (λ w. w < 2 ^ 64) image.words
+  pub live : All (λ a. a < 2 ^ 64) image.live
+  pub plain : image.roots ≡ None
+
+-- the numbers that were read, those behind the words as a live list
+abbrev pub numbers_of : Unchecked → HeapImage
+numbers_of read = image_of read.front.region_log read.front.allowance read.regions.items
+    (roots_or read.found.live.items (option_map (λ v. v.items) read.found.roots))
+
+-- the live objects and the roots are those that the numbers tell, and only the objects can still be wrong
+pub record IsFound (read : Unchecked) : Type 0 where
+  pub live : read.found.live.items ≡ (from_tail read.front.rooted (numbers_of read)).live
+  pub roots : option_map (λ v. v.items) read.found.roots ≡ (from_tail read.front.rooted (numbers_of read)).roots
+  pub inside : All (λ a. a < length (concat read.regions.items)) read.found.live.items
+  pub begins : MarkBegins read.found.live.items (length (concat read.regions.items)) read.found.begins.items
+  pub ordered : first_some (live_list_faults (from_tail read.front.rooted (numbers_of read)))
+      ≡ first_object_fault (image_of read.front.region_log 0 read.regions.items read.found.live.items)

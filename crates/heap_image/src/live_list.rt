@@ -1,0 +1,63 @@
+//! The live list of what is marked.
+ghost use Rattle.std.specs.Prelude.{◌≡◌, ◌<◌, ◌≤◌, ◌+◌, ◌*◌, ◌/◌, ◌^◌, ◌==◌, ◌++◌, ◌-◌, bit_and, OnOk, IfOk, length, filter, map};
+ghost use Rattle.std.specs.List.{range_with_len};
+ghost use Rattle.heap_image.specs.Begins.{is_marked, ones_of};
+
+use std::alloc::{AllocError, Global};
+
+/// The marked addresses below a number, ascending, found by words of 64 bits.
+pub(crate) fn marked_addresses(
+    alloc: Global,
+    bits: &[u64],
+    words: u64,
+) -> Result<Vec<u64>, AllocError>
+    requires room { words / 64 < length bits.now }
+    requires few { words ≤ 4194304 }
+    requires short { length bits.now < 2 ^ 58 }
+    ensures { IfOk result (λ live. live.items ≡ filter (is_marked bits.now) (range_with_len 0 words)) }
+{
+    let whole = (words / 64) as usize;
+    let mut live = Vec::with_capacity(alloc, count_ones(bits))?;
+    for index in 0..whole {
+        push_ones(&mut live, 64 * index as u64, bits[index])?;
+    }
+    push_ones(
+        &mut live,
+        64 * whole as u64,
+        low_bits(bits[whole], words % 64),
+    )?;
+    Ok(live)
+}
+
+/// A word with all but its lowest `n` bits cleared.
+fn low_bits(word: u64, n: u64) -> u64
+    requires { n < 64 }
+    ensures { result ≡ bit_and word (2 ^ n - 1) }
+{
+    word & ((1 << n) - 1)
+}
+
+/// How many bits are set: the room that the list takes.
+fn count_ones(words: &[u64]) -> usize
+    requires { length words.now < 2 ^ 58 }
+{
+    let mut count = 0;
+    for word in words {
+        count += word.count_ones() as usize;
+    }
+    count
+}
+
+/// Puts the places of the bits that are set in a word behind a list, each with `base` added, ascending.
+fn push_ones(live: &mut Vec<u64>, base: u64, word: u64) -> Result<(), AllocError>
+    requires { base ≤ 4194304 }
+    ensures { OnOk result (live.new.items ≡ live.old.items ++ map (λ j. base + j) (ones_of word)) }
+{
+    let mut rest = word;
+    while rest != 0 {
+        let place = u64::from(rest.trailing_zeros());
+        live.push(base + place)?;
+        rest &= !(1 << place);
+    }
+    Ok(())
+}

@@ -1,0 +1,206 @@
+//! `Marking`: which addresses are reached from roots, while it is found out.
+ghost use Rattle.std.specs.Prelude.{◌≡◌, ◌<◌, ◌≤◌, ◌+◌, ◌/◌, ◌==◌, ◌||◌, ◌++◌, ℕ, List, [], All, false, length, slice_index, IfOk};
+ghost use Rattle.std.specs.List.{concat, list_any};
+ghost use Rattle.std.specs.Vec.{vec_capacity};
+ghost use Rattle.heap_image.specs.HeapImage.{FormHeap, image_of, leads_to, refers_to};
+ghost use Rattle.heap_image.specs.Begins.{is_marked};
+ghost use Rattle.heap_image.specs.Marking.{IsGrown, IsMarking, AreReached, AreStacked, unmarked, addresses};
+
+use crate::begins::is_marked;
+use crate::blocks::word_of;
+use crate::check::is_unsound;
+use crate::header;
+use raw_region::Region;
+use std::alloc::{AllocError, Global};
+
+/// How many headers are fetched in a row before the first of them is looked at, so that their ways from memory overlap.
+const BATCH: usize = 64;
+
+/// A marked object whose references are still to be followed.
+#[derive(Clone, Copy)]
+pub(crate) struct Waiting {
+    pub(crate) address: u64,
+    /// The word that stands there.
+    pub(crate) header: u64,
+}
+
+/// The addresses of a heap that are marked so far, and those among them whose references are still to be followed.
+///
+/// An address is put on the stack when it is marked, so the stack never has more than there are words: its room is made
+/// once, before the first step.
+#[derive(Drop)]
+pub(crate) struct Marking {
+    /// How many words the heap has.
+    words: u64,
+    /// One bit for each address: whether it is marked.
+    bits: Vec<u64>,
+    stack: Vec<u64>,
+}
+
+/// One bit for each address of a heap of so many words in these regions: whether it is reached from the roots.
+pub(crate) fn reached_bits(
+    alloc: Global,
+    regions: &[Region],
+    region_log: u32,
+    words: u64,
+    roots: &[u64],
+) -> Result<Vec<u64>, AllocError>
+    requires heap { FormHeap region_log regions.now }
+    requires words { words ≡ length (concat regions.now) }
+    ensures { IfOk result (λ bits. AreReached (image_of region_log 0 regions.now []) roots.now bits.items) }
+{
+    let mut marking = Marking {
+        words,
+        bits: vec![in alloc; 0u64; (words / 64 + 1) as usize]?,
+        stack: Vec::with_capacity(alloc, words as usize)?,
+    };
+    let mut batch = Vec::with_capacity(alloc, BATCH)?;
+    marking.mark_reached(regions, region_log, roots, &mut batch);
+    Ok(marking.bits)
+}
+
+impl Marking {
+    /// Marks each address that is reached from the roots. Nothing is marked before, and the batch is empty.
+    fn mark_reached(
+        &mut self,
+        regions: &[Region],
+        region_log: u32,
+        roots: &[u64],
+        batch: &mut Vec<Waiting>,
+    )
+        requires heap { FormHeap region_log regions.now }
+        requires words { self.old.words ≡ length (concat regions.now) }
+        requires bits { length self.old.bits.items ≡ self.old.words / 64 + 1 }
+        requires clear { (a : ℕ) → is_marked self.old.bits.items a ≡ false }
+        requires empty { self.old.stack.items ≡ [] }
+        requires room { self.old.words ≤ vec_capacity self.old.stack }
+        requires batch { batch.old.items ≡ [] }
+        requires batch_room { 64 ≤ vec_capacity batch.old }
+        ensures { AreReached (image_of region_log 0 regions.now []) roots.now self.new.bits.items }
+    {
+        self.visit_all(roots);
+        while !self.stack.is_empty() {
+            self.take_batch(regions, region_log, batch);
+            self.follow_batch(regions, region_log, batch);
+        }
+    }
+
+    /// Visits what the roots lead to.
+    fn visit_all(&mut self, roots: &[u64])
+        requires few { self.old.words ≤ 4194304 }
+        requires bits { self.old.words / 64 < length self.old.bits.items }
+        requires room { length self.old.stack.items + unmarked self.old.words self.old.bits.items ≤ vec_capacity self.old.stack }
+        ensures grown { IsGrown self.old.words (λ b. list_any (λ w. leads_to w b) roots.now)
+            self.old.bits.items self.new.bits.items self.old.stack.items self.new.stack.items }
+        ensures capacity { vec_capacity self.new.stack ≡ vec_capacity self.old.stack }
+        ensures words { self.new.words ≡ self.old.words }
+    {
+        for root in roots {
+            self.visit(*root);
+        }
+    }
+
+    /// Takes up to 64 addresses from the stack and fetches their headers.
+    fn take_batch(&mut self, regions: &[Region], region_log: u32, batch: &mut Vec<Waiting>)
+        requires heap { FormHeap region_log regions.now }
+        requires words { self.old.words ≡ length (concat regions.now) }
+        requires inside { AreStacked self.old.words self.old.bits.items self.old.stack.items }
+        requires empty { batch.old.items ≡ [] }
+        requires room { 64 ≤ vec_capacity batch.old }
+        ensures marking { (roots : List ℕ) → let image = image_of region_log 0 regions.now [] in
+            IsMarking image roots self.old.bits.items self.old.stack.items
+            → IsMarking image roots self.new.bits.items (self.new.stack.items ++ addresses batch.new.items) }
+        ensures fetched { All (λ w. w.header ≡ slice_index (concat regions.now) w.address) batch.new.items }
+        ensures total { length self.new.stack.items + length batch.new.items ≡ length self.old.stack.items }
+        ensures some { 0 < length self.old.stack.items → 0 < length batch.new.items }
+        ensures bits { self.new.bits ≡ self.old.bits }
+        ensures words { self.new.words ≡ self.old.words }
+        ensures capacity { vec_capacity self.new.stack ≡ vec_capacity self.old.stack }
+        ensures batch_capacity { vec_capacity batch.new ≡ vec_capacity batch.old }
+    {
+        while batch.len() < BATCH {
+            let Some(address) = self.stack.pop() else {
+                return;
+            };
+            let header = word_of(regions, region_log, address);
+            batch.push_reserved(Waiting { address, header });
+        }
+    }
+
+    /// Follows the objects of a batch, and leaves it empty.
+    fn follow_batch(&mut self, regions: &[Region], region_log: u32, batch: &mut Vec<Waiting>)
+        requires heap { FormHeap region_log regions.now }
+        requires words { self.old.words ≡ length (concat regions.now) }
+        requires bits { self.old.words / 64 < length self.old.bits.items }
+        requires room { length self.old.stack.items + unmarked self.old.words self.old.bits.items ≤ vec_capacity self.old.stack }
+        requires inside { All (λ a. a < self.old.words) (addresses batch.old.items) }
+        requires fetched { All (λ w. w.header ≡ slice_index (concat regions.now) w.address) batch.old.items }
+        ensures marking { (roots : List ℕ) → let image = image_of region_log 0 regions.now [] in
+            IsMarking image roots self.old.bits.items (self.old.stack.items ++ addresses batch.old.items)
+            → IsMarking image roots self.new.bits.items self.new.stack.items }
+        ensures total { length self.new.stack.items + unmarked self.new.words self.new.bits.items
+            ≡ length self.old.stack.items + unmarked self.old.words self.old.bits.items }
+        ensures empty { batch.new.items ≡ [] }
+        ensures words { self.new.words ≡ self.old.words }
+        ensures capacity { vec_capacity self.new.stack ≡ vec_capacity self.old.stack }
+        ensures batch_capacity { vec_capacity batch.new ≡ vec_capacity batch.old }
+    {
+        while let Some(object) = batch.pop() {
+            self.follow(regions, region_log, object);
+        }
+    }
+
+    /// Visits what an object refers to, if it has a sound header.
+    fn follow(&mut self, regions: &[Region], region_log: u32, object: Waiting)
+        requires heap { FormHeap region_log regions.now }
+        requires words { self.old.words ≡ length (concat regions.now) }
+        requires inside { object.address < self.old.words }
+        requires header { object.header ≡ slice_index (concat regions.now) object.address }
+        requires bits { self.old.words / 64 < length self.old.bits.items }
+        requires room { length self.old.stack.items + unmarked self.old.words self.old.bits.items ≤ vec_capacity self.old.stack }
+        ensures grown { IsGrown self.old.words (refers_to (image_of region_log 0 regions.now []) object.address)
+            self.old.bits.items self.new.bits.items self.old.stack.items self.new.stack.items }
+        ensures capacity { vec_capacity self.new.stack ≡ vec_capacity self.old.stack }
+        ensures words { self.new.words ≡ self.old.words }
+    {
+        if is_unsound(object.header, object.address, self.words) {
+            return;
+        }
+        for field in 0..header::references(object.header) {
+            let reference = word_of(regions, region_log, object.address + 1 + u64::from(field));
+            self.visit(reference);
+        }
+    }
+
+    /// Marks the address to which a reference leads, and puts it on the stack, unless it is marked or outside the heap.
+    #[inline]
+    fn visit(&mut self, reference: u64)
+        requires few { self.old.words ≤ 4194304 }
+        requires bits { self.old.words / 64 < length self.old.bits.items }
+        requires room { length self.old.stack.items + unmarked self.old.words self.old.bits.items ≤ vec_capacity self.old.stack }
+        ensures grown { IsGrown self.old.words (leads_to reference)
+            self.old.bits.items self.new.bits.items self.old.stack.items self.new.stack.items }
+        ensures capacity { vec_capacity self.new.stack ≡ vec_capacity self.old.stack }
+        ensures words { self.new.words ≡ self.old.words }
+    {
+        if reference == 0 || reference > self.words {
+            return;
+        }
+        let a = reference - 1;
+        if is_marked(self.bits.as_slice(), a) {
+            return;
+        }
+        mark(&mut self.bits, a);
+        self.stack.push_reserved(a);
+    }
+}
+
+/// Sets the bit of an address.
+#[inline]
+fn mark(bits: &mut Vec<u64>, a: u64)
+    requires { a / 64 < length bits.old.items }
+    ensures bits { (k : ℕ) → is_marked bits.new.items k ≡ (is_marked bits.old.items k || k == a) }
+    ensures room { length bits.new.items ≡ length bits.old.items }
+{
+    bits[(a / 64) as usize] |= 1 << (a % 64);
+}

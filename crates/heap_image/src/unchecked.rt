@@ -1,0 +1,124 @@
+//! `Unchecked`: what was read of an image, before its live objects are checked.
+ghost use Rattle.std.specs.Prelude.{◌≡◌, ◌<◌, ◌≤◌, ◌⊎◌, ◌++◌, Some, None, All, length, IfOk, OnOk, IfErr, option_map};
+ghost use Rattle.std.specs.List.{concat};
+ghost use Rattle.heap_image.specs.Begins.{MarkBegins};
+ghost use Rattle.heap_image.specs.HeapImage.{FormHeap, image_of, roots_or};
+ghost use Rattle.heap_image.specs.ImageText.{from_tail, first_some, first_object_fault, live_list_faults};
+
+use crate::Fault;
+use crate::begins::begin_bits;
+use crate::check::{check_objects, misplaced_index};
+use crate::front::Front;
+use crate::reach::{Reached, reached_from_roots, words_in};
+use crate::soundness::are_sound;
+use raw_region::Region;
+use std::alloc::Global;
+use std::thread::Threads;
+
+/// The live objects of what was read, which are still to be checked.
+#[derive(Drop)]
+pub(crate) struct Found {
+    /// Their addresses, ascending.
+    pub(crate) live: Vec<u64>,
+    /// The same as bits.
+    pub(crate) begins: Vec<u64>,
+    /// The roots, in an image of version 2.
+    pub(crate) roots: Option<Vec<u64>>,
+}
+
+/// The live objects of what was read, whose words lie in these regions. `tail` are the numbers behind the words: the
+/// live list, or in version 2 the roots.
+pub(crate) fn find_live_objects(
+    alloc: Global,
+    regions: &[Region],
+    front: Front,
+    tail: Vec<u64>,
+) -> Result<Found, Fault>
+    requires heap { FormHeap front.region_log regions.now }
+    requires few { length tail.items ≤ length (concat regions.now) }
+    ensures live { let image = from_tail front.rooted (image_of front.region_log 0 regions.now tail.items) in
+        IfOk result (λ found. found.live.items ≡ image.live) }
+    ensures roots { let image = from_tail front.rooted (image_of front.region_log 0 regions.now tail.items) in
+        IfOk result (λ found. option_map (λ v. v.items) found.roots ≡ image.roots) }
+    ensures inside { IfOk result (λ found. All (λ a. a < length (concat regions.now)) found.live.items) }
+    ensures begins { IfOk result
+        (λ found. MarkBegins found.live.items (length (concat regions.now)) found.begins.items) }
+    // What is still to be found is wrong with the objects.
+    ensures ordered { let image = from_tail front.rooted (image_of front.region_log 0 regions.now tail.items) in
+        IfOk result (λ found. first_some (live_list_faults image)
+        ≡ first_object_fault (image_of front.region_log 0 regions.now found.live.items)) }
+    ensures fault { let image = from_tail front.rooted (image_of front.region_log 0 regions.now tail.items) in
+        IfErr result (λ fault. (fault ≡ Fault.Memory) ⊎ (first_some (live_list_faults image) ≡ Some fault)) }
+{
+    if front.rooted {
+        let Reached { live, begins } = reached_from_roots(
+            alloc,
+            front.region_log,
+            regions,
+            tail.as_slice(),
+        )?;
+        let roots = Some(tail);
+        return Ok(Found {
+            live,
+            begins,
+            roots,
+        });
+    }
+    let words = words_in(regions, front.region_log);
+    if let Some(index) = misplaced_index(tail.as_slice(), words) {
+        return Err(Fault::LiveOrder(index));
+    }
+    let begins = begin_bits(alloc, tail.as_slice(), words)?;
+    Ok(Found {
+        live: tail,
+        begins,
+        roots: None,
+    })
+}
+
+impl Found {
+    /// What is first wrong with the live objects of the heap in these regions, if anything is. One thread looks at each
+    /// object once.
+    pub(crate) fn check(&self, regions: &[Region], region_log: u32) -> Result<(), Fault>
+        requires heap { FormHeap region_log regions.now }
+        requires inside { All (λ a. a < length (concat regions.now)) self.now.live.items }
+        requires begins { MarkBegins self.now.live.items (length (concat regions.now)) self.now.begins.items }
+        ensures ok { OnOk result
+            (first_object_fault (image_of region_log 0 regions.now self.now.live.items) ≡ None) }
+        ensures fault { IfErr result
+            (λ fault. first_object_fault (image_of region_log 0 regions.now self.now.live.items) ≡ Some fault) }
+    {
+        let words = words_in(regions, region_log);
+        check_objects(
+            regions,
+            region_log,
+            words,
+            self.live.as_slice(),
+            self.begins.as_slice(),
+        )
+    }
+
+    /// As [`check`](Found::check). Most live objects are sound, so as many threads as there are processors are asked first
+    /// whether these are. Where they don't say so, one thread looks for the fault that comes first.
+    pub(crate) fn check_by_threads(
+        &self,
+        regions: &[Region],
+        region_log: u32,
+        threads: &(impl Threads + Sync),
+    ) -> Result<(), Fault>
+        requires heap { FormHeap region_log regions.now }
+        requires inside { All (λ a. a < length (concat regions.now)) self.now.live.items }
+        requires begins { MarkBegins self.now.live.items (length (concat regions.now)) self.now.begins.items }
+        ensures ok { OnOk result
+            (first_object_fault (image_of region_log 0 regions.now self.now.live.items) ≡ None) }
+        ensures fault { IfErr result
+            (λ fault. first_object_fault (image_of region_log 0 regions.now self.now.live.items) ≡ Some fault) }
+    {
+        let words = words_in(regions, region_log);
+        let (live, begins) = (self.live.as_slice(), self.begins.as_slice());
+        if are_sound(regions, region_log, words, live, begins, threads) {
+            return Ok(());
+        }
+        check_objects(regions, region_log, words, live, begins)
+    }
+}
