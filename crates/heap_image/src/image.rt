@@ -56,13 +56,15 @@ impl Image {
         requires valid { IsValid (image_of region_log allowance regions.items live.items) }
         ensures { result ≡ image_of region_log allowance regions.items live.items }
     {
-        Image {
+        let roots = None;
+        let parts = ImageParts {
             region_log,
             allowance,
             regions,
             live,
-            roots: None,
-        }
+            roots,
+        };
+        parts.into_image()
     }
 
     /// The image of version 2 of these parts: as those of [`of_parts`](Image::of_parts), and the roots, from which just
@@ -78,13 +80,15 @@ impl Image {
         requires valid { IsValid (rooted_image_of region_log allowance regions.items live.items (Some roots.items)) }
         ensures { result ≡ rooted_image_of region_log allowance regions.items live.items (Some roots.items) }
     {
-        Image {
+        let roots = Some(roots);
+        let parts = ImageParts {
             region_log,
             allowance,
             regions,
             live,
-            roots: Some(roots),
-        }
+            roots,
+        };
+        parts.into_image()
     }
 
     /// The parts of this image, from which [`ImageParts::into_image`] makes it again.
