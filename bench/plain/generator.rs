@@ -6,7 +6,7 @@ use crate::marks::Bits;
 use std::str::FromStr;
 
 /// How live objects lead to one another.
-#[derive(Clone, Copy, PartialEq)]
+#[derive(Clone, Copy)]
 pub enum Shape {
     /// At random.
     Graph,
@@ -14,6 +14,8 @@ pub enum Shape {
     List,
     /// Objects of one word, to each of which the first object refers.
     Array,
+    /// One object, of all words but the first, that refers to itself.
+    Object,
 }
 
 impl FromStr for Shape {
@@ -24,6 +26,7 @@ impl FromStr for Shape {
             "graph" => Ok(Shape::Graph),
             "list" => Ok(Shape::List),
             "array" => Ok(Shape::Array),
+            "object" => Ok(Shape::Object),
             _ => Err(()),
         }
     }
@@ -31,10 +34,10 @@ impl FromStr for Shape {
 
 pub struct Asked {
     pub words: usize,
-    /// How many of a hundred objects live, about. An array's live all.
+    /// How many of a hundred objects live, about. Arrays and single objects don't ask.
     pub live: u64,
     pub region_log: u32,
-    /// How many of a hundred words behind the headers are references, about. A graph alone asks.
+    /// How many of a hundred words behind the headers are references, about. Lists and arrays don't ask.
     pub references: u64,
     pub shape: Shape,
     /// Whether the image has roots in place of its live list.
@@ -149,6 +152,15 @@ fn array(asked: &Asked) -> (Vec<u64>, Vec<u64>) {
     (words, [&[0], &live[..]].concat())
 }
 
+fn object(asked: &Asked) -> (Vec<u64>, Vec<u64>) {
+    let mut words = vec![0; asked.words];
+    let size = asked.words - 1;
+    let references = size * asked.references as usize / 100;
+    words[1] = Header::object(size, references).0;
+    words[2..2 + references].fill(2);
+    (words, vec![1])
+}
+
 /// Roots that lead to all live objects, in random order: to those that no object refers to, and to one of each circle
 /// that these don't lead to.
 fn roots_of(image: &Image, random: &mut Random) -> Vec<u64> {
@@ -177,6 +189,7 @@ pub fn generate(asked: &Asked) -> Image {
         Shape::Graph => graph(asked, &mut random),
         Shape::List => list(asked, &mut random),
         Shape::Array => array(asked),
+        Shape::Object => object(asked),
     };
     let mut image = Image { region_log: asked.region_log, allowance: 0, words, live, roots: None };
     if asked.is_rooted {
