@@ -1,13 +1,27 @@
 // Preloaded into a program, lets one of its opens, reads and writes fail: the one whose number, from
 // 1, the environment gives as FAILED. With ONE set, each read and write moves one byte at most.
-// nth_call.h says how many such calls were made.
+// nth_call.h says how many such calls were made. Files in which the system tells of itself, as how many
+// processors there are, are left alone and not counted: no command names them.
 #define _GNU_SOURCE
 #include <dlfcn.h>
 #include <errno.h>
 #include <fcntl.h>
 #include <stdarg.h>
+#include <string.h>
 
 #include "nth_call.h"
+
+#define FILES 1024
+
+static char is_systems[FILES];
+
+static int begins(const char *name, const char *folder) {
+    return strncmp(name, folder, strlen(folder)) == 0;
+}
+
+static int is_left_alone(int file) {
+    return file >= 0 && file < FILES && is_systems[file];
+}
 
 static int fails(void) {
     if (!is_chosen("FAILED")) {
@@ -30,13 +44,21 @@ int open(const char *name, int flags, ...) {
     va_start(rest, flags);
     mode_t mode = flags & O_CREAT ? va_arg(rest, mode_t) : 0;
     va_end(rest);
-    return fails() ? -1 : next(name, flags, mode);
+    int is_own = begins(name, "/sys/") || begins(name, "/proc/");
+    int file = !is_own && fails() ? -1 : next(name, flags, mode);
+    if (file >= 0 && file < FILES) {
+        is_systems[file] = is_own;
+    }
+    return file;
 }
 
 ssize_t read(int file, void *bytes, size_t size) {
     static ssize_t (*next)(int, void *, size_t);
     if (!next) {
         next = (ssize_t(*)(int, void *, size_t))dlsym(RTLD_NEXT, "read");
+    }
+    if (is_left_alone(file)) {
+        return next(file, bytes, size);
     }
     return fails() ? -1 : next(file, bytes, moved(size));
 }

@@ -1,5 +1,7 @@
 //! The compaction in place: LISP2 with mark bits and block counts, by one thread.
-use crate::image::{self, Fault, Header, Image};
+use crate::header::Header;
+use crate::image::{self, Fault, Image};
+use crate::marking::Heap;
 use crate::marks::{Bits, Ranks};
 use std::fs::File;
 
@@ -19,7 +21,7 @@ pub fn run(from: &str, to: &str) -> Result<(), Fault> {
 fn collect(image: &mut Image) -> (usize, usize) {
     let mut bits = Bits::new(image.words.len());
     for &a in &image.live {
-        bits.insert_run(a as usize, a as usize + image.header(a).size());
+        bits.insert_run(a as usize, a as usize + image.header(a as usize).size());
     }
     let prefix = prefix_end(image, &bits);
     if prefix > 0 {
@@ -28,13 +30,16 @@ fn collect(image: &mut Image) -> (usize, usize) {
     }
     let ranks = Ranks::of(bits);
     let top = slide(image, &ranks, prefix);
+    for root in image.roots.iter_mut().flatten() {
+        *root = redirected(*root, &ranks);
+    }
     image.words[top..].fill(0);
     (prefix, top)
 }
 
 fn prefix_end(image: &Image, bits: &Bits) -> usize {
     let region = image.region_words();
-    let end = image.live.last().map_or(0, |&a| a as usize + image.header(a).size());
+    let end = image.live.last().map_or(0, |&a| a as usize + image.header(a as usize).size());
     let mut dead = 0;
     let mut prefix = 0;
     for start in (0..end - end % region).step_by(region) {
@@ -70,16 +75,20 @@ fn write_filler(words: &mut [u64]) {
     words[1..].fill(0);
 }
 
+fn redirected(reference: u64, ranks: &Ranks) -> u64 {
+    match reference {
+        0 => 0,
+        _ => 1 + ranks.rank(reference - 1),
+    }
+}
+
 /// Moves one object down and answers its size.
 fn move_object(words: &mut [u64], from: usize, to: usize, ranks: &Ranks) -> usize {
     let header = Header(words[from]);
     words[to] = header.0;
     let data = 1 + header.references();
     for f in 1..data {
-        words[to + f] = match words[from + f] {
-            0 => 0,
-            reference => 1 + ranks.rank(reference - 1),
-        };
+        words[to + f] = redirected(words[from + f], ranks);
     }
     if to < from {
         move_data(words, from + data, to + data, header.size() - data);

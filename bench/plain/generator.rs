@@ -1,13 +1,47 @@
 //! Random images.
-use crate::image::{Header, Image};
+use crate::header::Header;
+use crate::image::Image;
+use crate::marking::{Heap, Marking};
+use crate::marks::Bits;
+use std::str::FromStr;
+
+/// How live objects lead to one another.
+#[derive(Clone, Copy)]
+pub enum Shape {
+    /// At random.
+    Graph,
+    /// Objects of two words, each of which refers to the next one in a random order.
+    List,
+    /// Objects of one word, to each of which the first object refers.
+    Array,
+    /// One object, of all words but the first, that refers to itself.
+    Object,
+}
+
+impl FromStr for Shape {
+    type Err = ();
+
+    fn from_str(word: &str) -> Result<Shape, ()> {
+        match word {
+            "graph" => Ok(Shape::Graph),
+            "list" => Ok(Shape::List),
+            "array" => Ok(Shape::Array),
+            "object" => Ok(Shape::Object),
+            _ => Err(()),
+        }
+    }
+}
 
 pub struct Asked {
     pub words: usize,
-    /// How many of a hundred objects live, about.
+    /// How many of a hundred objects live, about. Arrays and single objects don't ask.
     pub live: u64,
     pub region_log: u32,
-    /// How many of a hundred words behind the headers are references, about.
+    /// How many of a hundred words behind the headers are references, about. Lists and arrays don't ask.
     pub references: u64,
+    pub shape: Shape,
+    /// Whether the image has roots in place of its live list.
+    pub is_rooted: bool,
 }
 
 struct Random(u64);
@@ -26,6 +60,12 @@ impl Random {
 
     fn happens(&mut self, percent: u64) -> bool {
         self.below(100) < percent
+    }
+
+    fn shuffle(&mut self, addresses: &mut [u64]) {
+        for k in (1..addresses.len()).rev() {
+            addresses.swap(k, self.below(k as u64 + 1) as usize);
+        }
     }
 
     /// Half of the sizes are at most 5 words, a quarter at most 9, and so on: one in two thousand may be 4,097.
@@ -74,16 +114,86 @@ fn write_object(words: &mut [u64], percent: u64, near: usize, live: &[u64], rand
     }
 }
 
-pub fn generate(asked: &Asked) -> Image {
-    let mut random = Random(0x9e37_79b9_7f4a_7c15);
-    let objects = place(asked, &mut random);
+fn graph(asked: &Asked, random: &mut Random) -> (Vec<u64>, Vec<u64>) {
+    let objects = place(asked, random);
     let live: Vec<u64> = objects.iter().filter(|object| object.lives).map(|object| object.at as u64).collect();
     assert!(!live.is_empty(), "no object lives");
     let mut words = vec![0; asked.words];
     let mut near = 0;
     for Object { at, size, lives } in objects {
-        write_object(&mut words[at..at + size], asked.references, near, &live, &mut random);
+        write_object(&mut words[at..at + size], asked.references, near, &live, random);
         near += usize::from(lives);
     }
-    Image { region_log: asked.region_log, allowance: 0, words, live }
+    (words, live)
+}
+
+fn list(asked: &Asked, random: &mut Random) -> (Vec<u64>, Vec<u64>) {
+    let mut words = vec![0; asked.words];
+    let live: Vec<u64> = (0..asked.words as u64).step_by(2).filter(|_| random.happens(asked.live)).collect();
+    let mut order = live.clone();
+    random.shuffle(&mut order);
+    for (k, &a) in order.iter().enumerate() {
+        words[a as usize] = Header::object(2, 1).0;
+        words[a as usize + 1] = order.get(k + 1).map_or(0, |next| 1 + next);
+    }
+    (words, live)
+}
+
+/// As many objects as there can be, so that nothing but the last word is dead.
+fn array(asked: &Asked) -> (Vec<u64>, Vec<u64>) {
+    let mut words = vec![0; asked.words];
+    let size = asked.words / 2;
+    words[0] = Header::object(size, size - 1).0;
+    let live: Vec<u64> = (size as u64..asked.words as u64 - 1).collect();
+    for (k, &a) in live.iter().enumerate() {
+        words[a as usize] = Header::object(1, 0).0;
+        words[1 + k] = 1 + a;
+    }
+    (words, [&[0], &live[..]].concat())
+}
+
+fn object(asked: &Asked) -> (Vec<u64>, Vec<u64>) {
+    let mut words = vec![0; asked.words];
+    let size = asked.words - 1;
+    let references = size * asked.references as usize / 100;
+    words[1] = Header::object(size, references).0;
+    words[2..2 + references].fill(2);
+    (words, vec![1])
+}
+
+/// Roots that lead to all live objects, in random order: to those that no object refers to, and to one of each circle
+/// that these don't lead to.
+fn roots_of(image: &Image, random: &mut Random) -> Vec<u64> {
+    let mut order = image.live.clone();
+    random.shuffle(&mut order);
+    let mut referred = Bits::new(image.words.len());
+    let fields = |&a: &u64| image.row(a as usize + 1, image.header(a as usize).references());
+    for reference in order.iter().flat_map(fields).filter(|&reference| reference != 0) {
+        referred.insert(reference as usize - 1);
+    }
+    let mut roots = Vec::new();
+    let mut marking = Marking::of(image);
+    let unreferred = order.iter().filter(|&&a| !referred.contains(a));
+    for &a in unreferred.chain(&order) {
+        if marking.visit(1 + a) {
+            roots.push(1 + a);
+            marking.run();
+        }
+    }
+    roots
+}
+
+pub fn generate(asked: &Asked) -> Image {
+    let mut random = Random(0x9e37_79b9_7f4a_7c15);
+    let (words, live) = match asked.shape {
+        Shape::Graph => graph(asked, &mut random),
+        Shape::List => list(asked, &mut random),
+        Shape::Array => array(asked),
+        Shape::Object => object(asked),
+    };
+    let mut image = Image { region_log: asked.region_log, allowance: 0, words, live, roots: None };
+    if asked.is_rooted {
+        image.roots = Some(roots_of(&image, &mut random));
+    }
+    image
 }

@@ -1,4 +1,5 @@
 //! An image in one block of words, its text, and its checks.
+use crate::marking::{mark, Heap};
 use crate::marks::Bits;
 use std::io::{self, Read, Write};
 
@@ -20,6 +21,7 @@ pub enum Fault {
     Overlap(u64),
     Reference(u64, u32),
     Trailing,
+    Root(u32),
     Io(io::Error),
 }
 
@@ -34,30 +36,21 @@ pub struct Image {
     pub allowance: u64,
     pub words: Vec<u64>,
     pub live: Vec<u64>,
+    /// In version 2 alone.
+    pub roots: Option<Vec<u64>>,
 }
 
-#[derive(Clone, Copy)]
-pub struct Header(pub u64);
-
-impl Header {
-    pub fn object(size: usize, references: usize) -> Header {
-        Header(1 << 56 | (references as u64) << 32 | size as u64)
+impl Heap for Image {
+    fn words(&self) -> usize {
+        self.words.len()
     }
 
-    pub fn filler(size: usize) -> Header {
-        Header(2 << 56 | size as u64)
+    fn word(&self, a: usize) -> u64 {
+        self.words[a]
     }
 
-    pub fn size(self) -> usize {
-        self.0 as u32 as usize
-    }
-
-    pub fn references(self) -> usize {
-        (self.0 >> 32 & 0xff_ffff) as usize
-    }
-
-    fn is_object(self) -> bool {
-        self.0 >> 56 == 1
+    fn row(&self, a: usize, count: usize) -> impl Iterator<Item = u64> {
+        self.words[a..a + count].iter().copied()
     }
 }
 
@@ -66,23 +59,21 @@ impl Image {
         1 << self.region_log
     }
 
-    pub fn header(&self, a: u64) -> Header {
-        Header(self.words[a as usize])
-    }
-
     pub fn live_words(&self) -> usize {
-        self.live.iter().map(|&a| self.header(a).size()).sum()
+        self.live.iter().map(|&a| self.header(a as usize).size()).sum()
     }
 
     pub fn references(&self) -> usize {
-        self.live.iter().map(|&a| self.header(a).references()).sum()
+        self.live.iter().map(|&a| self.header(a as usize).references()).sum()
     }
 
-    /// Whether the live objects are sound, do not overlap, and lead to one another.
-    pub fn check(&self) -> Result<(), Fault> {
-        let begins = self.check_order()?;
-        self.check_headers()?;
-        self.check_references(&begins)
+    /// Finds the live objects of version 2. Whether they are sound, do not overlap, and lead to one another.
+    fn check(&mut self) -> Result<(), Fault> {
+        match &self.roots {
+            None => check_objects(self, &self.live, &self.check_order()?)?,
+            Some(roots) => self.live = mark_from_roots(self, roots)?,
+        }
+        Ok(())
     }
 
     fn check_order(&self) -> Result<Bits, Fault> {
@@ -97,36 +88,50 @@ impl Image {
         }
         Ok(begins)
     }
+}
 
-    fn check_headers(&self) -> Result<(), Fault> {
-        let mut end = 0;
-        let mut overlap = None;
-        for &a in &self.live {
-            let header = self.header(a);
-            let room = self.words.len() - a as usize;
-            if !header.is_object() || header.size() <= header.references() || header.size() > room {
-                return Err(Fault::Header(a));
-            }
-            if a < end && overlap.is_none() {
-                overlap = Some(a);
-            }
-            end = a + header.size() as u64;
-        }
-        overlap.map_or(Ok(()), |a| Err(Fault::Overlap(a)))
+/// The objects that the roots lead to, ascending, where they are sound and do not overlap.
+pub fn mark_from_roots(heap: &impl Heap, roots: &[u64]) -> Result<Vec<u64>, Fault> {
+    if let Some(i) = roots.iter().position(|&root| root > heap.words() as u64) {
+        return Err(Fault::Root(i as u32));
     }
+    let begins = mark(heap, roots);
+    let live = begins.places();
+    check_objects(heap, &live, &begins)?;
+    Ok(live)
+}
 
-    fn check_references(&self, begins: &Bits) -> Result<(), Fault> {
-        for &a in &self.live {
-            let first = a as usize + 1;
-            let fields = &self.words[first..first + self.header(a).references()];
-            for (f, &reference) in fields.iter().enumerate() {
-                if reference != 0 && !begins.contains(reference - 1) {
-                    return Err(Fault::Reference(a, f as u32));
-                }
+fn check_objects(heap: &impl Heap, live: &[u64], begins: &Bits) -> Result<(), Fault> {
+    check_headers(heap, live)?;
+    check_references(heap, live, begins)
+}
+
+fn check_headers(heap: &impl Heap, live: &[u64]) -> Result<(), Fault> {
+    let mut end = 0;
+    let mut overlap = None;
+    for &a in live {
+        let header = heap.header(a as usize);
+        if !heap.is_sound(a as usize, header) {
+            return Err(Fault::Header(a));
+        }
+        if a < end && overlap.is_none() {
+            overlap = Some(a);
+        }
+        end = a + header.size() as u64;
+    }
+    overlap.map_or(Ok(()), |a| Err(Fault::Overlap(a)))
+}
+
+fn check_references(heap: &impl Heap, live: &[u64], begins: &Bits) -> Result<(), Fault> {
+    for &a in live {
+        let count = heap.header(a as usize).references();
+        for (f, reference) in heap.row(a as usize + 1, count).enumerate() {
+            if reference != 0 && !begins.contains(reference - 1) {
+                return Err(Fault::Reference(a, f as u32));
             }
         }
-        Ok(())
     }
+    Ok(())
 }
 
 fn number(bytes: &[u8]) -> u64 {
@@ -149,26 +154,26 @@ fn read_numbers(reader: &mut impl Read, buffer: &mut [u8], count: usize) -> Resu
 pub fn read(mut reader: impl Read) -> Result<Image, Fault> {
     let mut front = [0; FRONT_BYTES];
     reader.read_exact(&mut front).map_err(|_| Fault::TruncatedHeader)?;
-    if &front[..8] != b"PCHEAP01" {
-        return Err(Fault::Magic);
-    }
+    let is_rooted = match &front[..8] {
+        b"PCHEAP01" => false,
+        b"PCHEAP02" => true,
+        _ => return Err(Fault::Magic),
+    };
     let region_log = u32::from_le_bytes(front[8..12].try_into().unwrap());
     if !(3..=16).contains(&region_log) {
         return Err(Fault::RegionLog);
     }
-    let live = u64::from(u32::from_le_bytes(front[12..16].try_into().unwrap()));
+    let count = u64::from(u32::from_le_bytes(front[12..16].try_into().unwrap()));
     let words = number(&front[16..24]);
     let is_whole = words & ((1 << region_log) - 1) == 0;
-    if words == 0 || words > 1 << 22 || !is_whole || words >> region_log > 1 << 14 || live > words {
+    if words == 0 || words > 1 << 22 || !is_whole || words >> region_log > 1 << 14 || count > words {
         return Err(Fault::Length);
     }
     let mut buffer = vec![0; ROOM];
-    let image = Image {
-        region_log,
-        allowance: number(&front[24..]),
-        words: read_numbers(&mut reader, &mut buffer, words as usize)?,
-        live: read_numbers(&mut reader, &mut buffer, live as usize)?,
-    };
+    let words = read_numbers(&mut reader, &mut buffer, words as usize)?;
+    let tail = read_numbers(&mut reader, &mut buffer, count as usize)?;
+    let (live, roots) = if is_rooted { (Vec::new(), Some(tail)) } else { (tail, None) };
+    let mut image = Image { region_log, allowance: number(&front[24..]), words, live, roots };
     image.check()?;
     match reader.read(&mut buffer[..1])? {
         0 => Ok(image),
@@ -188,15 +193,19 @@ fn write_numbers(writer: &mut impl Write, buffer: &mut [u8], numbers: &[u64]) ->
 }
 
 pub fn write(image: &Image, mut writer: impl Write) -> Result<(), Fault> {
+    let (magic, tail) = match &image.roots {
+        None => (b"PCHEAP01", &image.live),
+        Some(roots) => (b"PCHEAP02", roots),
+    };
     let mut front = [0; FRONT_BYTES];
-    front[..8].copy_from_slice(b"PCHEAP01");
+    front[..8].copy_from_slice(magic);
     front[8..12].copy_from_slice(&image.region_log.to_le_bytes());
-    front[12..16].copy_from_slice(&(image.live.len() as u32).to_le_bytes());
+    front[12..16].copy_from_slice(&(tail.len() as u32).to_le_bytes());
     front[16..24].copy_from_slice(&(image.words.len() as u64).to_le_bytes());
     front[24..].copy_from_slice(&image.allowance.to_le_bytes());
     writer.write_all(&front)?;
     let mut buffer = vec![0; ROOM];
     write_numbers(&mut writer, &mut buffer, &image.words)?;
-    write_numbers(&mut writer, &mut buffer, &image.live)?;
+    write_numbers(&mut writer, &mut buffer, tail)?;
     Ok(())
 }

@@ -2,7 +2,9 @@
 //! copy of an image; a move of words. It makes the images too, and measures a process.
 mod collection;
 mod generator;
+mod header;
 mod image;
+mod marking;
 mod marks;
 mod process;
 
@@ -10,10 +12,12 @@ use std::fs::File;
 use std::hint::black_box;
 use std::io::{self, Read, Write};
 use std::process::exit;
+use std::str::FromStr;
 use std::time::Instant;
 
 const USAGE: &str = "usage:
   plain generate OUT --mib n --live percent --log n --references percent
+                     [--shape graph|list|array|object] [--version 1|2]
   plain collect IMAGE OUT
   plain copy IMAGE OUT
   plain move WORDS
@@ -38,21 +42,32 @@ fn move_words(count: usize) {
     println!("{} {}", start.elapsed().as_nanos(), black_box(&words)[count / 2]);
 }
 
-/// The number behind the word `name`.
-fn number(words: &[String], name: &str) -> Option<usize> {
+/// What stands behind the word `name`.
+fn asked<T: FromStr>(words: &[String], name: &str) -> Option<T> {
     let at = words.iter().position(|word| word == name)?;
     words.get(at + 1)?.parse().ok()
 }
 
+/// The same, or something else where there is no such word.
+fn asked_or<T: FromStr>(words: &[String], name: &str, other: T) -> Option<T> {
+    match words.iter().any(|word| word == name) {
+        true => asked(words, name),
+        false => Some(other),
+    }
+}
+
 fn generate(out: &str, words: &[String]) -> Option<Result<(), image::Fault>> {
-    let asked = generator::Asked {
-        words: number(words, "--mib")? << 17,
-        live: number(words, "--live")? as u64,
-        region_log: number(words, "--log")? as u32,
-        references: number(words, "--references")? as u64,
+    let wanted = generator::Asked {
+        words: asked::<usize>(words, "--mib")? << 17,
+        live: asked(words, "--live")?,
+        region_log: asked(words, "--log")?,
+        references: asked(words, "--references")?,
+        shape: asked_or(words, "--shape", generator::Shape::Graph)?,
+        is_rooted: asked_or(words, "--version", 1)? == 2,
     };
-    let image = generator::generate(&asked);
-    println!("{} {} {}", image.live.len(), image.live_words(), image.references());
+    let image = generator::generate(&wanted);
+    let roots = image.roots.as_ref().map_or(0, Vec::len);
+    println!("{} {} {} {roots}", image.live.len(), image.live_words(), image.references());
     Some(File::create(out).map_err(image::Fault::from).and_then(|file| image::write(&image, file)))
 }
 

@@ -15,6 +15,26 @@ impl Bits {
         self.0[i / 64] |= 1 << (i % 64);
     }
 
+    /// Marks a place, and says whether it was unmarked.
+    pub fn mark(&mut self, i: usize) -> bool {
+        let was = self.contains(i as u64);
+        self.insert(i);
+        !was
+    }
+
+    /// The marked places, ascending.
+    pub fn places(&self) -> Vec<u64> {
+        let mut places = Vec::new();
+        for (i, &word) in self.0.iter().enumerate() {
+            let mut left = word;
+            while left != 0 {
+                places.push(64 * i as u64 + u64::from(left.trailing_zeros()));
+                left &= left - 1;
+            }
+        }
+        places
+    }
+
     /// Marks the places from `from` up to `to`, itself not included, which is not `from`.
     pub fn insert_run(&mut self, from: usize, to: usize) {
         let (first, last) = (from / 64, (to - 1) / 64);

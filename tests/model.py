@@ -1,0 +1,234 @@
+"""A slow plain model of heap images and their collection, made from docs/HEAP.md and docs/FORMATS.md alone.
+
+It follows the definitions word by word, and shares nothing with the crates: what is reached is found by a queue and a
+set, and counts are counted.
+"""
+import collections
+import dataclasses
+import itertools
+import struct
+
+OBJECT, FILLER = 1, 2
+MAGICS = {b"PCHEAP01": 1, b"PCHEAP02": 2}
+FRONT = struct.Struct("<8sIIQQ")
+MOST_WORDS = 4_194_304
+MOST_REGIONS = 16_384
+
+
+class Fault(Exception):
+    """The first fault of some bytes, by its text."""
+
+
+def header(size: int, references: int, kind: int = OBJECT) -> int:
+    return kind << 56 | references << 32 | size
+
+
+def size_of(word: int) -> int:
+    return word & 0xffff_ffff
+
+
+def references_of(word: int) -> int:
+    return word >> 32 & 0xff_ffff
+
+
+def kind_of(word: int) -> int:
+    return word >> 56
+
+
+@dataclasses.dataclass(frozen=True)
+class Image:
+    """What the bytes of an image say, valid or not."""
+    version: int
+    region_log: int
+    allowance: int
+    words: list[int]
+    # The live list in version 1, the roots in version 2.
+    tail: list[int]
+
+    def live(self) -> list[int]:
+        return self.tail if self.version == 1 else sorted(reached(self.words, self.tail))
+
+    def roots(self) -> list[int]:
+        return self.tail if self.version == 2 else []
+
+    def references(self, a: int) -> list[int]:
+        return references_at(self.words, a)
+
+    def end(self, a: int) -> int:
+        return a + size_of(self.words[a])
+
+
+def references_at(words: list[int], a: int) -> list[int]:
+    return words[a + 1:a + 1 + references_of(words[a])]
+
+
+def is_sound(words: list[int], a: int) -> bool:
+    word = words[a]
+    return kind_of(word) == OBJECT and references_of(word) < size_of(word) and a + size_of(word) <= len(words)
+
+
+def reached(words: list[int], roots: list[int]) -> set[int]:
+    """The addresses that the roots lead to. Members without a sound header are not followed."""
+    found = set()
+    queue = collections.deque(roots)
+    while queue:
+        reference = queue.popleft()
+        a = reference - 1
+        if 0 < reference <= len(words) and a not in found:
+            found.add(a)
+            queue.extend(references_at(words, a) if is_sound(words, a) else [])
+    return found
+
+
+def encode(image: Image) -> bytes:
+    """The text of an image, valid or not."""
+    magic = next(magic for magic, version in MAGICS.items() if version == image.version)
+    front = FRONT.pack(magic, image.region_log, len(image.tail), len(image.words), image.allowance)
+    return front + struct.pack(f"<{len(image.words) + len(image.tail)}Q", *image.words, *image.tail)
+
+
+def decode(text: bytes) -> Image:
+    """The valid image that these bytes are the text of. Raises the first fault where there is none."""
+    if len(text) < FRONT.size:
+        raise Fault("1 truncated header")
+    magic, log, count, length, allowance = FRONT.unpack_from(text)
+    if magic not in MAGICS:
+        raise Fault("2 magic")
+    if not 3 <= log <= 16:
+        raise Fault("3 region log")
+    if not 0 < length <= MOST_WORDS or length % (1 << log) or length >> log > MOST_REGIONS or count > length:
+        raise Fault("4 length")
+    end = FRONT.size + 8 * (length + count)
+    if len(text) < end:
+        raise Fault("5 truncated body")
+    numbers = list(struct.unpack_from(f"<{length + count}Q", text, FRONT.size))
+    image = Image(MAGICS[magic], log, allowance, numbers[:length], numbers[length:])
+    check(image)
+    if len(text) > end:
+        raise Fault("10 trailing bytes")
+    return image
+
+
+def check(image: Image) -> None:
+    """Raises the first fault of the live list or the roots, and of what they lead to."""
+    words = len(image.words)
+    for i, root in enumerate(image.roots()):
+        if root > words:
+            raise Fault(f"17 root at index {i}")
+    live = image.live()
+    for i, (before, a) in enumerate(zip([-1, *live], live)):
+        if a <= before or a >= words:
+            raise Fault(f"6 live order at index {i}")
+    for a in live:
+        if not is_sound(image.words, a):
+            raise Fault(f"7 header at {a}")
+    for before, a in itertools.pairwise(live):
+        if a < image.end(before):
+            raise Fault(f"8 overlap at {a}")
+    good = {0, *(1 + a for a in live)}
+    for a in live:
+        for f, reference in enumerate(image.references(a)):
+            if reference not in good:
+                raise Fault(f"9 reference at {a} field {f}")
+
+
+class Collection:
+    """What a collection of a valid image does."""
+
+    def __init__(self, image: Image):
+        self.image = image
+        self.region_words = 1 << image.region_log
+        self.live = image.live()
+        # Of each live word the object that it belongs to.
+        self.owner = {word: a for a in self.live for word in range(a, image.end(a))}
+        self.prefix_end = self.find_prefix_end()
+        self.new, self.top = self.slide()
+
+    def find_prefix_end(self) -> int:
+        dead, best = 0, 0
+        last_end = self.image.end(self.live[-1]) if self.live else 0
+        for end in range(self.region_words, last_end + 1, self.region_words):
+            dead += sum(word not in self.owner for word in range(end - self.region_words, end))
+            best = end if dead <= self.image.allowance else best
+        return best
+
+    def slide(self) -> tuple[dict[int, int], int]:
+        """The new address of each live object, and the new top."""
+        new = {}
+        following = self.prefix_end
+        for a in self.live:
+            new[a] = a if a < self.prefix_end else following
+            following = max(following, new[a] + size_of(self.image.words[a]))
+        return new, following if self.live else 0
+
+    def redirected(self, reference: int) -> int:
+        return 1 + self.new[reference - 1] if reference else 0
+
+    def object_image(self, a: int) -> list[int]:
+        words = self.image.words
+        after = a + 1 + references_of(words[a])
+        return [words[a], *map(self.redirected, self.image.references(a)), *words[after:self.image.end(a)]]
+
+    def filler_runs(self) -> list[list[int]]:
+        """Each longest run of dead words of the prefix."""
+        runs = itertools.groupby(range(self.prefix_end), key=lambda word: word in self.owner)
+        return [list(run) for is_live, run in runs if not is_live]
+
+    def compaction(self) -> Image:
+        words = [0] * len(self.image.words)
+        for a, to in self.new.items():
+            moved = self.object_image(a)
+            words[to:to + len(moved)] = moved
+        for run in self.filler_runs():
+            words[run[0]] = header(len(run), 0, FILLER)
+        is_rooted = self.image.version == 2
+        tail = map(self.redirected, self.image.tail) if is_rooted else self.new.values()
+        return dataclasses.replace(self.image, words=words, tail=list(tail))
+
+    def filled(self) -> int:
+        return -(-self.top // self.region_words)
+
+    def figures(self) -> str:
+        return f"prefix {self.prefix_end} top {self.top} filled {self.filled()}\n"
+
+    def origins(self) -> dict[int, int]:
+        """Of each new word the old address that it comes from."""
+        return {self.new[a] + word - a: word for word, a in self.owner.items()}
+
+    def report(self) -> str:
+        """What `summary` prints."""
+        origins = self.origins()
+        reads = {(new // self.region_words, old // self.region_words) for new, old in origins.items()}
+        lines = [self.report_line(r, origins, reads) for r in range(len(self.image.words) // self.region_words)]
+        return "".join([f"prefix {self.prefix_end} top {self.top}\n", *lines])
+
+    def report_line(self, r: int, origins: dict[int, int], reads: set[tuple[int, int]]) -> str:
+        start = r * self.region_words
+        owners = [self.owner[word] for word in range(start, start + self.region_words) if word in self.owner]
+        partial = sum(a < start for a in owners)
+        is_prefix = start < self.prefix_end
+        slid_below = sum(self.prefix_end <= old < start for old in origins.values())
+        destination = start if is_prefix else self.prefix_end + slid_below
+        count = sum(s == r != d for d, s in reads)
+        is_moved_to = not is_prefix and start < self.top
+        source = origins[start] // self.region_words if is_moved_to else "-"
+        columns = [r, partial, len(owners) - partial, destination, count, source]
+        return " ".join(f"{column:>8}" for column in columns) + "\n"
+
+
+def verdict(before: Image, after: Image) -> str | None:
+    """What `verify` says of two valid images: None, or the first difference."""
+    wanted = Collection(before).compaction()
+
+    def shape(image: Image) -> tuple[int, ...]:
+        lengths = len(image.words), len(image.live()), len(image.roots())
+        return image.version, image.region_log, image.allowance, *lengths
+
+    def differing(one: list[int], other: list[int]) -> int | None:
+        return next((i for i, (a, b) in enumerate(zip(one, other)) if a != b), None)
+
+    if shape(wanted) != shape(after):
+        return "shape"
+    places = {"word": differing(wanted.words, after.words), "live": differing(wanted.live(), after.live()),
+              "root": differing(wanted.roots(), after.roots())}
+    return next((f"{what} {place}" for what, place in places.items() if place is not None), None)

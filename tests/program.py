@@ -1,0 +1,88 @@
+"""The built program as its users call it, and what it must answer."""
+import dataclasses
+import pathlib
+import shutil
+import subprocess
+
+TOP = pathlib.Path(__file__).resolve().parent.parent
+BUILT = TOP / "out" / "pcompact" / "pcompact"
+SECONDS = 60
+
+
+@dataclasses.dataclass(frozen=True)
+class Answer:
+    status: int
+    # Any text where it is None.
+    out: str | None = ""
+    err: str = ""
+    # Of each file that the program makes its bytes, or None where it must not be there.
+    made: dict[str, bytes | None] = dataclasses.field(default_factory=dict)
+
+
+def fault(text: str, made: dict[str, bytes | None] | None = None) -> Answer:
+    return Answer(1, err=f"pcompact: fault {text}\n", made=made or {})
+
+
+def differs(text: str) -> Answer:
+    return Answer(1, err=f"pcompact: differs {text}\n")
+
+
+def usage(text: str) -> Answer:
+    return Answer(2, err=text)
+
+
+class Tried:
+    """A copy of the program in a folder, and how often it was tried and wrong."""
+
+    def __init__(self, program: pathlib.Path, folder: pathlib.Path):
+        self.program = folder / "pcompact"
+        self.folder = folder
+        self.count = 0
+        self.wrong = 0
+        # Anybody may call it there.
+        folder.chmod(0o755)
+        shutil.copy(program, self.program)
+        self.program.chmod(0o755)
+
+    def write(self, name: str, content: bytes | str) -> None:
+        (self.folder / name).write_bytes(content.encode() if isinstance(content, str) else content)
+
+    def read(self, name: str) -> bytes:
+        return (self.folder / name).read_bytes()
+
+    def run(self, words: str | list[str], answer: Answer, **how) -> None:
+        """Runs the program on words, or on those of a text, and compares what it answers."""
+        words = words.split() if isinstance(words, str) else words
+        for name in answer.made:
+            (self.folder / name).unlink(missing_ok=True)
+        streams = {"stdin": subprocess.DEVNULL, "stdout": subprocess.PIPE, "stderr": subprocess.PIPE, **how}
+        if "input" in how:
+            del streams["stdin"]
+        done = subprocess.run([self.program, *words], cwd=self.folder, timeout=SECONDS, **streams)
+        self.count += 1
+        for what in self.differences(answer, done):
+            self.is_wrong(f"pcompact {' '.join(map(str, words))}: {what}")
+
+    def is_wrong(self, what: str) -> None:
+        self.wrong += 1
+        print(what)
+
+    def differences(self, answer: Answer, done: subprocess.CompletedProcess) -> list[str]:
+        found = []
+        if done.returncode != answer.status:
+            found.append(f"status {done.returncode} and not {answer.status}")
+        if done.stdout is not None and answer.out is not None and done.stdout.decode() != answer.out:
+            found.append(f"standard output is {done.stdout!r} and not {answer.out!r}")
+        if done.stderr is not None and not is_told(done.stderr.decode(), answer):
+            found.append(f"standard error is {done.stderr!r} and not {answer.err!r}")
+        for name, content in answer.made.items():
+            file = self.folder / name
+            if (file.read_bytes() if file.exists() else None) != content:
+                found.append(f"{name} has another content")
+        return found
+
+
+def is_told(err: str, answer: Answer) -> bool:
+    """Whether standard error has the text. A text of usage must begin as given."""
+    is_usage = answer.status == 2 and answer.err.startswith("error: ")
+    return err.startswith(answer.err) and err.endswith("try '--help'.\n") if is_usage else err == answer.err
