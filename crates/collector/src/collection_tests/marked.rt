@@ -10,10 +10,13 @@ use std::test::Fail;
 use std::thread::Threads;
 use summary::compact_plainly;
 
-/// How many heaps of each shape are read, and how many of them are collected.
-const READ: u64 = 1_000;
+/// How many heaps are read.
+const READ: u64 = 3_000;
 
-const COLLECTED: u64 = 104;
+/// How many heaps are collected.
+const COLLECTED: u64 = 210;
+
+const SHAPES: [Shape; 3] = [(3, 24), (4, 40), (7, 12)];
 
 /// Null and references to some of the objects, in any order, at times the same twice.
 fn seeded_roots(alloc: Global, seed: u64, objects: &[u64]) -> Result<Vec<u64>, AllocError> {
@@ -89,9 +92,8 @@ fn is_marked(
 #[test]
 fn seeded_heaps_have_the_live_objects_that_are_reached(rt: HostRuntime) -> Result<(), Fail> {
     for seed in 0..READ {
-        for shape in [(3, 24), (4, 40), (7, 12)] {
-            assert!(rt; is_marked(rt.alloc(), &rt, seed, shape)?, "seed {seed}");
-        }
+        let shape = SHAPES[(seed / 6 % 3) as usize];
+        assert!(rt; is_marked(rt.alloc(), &rt, seed, shape)?, "seed {seed}");
     }
     Ok(())
 }
@@ -148,34 +150,10 @@ fn is_compacted<R: Threads + Wait + Sync>(
 }
 
 #[test]
-fn seeded_heaps_of_small_regions_are_compacted(rt: HostRuntime) -> Result<(), Fail> {
+fn seeded_heaps_with_roots_are_compacted(rt: HostRuntime) -> Result<(), Fail> {
     for seed in 0..COLLECTED {
-        assert!(rt;
-            is_compacted(rt.alloc(), &rt, seed, (3, 24))?,
-            "seed {seed}"
-        );
-    }
-    Ok(())
-}
-
-#[test]
-fn seeded_heaps_of_many_regions_are_compacted(rt: HostRuntime) -> Result<(), Fail> {
-    for seed in 0..COLLECTED {
-        assert!(rt;
-            is_compacted(rt.alloc(), &rt, seed, (4, 40))?,
-            "seed {seed}"
-        );
-    }
-    Ok(())
-}
-
-#[test]
-fn seeded_heaps_of_larger_regions_are_compacted(rt: HostRuntime) -> Result<(), Fail> {
-    for seed in 0..COLLECTED {
-        assert!(rt;
-            is_compacted(rt.alloc(), &rt, seed, (7, 12))?,
-            "seed {seed}"
-        );
+        let shape = SHAPES[(seed / 6 % 3) as usize];
+        assert!(rt; is_compacted(rt.alloc(), &rt, seed, shape)?, "seed {seed}");
     }
     Ok(())
 }
