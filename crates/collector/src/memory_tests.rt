@@ -1,7 +1,7 @@
 //! What the calls answer where memory is refused. The script tests/crate-allocations runs each of these tests with each
 //! allocation refused in turn.
 use crate::streaming_tests::Checked;
-use crate::tests::{BASE_LIVE, BASE_WORDS, image_text};
+use crate::tests::Base;
 use crate::{OpenGate, Ready, Refusal, Verdict, collect, collect_stream, verify};
 use heap_image::{Fault, FromRead, Image, ToWrite, decode_by_threads, encode};
 use std::alloc::{AllocError, Global};
@@ -9,44 +9,64 @@ use std::sync::Wait;
 use std::thread::Threads;
 use summary::compact_plainly;
 
-/// The text of the base heap with allowance 2.
-fn base_text(alloc: Global) -> Result<Vec<u8>, AllocError> {
-    image_text(alloc, (3, 2), &BASE_WORDS, &BASE_LIVE)
-}
+/// How many dead words the base heap may keep here.
+const ALLOWANCE: u64 = 2;
 
-fn base(alloc: Global, threads: &(impl Threads + Sync)) -> Result<Image, Fault> {
-    decode_by_threads(alloc, base_text(alloc)?.as_slice(), threads)
+fn image(alloc: Global, base: Base, threads: &(impl Threads + Sync)) -> Result<Image, Fault> {
+    decode_by_threads(alloc, base.text(alloc, ALLOWANCE)?.as_slice(), threads)
 }
 
 /// Whether the image is the base heap.
-fn is_base(alloc: Global, image: &Image) -> Result<bool, Fault> {
-    Ok(encode(alloc, image)? == base_text(alloc)?)
+fn is_base(alloc: Global, base: Base, image: &Image) -> Result<bool, Fault> {
+    Ok(encode(alloc, image)? == base.text(alloc, ALLOWANCE)?)
+}
+
+/// Whether each answer is true or want of memory, and one is true.
+pub(crate) fn are_right(answers: &[Result<bool, Fault>]) -> bool {
+    let mut all = answers.iter();
+    let is_told = |answer: &Result<bool, Fault>| *answer == Ok(true)
+        || *answer == Err(Fault::Memory);
+    all.all(is_told) && answers.contains(&Ok(true))
 }
 
 /// Whether a collection of the base heap gives its compaction. Its only error is want of memory that keeps the image.
-fn collects<R: Threads + Wait + Sync>(alloc: Global, rt: &R) -> Result<bool, Fault> {
-    match collect(alloc, base(alloc, rt)?, 2, &OpenGate, rt, rt) {
+fn collects<R: Threads + Wait + Sync>(alloc: Global, rt: &R, base: Base) -> Result<bool, Fault> {
+    match collect(alloc, image(alloc, base, rt)?, 2, &OpenGate, rt, rt) {
         Ok((outcome, _finished)) => {
-            Ok(verify(alloc, &base(alloc, rt)?, &outcome.image, rt)? == Verdict::Same)
+            let before = image(alloc, base, rt)?;
+            Ok(verify(alloc, &before, &outcome.image, rt)? == Verdict::Same)
         }
-        Err(Refusal::Kept(image, Fault::Memory)) if is_base(alloc, &image)? => Err(Fault::Memory),
+        Err(Refusal::Kept(image, Fault::Memory)) if is_base(alloc, base, &image)? => {
+            Err(Fault::Memory)
+        }
         Err(_) => Ok(false),
     }
 }
 
 #[test]
 fn collect_where_refused_memory_is_told(rt: HostRuntime) {
-    let answers = [collects(rt.alloc(), &rt), collects(rt.alloc(), &rt)];
-    for answer in &answers {
-        assert!(rt; *answer == Ok(true) || *answer == Err(Fault::Memory));
-    }
-    assert!(rt; answers.contains(&Ok(true)));
+    let base = Base::WithLiveList;
+    let answers = [
+        collects(rt.alloc(), &rt, base),
+        collects(rt.alloc(), &rt, base),
+    ];
+    assert!(rt; are_right(&answers));
+}
+
+#[test]
+fn collect_with_roots_where_refused_memory_is_told(rt: HostRuntime) {
+    let base = Base::WithRoots;
+    let answers = [
+        collects(rt.alloc(), &rt, base),
+        collects(rt.alloc(), &rt, base),
+    ];
+    assert!(rt; are_right(&answers));
 }
 
 /// Whether the text of the base heap's compaction is written. Its only error is want of memory, with nothing written.
-fn streams<R: Threads + Wait + Sync>(alloc: Global, rt: &R) -> Result<bool, Fault> {
-    let before = base_text(alloc)?;
-    let after = encode(alloc, &compact_plainly(alloc, &base(alloc, rt)?)?)?;
+fn streams<R: Threads + Wait + Sync>(alloc: Global, rt: &R, base: Base) -> Result<bool, Fault> {
+    let before = base.text(alloc, ALLOWANCE)?;
+    let after = encode(alloc, &compact_plainly(alloc, &image(alloc, base, rt)?)?)?;
     let mut reader = FromRead::new(before.as_slice());
     let mut writer = ToWrite::new(Checked::against(after.as_slice()));
     let answer = collect_stream(alloc, &mut reader, &mut writer, 2, &OpenGate, rt, rt);
@@ -60,16 +80,27 @@ fn streams<R: Threads + Wait + Sync>(alloc: Global, rt: &R) -> Result<bool, Faul
 
 #[test]
 fn stream_where_refused_memory_is_told(rt: HostRuntime) {
-    let answers = [streams(rt.alloc(), &rt), streams(rt.alloc(), &rt)];
-    for answer in &answers {
-        assert!(rt; *answer == Ok(true) || *answer == Err(Fault::Memory));
-    }
-    assert!(rt; answers.contains(&Ok(true)));
+    let base = Base::WithLiveList;
+    let answers = [
+        streams(rt.alloc(), &rt, base),
+        streams(rt.alloc(), &rt, base),
+    ];
+    assert!(rt; are_right(&answers));
+}
+
+#[test]
+fn stream_with_roots_where_refused_memory_is_told(rt: HostRuntime) {
+    let base = Base::WithRoots;
+    let answers = [
+        streams(rt.alloc(), &rt, base),
+        streams(rt.alloc(), &rt, base),
+    ];
+    assert!(rt; are_right(&answers));
 }
 
 /// Whether the base heap's compaction is found the same, and the base heap itself is not.
-fn verifies<R: Threads + Sync>(alloc: Global, rt: &R) -> Result<bool, Fault> {
-    let before = base(alloc, rt)?;
+fn verifies<R: Threads + Sync>(alloc: Global, rt: &R, base: Base) -> Result<bool, Fault> {
+    let before = image(alloc, base, rt)?;
     let after = compact_plainly(alloc, &before)?;
     let (same, other) = (
         verify(alloc, &before, &after, rt)?,
@@ -80,11 +111,22 @@ fn verifies<R: Threads + Sync>(alloc: Global, rt: &R) -> Result<bool, Fault> {
 
 #[test]
 fn verify_where_refused_memory_is_told(rt: HostRuntime) {
-    let answers = [verifies(rt.alloc(), &rt), verifies(rt.alloc(), &rt)];
-    for answer in &answers {
-        assert!(rt; *answer == Ok(true) || *answer == Err(Fault::Memory));
-    }
-    assert!(rt; answers.contains(&Ok(true)));
+    let base = Base::WithLiveList;
+    let answers = [
+        verifies(rt.alloc(), &rt, base),
+        verifies(rt.alloc(), &rt, base),
+    ];
+    assert!(rt; are_right(&answers));
+}
+
+#[test]
+fn verify_with_roots_where_refused_memory_is_told(rt: HostRuntime) {
+    let base = Base::WithRoots;
+    let answers = [
+        verifies(rt.alloc(), &rt, base),
+        verifies(rt.alloc(), &rt, base),
+    ];
+    assert!(rt; are_right(&answers));
 }
 
 /// Whether a queue takes as many numbers as its room, and hands them out.

@@ -14,6 +14,7 @@ use summary::Plan;
 
 mod held;
 mod memory;
+mod rooted;
 
 /// What one worker does with the base heap.
 const BASE_SCHEDULE: &str = "schedule 1 1
@@ -52,9 +53,21 @@ fn recorded<G: Gate + Sync, R: Threads + Wait + Sync>(
     gate: &G,
 ) -> Result<Schedule, Fail> {
     let before = base(alloc, allowance, rt)?;
-    match record(alloc, base(alloc, allowance, rt)?, workers, gate, rt, rt) {
+    let image = base(alloc, allowance, rt)?;
+    recorded_of(alloc, rt, (&before, image), workers, gate)
+}
+
+/// The schedule of a collection under a gate, of two equal images, where the right one comes out.
+fn recorded_of<G: Gate + Sync, R: Threads + Wait + Sync>(
+    alloc: Global,
+    rt: &R,
+    (before, image): (&Image, Image),
+    workers: u32,
+    gate: &G,
+) -> Result<Schedule, Fail> {
+    match record(alloc, image, workers, gate, rt, rt) {
         Ok((outcome, schedule)) => {
-            if verify(alloc, &before, &outcome.image, rt)? != Verdict::Same {
+            if verify(alloc, before, &outcome.image, rt)? != Verdict::Same {
                 return Err(Fail::from("another image"));
             }
             Ok(schedule)

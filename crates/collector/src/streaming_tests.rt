@@ -1,5 +1,9 @@
 //! Tests of collections from bytes to bytes: devices that give and take in small pieces or fail at each byte, input that
 //! is no image, and what is written before a collection has ended well.
+ghost use Rattle.std.specs.Prelude.{◌≤◌, length};
+
+mod rooted;
+
 use crate::tests::{BASE_LIVE, BASE_WORDS, MOVED_LIVE, MOVED_WORDS, image_of};
 use crate::{Figures, Gate, OpenGate, collect_stream};
 use heap_image::{Fault, FromRead, Image, Intake, Outlet, ToWrite, encode};
@@ -177,20 +181,31 @@ fn the_base_heap_goes_from_bytes_to_bytes(rt: HostRuntime) -> Result<(), Fail> {
     Ok(())
 }
 
+/// Whether nothing is written where the reader fails once it has given `limit` bytes.
+fn is_unwritten<R: Threads + Wait + Sync>(
+    alloc: Global,
+    rt: &R,
+    texts: &Texts,
+    limit: usize,
+) -> bool {
+    let reader = Trickle {
+        bytes: texts.before.as_slice(),
+        step: 7,
+        limit,
+    };
+    let writer = Checked::against(texts.after.as_slice());
+    let stream = streamed(alloc, rt, (2, &OpenGate), reader, writer);
+    stream.answer == Err(Fault::Io)
+        && stream.read_failed
+        && !stream.write_failed
+        && stream.unwritten == Some(texts.after.len())
+}
+
 #[test]
 fn a_reader_that_fails_at_any_byte_lets_nothing_be_written(rt: HostRuntime) -> Result<(), Fail> {
     let texts = slid(rt.alloc(), &rt)?;
     for limit in 0..=texts.before.len() {
-        let reader = Trickle {
-            bytes: texts.before.as_slice(),
-            step: 7,
-            limit,
-        };
-        let writer = Checked::against(texts.after.as_slice());
-        let stream = streamed(rt.alloc(), &rt, (2, &OpenGate), reader, writer);
-        assert_eq!(rt; stream.answer, Err(Fault::Io), "at {limit}");
-        assert!(rt; stream.read_failed && !stream.write_failed);
-        assert_eq!(rt; stream.unwritten, Some(texts.after.len()));
+        assert!(rt; is_unwritten(rt.alloc(), &rt, &texts, limit), "at {limit}");
     }
     Ok(())
 }
@@ -218,17 +233,24 @@ fn cut_short<R: Threads + Wait + Sync>(
     streamed(alloc, rt, (2, &OpenGate), reader, writer)
 }
 
+/// Whether the first `limit` bytes are written, all having been read, where the writer takes no more.
+fn is_begun<R: Threads + Wait + Sync>(alloc: Global, rt: &R, texts: &Texts, limit: usize) -> bool {
+    for fails in [true, false] {
+        let stream = cut_short(alloc, rt, texts, limit, fails);
+        let is_io = stream.answer == Err(Fault::Io) && stream.write_failed && !stream.read_failed;
+        let left = stream.unwritten.map(|count| count.wrapping_add(limit));
+        if !is_io || stream.unread != 0 || left != Some(texts.after.len()) {
+            return false;
+        }
+    }
+    true
+}
+
 #[test]
 fn a_writer_that_fails_at_any_byte_has_the_beginning(rt: HostRuntime) -> Result<(), Fail> {
     let texts = slid(rt.alloc(), &rt)?;
     for limit in 0..texts.after.len() {
-        for fails in [true, false] {
-            let stream = cut_short(rt.alloc(), &rt, &texts, limit, fails);
-            assert_eq!(rt; stream.answer, Err(Fault::Io), "at {limit}");
-            assert!(rt; stream.write_failed && !stream.read_failed);
-            assert_eq!(rt; stream.unread, 0);
-            assert_eq!(rt; stream.unwritten, Some(texts.after.len() - limit));
-        }
+        assert!(rt; is_begun(rt.alloc(), &rt, &texts, limit), "at {limit}");
     }
     Ok(())
 }
@@ -251,17 +273,23 @@ fn refused<R: Threads + Wait + Sync>(
     }
 }
 
+/// Whether so many first bytes of an image are refused as too few.
+fn is_too_short<R: Threads + Wait + Sync>(alloc: Global, rt: &R, text: &[u8], n: usize) -> bool
+    requires { n ≤ length text.now }
+{
+    let fault = if n < 32 {
+        Fault::TruncatedHeader
+    } else {
+        Fault::TruncatedBody
+    };
+    refused(alloc, rt, &text[..n]) == Some(Err(fault))
+}
+
 #[test]
 fn no_beginning_of_an_image_is_collected(rt: HostRuntime) -> Result<(), Fail> {
     let text = slid(rt.alloc(), &rt)?.before;
     for n in 0..text.len() {
-        let fault = if n < 32 {
-            Fault::TruncatedHeader
-        } else {
-            Fault::TruncatedBody
-        };
-        let answer = refused(rt.alloc(), &rt, &text.as_slice()[..n]);
-        assert_eq!(rt; answer, Some(Err(fault)), "at {n}");
+        assert!(rt; is_too_short(rt.alloc(), &rt, &text, n), "at {n}");
     }
     Ok(())
 }

@@ -1,4 +1,6 @@
 //! Tests of what no clause says: the worked verdicts, heaps made from seeds, and queues that two threads steal from.
+mod roots;
+
 use crate::{Gate, OpenGate, Ready, Thief, Verdict, verify};
 use crossbeam_deque::Steal;
 use heap_image::{Image, decode_by_threads};
@@ -85,8 +87,17 @@ pub(crate) const MOVED_WORDS: [u64; 32] = [
 
 pub(crate) const MOVED_LIVE: [u64; 4] = [0, 3, 7, 9];
 
-/// The first eight bytes of an image.
+/// Roots that reach the same objects.
+pub(crate) const BASE_ROOTS: [u64; 2] = [21, 0];
+
+/// The same roots of the compaction.
+pub(crate) const MOVED_ROOTS: [u64; 2] = [10, 0];
+
+/// The first eight bytes of an image with a live list.
 const MAGIC: u64 = 0x3130_5041_4548_4350;
+
+/// The first eight bytes of an image with roots.
+const ROOTED_MAGIC: u64 = 0x3230_5041_4548_4350;
 
 /// The image of region log 3 with these words and live addresses.
 pub(crate) fn image_of(
@@ -103,18 +114,55 @@ pub(crate) fn image_of(
 /// The text of the image with this region log and allowance, and these words and live addresses.
 pub(crate) fn image_text(
     alloc: Global,
-    (region_log, allowance): (u64, u64),
+    sizes: (u64, u64),
     words: &[u64],
     live: &[u64],
 ) -> Result<Vec<u8>, AllocError> {
+    text_of(alloc, MAGIC, sizes, words, live)
+}
+
+/// The text of the image with this region log and allowance, and these words and roots.
+pub(crate) fn rooted_text(
+    alloc: Global,
+    sizes: (u64, u64),
+    words: &[u64],
+    roots: &[u64],
+) -> Result<Vec<u8>, AllocError> {
+    text_of(alloc, ROOTED_MAGIC, sizes, words, roots)
+}
+
+/// The base heap, in either version.
+#[derive(Clone, Copy)]
+pub(crate) enum Base {
+    WithLiveList,
+    WithRoots,
+}
+
+impl Base {
+    /// Its text with this allowance.
+    pub(crate) fn text(self, alloc: Global, allowance: u64) -> Result<Vec<u8>, AllocError> {
+        match self {
+            Base::WithLiveList => image_text(alloc, (3, allowance), &BASE_WORDS, &BASE_LIVE),
+            Base::WithRoots => rooted_text(alloc, (3, allowance), &BASE_WORDS, &BASE_ROOTS),
+        }
+    }
+}
+
+fn text_of(
+    alloc: Global,
+    magic: u64,
+    (region_log, allowance): (u64, u64),
+    words: &[u64],
+    numbers: &[u64],
+) -> Result<Vec<u8>, AllocError> {
     let front = [
-        MAGIC,
-        region_log | (live.len() as u64) << 32,
+        magic,
+        region_log | (numbers.len() as u64) << 32,
         words.len() as u64,
         allowance,
     ];
     let mut text = Vec::new(alloc);
-    for part in [front.as_slice(), words, live] {
+    for part in [front.as_slice(), words, numbers] {
         put_words(&mut text, part)?;
     }
     Ok(text)

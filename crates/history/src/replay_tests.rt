@@ -1,4 +1,6 @@
 //! Schedules of the base heap, whose least bad lines are known from outside.
+mod rooted;
+
 use crate::checking::check;
 use crate::replayed::{End, Replayed};
 use crate::replaying::replay;

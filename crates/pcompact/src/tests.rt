@@ -9,6 +9,7 @@ use std::thread::Threads;
 use std::{fs, io};
 
 mod files;
+mod roots;
 mod usage;
 
 const BOARD: &str = "\

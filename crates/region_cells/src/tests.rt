@@ -22,8 +22,11 @@ use summary::laws::compaction::blocks_of_regions;
 /// A word of no live object.
 const DEAD: u64 = 999;
 
-/// The first eight bytes of an image.
+/// The first eight bytes of an image with a live list.
 const MAGIC: u64 = 0x3130_5041_4548_4350;
+
+/// The first eight bytes of an image with roots.
+const ROOTED_MAGIC: u64 = 0x3230_5041_4548_4350;
 
 /// The moves of the base heap, each as destination and source.
 const PAIRS: [(u32, u32); 4] = [(0, 1), (1, 2), (1, 3), (2, 3)];
@@ -51,11 +54,16 @@ const BASE: [[u64; 8]; 4] = [
 /// Where its live objects begin.
 const LIVE: [u64; 4] = [0, 5, 12, 20];
 
-/// The base heap with these live objects.
-fn image_of(alloc: Global, live: &[u64], threads: &(impl Threads + Sync)) -> Result<Image, Fail> {
-    let front = [MAGIC, 3 | (live.len() as u64) << 32, 32, 0];
+/// The base heap, which begins with these eight bytes, and has these live objects or these roots.
+fn image_of(
+    alloc: Global,
+    magic: u64,
+    numbers: &[u64],
+    threads: &(impl Threads + Sync),
+) -> Result<Image, Fail> {
+    let front = [magic, 3 | (numbers.len() as u64) << 32, 32, 0];
     let mut bytes = Vec::new(alloc);
-    for part in [front.as_slice(), BASE.as_flattened(), live] {
+    for part in [front.as_slice(), BASE.as_flattened(), numbers] {
         put_words(&mut bytes, part)?;
     }
     Ok(decode_by_threads(alloc, bytes.as_slice(), threads)?)
@@ -78,7 +86,19 @@ fn base_cells<T: Threads + Sync>(
     ensures regions { IfOk result (λ base. region_count base.0 ≡ 4) }
     ensures region_log { IfOk result (λ base. base.0.region_log ≡ 3) }
 {
-    let image = image_of(alloc, live, threads)?;
+    cells_of(alloc, image_of(alloc, MAGIC, live, threads)?, threads)
+}
+
+/// The cells of a heap of four regions, and its plan.
+fn cells_of<T: Threads + Sync>(
+    alloc: Global,
+    image: Image,
+    threads: &T,
+) -> Result<(Cells, Plan), Fail>
+    ensures same { IfOk result (λ base. base.1 ≡ base.0) }
+    ensures regions { IfOk result (λ base. region_count base.0 ≡ 4) }
+    ensures region_log { IfOk result (λ base. base.0.region_log ≡ 3) }
+{
     if image.regions() != 4 || image.region_log() != 3 {
         return Err(Fail::from("not four regions of 8 words"));
     }
@@ -465,8 +485,24 @@ fn a_heap_without_objects_is_left_as_it_was(rt: HostRuntime) -> Result<(), Fail>
     };
     assert_eq!(rt; (parts.region_log, parts.allowance), (3, 0));
     assert_eq!(rt; (parts.regions.len(), parts.live.len()), (4, 0));
+    assert!(rt; parts.roots.is_none());
     for (region, words) in parts.regions.iter().zip(BASE.iter()) {
         assert_eq!(rt; region.words(), words.as_slice());
+    }
+    Ok(())
+}
+
+#[test]
+fn roots_are_handed_on(rt: HostRuntime) -> Result<(), Fail> {
+    let alloc = rt.alloc();
+    let image = image_of(alloc, ROOTED_MAGIC, [0, 0].as_slice(), &rt)?;
+    let (cells, _plan) = cells_of(alloc, image, &rt)?;
+    let Ok(parts) = cells.into_regions() else {
+        return Err(Fail::from("nothing is to be filled"));
+    };
+    match parts.roots {
+        Some(roots) => assert_eq!(rt; roots.as_slice(), [0, 0].as_slice()),
+        None => return Err(Fail::from("no roots")),
     }
     Ok(())
 }

@@ -1,6 +1,7 @@
 //! Heaps whose plans are known.
 ghost use Rattle.std.specs.Prelude.{◌≡◌};
 
+mod rooted;
 mod seeded;
 
 use crate::Plan;
@@ -70,23 +71,33 @@ fn image_of(
     (region_log, len, allowance): (u64, u64, u64),
     objects: &[Object],
 ) -> Result<Image, Fail> {
-    let live_count = objects.len() as u64;
+    let live = Vec::from_iter(alloc, objects.iter().map(|object| object.0))?;
+    let live_count = live.len() as u64;
     let front = [MAGIC, region_log | live_count << 32, len, allowance];
+    decoded(threads, alloc, front, objects, live.as_slice())
+}
+
+/// The image with this front, the words of a heap of such objects, and behind them these numbers.
+fn decoded(
+    threads: &(impl Threads + Sync),
+    alloc: Global,
+    front: [u64; 4],
+    objects: &[Object],
+    numbers: &[u64],
+) -> Result<Image, Fail> {
+    let words = Vec::from_iter(alloc, (0..front[2]).map(|a| word_at(objects, a)))?;
     let mut bytes = Vec::new(alloc);
-    for word in front {
-        put_word(&mut bytes, word)?;
-    }
-    for a in 0..len {
-        put_word(&mut bytes, word_at(objects, a))?;
-    }
-    for (a, _) in objects {
-        put_word(&mut bytes, *a)?;
+    for part in [front.as_slice(), words.as_slice(), numbers] {
+        put_words(&mut bytes, part)?;
     }
     Ok(decode_by_threads(alloc, bytes.as_slice(), threads)?)
 }
 
-fn put_word(bytes: &mut Vec<u8>, word: u64) -> Result<(), AllocError> {
-    bytes.extend_from_slice(&word.to_le_bytes())
+fn put_words(bytes: &mut Vec<u8>, words: &[u64]) -> Result<(), AllocError> {
+    for word in words {
+        bytes.extend_from_slice(&word.to_le_bytes())?;
+    }
+    Ok(())
 }
 
 /// The word at address `a` of such a heap.

@@ -12,13 +12,21 @@ use summary::compact_plainly;
 const HEAPS: u64 = 104;
 
 /// Region log and number of regions of a heap.
-type Shape = (u32, u64);
+pub(super) type Shape = (u32, u64);
 
 /// Where objects begin, in order, and how many words each has.
 #[derive(Drop)]
 struct Objects {
     live: Vec<u64>,
     sizes: Vec<u64>,
+}
+
+/// A heap: its region log and allowance, its words, and where all its objects begin.
+#[derive(Drop)]
+pub(super) struct Heap {
+    pub(super) sizes: (u64, u64),
+    pub(super) words: Vec<u64>,
+    pub(super) objects: Vec<u64>,
 }
 
 /// How many dead words come next: mostly none, at times those of some regions.
@@ -92,29 +100,40 @@ fn put_object(
     Ok(())
 }
 
-fn reference(seed: &mut Seed, live: &[u64]) -> u64 {
+/// A reference to one of the objects, or null.
+pub(super) fn reference(seed: &mut Seed, live: &[u64]) -> u64 {
     let choices = (live.len() as u64).wrapping_add(1);
     let object = live.get(seed.below(choices) as usize);
     object.map_or(0, |begin| begin.wrapping_add(1))
 }
 
-/// The text of a heap of this shape.
-fn seeded_text(
+/// The heap of this seed and this shape.
+pub(super) fn seeded_heap(
     alloc: Global,
     seed: u64,
     (region_log, regions): Shape,
-) -> Result<Vec<u8>, AllocError> {
+) -> Result<Heap, AllocError> {
     let mut source = Seed(seed);
     let region_words = 1u64.wrapping_shl(region_log);
     let len = region_words.wrapping_mul(regions);
     let objects = seeded_objects(alloc, &mut source, region_words, len)?;
     let words = seeded_words(alloc, &mut source, &objects, len)?;
     let allowance = (seed % 6).wrapping_mul(region_words);
+    Ok(Heap {
+        sizes: (u64::from(region_log), allowance),
+        words,
+        objects: objects.live,
+    })
+}
+
+/// The text of a heap of this shape, all of whose objects live.
+fn seeded_text(alloc: Global, seed: u64, shape: Shape) -> Result<Vec<u8>, AllocError> {
+    let heap = seeded_heap(alloc, seed, shape)?;
     image_text(
         alloc,
-        (u64::from(region_log), allowance),
-        words.as_slice(),
-        objects.live.as_slice(),
+        heap.sizes,
+        heap.words.as_slice(),
+        heap.objects.as_slice(),
     )
 }
 
@@ -134,7 +153,7 @@ fn seeded_words(
 }
 
 /// Whether a collection of the first text by so many workers gives the second.
-fn gives<R: Threads + Wait + Sync>(
+pub(super) fn gives<R: Threads + Wait + Sync>(
     alloc: Global,
     rt: &R,
     workers: u32,

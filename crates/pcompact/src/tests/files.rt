@@ -9,7 +9,7 @@ use std::test::Fail;
 use std::thread::Threads;
 
 /// The words of the base heap after a collection that keeps no dense prefix, up to the last live one, which is 129.
-const COMPACTED: [u64; 18] = [
+pub(super) const COMPACTED: [u64; 18] = [
     0x0100_0002_0000_0003,
     4,
     10,
@@ -36,10 +36,10 @@ const COMPACTED_LIVE: [u64; 4] = [0, 3, 7, 9];
 /// The front of an image with an allowance of 2.
 const OTHER_FRONT: &[u8; 32] = b"PCHEAP01\x03\0\0\0\x04\0\0\0\x20\0\0\0\0\0\0\0\x02\0\0\0\0\0\0\0";
 
-const COLLECTED: &str = "prefix 0 top 19 filled 3\n";
+pub(super) const COLLECTED: &str = "prefix 0 top 19 filled 3\n";
 
 /// What one worker does with the base heap.
-const SCHEDULE: &str = "\
+pub(super) const SCHEDULE: &str = "\
 schedule 1 1
 0 claim 0 yes
 0 copy 0 6 ok
@@ -63,7 +63,7 @@ schedule 1 1
 ";
 
 /// The same as `replay` prints it.
-const REPLAYED: &str = "\
+pub(super) const REPLAYED: &str = "\
 schedule 1 1
 0 claim 0 yes
 0 copy 0 6 ok
@@ -101,7 +101,7 @@ fn base(alloc: Global) -> Result<Vec<u8>, Fail> {
 }
 
 /// The image of its compaction, with this front and this last live word.
-fn compacted(alloc: Global, front: &[u8], last: u64) -> Result<Vec<u8>, Fail> {
+pub(super) fn compacted(alloc: Global, front: &[u8], last: u64) -> Result<Vec<u8>, Fail> {
     let mut image = Vec::from_slice(alloc, front)?;
     for word in COMPACTED {
         image.extend_from_slice(&word.to_le_bytes())?;
