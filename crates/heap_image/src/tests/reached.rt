@@ -1,7 +1,7 @@
 //! What roots reach: graphs of some shapes, and thousands of small heaps beside a plain marking program.
-use super::{PAIR, refused};
 use super::roots::{is_live, object, rooted_text};
-use crate::{Fault, decode_by_threads, header};
+use super::{PAIR, refused};
+use crate::{Fault, decode, decode_by_threads, header};
 use std::alloc::{AllocError, Global};
 use std::collections::{BTreeSet, VecDeque};
 use std::process::Abort;
@@ -57,7 +57,7 @@ fn a_list_of_a_million_objects_is_reached(rt: HostRuntime) -> Result<(), Fail> {
         words.push(2 * next + 1)?;
     }
     let text = rooted_text(rt.alloc(), 16, &words, &[1])?;
-    let image = decode_by_threads(rt.alloc(), &text, &rt)?;
+    let image = decode(rt.alloc(), &text)?;
     assert!(rt;
         image
             .live()
@@ -218,7 +218,9 @@ impl Search<'_> {
 
     /// What is first wrong with these roots or what they reach.
     fn fault(&self, roots: &[u64]) -> Option<Fault> {
-        let outside = roots.iter().position(|root| *root > self.words.len() as u64);
+        let outside = roots
+            .iter()
+            .position(|root| *root > self.words.len() as u64);
         if let Some(index) = outside {
             return Some(Fault::Root(u32::try_from(index).unwrap_or(u32::MAX)));
         }

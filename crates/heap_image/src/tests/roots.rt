@@ -1,6 +1,8 @@
 //! Images with roots: the worked ones, and those that are refused.
 use super::{BASE, Full, Trickle, beginning, fault_of, refused};
-use crate::{Fault, FromRead, Image, ToWrite, decode_by_threads, encode, read_image_by_threads, upgrade};
+use crate::{
+    Fault, FromRead, Image, ToWrite, decode_by_threads, encode, read_image_by_threads, upgrade,
+};
 use std::alloc::{AllocError, Global};
 use std::process::Abort;
 use std::test::Fail;
