@@ -14,12 +14,13 @@ fn base_text(alloc: Global) -> Result<Vec<u8>, AllocError> {
     image_text(alloc, (3, 2), &BASE_WORDS, &BASE_LIVE)
 }
 
-fn base(alloc: Global, threads: &(impl Threads + Sync)) -> Result<Image, Fault> {
+/// The base heap with allowance 2.
+pub(crate) fn base(alloc: Global, threads: &(impl Threads + Sync)) -> Result<Image, Fault> {
     decode(alloc, base_text(alloc)?.as_slice(), threads)
 }
 
-/// Whether the image is the base heap.
-fn is_base(alloc: Global, image: &Image) -> Result<bool, Fault> {
+/// Whether the image is this one.
+pub(crate) fn is_base(alloc: Global, image: &Image) -> Result<bool, Fault> {
     Ok(encode(alloc, image)? == base_text(alloc)?)
 }
 
