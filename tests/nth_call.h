@@ -1,9 +1,9 @@
 // Counts the calls that a preloaded library stands before. At exit a line on file descriptor 3 gives how
-// many there were. A program that starts threads ends by `_exit`, which runs no destructor.
+// many there were.
 #include <stdio.h>
 #include <stdlib.h>
-#include <sys/syscall.h>
-#include <unistd.h>
+
+#include "at_exit.h"
 
 static unsigned long calls;
 
@@ -14,12 +14,6 @@ static int is_chosen(const char *name) {
     return __atomic_add_fetch(&calls, 1, __ATOMIC_RELAXED) == chosen;
 }
 
-__attribute__((destructor)) static void tell(void) {
+static void tell(void) {
     dprintf(3, "%lu\n", calls);
-}
-
-void _exit(int status) {
-    tell();
-    syscall(SYS_exit_group, status);
-    __builtin_unreachable();
 }

@@ -1,6 +1,7 @@
 //! Tests of collections: worked heaps, and gates that show who fills what.
 mod held;
 mod marked;
+mod queues;
 mod stress;
 
 use crate::tests::{BASE_LIVE, BASE_WORDS, image_of};

@@ -41,6 +41,8 @@ mod crew;
 mod difference;
 mod gate;
 #[cfg(test)]
+mod gate_tests;
+#[cfg(test)]
 mod memory_tests;
 mod outcome;
 mod prepared;

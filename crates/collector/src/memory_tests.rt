@@ -12,12 +12,13 @@ use summary::compact_plainly;
 /// How many dead words the base heap may keep here.
 const ALLOWANCE: u64 = 2;
 
-fn image(alloc: Global, base: Base, threads: &(impl Threads + Sync)) -> Result<Image, Fault> {
+/// A base heap with allowance 2.
+pub(crate) fn image(alloc: Global, base: Base, threads: &(impl Threads + Sync)) -> Result<Image, Fault> {
     decode_by_threads(alloc, base.text(alloc, ALLOWANCE)?.as_slice(), threads)
 }
 
-/// Whether the image is the base heap.
-fn is_base(alloc: Global, base: Base, image: &Image) -> Result<bool, Fault> {
+/// Whether the image is this base heap.
+pub(crate) fn is_base(alloc: Global, base: Base, image: &Image) -> Result<bool, Fault> {
     Ok(encode(alloc, image)? == base.text(alloc, ALLOWANCE)?)
 }
 

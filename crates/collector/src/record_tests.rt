@@ -12,7 +12,9 @@ use std::thread;
 use std::thread::Threads;
 use summary::Plan;
 
+mod forced;
 mod held;
+mod keeping;
 mod memory;
 mod rooted;
 

@@ -9,6 +9,7 @@ use std::thread::Threads;
 use std::{fs, io};
 
 mod files;
+mod library;
 mod roots;
 mod usage;
 
@@ -223,12 +224,14 @@ fn assert_run<R: Files + AllocGlobal + Threads + Wait + Abort + Sync>(
         status,
         "the status of {texts:?}"
     );
-    assert!(rt;
-        shown.as_slice() == out.as_bytes(),
+    assert_eq!(rt;
+        str::from_utf8(shown.as_slice()),
+        Ok(out),
         "standard output of {texts:?}"
     );
-    assert!(rt;
-        told.as_slice() == err.as_bytes(),
+    assert_eq!(rt;
+        str::from_utf8(told.as_slice()),
+        Ok(err),
         "standard error of {texts:?}"
     );
     Ok(())
@@ -297,8 +300,9 @@ fn a_failed_write_is_fault_13(rt: HostRuntime) -> Result<(), Fail> {
             1,
             "with room for {room}"
         );
-        assert!(rt;
-            err.as_slice() == FAULT_13.as_bytes(),
+        assert_eq!(rt;
+            str::from_utf8(err.as_slice()),
+            Ok(FAULT_13),
             "with room for {room}"
         );
     }

@@ -131,7 +131,7 @@ impl Gate for HoldsAt {
 }
 
 /// The place of the event's first line, or of the end.
-fn place_of(schedule: &Schedule, event: Event) -> usize {
+pub(super) fn place_of(schedule: &Schedule, event: Event) -> usize {
     for i in 0..schedule.len() {
         if schedule.line(i).1 == event {
             return i;

@@ -92,7 +92,7 @@ const SAME_FILE: &str = "pcompact: same file\n";
 const FAULT_12: &str = "pcompact: fault 12 workers\n";
 
 /// The base heap's image.
-fn base(alloc: Global) -> Result<Vec<u8>, Fail> {
+pub(super) fn base(alloc: Global) -> Result<Vec<u8>, Fail> {
     let mut image = Vec::from_slice(alloc, BASE_FRONT)?;
     for number in BASE {
         image.extend_from_slice(&number.to_le_bytes())?;
@@ -206,7 +206,11 @@ fn record_writes_what_the_worker_did(rt: HostRuntime) -> Result<(), Fail> {
     let words = ["record", image, out, schedule, "--workers", "1"];
     assert_run(&rt, &words, 0, COLLECTED, "")?;
     let written = fs::read(&rt, schedule)?;
-    assert!(rt; written.as_slice() == SCHEDULE.as_bytes(), "the schedule");
+    assert_eq!(rt;
+        str::from_utf8(written.as_slice()),
+        Ok(SCHEDULE),
+        "the schedule"
+    );
     let collected = fs::read(&rt, out)?;
     assert!(rt;
         collected.as_slice() == compacted(rt.alloc(), BASE_FRONT, 129)?.as_slice(),
