@@ -7,20 +7,21 @@ use thiserror::Error;
 
 /// What is wrong with an image or a schedule, or what a run met. The number in a text is the fault's own.
 ///
-/// Faults 1 to 10 are those of an image's bytes, tested in this order.
+/// Faults 1 to 10 and 17 are those of an image's bytes, tested in the order 1 to 5, 17, 6 to 10. Fault 6 comes in version
+/// 1 alone, and 17 in version 2 alone.
 #[derive(Debug, Clone, Copy, PartialEq, Eq, Error)]
 pub enum Fault {
     /// There are fewer than 32 bytes.
     #[error("1 truncated header")]
     TruncatedHeader,
-    /// The first 8 bytes are not `PCHEAP01`.
+    /// The first 8 bytes are neither `PCHEAP01` nor `PCHEAP02`.
     #[error("2 magic")]
     Magic,
     /// The region log is not 3 to 16.
     #[error("3 region log")]
     RegionLog,
     /// The number of words is 0, not a multiple of the words of a region or above 4,194,304, or there are more than
-    /// 16,384 regions, or more live objects than words.
+    /// 16,384 regions, or more live addresses or roots than words.
     #[error("4 length")]
     Length,
     /// There are fewer bytes than the first 32 tell of.
@@ -29,7 +30,8 @@ pub enum Fault {
     /// The live address at this index, the least, is outside the heap or not above the one before it.
     #[error("6 live order at index {0}")]
     LiveOrder(u32),
-    /// The word at this live address, the least, is not the header of an object that fits.
+    /// The word at this live address, the least, is not the header of an object that fits. In version 2 live means reached
+    /// from the roots, here and in faults 8 and 9.
     #[error("7 header at {0}")]
     Header(u64),
     /// The live object at this address, the least, begins before the end of the one before it.
@@ -38,7 +40,7 @@ pub enum Fault {
     /// In the live object at this address, the least, this field, the least, is neither null nor a live object's.
     #[error("9 reference at {0} field {1}")]
     Reference(u64, u32),
-    /// There are bytes after the live list.
+    /// There are bytes after the live list or the roots.
     #[error("10 trailing bytes")]
     Trailing,
     /// Memory was refused.

@@ -3,18 +3,22 @@
 //! An [`Image`] is a heap of words in regions, the addresses of its live objects, and an allowance of dead words. It is
 //! valid by its type: whoever holds one knows that the sizes keep the limits of the format, that each live address has
 //! the header of an object that fits, that no object begins before the end of the one before it, and that each
-//! reference is null or leads to a live object.
+//! reference is null or leads to a live object. An image of version 1 names its live objects. One of version 2 has roots,
+//! and its live objects are those that are reached from them; [`mark_from_roots`] finds these, and [`upgrade`] makes
+//! version 2 of version 1.
 //!
 //! Each valid image has exactly one text. [`decode`] and [`encode`] go between the two in memory; [`read_image`] and
 //! [`write_image`] do the same over any [`Intake`] and [`Outlet`], as [`FromRead`] and [`ToWrite`] are over std's. A
-//! text that is none of a valid image is refused with its first [`Fault`]. As many threads as there are processors check
-//! the live objects of what is read.
+//! text that is none of a valid image is refused with its first [`Fault`]. [`decode_by_threads`] and
+//! [`read_image_by_threads`] give the same answers, and check the live objects by as many threads as there are
+//! processors.
 //!
 //! **Proved**, for all inputs: `decode` answers an image exactly where the bytes are its text, unless memory is refused,
 //! and else the first fault; `encode` and `write_image` give the text; `read_image` decides as `decode` does of the
 //! bytes that its device has left, and takes no byte that its answer does not need; two valid images with one text are
-//! equal; a fault 13 comes exactly where the device has failed. **Only tested**: the wording of the faults, and that
-//! memory is refused only where it is. See the README.
+//! equal; a fault 13 comes exactly where the device has failed; `mark_from_roots` gives the least set of addresses that is
+//! closed under the roots and the references of sound objects; an upgraded image has the same live objects. **Only
+//! tested**: the wording of the faults, and that memory is refused only where it is. See the README.
 #![tactic(auto)]
 
 mod begins;
