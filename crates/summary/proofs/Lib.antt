@@ -25,6 +25,7 @@ pub mod Lines
 pub mod ReadSteps
 pub mod Filters
 pub mod SourceRows
+pub mod OutOfRange
 pub mod Crossings
 pub mod BlockAddresses
 pub mod Compacted

@@ -157,3 +157,11 @@ module _ (image : HeapImage) (valid : IsValid image) where
             filter-none (λ s. goes_below end (get_or regions s no_data)) next (length regions - next) (λ q l h. let no : ⊥ = omega arith in absurd no)
             ∙ sym (filter-none (reads image d) from (n - from) (λ q l h. let no : ⊥ = omega arith in absurd no))
       ]
+
+  -- a region that isn't there reads none
+  pub begin_out_of_range : (d : ℕ) → region_count image ≤ d → BeginAt image d (region_count image)
+  begin_out_of_range d high = record {
+    inside = omega arith;
+    before = λ q less. not_read d q (λ h. let low = (reads-in_range image valid d q h).0 in let no : ⊥ = omega arith in absurd no);
+    behind = λ q more inside. let no : ⊥ = omega arith in absurd no;
+  }

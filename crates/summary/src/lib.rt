@@ -35,12 +35,12 @@ mod region_counts;
 mod region_data;
 mod region_table;
 mod region_words;
-mod report;
+mod report_text;
 mod sources;
 #[cfg(test)]
 mod tests;
 
 pub use plainly::compact_plainly;
-pub use plan::Plan;
+pub use plan::{Plan, report};
 pub use reads::Reads;
 pub use region_data::RegionData;

@@ -14,7 +14,7 @@ use crate::deferred::deferred_addresses;
 use crate::reads::Reads;
 use crate::region_data::RegionData;
 use crate::region_table::RegionTable;
-use crate::report::report;
+use crate::report_text::report_of_table;
 use heap_image::{Fault, Image};
 use mark_bitmap::Marks;
 use std::alloc::{AllocError, Global};
@@ -120,11 +120,14 @@ impl Plan {
         self.table.redirected(marks, reference)
     }
 
-    /// The new address of the deferred object that begins in region `d` at its new address.
+    /// The new address of the deferred object that begins in region `d` at its new address. None too if there is no such
+    /// region.
     pub fn deferred(&self, d: u32) -> Option<u64>
-        requires { d < region_count self.now }
         ensures { result ≡ deferred self.now d }
     {
+        if d >= self.regions() {
+            return None;
+        }
         self.deferred[d as usize]
     }
 
@@ -135,9 +138,9 @@ impl Plan {
         self.table.new_top().div_ceil(self.table.region_words()) as u32
     }
 
-    /// The regions that region `d` reads, ascending. It is among them where it takes words from itself.
+    /// The regions that region `d` reads, ascending. It is among them where it takes words from itself. A region that
+    /// isn't there reads none.
     pub fn reads(&self, d: u32) -> Reads<'_>
-        requires { d < region_count self.now }
         ensures { result ≡ sources self.now d }
     {
         self.reads_from(d, 0)
@@ -145,7 +148,6 @@ impl Plan {
 
     /// The regions at or after region `from` that region `d` reads, ascending.
     pub fn reads_from(&self, d: u32, from: u32) -> Reads<'_>
-        requires { d < region_count self.now }
         ensures { result ≡ sources_from self.now d from }
     {
         Reads::of(&self.table, d, from)
@@ -156,6 +158,13 @@ impl Plan {
     pub fn report(&self, alloc: Global) -> Result<String, AllocError>
         ensures { IfOk result (λ text. string_bytes text ≡ report self.now) }
     {
-        report(alloc, &self.table)
+        report_of_table(alloc, &self.table)
     }
+}
+
+/// The report of a plan: see [`Plan::report`].
+pub fn report(alloc: Global, plan: &Plan) -> Result<String, AllocError>
+    ensures { IfOk result (λ text. string_bytes text ≡ report plan.now) }
+{
+    plan.report(alloc)
 }

@@ -32,12 +32,11 @@ impl<'a> Model for Reads<'a> {
 }
 
 impl<'a> Reads<'a> {
-    /// The regions at or after region `from` that region `d` reads.
+    /// The regions at or after region `from` that region `d` reads: none if there is no region `d`.
     ///
     /// They begin with the source of `d`, or with `d` itself in the dense prefix, and are all regions with words from
     /// there on whose destination is below the end of `d`.
     pub(crate) fn of(table: &'a RegionTable, d: u32, from: u32) -> Reads<'a>
-        requires { d < region_count table.now }
         ensures { result ≡ sources_from table.now d from }
     {
         let regions = table.regions();
@@ -75,12 +74,14 @@ fn first_with_words(regions: &[RegionData]) -> Option<usize>
 }
 
 /// The first region that region `d` reads, or the number of regions if it reads none: `d` itself in the dense prefix,
-/// and else its source.
+/// and else its source. A region that isn't there reads none.
 fn first_read(table: &RegionTable, d: u32) -> usize
-    requires { d < region_count table.now }
     ensures { BeginAt table.now d result }
 {
     let regions = table.regions();
+    if d as usize >= regions.len() {
+        return regions.len();
+    }
     if u64::from(d) * table.region_words() < table.prefix_end() {
         return d as usize;
     }

@@ -3,7 +3,7 @@ use Rattle.std.specs.Prelude.{string_bytes, decimal, codes}
 use Rattle.std.specs.Option.{option_map_or}
 use Rattle.summary.specs.Report.{in_column}
 use Rattle.summary.proofs.Lines.{joined}
-use Rattle.summary.proofs.report.write_line.Goals as goal
+use Rattle.summary.proofs.report_text.write_line.Goals as goal
 
 pub returns : goal.returns
 returns c =

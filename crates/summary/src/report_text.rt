@@ -9,7 +9,7 @@ use crate::region_table::RegionTable;
 use std::alloc::{AllocError, Global};
 
 /// A line for each region.
-pub(crate) fn report(alloc: Global, table: &RegionTable) -> Result<String, AllocError>
+pub(crate) fn report_of_table(alloc: Global, table: &RegionTable) -> Result<String, AllocError>
     ensures { IfOk result (λ text. string_bytes text ≡ report table.now) }
 {
     let mut text = String::new(alloc);
