@@ -3,7 +3,7 @@ use super::replays;
 use crate::memory_tests::are_right;
 use crate::tests::Base;
 use crate::{OpenGate, Outcome, Refusal, Verdict, record, verify};
-use heap_image::{Fault, Image, decode_by_threads, encode};
+use heap_image::{Fault, decode_by_threads, encode};
 use history::Schedule;
 use std::alloc::Global;
 use std::sync::Wait;

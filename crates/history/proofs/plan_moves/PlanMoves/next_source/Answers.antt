@@ -15,9 +15,6 @@ overflow_add-destination c =
     let r = c.regions.type_inv in
     omega arith
 
-pub reads_from-requires : goal.reads_from-requires
-reads_from-requires c = rw (regions-fill c.args.self.now) at c.requires
-
 pub returns-clause-least : goal.returns-clause-least
 returns-clause-least c =
     next_is c.args.self.now c.regions.ensures.valid c.args.destination c.args.from c.reads_from.result c.next.new.self c.next.result
