@@ -1,5 +1,5 @@
 -- What is reached in the compacted heap.
-use Rattle.std.proofs.Common.{◌≡◌, ◌⊎◌, ℕ, suc, ◌+◌, ◌-◌, ◌≤◌, ◌<◌, inl, inr, Bool, true, false, ◌||◌, ◌&&◌, List, [], ◌∷◌, length, get_or, refl, sym, ◌∙◌, ap, subst, arith, eqb}
+use Rattle.std.proofs.Common.{◌≡◌, ℕ, ◌+◌, ◌-◌, ◌≤◌, ◌<◌, inl, inr, Bool, true, false, ◌&&◌, List, length, get_or, sym, ◌∙◌, ap, subst, arith, eqb}
 use Rattle.std.proofs.lemmas.Bool.{cases_eq, eq-eqb, eqb-true, ne_eqb, or_left, or_right, and_from, and_parts, cond-true, cond-false}
 use Rattle.std.proofs.lemmas.List.{get_or-map, length-map}
 use Rattle.std.proofs.lemmas.List.Folds.{list_any_at, Any-from_list_any}
@@ -7,17 +7,17 @@ use Rattle.std.proofs.lemmas.List.Elements.{All-from_get_or, All-map}
 use Rattle.std.specs.Prelude.{All, map, Option, None, Some, IfSome, option_map}
 use Rattle.std.specs.List.{list_any}
 use Rattle.heap_image.specs.Header.{references_of}
-use Rattle.heap_image.specs.HeapImage.{HeapImage, AreRoots, IsValid, roots_or, roots_of, HasLiveList, HasSoundHeader, heap_words, references_at, reference_at, is_null_or_live, is_unsound, leads_to, refers_to, reachable}
+use Rattle.heap_image.specs.HeapImage.{HeapImage, AreRoots, IsValid, HasLiveList, heap_words, references_at, reference_at, is_null_or_live, is_unsound, leads_to, refers_to, reachable}
 use Rattle.summary.specs.NewAddresses.{new_address}
 use Rattle.summary.specs.Compaction.{redirected, compact}
 use Rattle.summary.proofs.Graph.{reference-object}
 use Rattle.summary.proofs.Origin.{length-compact}
 use Rattle.summary.proofs.Valid.{valid_with, compact-HasLiveList, header_of_moved, new_at, count_same}
 use Rattle.heap_image.specs.Reachable.{is_listed, IsClosed}
-use Rattle.heap_image.proofs.Listed.{any_listed, listed_one}
-use Rattle.heap_image.proofs.Reaches.{reachable-IsClosed, reachable-least, reachable-below}
+use Rattle.heap_image.proofs.Listed.{any_listed}
+use Rattle.heap_image.proofs.Reaches.{reachable-IsClosed, reachable-least}
 use Rattle.heap_image.proofs.RootLive.{root_leads}
-use Rattle.heap_image.proofs.RootsToLive.{listed_at, place_of, live_sound, live_below, live_ascending, not_unsound, field_of, refers_by, leads_to_live, live_is_reachable}
+use Rattle.heap_image.proofs.RootsToLive.{listed_at, place_of, live_sound, live_below, not_unsound, field_of, refers_by, leads_to_live, live_is_reachable}
 
 module _ (image : HeapImage) (roots : List ℕ) (sound : HasLiveList image) (few : All (λ w. w ≤ heap_words image) roots) (lives : image.live ≡ reachable image roots) where
   abbrev after : HeapImage

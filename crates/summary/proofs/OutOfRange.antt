@@ -1,6 +1,6 @@
 -- Of a region that isn't there.
-use Rattle.std.proofs.Common.{◌≡◌, ℕ, ◌+◌, ◌≤◌, ◌<◌, length, get_or, arith, None}
-use Rattle.heap_image.specs.HeapImage.{HeapImage, IsValid, region_count, region_of, heap_words}
+use Rattle.std.proofs.Common.{◌≡◌, ℕ, ◌≤◌, get_or, arith, None}
+use Rattle.heap_image.specs.HeapImage.{HeapImage, IsValid, region_count}
 use Rattle.heap_image.proofs.LiveWords.{live_end-le}
 use Rattle.summary.specs.NewAddresses.{new_address}
 use Rattle.summary.specs.RegionData.{deferred}
