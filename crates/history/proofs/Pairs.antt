@@ -1,9 +1,9 @@
 -- Tables of moves: their order, their sources, and what a table that may be handed in keeps.
-use Rattle.std.proofs.Common.{◌≡◌, ℕ, zero, suc, ◌+◌, ◌-◌, ◌<◌, ◌≤◌, Bool, true, false, cond, List, [], ◌∷◌, ◌++◌, length, get_or, take, Some, refl, sym, ap, ◌∙◌, inl, inr, ◌⊎◌, subst, arith}
-use Rattle.std.specs.Prelude.{◌==◌, ◌&&◌, nat_lt, IsTrue, slice_index_or, AllPairs, count_by, filter}
+use Rattle.std.proofs.Common.{◌≡◌, ℕ, zero, suc, ◌+◌, ◌-◌, ◌<◌, ◌≤◌, Bool, true, false, cond, List, [], ◌∷◌, ◌++◌, length, get_or, take, replicate, Some, refl, sym, ap, ◌∙◌, inl, inr, ◌⊎◌, subst, arith}
+use Rattle.std.specs.Prelude.{◌==◌, ◌&&◌, nat_lt, IsTrue, slice_index, slice_index_or, slice_set, AllPairs, count_by, filter}
 use Rattle.std.specs.List.{list_any}
 use Rattle.std.proofs.lemmas.Bool.{or_parts, or_cases, or_left, or_right, and_from, cases_Bool, cases_eq, cases_lt, cases_order, both_ways, and_parts, eq-eqb, ne_eqb, eqb-true, lt-ltb, ltb-true, false≢true, false_from_ne_true}
-use Rattle.std.proofs.lemmas.List.{get_or_default, get_or_past}
+use Rattle.std.proofs.lemmas.List.{get_or_default, get_or_past, get_or-set_same, get_or-set_other, get_or-replicate, length-set, length-replicate}
 use Rattle.std.proofs.lemmas.List.Folds.{Any-from_list_any, list_any_at}
 use Rattle.std.proofs.lemmas.List.Sums.{count_by_more_yes, count_by_more_no}
 use Rattle.history.proofs.Counting.{count_by-cons}
@@ -243,6 +243,33 @@ more_readers ps i d lt before here s = go (cases_eq s (get_or ps i d).1)
         let h = before s in
         let step = count_by_more_no (has_source s) ps i d lt (ne_eqb s (get_or ps i d).1 n) in
         omega arith
+
+-- of each region below n, how many pairs have it as this end
+pub record AreCounted (n : ℕ) (end_of : ℕ × ℕ → ℕ) (ps : List (ℕ × ℕ)) (counts : List ℕ) : Type 0 where
+  pub room : length counts ≡ n
+  pub each : (r : ℕ) → r < n → slice_index counts r ≡ count_by (λ pair. r == end_of pair) ps
+
+pub none_counted : (n : ℕ) (end_of : ℕ × ℕ → ℕ) → AreCounted n end_of [] (replicate n 0)
+none_counted n end_of = record { room = length-replicate n 0; each = λ r lt. get_or-replicate n r 0 0 lt }
+
+-- one pair more is counted
+pub one_more_counted : (n : ℕ) (end_of : ℕ × ℕ → ℕ) (ps : List (ℕ × ℕ)) (i : ℕ) (d : ℕ × ℕ) (counts : List ℕ) → i < length ps → end_of (get_or ps i d) < n → AreCounted n end_of (take i ps) counts
+    → AreCounted n end_of (take (i + 1) ps) (slice_set counts (end_of (get_or ps i d)) (slice_index counts (end_of (get_or ps i d)) + 1))
+one_more_counted n end_of ps i d counts lt inside before =
+    record {
+      room = length-set counts (end_of (get_or ps i d)) (slice_index counts (end_of (get_or ps i d)) + 1) ∙ before.room;
+      each = λ r lt'. go r lt' (cases_eq r (end_of (get_or ps i d)));
+    }
+  where
+    go : (r : ℕ) → r < n → (r ≡ end_of (get_or ps i d)) ⊎ (r ≡ end_of (get_or ps i d) → ⊥)
+        → slice_index (slice_set counts (end_of (get_or ps i d)) (slice_index counts (end_of (get_or ps i d)) + 1)) r ≡ count_by (λ pair. r == end_of pair) (take (i + 1) ps)
+    go r lt' (inl e) =
+        ap (λ (k : ℕ). slice_index (slice_set counts (end_of (get_or ps i d)) (slice_index counts (end_of (get_or ps i d)) + 1)) k) e
+        ∙ (get_or-set_same counts (end_of (get_or ps i d)) (slice_index counts (end_of (get_or ps i d)) + 1) 0 (rw before.room inside)
+        ∙ (ap (λ (k : ℕ). slice_index counts k + 1) (sym e) ∙ (ap (λ (c : ℕ). c + 1) (before.each r lt') ∙ sym (count_by_more_yes (λ pair. r == end_of pair) ps i d lt (eq-eqb r (end_of (get_or ps i d)) e)))))
+    go r lt' (inr other) =
+        get_or-set_other counts (end_of (get_or ps i d)) r (slice_index counts (end_of (get_or ps i d)) + 1) 0 other
+        ∙ (before.each r lt' ∙ sym (count_by_more_no (λ pair. r == end_of pair) ps i d lt (ne_eqb r (end_of (get_or ps i d)) other)))
 
 -- no test passes, so nothing is kept
 filter_none : (p : ℕ × ℕ → Bool) (ps : List (ℕ × ℕ)) → ((k : ℕ) (d : ℕ × ℕ) → k < length ps → p (get_or ps k d) ≡ false) → filter p ps ≡ []

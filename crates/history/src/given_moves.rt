@@ -9,7 +9,8 @@ use std::marker::Model;
 /// A table has at most so many regions.
 const MOST_REGIONS: usize = 16_384;
 
-/// A table of moves that was handed in. It takes no memory of its own: a count walks the pairs.
+/// A table of moves that was handed in. It takes no memory of its own: a count walks the pairs, and a
+/// source is searched for. `IndexedMoves` has both at hand.
 #[derive(Drop)]
 pub struct GivenMoves {
     fill: Vec<bool>,
@@ -146,14 +147,18 @@ fn all_slide(fill: &[bool], pairs: &[(u32, u32)]) -> bool
     true
 }
 
-/// Ends at the first third reader, so after at most twice as many pairs as there are sources.
+/// Keeps its counts on the stack, since a table takes no memory of its own. Linear in the number of
+/// pairs.
 fn have_two_readers_at_most(pairs: &[(u32, u32)]) -> bool
+    requires { All (λ pair. pair.1 < 16384) pairs.now }
     ensures { IsTrue result ↔ ((s : ℕ) → count_by (has_source s) pairs.now ≤ 2) }
 {
-    for i in 0..pairs.len() {
-        if count_of(&pairs[..i], pairs[i].1) >= 2 {
+    let mut readers = [0u8; MOST_REGIONS];
+    for &(_, source) in pairs {
+        if readers[source as usize] == 2 {
             return false;
         }
+        readers[source as usize] += 1;
     }
     true
 }

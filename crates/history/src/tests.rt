@@ -101,6 +101,7 @@ fn refuses_what_is_no_table(rt: HostRuntime) -> Result<(), Fail> {
     assert!(rt; given(rt.alloc(), &all, &[(0, 1), (0, 1)])?.is_none());
     assert!(rt; given(rt.alloc(), &[false, true], &[(0, 1)])?.is_none());
     assert!(rt; given(rt.alloc(), &all, &[(0, 3), (1, 3), (2, 3)])?.is_none());
+    assert!(rt; given(rt.alloc(), &all, &[(0, 2), (0, 3), (1, 2), (1, 3)])?.is_some());
     let most = vec![in rt.alloc(); true; 16384]?;
     assert!(rt; GivenMoves::new(most, Vec::new(rt.alloc())).is_some());
     let more = vec![in rt.alloc(); true; 16385]?;
