@@ -6,6 +6,7 @@ use crate::key::Key;
 use crate::rule::Law;
 use crate::view::View;
 use atomic_table::Table;
+use history::IndexedMoves;
 use std::alloc::Global;
 
 /// A word for each region, by which workers claim it, and one that counts the regions to be filled
@@ -13,10 +14,13 @@ use std::alloc::Global;
 #[derive(Drop)]
 pub struct Board {
     pub(crate) table: Table<u8, View, Key, Law, Global>,
+    /// The moves with an index, by which its tickets find their sources.
+    pub(crate) moves: IndexedMoves,
     /// Of each region, how many others it reads.
     pub(crate) sources: Vec<usize>,
     pub(crate) workers: u32,
     ghost manned: { (0 < workers) × (workers ≡ table.shared.key.workers) },
+    ghost same: { moves ≡ table.shared.key.moves },
     ghost lawful: { IsMoveTable table.shared.key.moves },
     ghost sized: { table.shared.table_id.words ≡ suc (region_count table.shared.key.moves) },
     ghost counted: { AreTallies table.shared.key.moves (λ pair. pair.0) table.shared.key.moves.pairs sources.items },

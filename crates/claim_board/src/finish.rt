@@ -41,6 +41,7 @@ impl Board {
     {
         let Board {
             table,
+            moves: _,
             sources,
             workers,
         } = self;

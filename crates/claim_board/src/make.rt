@@ -1,4 +1,4 @@
-//! How a board is made.
+//! How a board is made, and its moves.
 ghost use Rattle.std.specs.Prelude.{◌≡◌, ℕ, ◌+◌, ◌<◌, ◌≤◌, suc, [], vec_len, IfOk, slice_index, cond};
 ghost use Rattle.history.specs.MoveTable.{IsMoveTable, region_count};
 ghost use Rattle.history.specs.State.{opening, unsettled};
@@ -12,7 +12,7 @@ use crate::pass::Pass;
 use crate::rule::Deal;
 use crate::steps::{Place, Words};
 use atomic_table::Table;
-use history::{GivenMoves, Moves, count_readers, count_sources, how_counts_go_down};
+use history::{GivenMoves, IndexedMoves, Moves, count_readers, count_sources, how_counts_go_down};
 use std::alloc::{AllocError, Global};
 
 /// The word of a region at the opening, by its readers.
@@ -83,11 +83,20 @@ impl Board {
         let key = Key { moves, workers };
         let (table, place) = Table::of_words(alloc, words.as_slice(), &key)?;
         let passes = deal(alloc, &table.shared, place, workers)?;
+        let Key { moves, workers: _ } = key;
         let board = Board {
             table,
+            moves: IndexedMoves::new(alloc, moves)?,
             sources,
             workers,
         };
         Ok((board, passes))
+    }
+
+    /// The board's own moves, by which its tickets are opened.
+    pub fn moves(&self) -> &IndexedMoves
+        ensures { result.now ≡ moves_of self.now }
+    {
+        &self.moves
     }
 }

@@ -109,12 +109,14 @@ fn note(board: &Board, log: &mut Log) {
 }
 
 /// Claims a region, drains its sources, completes and settles it. False if it can't be claimed.
-fn fill(board: &Board, moves: &GivenMoves, pass: &mut Pass, region: u32, log: &mut Log) -> bool
-    requires { (board_of pass.old ≡ identity board.now) × (region < region_count (moves_of board.now)) × (moves_of board.now ≡ moves.now) }
+fn fill(board: &Board, pass: &mut Pass, region: u32, log: &mut Log) -> bool
+    requires { (board_of pass.old ≡ identity board.now) × (region < region_count (moves_of board.now)) }
     ensures { board_of pass.new ≡ identity board.now }
 {
     swept_tickets_have_none_left();
     one_more_source_is_drained();
+    let moves = board.moves();
+    // Its clause is that these moves keep the laws of a table.
     let _regions = moves.regions();
     let Some(mut ticket) = board.claim(pass, region) else {
         return false;
@@ -164,16 +166,17 @@ fn one_pass_fills_the_base_heap(rt: HostRuntime) -> Result<(), Fail> {
     let mut pass = take(&board, &mut passes)?;
     let mut log = no_log(rt.alloc(), true);
     assert!(rt; moves.regions() == 4);
+    assert_eq!(rt; board.moves().next_source(1, 3), Some(3));
     note(&board, &mut log);
-    assert!(rt; !fill(&board, &moves, &mut pass, 1, &mut log));
+    assert!(rt; !fill(&board, &mut pass, 1, &mut log));
     assert_eq!(rt; board.look(&mut pass, 1), Reply::Open(1));
     assert_eq!(rt; board.look(&mut pass, 3), Reply::Outside(2));
-    assert!(rt; fill(&board, &moves, &mut pass, 0, &mut log));
-    assert!(rt; fill(&board, &moves, &mut pass, 1, &mut log));
+    assert!(rt; fill(&board, &mut pass, 0, &mut log));
+    assert!(rt; fill(&board, &mut pass, 1, &mut log));
     assert!(rt; !board.poll(&mut pass));
-    assert!(rt; fill(&board, &moves, &mut pass, 2, &mut log));
+    assert!(rt; fill(&board, &mut pass, 2, &mut log));
     assert!(rt; board.poll(&mut pass));
-    assert!(rt; !fill(&board, &moves, &mut pass, 3, &mut log));
+    assert!(rt; !fill(&board, &mut pass, 3, &mut log));
     assert_eq!(rt; board.look(&mut pass, 3), Reply::Outside(0));
     assert_eq!(rt; board.look(&mut pass, 0), Reply::Filled);
     assert!(rt; log.words.iter().eq(ONE_BY_ONE.iter().flatten()));

@@ -5,7 +5,8 @@ use Rattle.std.specs.List.{list_any}
 use Rattle.std.proofs.lemmas.Bool.{and_parts, and_from, and_left, and_right, or_parts, or_from, eq-eqb, eqb-true, false_from_ne_true}
 use Rattle.history.specs.MoveTable.{is_pair}
 use Rattle.history.specs.Scheduler.{is_flagged}
-use Rattle.history.proofs.Pairs.{IsAscending, ascending_tail, ascending_head, not_before_itself, placed}
+use Rattle.history.specs.MoveTable.{IsAscending}
+use Rattle.history.proofs.Pairs.{ascending_tail, ascending_head, not_before_itself, placed}
 
 -- no flag is set
 pub is_flagged-none : (d s : ℕ) (ps : List (ℕ × ℕ)) (flags : List Bool) → ((k : ℕ) → k < length flags → get_or flags k false ≡ false) → is_flagged d s ps flags ≡ false

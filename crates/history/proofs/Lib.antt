@@ -1,5 +1,6 @@
 mod Counting
 mod Pairs
+mod Indexes
 mod Flags
 mod Stepping
 mod Openings

@@ -3,11 +3,10 @@ use Rattle.std.proofs.Common.{◌≡◌, ℕ, ◌+◌, ◌<◌, ◌≤◌, Bool,
 use Rattle.std.proofs.Math.Path.{fun_ext}
 use Rattle.std.specs.Prelude.{◌==◌, ◌&&◌, not, slice_index, slice_index_or, slice_set, count_by}
 use Rattle.std.specs.List.{range_with_len}
-use Rattle.std.proofs.Math.ListN.{length-set}
-use Rattle.std.proofs.lemmas.Bool.{cases_eq, cases_lt, eq-eqb, ne_eqb}
-use Rattle.std.proofs.lemmas.List.{ext_get_or, length-take-le, get_or_past, get_or-set_same, get_or-set_other, get_or-replicate, length-replicate}
+use Rattle.std.proofs.lemmas.Bool.{cases_lt}
+use Rattle.std.proofs.lemmas.List.{ext_get_or, length-take-le, get_or_past, get_or-replicate, length-replicate}
 use Rattle.std.proofs.lemmas.List.FromFn.{length-map-range_with_len, get_or-map-range_with_len}
-use Rattle.std.proofs.lemmas.List.Sums.{count_by-le-length, count_by_more_yes, count_by_more_no}
+use Rattle.std.proofs.lemmas.List.Sums.{count_by-le-length}
 use Rattle.history.specs.MoveTable.{MoveTable, IsMoveTable, region_count, to_fill}
 use Rattle.history.specs.State.{State, opening, readers_left, unsettled}
 use Rattle.history.specs.Progress.{claimant_of, is_filled, is_settled}
@@ -16,25 +15,14 @@ use Rattle.history.specs.declared.progress.Progress.{Progress}
 use Rattle.history.specs.declared.progress.Progress.TheVariants.{Unclaimed}
 use Rattle.history.proofs.Counting.{count_by_same, count_by-map, and_true}
 use Rattle.history.proofs.Flags.{is_flagged-none}
+use Rattle.history.proofs.Pairs.{one_more_counted}
 
 -- one pair more is counted
 pub AreTallies-more : (m : MoveTable) (end_of : ℕ × ℕ → ℕ) (ps : List (ℕ × ℕ)) (i : ℕ) (d : ℕ × ℕ) (counts : List ℕ) → i < length ps → end_of (get_or ps i d) < region_count m → AreTallies m end_of (take i ps) counts
     → AreTallies m end_of (take (i + 1) ps) (slice_set counts (end_of (get_or ps i d)) (slice_index counts (end_of (get_or ps i d)) + 1))
 AreTallies-more m end_of ps i d counts lt inside before =
-    record {
-      all = length-set counts (end_of (get_or ps i d)) (slice_index counts (end_of (get_or ps i d)) + 1) ∙ before.all;
-      each = λ r lt'. go r lt' (cases_eq r (end_of (get_or ps i d)));
-    }
-  where
-    go : (r : ℕ) → r < region_count m → (r ≡ end_of (get_or ps i d)) ⊎ (r ≡ end_of (get_or ps i d) → ⊥)
-        → slice_index (slice_set counts (end_of (get_or ps i d)) (slice_index counts (end_of (get_or ps i d)) + 1)) r ≡ count_by (λ pair. r == end_of pair) (take (i + 1) ps)
-    go r lt' (inl e) =
-        ap (λ (k : ℕ). slice_index (slice_set counts (end_of (get_or ps i d)) (slice_index counts (end_of (get_or ps i d)) + 1)) k) e
-        ∙ (get_or-set_same counts (end_of (get_or ps i d)) (slice_index counts (end_of (get_or ps i d)) + 1) 0 (rw before.all inside)
-        ∙ (ap (λ (k : ℕ). slice_index counts k + 1) (sym e) ∙ (ap (λ (n : ℕ). n + 1) (before.each r lt') ∙ sym (count_by_more_yes (λ pair. r == end_of pair) ps i d lt (eq-eqb r (end_of (get_or ps i d)) e)))))
-    go r lt' (inr n) =
-        get_or-set_other counts (end_of (get_or ps i d)) r (slice_index counts (end_of (get_or ps i d)) + 1) 0 n
-        ∙ (before.each r lt' ∙ sym (count_by_more_no (λ pair. r == end_of pair) ps i d lt (ne_eqb r (end_of (get_or ps i d)) n)))
+    let more = one_more_counted (region_count m) end_of ps i d counts lt inside (record { room = before.all; each = before.each }) in
+    record { all = more.room; each = more.each }
 
 pub AreTallies-none : (m : MoveTable) (end_of : ℕ × ℕ → ℕ) (counts : List ℕ) → counts ≡ replicate (region_count m) 0 → AreTallies m end_of [] counts
 AreTallies-none m end_of counts is =

@@ -1,13 +1,13 @@
 -- Tables of moves: their order, their sources, and what a table that may be handed in keeps.
-use Rattle.std.proofs.Common.{◌≡◌, ℕ, zero, suc, ◌+◌, ◌-◌, ◌<◌, ◌≤◌, Bool, true, false, cond, List, [], ◌∷◌, ◌++◌, length, get_or, take, Some, refl, sym, ap, ◌∙◌, inl, inr, ◌⊎◌, subst, arith}
-use Rattle.std.specs.Prelude.{◌==◌, ◌&&◌, nat_lt, IsTrue, slice_index_or, AllPairs, count_by, filter}
+use Rattle.std.proofs.Common.{◌≡◌, ℕ, zero, suc, ◌+◌, ◌-◌, ◌<◌, ◌≤◌, Bool, true, false, cond, List, [], ◌∷◌, ◌++◌, length, get_or, take, replicate, Some, refl, sym, ap, ◌∙◌, inl, inr, ◌⊎◌, subst, arith}
+use Rattle.std.specs.Prelude.{◌==◌, ◌&&◌, nat_lt, slice_index, slice_index_or, slice_set, count_by, filter}
 use Rattle.std.specs.List.{list_any}
 use Rattle.std.proofs.lemmas.Bool.{or_parts, or_cases, or_left, or_right, and_from, cases_Bool, cases_eq, cases_lt, cases_order, both_ways, and_parts, eq-eqb, ne_eqb, eqb-true, lt-ltb, ltb-true, false≢true, false_from_ne_true}
-use Rattle.std.proofs.lemmas.List.{get_or_default, get_or_past}
+use Rattle.std.proofs.lemmas.List.{get_or_default, get_or_past, get_or-set_same, get_or-set_other, get_or-replicate, length-set, length-replicate}
 use Rattle.std.proofs.lemmas.List.Folds.{Any-from_list_any, list_any_at}
 use Rattle.std.proofs.lemmas.List.Sums.{count_by_more_yes, count_by_more_no}
 use Rattle.history.proofs.Counting.{count_by-cons}
-use Rattle.history.specs.MoveTable.{MoveTable, region_count, to_fill, is_pair, reads, has_source, is_before, Slides, IsMoveTable, IsNextSource, pairs_before}
+use Rattle.history.specs.MoveTable.{MoveTable, region_count, to_fill, is_pair, reads, has_source, is_before, Slides, IsMoveTable, IsAscending, IsFirstPlace, IsNextSource, pairs_before}
 
 -- the order of pairs, as a fact
 abbrev pub IsBefore : ℕ × ℕ → ℕ × ℕ → Type 0
@@ -49,9 +49,6 @@ before_trans p q r (inr a) (inr b) = inr (omega arith, omega arith)
 pub not_before_itself : (p q : ℕ × ℕ) → p.0 ≡ q.0 → p.1 ≡ q.1 → IsBefore p q → ⊥
 not_before_itself p q a b (inl c) = omega arith
 not_before_itself p q a b (inr c) = omega arith
-
-abbrev pub IsAscending : List (ℕ × ℕ) → Type 0
-IsAscending ps = AllPairs (λ p q. IsTrue (is_before p q)) ps
 
 pub ascending_tail : (p : ℕ × ℕ) (ps : List (ℕ × ℕ)) → IsAscending (p ∷ ps) → IsAscending ps
 ascending_tail p ps all i j d lt inside = all (suc i) (suc j) d (omega arith) (omega arith)
@@ -139,13 +136,8 @@ IsBefore_partitions ps q all i j d le lt e = go (cases_eq i j)
     go (inl same) = ap (λ (k : ℕ). is_before (get_or ps k d) q) same ∙ e
     go (inr other) = before_from (get_or ps i d) q (before_trans (get_or ps i d) (get_or ps j d) q (before_tells (get_or ps i d) (get_or ps j d) (all i j d (omega arith) lt)) (before_tells (get_or ps j d) q e))
 
--- where the pairs before (d, from) end
-pub record IsFirstFrom (ps : List (ℕ × ℕ)) (d from at : ℕ) : Type 0 where
-  pub before : (k : ℕ) (e : ℕ × ℕ) → k < at → is_before (get_or ps k e) (d, from) ≡ true
-  pub after : (k : ℕ) (e : ℕ × ℕ) → at ≤ k → k < length ps → is_before (get_or ps k e) (d, from) ≡ false
-
 -- a source from there on stands at that place or after it
-pub source_after : (ps : List (ℕ × ℕ)) (d from at t : ℕ) → IsFirstFrom ps d from at → from ≤ t → (p : IsPlaced ps d t) → at ≤ p.at
+pub source_after : (ps : List (ℕ × ℕ)) (d from at t : ℕ) → IsFirstPlace ps d from at → from ≤ t → (p : IsPlaced ps d t) → at ≤ p.at
 source_after ps d from at t first le p = go (cases_lt p.at at)
   where
     go : (p.at < at) ⊎ (at ≤ p.at) → at ≤ p.at
@@ -156,7 +148,7 @@ source_after ps d from at t first le p = go (cases_lt p.at at)
         wrong (inl c) = let a = p.first (0, 0) in absurd (omega arith)
         wrong (inr c) = let b = p.second (0, 0) in absurd (omega arith)
 
-pub next_past : (ps : List (ℕ × ℕ)) (d from at : ℕ) → IsFirstFrom ps d from at → length ps ≤ at → (t : ℕ) → from ≤ t → list_any (is_pair d t) ps ≡ false
+pub next_past : (ps : List (ℕ × ℕ)) (d from at : ℕ) → IsFirstPlace ps d from at → length ps ≤ at → (t : ℕ) → from ≤ t → list_any (is_pair d t) ps ≡ false
 next_past ps d from at first past t le =
     false_from_ne_true (list_any (is_pair d t) ps) (λ e.
     let p = placed ps d t e in
@@ -165,7 +157,7 @@ next_past ps d from at first past t le =
     omega arith)
 
 -- another destination's pair stands there, so there is no source from there on
-pub next_other : (ps : List (ℕ × ℕ)) (d from at : ℕ) (q : ℕ × ℕ) → IsAscending ps → IsFirstFrom ps d from at → at < length ps → get_or ps at q ≡ q → (q.0 ≡ d → ⊥) → (t : ℕ) → from ≤ t → list_any (is_pair d t) ps ≡ false
+pub next_other : (ps : List (ℕ × ℕ)) (d from at : ℕ) (q : ℕ × ℕ) → IsAscending ps → IsFirstPlace ps d from at → at < length ps → get_or ps at q ≡ q → (q.0 ≡ d → ⊥) → (t : ℕ) → from ≤ t → list_any (is_pair d t) ps ≡ false
 next_other ps d from at q all first lt is other t le = false_from_ne_true (list_any (is_pair d t) ps) (λ e. go (placed ps d t e))
   where
     beyond : (q.0 < d → ⊥) × (d < q.0)
@@ -187,7 +179,7 @@ next_other ps d from at q all first lt is other t le = false_from_ne_true (list_
             wrong (inr c) = let a = p.first q in let b : (get_or ps at q).0 ≡ q.0 = ap (λ (x : ℕ × ℕ). x.0) is in let g = beyond.1 in omega arith
 
 -- the pair that stands there is the next source's
-pub next_here : (m : MoveTable) (d from at s : ℕ) (q : ℕ × ℕ) → IsAscending m.pairs → IsFirstFrom m.pairs d from at → at < length m.pairs → get_or m.pairs at q ≡ q → q.0 ≡ d → q.1 ≡ s → IsNextSource m d from (Some s)
+pub next_here : (m : MoveTable) (d from at s : ℕ) (q : ℕ × ℕ) → IsAscending m.pairs → IsFirstPlace m.pairs d from at → at < length m.pairs → get_or m.pairs at q ≡ q → q.0 ≡ d → q.1 ≡ s → IsNextSource m d from (Some s)
 next_here m d from at s q all first lt is a b = (from_le (not_before_tells q (d, from) (ap (λ (x : ℕ × ℕ). is_before x (d, from)) (sym is) ∙ first.after at q (omega arith) lt)), reads_at m.pairs at d s q lt (ap (λ (x : ℕ × ℕ). x.0) is ∙ a) (ap (λ (x : ℕ × ℕ). x.1) is ∙ b), λ t from_t t_s. false_from_ne_true (reads m d t) (λ e. go t from_t t_s (placed m.pairs d t e)))
   where
     from_le : (d < q.0) ⊎ ((q.0 ≡ d) × (from ≤ q.1)) → from ≤ s
@@ -243,6 +235,33 @@ more_readers ps i d lt before here s = go (cases_eq s (get_or ps i d).1)
         let h = before s in
         let step = count_by_more_no (has_source s) ps i d lt (ne_eqb s (get_or ps i d).1 n) in
         omega arith
+
+-- of each region below n, how many pairs have it as this end
+pub record AreCounted (n : ℕ) (end_of : ℕ × ℕ → ℕ) (ps : List (ℕ × ℕ)) (counts : List ℕ) : Type 0 where
+  pub room : length counts ≡ n
+  pub each : (r : ℕ) → r < n → slice_index counts r ≡ count_by (λ pair. r == end_of pair) ps
+
+pub none_counted : (n : ℕ) (end_of : ℕ × ℕ → ℕ) → AreCounted n end_of [] (replicate n 0)
+none_counted n end_of = record { room = length-replicate n 0; each = λ r lt. get_or-replicate n r 0 0 lt }
+
+-- one pair more is counted
+pub one_more_counted : (n : ℕ) (end_of : ℕ × ℕ → ℕ) (ps : List (ℕ × ℕ)) (i : ℕ) (d : ℕ × ℕ) (counts : List ℕ) → i < length ps → end_of (get_or ps i d) < n → AreCounted n end_of (take i ps) counts
+    → AreCounted n end_of (take (i + 1) ps) (slice_set counts (end_of (get_or ps i d)) (slice_index counts (end_of (get_or ps i d)) + 1))
+one_more_counted n end_of ps i d counts lt inside before =
+    record {
+      room = length-set counts (end_of (get_or ps i d)) (slice_index counts (end_of (get_or ps i d)) + 1) ∙ before.room;
+      each = λ r lt'. go r lt' (cases_eq r (end_of (get_or ps i d)));
+    }
+  where
+    go : (r : ℕ) → r < n → (r ≡ end_of (get_or ps i d)) ⊎ (r ≡ end_of (get_or ps i d) → ⊥)
+        → slice_index (slice_set counts (end_of (get_or ps i d)) (slice_index counts (end_of (get_or ps i d)) + 1)) r ≡ count_by (λ pair. r == end_of pair) (take (i + 1) ps)
+    go r lt' (inl e) =
+        ap (λ (k : ℕ). slice_index (slice_set counts (end_of (get_or ps i d)) (slice_index counts (end_of (get_or ps i d)) + 1)) k) e
+        ∙ (get_or-set_same counts (end_of (get_or ps i d)) (slice_index counts (end_of (get_or ps i d)) + 1) 0 (rw before.room inside)
+        ∙ (ap (λ (k : ℕ). slice_index counts k + 1) (sym e) ∙ (ap (λ (c : ℕ). c + 1) (before.each r lt') ∙ sym (count_by_more_yes (λ pair. r == end_of pair) ps i d lt (eq-eqb r (end_of (get_or ps i d)) e)))))
+    go r lt' (inr other) =
+        get_or-set_other counts (end_of (get_or ps i d)) r (slice_index counts (end_of (get_or ps i d)) + 1) 0 other
+        ∙ (before.each r lt' ∙ sym (count_by_more_no (λ pair. r == end_of pair) ps i d lt (ne_eqb r (end_of (get_or ps i d)) other)))
 
 -- no test passes, so nothing is kept
 filter_none : (p : ℕ × ℕ → Bool) (ps : List (ℕ × ℕ)) → ((k : ℕ) (d : ℕ × ℕ) → k < length ps → p (get_or ps k d) ≡ false) → filter p ps ≡ []
@@ -364,13 +383,3 @@ count_by-take p (x ∷ xs) (suc n) =
     let r : count_by p (x ∷ xs) ≡ cond {A = ℕ} (p x) 1 0 + count_by p xs = count_by-cons p x xs in
     let tail = count_by-take p xs n in
     omega arith
-
--- a pair that the table has stands where those before it end
-pub stands_first : (ps : List (ℕ × ℕ)) (d s at : ℕ) → IsAscending ps → IsFirstFrom ps d s at → (p : IsPlaced ps d s) → p.at ≡ at
-stands_first ps d s at all first p = go (source_after ps d s at s first (omega arith) p) (cases_eq p.at at)
-  where
-    go : at ≤ p.at → (p.at ≡ at) ⊎ (p.at ≡ at → ⊥) → p.at ≡ at
-    go le (inl same) = same
-    go le (inr other) =
-        absurd (both_ways (is_before (get_or ps at (0, 0)) (d, s)) (first.after at (0, 0) (omega arith) (let i = p.inside in omega arith))
-        (ap (λ (q : ℕ × ℕ). is_before (get_or ps at (0, 0)) q) (λ i. (sym (p.first (0, 0)) i, sym (p.second (0, 0)) i)) ∙ all at p.at (0, 0) (omega arith) p.inside))

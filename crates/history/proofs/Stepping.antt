@@ -1,12 +1,13 @@
 -- The steps of a scheduler, on what it keeps.
-use Rattle.std.proofs.Common.{◌≡◌, ℕ, ◌+◌, ◌-◌, ◌<◌, ◌≤◌, Bool, true, false, List, length, get_or, Option, Some, None, Ok, Err, refl, sym, ap, ◌∙◌, inl, inr, ◌⊎◌, subst, arith}
+use Rattle.std.proofs.Common.{◌≡◌, ℕ, ◌+◌, ◌-◌, ◌<◌, ◌≤◌, Bool, true, false, List, length, get_or, Option, Some, None, Ok, Err, refl, sym, ap, ◌∙◌, inl, inr, ◌⊎◌, arith}
 use Rattle.std.proofs.Math.Path.{fun_ext}
 use Rattle.std.specs.Prelude.{◌==◌, ◌&&◌, ◌||◌, not, if◌then◌else◌, IsTrue, slice_index, slice_index_or, slice_set, count_by}
 use Rattle.std.specs.List.{range_with_len}
 use Rattle.std.proofs.Math.ListN.{length-set}
 use Rattle.std.proofs.lemmas.List.{get_or_default, get_or-set_same, get_or-set_other, get_or_past}
 use Rattle.std.proofs.lemmas.List.FromFn.{length-range_with_len, get_or-range_with_len}
-use Rattle.std.proofs.lemmas.Bool.{not-true, cases_Bool, cases_eq, cases_lt, and_parts, and_from, and_left, and_right, eq-eqb, ne_eqb, eqb-true, false≢true, false_from_ne_true}
+use Rattle.std.proofs.lemmas.Bool.{cases_Bool, cases_eq, cases_lt, and_parts, and_from, and_left, and_right, eq-eqb, ne_eqb, eqb-true, false≢true, false_from_ne_true}
+use Rattle.history.specs.MoveIndex.{IsPlaceOf}
 use Rattle.history.specs.MoveTable.{MoveTable, IsMoveTable, region_count, to_fill, reads, readers_of, has_source}
 use Rattle.history.specs.State.{State, all_or_more, is_pending, readers_left, unsettled, may_claim, state_after, Allows, IsFilling}
 use Rattle.history.specs.Progress.{claimant_of, is_filled, is_settled}
@@ -19,7 +20,7 @@ use Rattle.history.specs.declared.reply.Reply.TheVariants.{Yes, Last, NotLast, D
 use Rattle.history.specs.declared.progress.Progress.{Progress}
 use Rattle.history.specs.declared.progress.Progress.TheVariants.{Unclaimed, Filling, Completed, Settled}
 use Rattle.history.proofs.Counting.{count_by_same, count_by_one_less, count_by_zero, count_by_none, count_by_fewer}
-use Rattle.history.proofs.Pairs.{IsSlide, slide_of, flag_inside, one_place, IsPlaced, placed, reads_at, IsFirstFrom, stands_first}
+use Rattle.history.proofs.Pairs.{IsSlide, slide_of, flag_inside, one_place, placed, reads_at}
 use Rattle.history.proofs.Flags.{is_flagged-set, is_flagged_at}
 
 -- an event that isn't allowed
@@ -426,16 +427,13 @@ completed_of (Filling w) worker e f g = absurd (false≢true f)
 completed_of (Completed w) worker e f g = ap Completed (let h : Some w ≡ Some worker = e in cc)
 completed_of (Settled w) worker e f g = absurd (false≢true (sym g))
 
--- where the place found shows nothing pending, nothing is
-pub nothing_pending : (v : SchedulerView) (readers sources : List ℕ) (left d s at : ℕ) → IsKept v readers sources left → IsFirstFrom v.moves.pairs d s at → (IsPendingAt v d s at → ⊥) → is_pending v.moves (state_in v) d s ≡ false
-nothing_pending v readers sources left d s at kept first none =
-    false_from_ne_true (is_pending v.moves (state_in v) d s) (λ e.
-    let both = and_parts (reads v.moves d s) (not (is_flagged d s v.moves.pairs v.flags)) e in
-    let p : IsPlaced v.moves.pairs d s = placed v.moves.pairs d s both.0 in
-    let same : p.at ≡ at = stands_first v.moves.pairs d s at kept.table.ascending first p in
-    let inside : p.at < length v.moves.pairs = p.inside in
-    let flag : slice_index_or v.flags p.at false ≡ false = sym (is_flagged_at d s v.moves.pairs v.flags p.at (0, 0) kept.table.ascending p.inside kept.flags_all (p.first (0, 0)) (p.second (0, 0))) ∙ not-true (is_flagged d s v.moves.pairs v.flags) both.1 in
-    none (subst (λ (k : ℕ). IsPendingAt v d s k) same (record { inside = inside; is = λ i. (p.first (d, s) i, p.second (d, s) i); undrained = flag })))
+-- a pair whose flag is set isn't pending
+pub drained_pair : (v : SchedulerView) (readers sources : List ℕ) (left d s at : ℕ) → IsKept v readers sources left → IsPlaceOf v.moves.pairs d s at → slice_index_or v.flags at false ≡ true → is_pending v.moves (state_in v) d s ≡ false
+drained_pair v readers sources left d s at kept place drained =
+    let one : (get_or v.moves.pairs at (0, 0)).0 ≡ d = ap (λ (p : ℕ × ℕ). p.0) (get_or_default v.moves.pairs at (0, 0) (d, s) place.inside ∙ place.is) in
+    let two : (get_or v.moves.pairs at (0, 0)).1 ≡ s = ap (λ (p : ℕ × ℕ). p.1) (get_or_default v.moves.pairs at (0, 0) (d, s) place.inside ∙ place.is) in
+    let flag : is_flagged d s v.moves.pairs v.flags ≡ true = is_flagged_at d s v.moves.pairs v.flags at (0, 0) kept.table.ascending place.inside kept.flags_all one two ∙ drained in
+    and_right (reads v.moves d s) (not (is_flagged d s v.moves.pairs v.flags)) (ap not flag)
 
 -- a look at readers fits
 pub few_left : (m : MoveTable) (now : State) (s : ℕ) → IsMoveTable m → readers_left m now s ≤ 2

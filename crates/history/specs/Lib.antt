@@ -1,4 +1,5 @@
 pub mod MoveTable
+pub mod MoveIndex
 pub mod State
 pub mod History
 pub mod Whole

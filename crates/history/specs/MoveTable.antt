@@ -1,4 +1,4 @@
-use Rattle.std.specs.Prelude.{◌≡◌, ℕ, ◌<◌, ◌≤◌, Bool, false, ◌==◌, ◌&&◌, ◌||◌, nat_lt, IsTrue, List, length, slice_index_or, All, AllPairs, count_by, filter, Option, MatchOption}
+use Rattle.std.specs.Prelude.{◌≡◌, ℕ, ◌<◌, ◌≤◌, Bool, true, false, ◌==◌, ◌&&◌, ◌||◌, nat_lt, IsTrue, List, length, slice_index_or, All, AllPairs, count_by, filter, Option, MatchOption}
 use Rattle.std.specs.List.{list_any}
 
 -- What moves where. A region's own words, which it keeps or slides down within itself, make no pair.
@@ -38,6 +38,16 @@ readers_of m s = count_by (has_source s) m.pairs
 abbrev pub is_before : ℕ × ℕ → ℕ × ℕ → Bool
 is_before p q = nat_lt p.0 q.0 || (p.0 == q.0 && nat_lt p.1 q.1)
 
+-- strictly ascending
+abbrev pub IsAscending : List (ℕ × ℕ) → Type 0
+IsAscending ps = AllPairs (λ p q. IsTrue (is_before p q)) ps
+
+-- the place of the first pair that isn't before (d, s), or the number of pairs where all are before
+pub record IsFirstPlace (ps : List (ℕ × ℕ)) (d s at : ℕ) : Type 0 where
+  pub inside : at ≤ length ps
+  pub before : (k : ℕ) (e : ℕ × ℕ) → k < at → is_before (slice_index_or ps k e) (d, s) ≡ true
+  pub after : (k : ℕ) (e : ℕ × ℕ) → at ≤ k → k < length ps → is_before (slice_index_or ps k e) (d, s) ≡ false
+
 -- words slide down, into a region that is to be filled, from one that there is
 abbrev pub Slides : List Bool → ℕ × ℕ → Type 0
 Slides fill pair = (pair.0 < pair.1) × (pair.1 < length fill) × IsTrue (slice_index_or fill pair.0 false)
@@ -46,7 +56,7 @@ Slides fill pair = (pair.0 < pair.1) × (pair.1 < length fill) × IsTrue (slice_
 pub record IsMoveTable (m : MoveTable) : Type 0 where
   pub some : 1 ≤ region_count m
   pub few : region_count m ≤ 16384
-  pub ascending : AllPairs (λ p q. IsTrue (is_before p q)) m.pairs
+  pub ascending : IsAscending m.pairs
   pub slide : All (Slides m.fill) m.pairs
   pub two : (s : ℕ) → readers_of m s ≤ 2
 

@@ -1,6 +1,6 @@
-ghost use Rattle.std.specs.Prelude.{◌≡◌, ℕ, ◌+◌, ◌<◌, ◌≤◌, ◌↔◌, ◌==◌, length, All, AllPairs, take, count_by, slice_index_or, SomeIff, IsTrue, IfOk, OnOk, true, false};
+ghost use Rattle.std.specs.Prelude.{◌≡◌, ℕ, ◌+◌, ◌<◌, ◌≤◌, ◌↔◌, ◌==◌, length, All, take, count_by, SomeIff, IsTrue, IfOk, IfSome, OnOk, true, false};
 ghost use Rattle.history.specs.State.{opening, unsettled};
-ghost use Rattle.history.specs.MoveTable.{MoveTable, IsMoveTable, Slides, table_of, is_before, has_source, region_count, pairs_before};
+ghost use Rattle.history.specs.MoveTable.{MoveTable, IsMoveTable, IsAscending, IsFirstPlace, IsNextSource, Slides, table_of, is_before, has_source, region_count, pairs_before};
 
 use crate::moves::Moves;
 use std::alloc::{AllocError, Global};
@@ -9,7 +9,8 @@ use std::marker::Model;
 /// A table has at most so many regions.
 const MOST_REGIONS: usize = 16_384;
 
-/// A table of moves that was handed in. It takes no memory of its own: a count walks the pairs.
+/// A table of moves that was handed in. It takes no memory of its own: a count walks the pairs, and a
+/// source is searched for. `IndexedMoves` has both at hand.
 #[derive(Drop)]
 pub struct GivenMoves {
     fill: Vec<bool>,
@@ -65,17 +66,25 @@ impl GivenMoves {
         count_set(&self.fill)
     }
 
-    /// The place of the first pair that isn't before this one.
+    /// The place of the first pair that isn't before this one, by a binary search.
     pub(crate) fn first_from(&self, destination: u32, source: u32) -> usize
-        ensures within { result ≤ length self.now.pairs }
-        ensures before { (k : ℕ) (d : ℕ × ℕ) → k < result → is_before (slice_index_or self.now.pairs k d) (destination, source) ≡ true }
-        ensures after { (k : ℕ) (d : ℕ × ℕ) → result ≤ k → k < length self.now.pairs → is_before (slice_index_or self.now.pairs k d) (destination, source) ≡ false }
+        ensures { IsFirstPlace self.now.pairs destination source result }
     {
         self.pairs.as_slice().partition_point(
             |pair: &(u32, u32)| -> bool
                 ensures { result ≡ is_before pair.now (destination, source) }
             { is_before(*pair, (destination, source)) },
         )
+    }
+
+    /// The source of the pair at this place, if it is one of the destination's: its next one from
+    /// where this is the place of the first pair.
+    pub(crate) fn source_at(&self, place: usize, destination: u32) -> Option<u32>
+        ensures least { (from : ℕ) → IsFirstPlace self.now.pairs destination from place → IsNextSource self.now destination from result }
+        ensures inside { IfSome result (λ source. source < region_count self.now) }
+    {
+        let (d, s) = *self.pairs.get(place)?;
+        if d == destination { Some(s) } else { None }
     }
 }
 
@@ -95,8 +104,7 @@ impl Moves for GivenMoves {
     }
 
     fn next_source(&self, destination: u32, from: u32) -> Option<u32> {
-        let (d, s) = *self.pairs.get(self.first_from(destination, from))?;
-        if d == destination { Some(s) } else { None }
+        self.source_at(self.first_from(destination, from), destination)
     }
 }
 
@@ -125,7 +133,7 @@ fn count_of(pairs: &[(u32, u32)], source: u32) -> usize
 }
 
 fn are_ascending(pairs: &[(u32, u32)]) -> bool
-    ensures { IsTrue result ↔ AllPairs (λ p q. IsTrue (is_before p q)) pairs.now }
+    ensures { IsTrue result ↔ IsAscending pairs.now }
 {
     for i in 1..pairs.len() {
         if !is_before(pairs[i - 1], pairs[i]) {
@@ -146,14 +154,18 @@ fn all_slide(fill: &[bool], pairs: &[(u32, u32)]) -> bool
     true
 }
 
-/// Ends at the first third reader, so after at most twice as many pairs as there are sources.
+/// Keeps its counts on the stack, since a table takes no memory of its own. Linear in the number of
+/// pairs.
 fn have_two_readers_at_most(pairs: &[(u32, u32)]) -> bool
+    requires { All (λ pair. pair.1 < 16384) pairs.now }
     ensures { IsTrue result ↔ ((s : ℕ) → count_by (has_source s) pairs.now ≤ 2) }
 {
-    for i in 0..pairs.len() {
-        if count_of(&pairs[..i], pairs[i].1) >= 2 {
+    let mut readers = [0u8; MOST_REGIONS];
+    for &(_, source) in pairs {
+        if readers[source as usize] == 2 {
             return false;
         }
+        readers[source as usize] += 1;
     }
     true
 }

@@ -43,6 +43,7 @@ mod event;
 mod event_text;
 mod given_moves;
 mod image_laws;
+mod indexed_moves;
 mod laws;
 mod ledger;
 mod line;
@@ -52,6 +53,7 @@ mod moves;
 mod origins;
 mod plan_moves;
 mod progress;
+mod readers;
 mod reading;
 mod record_laws;
 mod references;
@@ -76,6 +78,7 @@ pub use entry::Entry;
 pub use event::{Event, Illegal};
 pub use given_moves::GivenMoves;
 pub use image_laws::moves_of_images;
+pub use indexed_moves::IndexedMoves;
 pub use laws::{
     drained_before_written, how_counts_go_down, legal_histories_are_orderly, pairs_slide_down,
     what_legal_histories_keep, what_own_calls_tell,

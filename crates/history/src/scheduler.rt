@@ -6,6 +6,7 @@ ghost use Rattle.history.specs.Scheduler.{state_in, IsPendingAt, Steps};
 
 use crate::event::{Event, Illegal};
 use crate::given_moves::GivenMoves;
+use crate::indexed_moves::IndexedMoves;
 use crate::moves::Moves;
 use crate::progress::Progress;
 use crate::reply::Reply;
@@ -18,7 +19,7 @@ use std::marker::Model;
 #[derive(Drop)]
 pub struct Scheduler {
     workers: u32,
-    moves: GivenMoves,
+    moves: IndexedMoves,
     /// Of each pair of the moves, whether it is drained.
     drained: Vec<bool>,
     /// Of each region, how far its fill has come.
@@ -49,13 +50,14 @@ impl Scheduler {
         ensures opening { IfOk result (λ scheduler. state_in scheduler ≡ opening) }
         ensures workers { IfOk result (λ scheduler. scheduler.workers ≡ workers) }
     {
-        let moves = GivenMoves::copy_of(alloc, moves)?;
-        let regions = moves.regions() as usize;
-        let drained = vec![in alloc; false; moves.pairs().len()]?;
+        let given = GivenMoves::copy_of(alloc, moves)?;
+        let regions = given.regions() as usize;
+        let drained = vec![in alloc; false; given.pairs().len()]?;
         let progress = vec![in alloc; Progress::Unclaimed; regions]?;
-        let readers_left = count_readers(alloc, &moves)?;
-        let sources_left = count_sources(alloc, &moves)?;
-        let unsettled = moves.fill_count();
+        let readers_left = count_readers(alloc, &given)?;
+        let sources_left = count_sources(alloc, &given)?;
+        let unsettled = given.fill_count();
+        let moves = IndexedMoves::new(alloc, given)?;
         Ok(Scheduler {
             workers,
             moves,
@@ -68,8 +70,7 @@ impl Scheduler {
     }
 
     /// One step: the reply, exactly where the event is allowed in the present state. `Illegal`
-    /// leaves the scheduler as it is. Takes no memory, and at most logarithmic time in the number
-    /// of pairs.
+    /// leaves the scheduler as it is. Takes no memory, and constant time.
     pub fn step(&mut self, worker: u32, event: Event) -> Result<Reply, Illegal>
         requires { worker < self.old.workers }
         ensures moves { self.new.moves ≡ self.old.moves }
@@ -272,14 +273,7 @@ impl Scheduler {
         ensures pending { OnSome result (IsTrue (is_pending self.now.moves (state_in self.now) destination source)) }
         ensures none { IfNone result (is_pending self.now.moves (state_in self.now) destination source ≡ false) }
     {
-        let at = self.moves.first_from(destination, source);
-        if at < self.drained.len()
-            && !self.drained[at]
-            && self.moves.pairs()[at] == (destination, source)
-        {
-            Some(at)
-        } else {
-            None
-        }
+        let at = self.moves.place(destination, source)?;
+        if self.drained[at] { None } else { Some(at) }
     }
 }

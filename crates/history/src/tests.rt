@@ -3,6 +3,7 @@ use crate::book::Book;
 use crate::call_fault::CallFault;
 use crate::event::{Event, Illegal};
 use crate::given_moves::GivenMoves;
+use crate::indexed_moves::IndexedMoves;
 use crate::locked_board::LockedBoard;
 use crate::moves::Moves;
 use crate::reply::Reply;
@@ -101,6 +102,7 @@ fn refuses_what_is_no_table(rt: HostRuntime) -> Result<(), Fail> {
     assert!(rt; given(rt.alloc(), &all, &[(0, 1), (0, 1)])?.is_none());
     assert!(rt; given(rt.alloc(), &[false, true], &[(0, 1)])?.is_none());
     assert!(rt; given(rt.alloc(), &all, &[(0, 3), (1, 3), (2, 3)])?.is_none());
+    assert!(rt; given(rt.alloc(), &all, &[(0, 2), (0, 3), (1, 2), (1, 3)])?.is_some());
     let most = vec![in rt.alloc(); true; 16384]?;
     assert!(rt; GivenMoves::new(most, Vec::new(rt.alloc())).is_some());
     let more = vec![in rt.alloc(); true; 16385]?;
@@ -119,6 +121,45 @@ fn a_table_tells_what_was_handed_in(rt: HostRuntime) -> Result<(), Fail> {
     assert_eq!(rt; table.next_source(0, 0), Some(1));
     assert_eq!(rt; table.next_source(0, 2), Some(3));
     assert_eq!(rt; table.next_source(1, 4), None);
+    Ok(())
+}
+
+/// Region 0 reads four others, and two regions read each of the last two.
+const MANY_SOURCES: [(u32, u32); 6] = [(0, 1), (0, 2), (0, 4), (0, 5), (1, 5), (3, 4)];
+
+#[test]
+fn an_index_tells_the_same_table(rt: HostRuntime) -> Result<(), Fail> {
+    let fill = [true, true, false, true, false, false];
+    let table = given(rt.alloc(), &fill, &MANY_SOURCES)?.ok_or("a table")?;
+    let copied = IndexedMoves::of(rt.alloc(), &table)?;
+    let indexed = IndexedMoves::new(rt.alloc(), GivenMoves::copy_of(rt.alloc(), &copied)?)?;
+    assert_eq!(rt; indexed.regions(), table.regions());
+    for region in 0..table.regions() {
+        assert_eq!(rt; indexed.to_fill(region), table.to_fill(region));
+        assert_eq!(rt; indexed.count(region), table.count(region));
+        for from in 0..table.regions() + 2 {
+            let next = table.next_source(region, from);
+            assert_eq!(rt; indexed.next_source(region, from), next);
+        }
+    }
+    Ok(())
+}
+
+#[test]
+fn an_index_finds_each_source_from_anywhere(rt: HostRuntime) -> Result<(), Fail> {
+    let fill = [true, true, false, true, false, false];
+    let table = given(rt.alloc(), &fill, &MANY_SOURCES)?.ok_or("a table")?;
+    let indexed = IndexedMoves::new(rt.alloc(), table)?;
+    let sources = [Some(1), Some(1), Some(2), Some(4), Some(4), Some(5), None];
+    for (from, source) in sources.into_iter().enumerate() {
+        assert_eq!(rt; indexed.next_source(0, from as u32), source);
+    }
+    assert_eq!(rt; indexed.next_source(1, 0), Some(5));
+    assert_eq!(rt; indexed.next_source(2, 0), None);
+    assert_eq!(rt; indexed.next_source(3, 5), None);
+    assert_eq!(rt; indexed.count(0), 0);
+    assert_eq!(rt; indexed.count(2), 1);
+    assert_eq!(rt; indexed.count(5), 2);
     Ok(())
 }
 
@@ -189,7 +230,7 @@ fn moves_with_prefix(alloc: Global) -> Result<GivenMoves, CallFault> {
 
 /// What a scheduler and a book of two workers answer to a look at region 3.
 fn looks(alloc: Global) -> Result<(Reply, Reply), CallFault> {
-    let moves = moves_with_prefix(alloc)?;
+    let moves = IndexedMoves::of(alloc, &moves_with_prefix(alloc)?)?;
     let mut scheduler = Scheduler::new(alloc, &moves, 2)?;
     let mut book = Book::new(alloc, &moves, 2)?;
     let reply = scheduler.step(1, Event::Look(3))?;

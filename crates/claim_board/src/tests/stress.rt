@@ -84,7 +84,7 @@ fn sweep(board: &Board, moves: &GivenMoves, pass: &mut Pass, log: &mut Log, fill
     ensures { board_of pass.new ≡ identity board.now }
 {
     for region in 0..moves.regions() {
-        if fill(board, moves, pass, region, log) {
+        if fill(board, pass, region, log) {
             let _ = filled.push(region);
         }
     }

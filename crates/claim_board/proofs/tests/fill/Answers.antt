@@ -21,7 +21,7 @@ loop-opening-preserved c =
     let same : Drain c.close.result.destination c.close.result.source ≡ Drain t.region s = λ j. Drain ((c.close.ensures.pair.0 ∙ o.reads.0) j) (c.close.ensures.pair.1 j) in
     let gains : Gains (caller c.loop-opening.pass) (caller c.drain-answer.new.pass) (Drain t.region s) reply =
     subst (λ (event : Event). Gains (caller c.loop-opening.pass) (caller c.drain-answer.new.pass) event reply) same (record { board = e.entry.board; worker = e.entry.worker; mine = e.entry.history.mine_is }) in
-    let skipped = subst (λ (m : MoveTable). (q : ℕ) → t.next ≤ q → q < s → reads m t.region q ≡ false) (sym c.requires.2) o.least in (
+    let skipped = subst (λ (m : MoveTable). (q : ℕ) → t.next ≤ q → q < s → reads m t.region q ≡ false) c.moves-moves.ensures o.least in (
       e.entry.board ∙ i.0,
       e.ticket,
       e.same.0 ∙ (o.same.0 ∙ i.2),
@@ -35,6 +35,6 @@ pub complete-done-requires-clause-none_left : goal.complete-done-requires-clause
 complete-done-requires-clause-none_left c =
     let i = c.loop-opening.invariant in
     let t = c.loop-opening.ticket in
-    let lawful = subst IsMoveTable (sym c.requires.2) c.regions-regions.ensures.lawful in
-    let last = subst (λ (m : MoveTable). (s : ℕ) → t.next ≤ s → reads m t.region s ≡ false) (sym c.requires.2) c.in_default-open.ensures.last in
+    let lawful = subst IsMoveTable c.moves-moves.ensures c.regions-regions.ensures.lawful in
+    let last = subst (λ (m : MoveTable). (s : ℕ) → t.next ≤ s → reads m t.region s ≡ false) c.moves-moves.ensures c.in_default-open.ensures.last in
     c.in-Some-right.ensures.same.2 ∙ (c.in_default-open.ensures.same.1 ∙ c.swept_tickets_have_none_left.ensures (moves c.args.board.now) (caller c.loop-opening.pass) t lawful i.1 i.3 last)
