@@ -118,7 +118,7 @@ agree m w d own st tells claimed = go (claimed_or_not (st.claimed d) w)
 filling_of : (w d : ℕ) (own st : State) → AgreeOn d own st → IsFilling own w d → IsFilling st w d
 filling_of w d own st a f = (sym a.claimed ∙ f.0, sym a.filled ∙ f.1)
 
-pending_as : (m : MoveTable) (d s : ℕ) (own st : State) → AgreeOn d own st → is_pending m own d s ≡ is_pending m st d s
+pub pending_as : (m : MoveTable) (d s : ℕ) (own st : State) → AgreeOn d own st → is_pending m own d s ≡ is_pending m st d s
 pending_as m d s own st a = ap (λ (b : Bool). reads m d s && not b) (a.drained s)
 
 pub claims : Reached → (m : MoveTable) (n w r : ℕ) (mine : List Entry) → r < region_count m → Effect m n w mine (Claim r) claim_reply (λ n. either (n == 0) 8 n) r

@@ -37,7 +37,7 @@ abbrev pub mine : Pass → List Entry
 mine p = mine_of p.place.me.0
 
 abbrev pub caller : Pass → Caller
-caller p = record { board = board_of p; worker = worker p; mine = mine p }
+caller p = record { board = board_of p; worker = worker p; seen = seen p; mine = mine p }
 
 -- It is the same worker of the same board. To a legal history that begins with all that it had seen, and of whose calls its own are those that it had made, this call was added.
 pub record Appends (b : Board) (old new : Pass) (event : Event) (reply : Reply) : Type 0 where

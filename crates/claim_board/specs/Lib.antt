@@ -8,4 +8,5 @@ pub mod Tickets
 pub mod Drains
 pub mod Grants
 pub mod Recorders
+pub mod Faults
 pub mod Others

@@ -14,8 +14,10 @@
 //!   way and is spent in one of the ways that its page names, or given up.
 //! - `Desk` is what a fill asks of a scheduler. `Board` is one, and so is `Recorder`, a board under a
 //!   lock that keeps its calls for a schedule.
-//! - `other_calls_leave_tickets`, `one_more_source_is_drained` and `swept_tickets_have_none_left` do
-//!   nothing. Their contracts are what a caller needs who keeps a ticket over several calls.
+//! - `other_calls_leave_tickets`, `other_calls_leave_completions`, `one_more_source_is_drained` and
+//!   `swept_tickets_have_none_left` do nothing. Their contracts are what a caller needs who keeps a ticket
+//!   or a `Done` over several calls. `nothing_is_read_from_a_ticket` is what two tickets of passes that
+//!   have met say of each other, and `appended_calls_are_gained` leads from a pass to these laws.
 //!
 //! The rule that the words keep stands in `specs/Rule.antt` (`Kept`): at every moment there is one
 //! legal history which begins with what every living pass has seen, and each word has the value that
@@ -55,7 +57,8 @@ pub use done::Done;
 pub use drained::Drained;
 pub use finished::Finished;
 pub use laws::{
-    one_more_source_is_drained, other_calls_leave_tickets, swept_tickets_have_none_left,
+    appended_calls_are_gained, nothing_is_read_from_a_ticket, one_more_source_is_drained,
+    other_calls_leave_completions, other_calls_leave_tickets, swept_tickets_have_none_left,
 };
 pub use opening::Opening;
 pub use pass::Pass;

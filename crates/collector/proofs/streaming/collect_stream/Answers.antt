@@ -4,10 +4,11 @@ use Rattle.std.proofs.lemmas.Result.{err_from_is_err_and}
 use Rattle.heap_image.specs.HeapImage.{HeapImage}
 use Rattle.heap_image.specs.ImageText.{text}
 use Rattle.heap_image.specs.Outgoing.{TakesBeginning}
+use Rattle.summary.specs.RegionData.{fill_count}
 use Rattle.heap_image.specs.declared.fault.Fault.TheVariants.{Workers, Gate}
 use Rattle.collector.specs.Collections.{AreNoneOrTooMany}
 use Rattle.collector.specs.Halts.{MayBeRefused}
-use Rattle.collector.specs.Streams.{IsBegun}
+use Rattle.collector.specs.Streams.{IsRead, IsBegun}
 use Rattle.collector.proofs.Reasons.{no_fault_of_reading, no_schedule}
 use Rattle.collector.proofs.streaming.collect_stream.Goals as goal
 
@@ -25,7 +26,8 @@ returns-in_err-image-clause-gate g c is =
     let fault = c.in_err-image.field-0.0 in
     let left = g.R.Intake.left c.args.reader.now in
     let same : fault ≡ Gate = cc (p.1, p.2, is) in
-    no_fault_of_reading left (λ _. (r : ℕ) × MayBeRefused (λ n. g.G.Gate.may_refuse c.args.gate.now n r) c.args.workers) fault Gate same (λ e. cc) (λ e. cc) (λ none. none) c.in_err-image.ensures.fault
+    let refuses : Type 0 = (image : HeapImage) × IsRead image left (g.R.Intake.left c.read_image.new.reader) × MayBeRefused (λ r. MayBeRefused (λ n. g.G.Gate.may_refuse c.args.gate.now n r) c.args.workers) (fill_count image) in
+    no_fault_of_reading left (λ _. refuses) fault Gate same (λ e. cc) (λ e. cc) (λ none. none) c.in_err-image.ensures.fault
 
 pub returns-in_err-image-clause-schedule : goal.returns-in_err-image-clause-schedule
 returns-in_err-image-clause-schedule g c =
