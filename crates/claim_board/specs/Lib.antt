@@ -1,4 +1,5 @@
 pub mod Views
+pub mod Steps
 pub mod Rule
 pub mod Boards
 pub mod Callers

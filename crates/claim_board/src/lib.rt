@@ -5,8 +5,9 @@
 //! and settles it. `Board` grants each region once, and tells when all are settled. It is shared by
 //! `&Board`; each worker calls it with a `Pass` of its own.
 //!
-//! - `Board::claim`, `look`, `drain`, `complete`, `settle` and `poll` are one atomic step each, on one
-//!   word, and none is tried again. None takes memory, and none waits.
+//! - `Board::claim`, `look`, `drain`, `complete`, `settle` and `poll` take one atomic step each, on one
+//!   word, which their clauses name with its operands, and none is tried again. None takes memory, and
+//!   none waits.
 //! - Contracts see a pass as two lists, `seen`, a legal history of `history`'s scheduler, and `mine`,
 //!   the worker's own calls in it. A call appends its one entry to a legal history that begins with
 //!   `seen`. `Board::meet` and `Board::finish` bring what passes have seen together.
