@@ -11,6 +11,7 @@ use Rattle.history.specs.State.{opening, state_after, IsStep, unsettled}
 use Rattle.history.specs.History.{entry, state_of, IsLegal, calls_by}
 use Rattle.claim_board.proofs.Logs.{legal_snoc, state_snoc, calls_mine, calls_other, begins_refl, begins_longer, tested}
 use Rattle.claim_board.specs.declared.view.Hold.{Hold}
+use Rattle.claim_board.specs.declared.view.Touch.{Touch}
 use Rattle.claim_board.specs.declared.view.View.{View}
 use Rattle.claim_board.specs.Views.{hold, pass_view, times_held, HoldFits, AllFit, ViewFits}
 use Rattle.claim_board.specs.Rule.{Kept, Extends, word_of}
@@ -38,12 +39,12 @@ others_fit n w log event reply (h ∷ hs) none fits = (
     }
 
 -- The seat adds an entry that fits to all of the history, and the words follow
-pub appends : (m : MoveTable) (n : ℕ) (words : List ℕ) (views : List View) (k : Kept m n words views) (id w : ℕ) (seen mine : List Entry) → get_elem? views id ≡ some (pass_view w seen mine)
+pub appends : (m : MoveTable) (n : ℕ) (words : List ℕ) (views : List View) (k : Kept m n words views) (id w : ℕ) (seen mine : List Entry) (steps : List Touch) (taken : Touch) → get_elem? views id ≡ some (pass_view w seen mine steps)
     → (event : Event) (reply : Reply) → IsStep m (state_of k.log) w event reply (state_after (state_of k.log) w event reply)
     → (words' : List ℕ) → length words' ≡ length words → ((r : ℕ) → r < region_count m → slice_index words' r ≡ word_of m (state_after (state_of k.log) w event reply) r)
     → slice_index words' (region_count m) ≡ unsettled m (state_after (state_of k.log) w event reply)
-    → Kept m n words' (set views id (pass_view w (k.log ++ entry w event reply ∷ []) (mine ++ entry w event reply ∷ []))) × Extends m n w seen mine event reply (k.log ++ entry w event reply ∷ []) (mine ++ entry w event reply ∷ [])
-appends m n words views k id w seen mine at event reply step words' size each rem = (
+    → Kept m n words' (set views id (pass_view w (k.log ++ entry w event reply ∷ []) (mine ++ entry w event reply ∷ []) (steps ++ taken ∷ []))) × Extends m n w seen mine event reply (k.log ++ entry w event reply ∷ []) (mine ++ entry w event reply ∷ [])
+appends m n words views k id w seen mine steps taken at event reply step words' size each rem = (
   record {
     table = k.table;
     log = log';
@@ -77,12 +78,12 @@ appends m n words views k id w seen mine at event reply step words' size each re
     log' = k.log ++ e ∷ []
 
     old : View
-    old = pass_view w seen mine
+    old = pass_view w seen mine steps
 
     new : View
-    new = pass_view w log' (mine ++ e ∷ [])
+    new = pass_view w log' (mine ++ e ∷ []) (steps ++ taken ∷ [])
 
-    had : HoldFits n k.log (hold w seen mine)
+    had : HoldFits n k.log (hold w seen mine steps)
     had = (k.each_view id old at).1.0
 
     legal' : IsLegal m n log'

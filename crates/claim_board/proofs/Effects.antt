@@ -16,7 +16,9 @@ use Rattle.history.specs.State.{State, state_after, IsStep, unsettled, readers_l
 use Rattle.history.specs.History.{entry, state_of, IsLegal, calls_by, TellsOwn, AgreeOn}
 use Rattle.claim_board.specs.declared.key.Key.{Key}
 use Rattle.claim_board.specs.declared.view.View.{View}
-use Rattle.claim_board.specs.Views.{pass_view, IsPassView, worker_of, seen_of, mine_of}
+use Rattle.claim_board.specs.declared.view.Touch.{Touch}
+use Rattle.claim_board.specs.Views.{pass_view, IsPassView, worker_of, seen_of, mine_of, steps_of}
+use Rattle.claim_board.specs.Steps.{touch_of}
 use Rattle.claim_board.specs.Rule.{kept, Kept, Extends, added, word_of, claim_reply, drain_reply, complete_reply, settle_reply, poll_reply, look_reply}
 use Rattle.claim_board.proofs.Premises.{Reached, Own, Counts}
 use Rattle.claim_board.proofs.Words.{words_at, at_word, at_region, at_rest, free_word, claim_others, claim_here, drain_others, drain_last, drain_here, complete_others, complete_here, settle_others, settle_here, one_left}
@@ -34,11 +36,11 @@ pub allowed : (k : Key) (slots id i : ℕ) (me : Me ℕ View) (event : Event) (r
     → Effect k.moves k.workers (worker_of me.0) (mine_of me.0) event reply f i
     → Allows (kept k) slots id me i f (added k.moves k.workers event reply s0 me)
 allowed k slots id i me event reply f s0 below is effect s h homes at small = (
-  pass_view w (h.log ++ e ∷ []) (mine ++ e ∷ []),
+  pass_view w (h.log ++ e ∷ []) (mine ++ e ∷ []) (taken ++ t ∷ []),
   keeps,
   tt,
   done.0,
-  (refl, refl, refl, done.1),
+  (refl, refl, refl, done.1, refl),
 )
   where
     m : MoveTable
@@ -49,6 +51,12 @@ allowed k slots id i me event reply f s0 below is effect s h homes at small = (
 
     mine : List Entry
     mine = mine_of me.0
+
+    taken : List Touch
+    taken = steps_of me.0
+
+    t : Touch
+    t = touch_of s0
 
     found : ℕ
     found = slice_index s.words i
@@ -62,11 +70,11 @@ allowed k slots id i me event reply f s0 below is effect s h homes at small = (
     st' : State
     st' = state_after st w event (reply found)
 
-    here : get_elem? s.views id ≡ some (pass_view w (seen_of me.0) mine)
+    here : get_elem? s.views id ≡ some (pass_view w (seen_of me.0) mine taken)
     here = at ∙ ap some is
 
     calls : calls_by w h.log ≡ mine
-    calls = (h.each_view id (pass_view w (seen_of me.0) mine) here).1.0.calls
+    calls = (h.each_view id (pass_view w (seen_of me.0) mine taken) here).1.0.calls
 
     all_words : (q : ℕ) → q < suc (region_count m) → get_or s.words q 0 ≡ at_word m st q
     all_words q low = ⊎_elim
@@ -89,8 +97,8 @@ allowed k slots id i me event reply f s0 below is effect s h homes at small = (
     words' : (q : ℕ) → q < suc (region_count m) → get_or (set s.words i (f found)) q 0 ≡ at_word m st' q
     words' = words_at s.words i (f found) (suc (region_count m)) (at_word m st) (at_word m st') inside shown.1 shown.2 all_words
 
-    done : Kept m k.workers (set s.words i (f found)) (set s.views id (pass_view w (h.log ++ e ∷ []) (mine ++ e ∷ []))) × Extends m k.workers w (seen_of me.0) mine event (reply found) (h.log ++ e ∷ []) (mine ++ e ∷ [])
-    done = appends m k.workers s.words s.views h id w (seen_of me.0) mine here event (reply found) shown.0
+    done : Kept m k.workers (set s.words i (f found)) (set s.views id (pass_view w (h.log ++ e ∷ []) (mine ++ e ∷ []) (taken ++ t ∷ []))) × Extends m k.workers w (seen_of me.0) mine event (reply found) (h.log ++ e ∷ []) (mine ++ e ∷ [])
+    done = appends m k.workers s.words s.views h id w (seen_of me.0) mine taken t here event (reply found) shown.0
         (set s.words i (f found)) (length-set s.words i (f found))
         (λ r low. words' r (omega arith) ∙ at_region m st' r low)
         (words' (region_count m) (omega arith) ∙ at_rest m st')
@@ -118,7 +126,7 @@ agree m w d own st tells claimed = go (claimed_or_not (st.claimed d) w)
 filling_of : (w d : ℕ) (own st : State) → AgreeOn d own st → IsFilling own w d → IsFilling st w d
 filling_of w d own st a f = (sym a.claimed ∙ f.0, sym a.filled ∙ f.1)
 
-pending_as : (m : MoveTable) (d s : ℕ) (own st : State) → AgreeOn d own st → is_pending m own d s ≡ is_pending m st d s
+pub pending_as : (m : MoveTable) (d s : ℕ) (own st : State) → AgreeOn d own st → is_pending m own d s ≡ is_pending m st d s
 pending_as m d s own st a = ap (λ (b : Bool). reads m d s && not b) (a.drained s)
 
 pub claims : Reached → (m : MoveTable) (n w r : ℕ) (mine : List Entry) → r < region_count m → Effect m n w mine (Claim r) claim_reply (λ n. either (n == 0) 8 n) r

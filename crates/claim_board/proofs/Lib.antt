@@ -12,3 +12,4 @@ pub mod Sweeps
 pub mod Grants
 pub mod Alls
 pub mod Others
+pub mod Apart

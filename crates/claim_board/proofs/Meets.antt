@@ -11,7 +11,9 @@ use Rattle.claim_board.proofs.Logs.{calls-append, begins_refl}
 use Rattle.claim_board.specs.declared.key.Key.{Key}
 use Rattle.claim_board.specs.declared.view.Hold.{Hold}
 use Rattle.claim_board.specs.declared.view.View.{View}
-use Rattle.claim_board.specs.Views.{hold, pass_view, times_held, total, HoldFits, AllFit, ViewFits, IsPassView, worker_of, seen_of, mine_of, seen_in}
+use Rattle.claim_board.specs.Views.{hold, pass_view, times_held, total, HoldFits, AllFit, ViewFits, IsPassView, worker_of, seen_of, mine_of, seen_in, steps_of}
+use Rattle.claim_board.specs.declared.view.Touch.{Touch}
+use Rattle.claim_board.specs.Steps.{touch_of}
 use Rattle.claim_board.specs.Rule.{kept, Kept, nobody, note_of, informed, gathered, sees, takes_told, surveys}
 use Rattle.claim_board.specs.Told.{IsToldView}
 use Rattle.claim_board.proofs.Totals.{total_set, total_same, total_snoc}
@@ -112,11 +114,11 @@ told_view v w is = λ i. record { told = w.told; holds = ap (λ (u : View). u.ho
 pub sees_all : (k : Key) (slots id i : ℕ) (me : Me ℕ View) (s0 : Step ℕ) → i < suc (region_count k.moves) → IsToldView me.0
     → Allows (kept k) slots id me i (λ n. n) (sees k.moves k.workers s0 me)
 sees_all k slots id i me s0 inside is s h homes at small = (
-  pass_view w h.log mine,
+  pass_view w h.log mine taken,
   keeps,
   tt,
-  reviewed k s h id i old (pass_view w h.log mine) inside here ((h.log, refl), (record { below = had.below; begins = begins_refl h.log; calls = had.calls; seen_calls = had.calls }, tt)) (λ x. refl) refl,
-  (refl, refl, refl, record { begins = had.begins; heard = (h.each_view id old here).0; legal = h.legal; mine_is = refl; seen_calls = had.calls }),
+  reviewed k s h id i old (pass_view w h.log mine taken) inside here ((h.log, refl), (record { below = had.below; begins = begins_refl h.log; calls = had.calls; seen_calls = had.calls }, tt)) (λ x. refl) refl,
+  (refl, refl, refl, record { begins = had.begins; heard = (h.each_view id old here).0; legal = h.legal; mine_is = refl; seen_calls = had.calls }, refl),
 )
   where
     w : ℕ
@@ -125,13 +127,16 @@ sees_all k slots id i me s0 inside is s h homes at small = (
     mine : List Entry
     mine = mine_of me.0
 
+    taken : List Touch
+    taken = steps_of me.0 ++ touch_of s0 ∷ []
+
     old : View
-    old = record { told = me.0.told; holds = hold w (seen_of me.0) mine ∷ [] }
+    old = record { told = me.0.told; holds = hold w (seen_of me.0) mine (steps_of me.0) ∷ [] }
 
     here : get_elem? s.views id ≡ some old
     here = at ∙ ap some is
 
-    had : HoldFits k.workers h.log (hold w (seen_of me.0) mine)
+    had : HoldFits k.workers h.log (hold w (seen_of me.0) mine (steps_of me.0))
     had = (h.each_view id old here).1.0
 
 -- between two beginnings with the same calls
@@ -148,11 +153,11 @@ between w seen told log mine a b low high =
 pub takes : (k : Key) (slots id i : ℕ) (me : Me ℕ View) (s0 : Step ℕ) → i < suc (region_count k.moves) → IsToldView me.0 → BeginsWith me.0.told (seen_of me.0)
     → Allows (kept k) slots id me i (λ n. n) (takes_told s0 me)
 takes k slots id i me s0 inside is longer s h homes at small = (
-  pass_view w me.0.told mine,
+  pass_view w me.0.told mine taken,
   keeps,
   tt,
-  reviewed k s h id i old (pass_view w me.0.told mine) inside here ((h.log, refl), (record { below = had.below; begins = all.0; calls = had.calls; seen_calls = calls }, tt)) (λ x. refl) refl,
-  (refl, refl, refl, refl, refl, calls),
+  reviewed k s h id i old (pass_view w me.0.told mine taken) inside here ((h.log, refl), (record { below = had.below; begins = all.0; calls = had.calls; seen_calls = calls }, tt)) (λ x. refl) refl,
+  (refl, refl, refl, refl, refl, calls, refl),
 )
   where
     w : ℕ
@@ -161,8 +166,11 @@ takes k slots id i me s0 inside is longer s h homes at small = (
     mine : List Entry
     mine = mine_of me.0
 
+    taken : List Touch
+    taken = steps_of me.0 ++ touch_of s0 ∷ []
+
     old : View
-    old = record { told = me.0.told; holds = hold w (seen_of me.0) mine ∷ [] }
+    old = record { told = me.0.told; holds = hold w (seen_of me.0) mine (steps_of me.0) ∷ [] }
 
     here : get_elem? s.views id ≡ some old
     here = at ∙ ap some is
@@ -170,7 +178,7 @@ takes k slots id i me s0 inside is longer s h homes at small = (
     all : ViewFits k.workers h.log old
     all = h.each_view id old here
 
-    had : HoldFits k.workers h.log (hold w (seen_of me.0) mine)
+    had : HoldFits k.workers h.log (hold w (seen_of me.0) mine (steps_of me.0))
     had = all.1.0
 
     calls : calls_by w me.0.told ≡ mine

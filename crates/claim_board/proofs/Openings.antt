@@ -144,7 +144,7 @@ passes_push z k (q ∷ qs) p n e are new = (are.0, passes_push z (suc k) qs p n 
 pub left_to_deal : (k a b : ℕ) → b ≡ suc a → others_of (record { told = []; holds = fresh k b }) ≡ record { told = []; holds = fresh (suc k) a }
 left_to_deal k a b e = ap (λ n. others_of (record { told = []; holds = fresh k n })) e
 
-pub next_to_deal : (k a b : ℕ) → b ≡ suc a → first_of (record { told = []; holds = fresh k b }) ≡ record { told = []; holds = hold k [] [] ∷ [] }
+pub next_to_deal : (k a b : ℕ) → b ≡ suc a → first_of (record { told = []; holds = fresh k b }) ≡ record { told = []; holds = hold k [] [] [] ∷ [] }
 next_to_deal k a b e = ap (λ n. first_of (record { told = []; holds = fresh k n })) e
 
 -- the seat that is left, once one more pass is dealt
@@ -154,10 +154,10 @@ dealt l l' a a' me me' is was e f =
     is ∙ (ap (λ (m : View × List (ℕ × ℕ)). (others_of m.0, m.1)) was ∙ (ap (λ n. (record { told = []; holds = fresh n a }, [])) x ∙ ap (λ n. (record { told = []; holds = fresh l' n }, [])) f))
 
 -- the pass that is dealt
-pub dealt_one : (l a : ℕ) (me : View × List (ℕ × ℕ)) (v : View) → v ≡ first_of me.0 → me ≡ (record { told = []; holds = fresh l (suc a) }, []) → v ≡ record { told = []; holds = hold l [] [] ∷ [] }
+pub dealt_one : (l a : ℕ) (me : View × List (ℕ × ℕ)) (v : View) → v ≡ first_of me.0 → me ≡ (record { told = []; holds = fresh l (suc a) }, []) → v ≡ record { told = []; holds = hold l [] [] [] ∷ [] }
 dealt_one l a me v is was = is ∙ ap (λ (m : View × List (ℕ × ℕ)). first_of m.0) was
 
-pub new_pass : (z : TableId) (k : ℕ) (t : TableId) (v : View) → t ≡ z → v ≡ record { told = []; holds = hold k [] [] ∷ [] } → (t ≡ z) × (worker_of v ≡ k) × (seen_of v ≡ []) × (mine_of v ≡ [])
+pub new_pass : (z : TableId) (k : ℕ) (t : TableId) (v : View) → t ≡ z → v ≡ record { told = []; holds = hold k [] [] [] ∷ [] } → (t ≡ z) × (worker_of v ≡ k) × (seen_of v ≡ []) × (mine_of v ≡ [])
 new_pass z k t v there is = (there, ap worker_of is, ap seen_of is, ap mine_of is)
 
 pub opening_word : (m : MoveTable) (r readers x : ℕ) (b : Bool) → readers ≡ count_by (λ pair. r == pair.1) m.pairs → b ≡ to_fill m r → x ≡ readers + cond {A = ℕ} b 0 16 → x ≡ word_of m opening r

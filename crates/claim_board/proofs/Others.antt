@@ -14,7 +14,7 @@ use Rattle.claim_board.specs.Tickets.{IsDoneOf, Spares}
 use Rattle.claim_board.specs.Others.{LeavesOthers}
 use Rattle.claim_board.proofs.Sweeps.{gained, spared, leaves_tickets}
 
-leaves_dones : (old new : Caller) (d : Done) (event : Event) (reply : Reply) → IsDoneOf old d → Gains old new event reply → Spares d.region event → IsDoneOf new d
+pub leaves_dones : (old new : Caller) (d : Done) (event : Event) (reply : Reply) → IsDoneOf old d → Gains old new event reply → Spares d.region event → IsDoneOf new d
 leaves_dones old new d event reply is g apart =
     record {
       board = is.board ∙ ap Some (sym g.board);
@@ -24,7 +24,7 @@ leaves_dones old new d event reply is g apart =
     }
   where
     a : AgreeOn d.region (own new) (own old)
-    a = subst (λ (st : State). AgreeOn d.region st (own old)) (sym (gained old new event reply g)) (spared d.region old.worker (own old) event reply apart)
+    a = subst (λ (st : State). AgreeOn d.region st (own old)) (sym (gained old new event reply g)) (spared d.region old.worker (own old) event reply is.claimed apart)
 
 -- a call that changes nothing but region r
 pub leaves : (m : MoveTable) (r : ℕ) (old new : Caller) (event : Event) (reply : Reply) → Gains old new event reply → ((q : ℕ) → q ≢ r → Spares q event) → LeavesOthers m r old new
@@ -45,5 +45,9 @@ leaves_twice m r a b c first then =
       dones = λ d apart is. then.dones d apart (first.dones d apart is);
     }
 
+-- a call of a board, as one of its caller's
+pub gains_call : (b : Board) (old new : Pass) (event : Event) (reply : Reply) → Appends b old new event reply → Gains (caller old) (caller new) event reply
+gains_call b old new event reply e = let x = e.history in record { board = e.board; worker = e.worker; seen = (x.before, x.begins, x.seen_is); mine = x.mine_is }
+
 pub leaves_call : (b : Board) (r : ℕ) (old new : Pass) (event : Event) (reply : Reply) → Appends b old new event reply → ((q : ℕ) → q ≢ r → Spares q event) → LeavesOthers (moves b) r (caller old) (caller new)
-leaves_call b r old new event reply e spares = leaves (moves b) r (caller old) (caller new) event reply (record { board = e.board; worker = e.worker; mine = e.history.mine_is }) spares
+leaves_call b r old new event reply e spares = leaves (moves b) r (caller old) (caller new) event reply (gains_call b old new event reply e) spares

@@ -25,16 +25,20 @@ gained old new event reply g = ap state_of g.mine ∙ state_snoc opening old.min
 same : (r : ℕ) (st : State) → AgreeOn r st st
 same r st = record { claimed = refl; filled = refl; settled = refl; drained = λ s. refl }
 
--- an event that spares a region leaves it as it was
-pub spared : (r w : ℕ) (st : State) (event : Event) (reply : Reply) → Spares r event → AgreeOn r (state_after st w event reply) st
-spared r w st (Claim q) Yes apart = record { claimed = ap (λ (b : Bool). cond b (Some w) (st.claimed r)) (ne_eqb r q apart); filled = refl; settled = refl; drained = λ s. refl }
-spared r w st (Claim q) reply apart = same r st
-spared r w st (Look q) reply apart = same r st
-spared r w st (Drain d s) reply apart = record { claimed = refl; filled = refl; settled = refl; drained = λ t. ap (λ (b : Bool). (b && t == s) || st.drained r t) (ne_eqb r d apart) }
-spared r w st (Complete d) reply apart = record { claimed = refl; filled = ap (λ (b : Bool). b || st.filled r) (ne_eqb r d apart); settled = refl; drained = λ s. refl }
-spared r w st (Settle d) reply apart = record { claimed = refl; filled = refl; settled = ap (λ (b : Bool). b || st.settled r) (ne_eqb r d apart); drained = λ s. refl }
-spared r w st Poll reply apart = same r st
-spared r w st (Copy d n) reply apart = same r st
+-- an event that spares a region leaves it as it was, once its worker has claimed it
+pub spared : (r w : ℕ) (st : State) (event : Event) (reply : Reply) → st.claimed r ≡ Some w → Spares r event → AgreeOn r (state_after st w event reply) st
+spared r w st (Claim q) Yes held apart = record { claimed = again (r == q); filled = refl; settled = refl; drained = λ s. refl }
+  where
+    again : (b : Bool) → cond b (Some w) (st.claimed r) ≡ st.claimed r
+    again true = sym held
+    again false = refl
+spared r w st (Claim q) reply held apart = same r st
+spared r w st (Look q) reply held apart = same r st
+spared r w st (Drain d s) reply held apart = record { claimed = refl; filled = refl; settled = refl; drained = λ t. ap (λ (b : Bool). (b && t == s) || st.drained r t) (ne_eqb r d apart) }
+spared r w st (Complete d) reply held apart = record { claimed = refl; filled = ap (λ (b : Bool). b || st.filled r) (ne_eqb r d apart); settled = refl; drained = λ s. refl }
+spared r w st (Settle d) reply held apart = record { claimed = refl; filled = refl; settled = ap (λ (b : Bool). b || st.settled r) (ne_eqb r d apart); drained = λ s. refl }
+spared r w st Poll reply held apart = same r st
+spared r w st (Copy d n) reply held apart = same r st
 
 -- as many sources are left of a region of which both say the same
 same_left : (m : MoveTable) (r : ℕ) (one other : State) → AgreeOn r one other → sources_left m one r ≡ sources_left m other r
@@ -57,7 +61,7 @@ leaves_tickets m old new t event reply is g apart =
     }
   where
     a : AgreeOn t.region (own new) (own old)
-    a = subst (λ (st : State). AgreeOn t.region st (own old)) (sym (gained old new event reply g)) (spared t.region old.worker (own old) event reply apart)
+    a = subst (λ (st : State). AgreeOn t.region st (own old)) (sym (gained old new event reply g)) (spared t.region old.worker (own old) event reply is.filling.0 apart)
 
 -- a ticket of which only what was opened changed
 pub opened_more : (m : MoveTable) (c : Caller) (t t' : Ticket) → t'.region ≡ t.region → t'.left ≡ t.left → t'.from ≡ t.from → t.next ≤ t'.next → IsTicketOf m c t → IsTicketOf m c t'

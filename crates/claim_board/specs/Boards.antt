@@ -1,5 +1,5 @@
 -- What a board and a pass show.
-use Rattle.std.specs.Prelude.{◌≡◌, ℕ, suc, List, [], ◌∷◌}
+use Rattle.std.specs.Prelude.{◌≡◌, ℕ, suc, List, [], ◌∷◌, ◌++◌}
 use Rattle.atomic_table.specs.Seated.{TableId}
 use Rattle.history.specs.declared.event.Event.{Event}
 use Rattle.history.specs.declared.reply.Reply.{Reply}
@@ -8,8 +8,10 @@ use Rattle.history.specs.MoveTable.{MoveTable}
 use Rattle.history.specs.History.{BeginsWith, calls_by}
 use Rattle.claim_board.specs.declared.board.Board.{Board}
 use Rattle.claim_board.specs.declared.pass.Pass.{Pass}
+use Rattle.claim_board.specs.declared.view.Touch.{Touch}
 use Rattle.claim_board.specs.Callers.{Caller}
-use Rattle.claim_board.specs.Views.{worker_of, seen_of, mine_of}
+use Rattle.claim_board.specs.Views.{worker_of, seen_of, mine_of, steps_of}
+use Rattle.claim_board.specs.Steps.{step_of}
 use Rattle.claim_board.specs.Rule.{Extends}
 
 abbrev pub moves : Board → MoveTable
@@ -36,14 +38,19 @@ seen p = seen_of p.place.me.0
 abbrev pub mine : Pass → List Entry
 mine p = mine_of p.place.me.0
 
-abbrev pub caller : Pass → Caller
-caller p = record { board = board_of p; worker = worker p; mine = mine p }
+-- the atomic steps that it has taken
+abbrev pub steps : Pass → List Touch
+steps p = steps_of p.place.me.0
 
--- It is the same worker of the same board. To a legal history that begins with all that it had seen, and of whose calls its own are those that it had made, this call was added.
+abbrev pub caller : Pass → Caller
+caller p = record { board = board_of p; worker = worker p; seen = seen p; mine = mine p }
+
+-- It is the same worker of the same board. To a legal history that begins with all that it had seen, and of whose calls its own are those that it had made, this call was added. The pass has taken one step, of the kind of this call.
 pub record Appends (b : Board) (old new : Pass) (event : Event) (reply : Reply) : Type 0 where
   pub board : board_of new ≡ board_of old
   pub worker : Rattle.claim_board.specs.Boards.worker new ≡ Rattle.claim_board.specs.Boards.worker old
   pub history : Extends (moves b) (worker_count b) (Rattle.claim_board.specs.Boards.worker old) (seen old) (mine old) event reply (seen new) (mine new)
+  pub step : steps new ≡ steps old ++ step_of (moves b) event ∷ []
 
 -- the same worker of the same board, with the same calls of its own
 abbrev pub Stays : Pass → Pass → Type 0

@@ -1,4 +1,5 @@
 pub mod Views
+pub mod Steps
 pub mod Rule
 pub mod Boards
 pub mod Callers
@@ -8,4 +9,5 @@ pub mod Tickets
 pub mod Drains
 pub mod Grants
 pub mod Recorders
+pub mod Faults
 pub mod Others

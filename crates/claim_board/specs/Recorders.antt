@@ -14,7 +14,7 @@ worker_count r = r.key.value.workers
 
 -- A worker of a recorder tells none of its calls: they stand under the lock, where no contract sees them. So nothing is said of this caller.
 abbrev pub anybody : ℕ → Caller
-anybody worker = record { board = record { words = 0; slots = 0; views_name = 0; atom = 0; block = 0; offset = 0; slot_names = [] }; worker = worker; mine = [] }
+anybody worker = record { board = record { words = 0; slots = 0; views_name = 0; atom = 0; block = 0; offset = 0; slot_names = [] }; worker = worker; seen = []; mine = [] }
 
 -- a call for this region was not taken
 abbrev pub IsRefusal : ℕ → Fault → Type 0

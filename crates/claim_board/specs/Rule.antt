@@ -12,7 +12,8 @@ use Rattle.history.specs.State.{State, readers_left, unsettled}
 use Rattle.history.specs.History.{entry, calls_by, state_of, BeginsWith, IsLegal}
 use Rattle.claim_board.specs.declared.key.Key.{Key}
 use Rattle.claim_board.specs.declared.view.View.{View}
-use Rattle.claim_board.specs.Views.{fresh, rest_of, head_of, times_held, total, AllFit, ViewFits, IsPassView, worker_of, seen_of, mine_of}
+use Rattle.claim_board.specs.Views.{fresh, rest_of, head_of, times_held, total, AllFit, ViewFits, IsPassView, worker_of, seen_of, mine_of, steps_of}
+use Rattle.claim_board.specs.Steps.{touch_of}
 
 -- the word of a region: its readers left, and 16 more if it isn't to be filled; 8 once it is claimed, 12 once it is filled
 abbrev pub word_of : MoveTable → State → ℕ → ℕ
@@ -60,6 +61,7 @@ abbrev pub added : MoveTable → ℕ → Event → (ℕ → Reply) → Step ℕ 
 added m workers event reply s v found after =
     IsPassView after.0 × (worker_of after.0 ≡ worker_of v.0) × (after.1 ≡ v.1)
     × Extends m workers (worker_of v.0) (seen_of v.0) (mine_of v.0) event (reply found) (seen_of after.0) (mine_of after.0)
+    × (steps_of after.0 ≡ steps_of v.0 ++ touch_of s ∷ [])
 
 -- what each step answers, by the word that it found
 abbrev pub claim_reply : ℕ → Reply
@@ -108,11 +110,13 @@ abbrev pub sees : MoveTable → ℕ → Step ℕ → Me ℕ View → ℕ → Me 
 sees m workers s v found after =
     IsPassView after.0 × (worker_of after.0 ≡ worker_of v.0) × (after.1 ≡ v.1)
     × Sees m workers (worker_of v.0) v.0.told (seen_of v.0) (mine_of v.0) (seen_of after.0) (mine_of after.0)
+    × (steps_of after.0 ≡ steps_of v.0 ++ touch_of s ∷ [])
 
 -- the pass has seen what it was told of
 abbrev pub takes_told : Step ℕ → Me ℕ View → ℕ → Me ℕ View → Type 0
 takes_told s v found after =
     IsPassView after.0 × (worker_of after.0 ≡ worker_of v.0) × (after.1 ≡ v.1) × (seen_of after.0 ≡ v.0.told) × (mine_of after.0 ≡ mine_of v.0) × (calls_by (worker_of v.0) v.0.told ≡ mine_of v.0)
+    × (steps_of after.0 ≡ steps_of v.0 ++ touch_of s ∷ [])
 
 -- The seat has seen all of a legal history, in which all its workers' calls stand. The number found is that of the regions that aren't settled.
 abbrev pub surveys : MoveTable → ℕ → Step ℕ → Me ℕ View → ℕ → Me ℕ View → Type 0

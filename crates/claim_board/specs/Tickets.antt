@@ -59,9 +59,9 @@ pub record IsDoneOf (c : Caller) (d : Done) : Type 0 where
 abbrev pub IsSwept : MoveTable → Caller → Ticket → Type 0
 IsSwept m c t = (s : ℕ) → s < t.next → IsTrue (reads m t.region s) → IsTrue ((own c).drained t.region s)
 
--- the event changes nothing of the region
+-- The event changes nothing of a region that its worker has claimed.
 abbrev pub Spares : ℕ → Event → Type 0
-Spares r (Claim q) = r ≢ q
+Spares r (Claim q) = Unit {0}
 Spares r (Look q) = Unit {0}
 Spares r (Drain d s) = r ≢ d
 Spares r (Complete d) = r ≢ d

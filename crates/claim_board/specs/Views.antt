@@ -3,19 +3,20 @@ use Rattle.std.specs.Prelude.{◌≡◌, ℕ, zero, suc, ◌+◌, ◌<◌, cond,
 use Rattle.history.specs.declared.entry.Entry.{Entry}
 use Rattle.history.specs.History.{calls_by, BeginsWith}
 use Rattle.claim_board.specs.declared.view.Hold.{Hold}
+use Rattle.claim_board.specs.declared.view.Touch.{Touch}
 use Rattle.claim_board.specs.declared.view.View.{View}
 
-abbrev pub hold : ℕ → List Entry → List Entry → Hold
-hold w seen mine = record { worker = w; seen = seen; mine = mine }
+abbrev pub hold : ℕ → List Entry → List Entry → List Touch → Hold
+hold w seen mine steps = record { worker = w; seen = seen; mine = mine; steps = steps }
 
 -- the seat of one worker's pass
-abbrev pub pass_view : ℕ → List Entry → List Entry → View
-pass_view w seen mine = record { told = []; holds = hold w seen mine ∷ [] }
+abbrev pub pass_view : ℕ → List Entry → List Entry → List Touch → View
+pass_view w seen mine steps = record { told = []; holds = hold w seen mine steps ∷ [] }
 
 -- the workers from k on, n of them
 abbrev pub fresh : ℕ → ℕ → List Hold
 fresh k zero = []
-fresh k (suc n) = hold k [] [] ∷ fresh (suc k) n
+fresh k (suc n) = hold k [] [] [] ∷ fresh (suc k) n
 
 abbrev pub rest_of : List Hold → List Hold
 rest_of [] = []
@@ -62,6 +63,10 @@ abbrev pub mine_in : List Hold → List Entry
 mine_in [] = []
 mine_in (h ∷ hs) = h.mine
 
+abbrev pub steps_in : List Hold → List Touch
+steps_in [] = []
+steps_in (h ∷ hs) = h.steps
+
 abbrev pub worker_of : View → ℕ
 worker_of v = worker_in v.holds
 
@@ -71,6 +76,9 @@ seen_of v = seen_in v.holds
 abbrev pub mine_of : View → List Entry
 mine_of v = mine_in v.holds
 
+abbrev pub steps_of : View → List Touch
+steps_of v = steps_in v.holds
+
 -- the seat stands for one worker
 abbrev pub IsPassView : View → Type 0
-IsPassView v = v ≡ pass_view (worker_of v) (seen_of v) (mine_of v)
+IsPassView v = v ≡ pass_view (worker_of v) (seen_of v) (mine_of v) (steps_of v)

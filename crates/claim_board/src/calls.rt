@@ -1,5 +1,5 @@
 //! The six calls of a board. Each is one atomic step on one word, taken once.
-ghost use Rattle.std.specs.Prelude.{◌≡◌, ℕ, ◌<◌, true, IfSome, is_some, if◌then◌else◌};
+ghost use Rattle.std.specs.Prelude.{◌≡◌, ◌==◌, ◌-◌, ℕ, ◌<◌, count_by, true, IfSome, is_some, if◌then◌else◌};
 ghost use Rattle.history.specs.declared.event.Event.TheVariants.{Claim, Look, Drain, Complete, Settle, Poll};
 ghost use Rattle.history.specs.declared.reply.Reply.TheVariants.{Yes, No, All, More, Done as Completed};
 ghost use Rattle.history.specs.MoveTable.{region_count};
@@ -62,6 +62,7 @@ impl Board {
         requires region { region < region_count (moves self.now) }
         ensures entry { Appends self.now pass.old pass.new (Claim region) (if is_some result then Yes else No) }
         ensures ticket { IfSome result (λ t. (t.region ≡ region) × IsUnused t × IsTicketOf (moves self.now) (caller pass.new) t) }
+        ensures left { IfSome result (λ t. t.left ≡ count_by (λ pair. region == pair.0) (moves self.now).pairs) }
         ensures granted { IfSome result (λ _. IsGranted (moves self.now) (worker_count self.now) region (seen pass.new)) }
     {
         what_own_calls_tell();
@@ -97,6 +98,7 @@ impl Board {
         requires closed { IsClosedOf (moves self.now) (caller pass.old) ticket.old closed }
         ensures entry { Appends self.now pass.old pass.new (Drain closed.destination closed.source) (reply_of result) }
         ensures ticket { IsTicketOf (moves self.now) (caller pass.new) ticket.new }
+        ensures left { ticket.new.left ≡ ticket.old.left - 1 }
         ensures same { (ticket.new.region ≡ ticket.old.region) × (ticket.new.next ≡ ticket.old.next) × (ticket.new.right_is_out ≡ ticket.old.right_is_out) × (ticket.new.from ≡ ticket.old.from) }
     {
         how_counts_go_down();

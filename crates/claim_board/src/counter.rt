@@ -1,6 +1,7 @@
 //! A board as a desk.
-ghost use Rattle.std.specs.Prelude.{◌≡◌, ℕ, ◌<◌, IsOk, IfOk, IfErr, IfSome, OnOk, is_some, if◌then◌else◌};
+ghost use Rattle.std.specs.Prelude.{◌≡◌, ◌==◌, ◌-◌, count_by, ℕ, ◌<◌, IsOk, IfOk, IfErr, IfSome, OnOk, is_some, if◌then◌else◌};
 ghost use Rattle.claim_board.specs.Boards.{moves, identity, board_of, caller};
+ghost use Rattle.claim_board.specs.Faults.{NamesNoOther};
 
 use crate::board::Board;
 use crate::closed::Closed;
@@ -32,6 +33,7 @@ impl Desk for Board {
 
     ghost may_fail = { λ _. ⊥ };
 
+    #[tactic(auto, using(crate::proofs::Others::gains_call))]
     fn claim<W: Wait>(
         &self,
         seat: &mut Pass,
@@ -41,10 +43,12 @@ impl Desk for Board {
         Ok(self.claim(seat, region))
     }
 
+    #[tactic(auto, using(crate::proofs::Others::gains_call))]
     fn look<W: Wait>(&self, seat: &mut Pass, region: u32, _wait: &W) -> Result<Reply, Fault> {
         Ok(self.look(seat, region))
     }
 
+    #[tactic(auto, using(crate::proofs::Others::gains_call))]
     fn drain<W: Wait>(
         &self,
         seat: &mut Pass,
@@ -55,6 +59,7 @@ impl Desk for Board {
         Ok(self.drain(seat, ticket, closed))
     }
 
+    #[tactic(auto, using(crate::proofs::Others::gains_call))]
     fn complete<W: Wait>(
         &self,
         seat: &mut Pass,
@@ -65,10 +70,12 @@ impl Desk for Board {
         Ok(self.complete(seat, ticket, written))
     }
 
+    #[tactic(auto, using(crate::proofs::Others::gains_call))]
     fn settle<W: Wait>(&self, seat: &mut Pass, done: Done, _wait: &W) -> Result<bool, Fault> {
         Ok(self.settle(seat, done))
     }
 
+    #[tactic(auto, using(crate::proofs::Others::gains_call))]
     fn poll<W: Wait>(&self, seat: &mut Pass, _wait: &W) -> Result<bool, Fault> {
         Ok(self.poll(seat))
     }

@@ -1,10 +1,11 @@
-ghost use Rattle.std.specs.Prelude.{◌≡◌, ℕ, ◌<◌, IsOk, IfOk, IfErr, IfSome, OnOk, is_some, if◌then◌else◌};
+ghost use Rattle.std.specs.Prelude.{◌≡◌, ◌==◌, ◌-◌, ◌<◌, count_by, IsOk, IfOk, IfErr, IfSome, OnOk, is_some, if◌then◌else◌};
 ghost use Rattle.history.specs.declared.event.Event.TheVariants.{Claim, Look, Drain, Complete, Settle, Poll};
 ghost use Rattle.history.specs.declared.reply.Reply.TheVariants.{Yes, No, All, More, Done as Completed};
 ghost use Rattle.heap_image.specs.declared.fault.Fault.{Fault};
 ghost use Rattle.history.specs.MoveTable.{MoveTable, region_count};
 ghost use Rattle.claim_board.specs.Callers.{Caller, Gains};
 ghost use Rattle.claim_board.specs.Drains.{reply_of};
+ghost use Rattle.claim_board.specs.Faults.{NamesNoOther};
 ghost use Rattle.claim_board.specs.Tickets.{IsUnused, IsTicketOf, IsClosedOf, IsWrittenOf, IsDoneOf};
 
 use crate::closed::Closed;
@@ -31,7 +32,7 @@ pub trait Desk {
     /// Whether a seat tells its own calls. Where the list of calls stands under a lock, it can't.
     ghost tells: { Type 0 };
 
-    /// Which worker calls from the seat, and its own calls so far.
+    /// Which worker calls from the seat, all that it has seen, and its own calls so far.
     ghost caller: { Self.Seat → Caller };
 
     /// The faults that a call may answer.
@@ -47,8 +48,11 @@ pub trait Desk {
         requires seat { serves self.now seat.old }
         requires region { region < region_count (moves self.now) }
         ensures seat { serves self.now seat.new }
+        ensures worker { (caller seat.new).worker ≡ (caller seat.old).worker }
         ensures gains { IfOk result (λ answer. tells → Gains (caller seat.old) (caller seat.new) (Claim region) (if is_some answer then Yes else No)) }
         ensures ticket { IfOk result (λ answer. IfSome answer (λ t. (t.region ≡ region) × IsUnused t × (tells → IsTicketOf (moves self.now) (caller seat.new) t))) }
+        ensures left { IfOk result (λ answer. IfSome answer (λ t. t.left ≡ count_by (λ pair. region == pair.0) (moves self.now).pairs)) }
+        ensures names { IfErr result (NamesNoOther region) }
         ensures fault { IfErr result may_fail };
 
     /// As `Board::look`.
@@ -56,7 +60,9 @@ pub trait Desk {
         requires seat { serves self.now seat.old }
         requires region { region < region_count (moves self.now) }
         ensures seat { serves self.now seat.new }
+        ensures worker { (caller seat.new).worker ≡ (caller seat.old).worker }
         ensures gains { IfOk result (λ answer. tells → Gains (caller seat.old) (caller seat.new) (Look region) answer) }
+        ensures names { IfErr result (NamesNoOther region) }
         ensures fault { IfErr result may_fail };
 
     /// As `Board::drain`.
@@ -71,9 +77,12 @@ pub trait Desk {
         requires ticket { tells → IsTicketOf (moves self.now) (caller seat.old) ticket.old }
         requires closed { tells → IsClosedOf (moves self.now) (caller seat.old) ticket.old closed }
         ensures seat { serves self.now seat.new }
+        ensures worker { (caller seat.new).worker ≡ (caller seat.old).worker }
         ensures gains { IfOk result (λ answer. tells → Gains (caller seat.old) (caller seat.new) (Drain closed.destination closed.source) (reply_of answer)) }
         ensures ticket { OnOk result (tells → IsTicketOf (moves self.now) (caller seat.new) ticket.new) }
         ensures same { (ticket.new.region ≡ ticket.old.region) × (ticket.new.next ≡ ticket.old.next) × (ticket.new.right_is_out ≡ ticket.old.right_is_out) × (ticket.new.from ≡ ticket.old.from) }
+        ensures left { OnOk result (ticket.new.left ≡ ticket.old.left - 1) }
+        ensures names { IfErr result (NamesNoOther closed.destination) }
         ensures fault { IfErr result may_fail };
 
     /// As `Board::complete`.
@@ -89,8 +98,10 @@ pub trait Desk {
         requires none_left { tells → ticket.left ≡ 0 }
         requires written { tells → IsWrittenOf ticket written }
         ensures seat { serves self.now seat.new }
+        ensures worker { (caller seat.new).worker ≡ (caller seat.old).worker }
         ensures gains { OnOk result (tells → Gains (caller seat.old) (caller seat.new) (Complete ticket.region) Completed) }
         ensures done { IfOk result (λ d. (d.region ≡ ticket.region) × (tells → IsDoneOf (caller seat.new) d)) }
+        ensures names { IfErr result (NamesNoOther ticket.region) }
         ensures fault { IfErr result may_fail };
 
     /// As `Board::settle`.
@@ -98,14 +109,18 @@ pub trait Desk {
         requires seat { serves self.now seat.old }
         requires done { tells → IsDoneOf (caller seat.old) done }
         ensures seat { serves self.now seat.new }
+        ensures worker { (caller seat.new).worker ≡ (caller seat.old).worker }
         ensures gains { IfOk result (λ answer. tells → Gains (caller seat.old) (caller seat.new) (Settle done.region) (if answer then All else More)) }
+        ensures names { IfErr result (NamesNoOther done.region) }
         ensures fault { IfErr result may_fail };
 
     /// As `Board::poll`.
     fn poll<W: Wait>(&self, seat: &mut Self::Seat, wait: &W) -> Result<bool, Fault>
         requires seat { serves self.now seat.old }
         ensures seat { serves self.now seat.new }
+        ensures worker { (caller seat.new).worker ≡ (caller seat.old).worker }
         ensures gains { IfOk result (λ answer. tells → Gains (caller seat.old) (caller seat.new) Poll (if answer then All else More)) }
+        ensures answers { IsOk result }
         ensures fault { IfErr result may_fail };
 
     /// Notes that so many words of the ticket's region are written. It is no call of the seat's.
@@ -118,6 +133,8 @@ pub trait Desk {
     ) -> Result<(), Fault>
         requires seat { serves self.now seat.old }
         ensures seat { serves self.now seat.new }
+        ensures worker { (caller seat.new).worker ≡ (caller seat.old).worker }
         ensures unchanged { OnOk result (tells → caller seat.new ≡ caller seat.old) }
+        ensures names { IfErr result (NamesNoOther ticket.now.region) }
         ensures fault { IfErr result may_fail };
 }

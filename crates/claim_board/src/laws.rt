@@ -1,19 +1,47 @@
-//! What calls leave of a ticket. These functions do nothing; call one where its clause is needed.
-ghost use Rattle.std.specs.Prelude.{◌≡◌, ℕ, ◌+◌, ◌<◌, ◌≤◌, false};
+//! What calls leave of a ticket and of a completion, and what two tickets say of each other. These functions do nothing;
+//! call one where its clause is needed.
+ghost use Rattle.std.specs.Prelude.{◌≡◌, ℕ, ◌+◌, ◌<◌, ◌≤◌, List, false};
 ghost use Rattle.history.specs.declared.event.Event.{Event};
 ghost use Rattle.history.specs.declared.event.Event.TheVariants.{Drain};
+ghost use Rattle.history.specs.declared.entry.Entry.{Entry};
 ghost use Rattle.history.specs.declared.reply.Reply.{Reply};
 ghost use Rattle.history.specs.MoveTable.{MoveTable, IsMoveTable, reads};
+ghost use Rattle.history.specs.State.{is_pending};
+ghost use Rattle.history.specs.History.{IsLegal, calls_by};
+ghost use Rattle.claim_board.specs.declared.board.Board.{Board};
+ghost use Rattle.claim_board.specs.declared.done.Done.{Done};
+ghost use Rattle.claim_board.specs.declared.pass.Pass.{Pass};
 ghost use Rattle.claim_board.specs.declared.ticket.Ticket.{Ticket};
-ghost use Rattle.claim_board.specs.Callers.{Caller, Gains};
-ghost use Rattle.claim_board.specs.Tickets.{IsTicketOf, IsSwept, Spares};
+ghost use Rattle.claim_board.specs.Boards.{Appends, caller};
+ghost use Rattle.claim_board.specs.Callers.{Caller, Gains, own};
+ghost use Rattle.claim_board.specs.Tickets.{IsTicketOf, IsDoneOf, IsSwept, Spares};
 
-use history::how_counts_go_down;
+use history::{how_counts_go_down, what_legal_histories_keep, what_own_calls_tell};
 
-/// Calls for other regions leave a ticket as it is.
+/// What a call appends to a pass, the caller that the pass shows gains.
+pub fn appended_calls_are_gained()
+    ensures { (board : Board) (old new : Pass) (event : Event) (reply : Reply) → Appends board old new event reply → Gains (caller old) (caller new) event reply }
+{}
+
+/// Calls for other regions, and claims, looks and polls, leave a ticket as it is.
 pub fn other_calls_leave_tickets()
     ensures { (m : MoveTable) (old new : Caller) (t : Ticket) (event : Event) (reply : Reply) → IsTicketOf m old t → Gains old new event reply → Spares t.region event → IsTicketOf m new t }
 {}
+
+/// Calls for other regions, and claims, looks and polls, leave a completion as it is: it can still be settled.
+pub fn other_calls_leave_completions()
+    ensures { (old new : Caller) (d : Done) (event : Event) (reply : Reply) → IsDoneOf old d → Gains old new event reply → Spares d.region event → IsDoneOf new d }
+{}
+
+/// Where the calls of two workers stand in one legal history, as once their passes have met, and each has a ticket:
+/// nothing is left to be copied from the region of the one ticket to that of the other.
+pub fn nothing_is_read_from_a_ticket()
+    ensures { (m : MoveTable) (workers : ℕ) (log : List Entry) (one other : Caller) (t u : Ticket) → IsLegal m workers log → calls_by one.worker log ≡ one.mine → calls_by other.worker log ≡ other.mine
+        → IsTicketOf m one t → IsTicketOf m other u → is_pending m (own other) u.region t.region ≡ false }
+{
+    what_legal_histories_keep();
+    what_own_calls_tell();
+}
 
 /// Where all sources below the next one were drained, and then that one is opened and drained too,
 /// all below the one after it are drained.

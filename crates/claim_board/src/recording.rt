@@ -1,6 +1,7 @@
 //! How a recorder is made, and a recorder as a desk.
-ghost use Rattle.std.specs.Prelude.{◌≡◌, ℕ, ◌<◌, ◌≤◌, IsOk, IfOk, IfErr, IfSome, OnOk, is_some, if◌then◌else◌};
+ghost use Rattle.std.specs.Prelude.{◌≡◌, ◌==◌, ◌-◌, count_by, ℕ, ◌<◌, ◌≤◌, IsOk, IfOk, IfErr, IfSome, OnOk, is_some, if◌then◌else◌};
 ghost use Rattle.claim_board.specs.Recorders.{moves as moves_of, worker_count, anybody, IsRefusal, IsRefused};
+ghost use Rattle.claim_board.specs.Faults.{NamesNoOther};
 
 use crate::closed::Closed;
 use crate::desk::Desk;

@@ -1,10 +1,14 @@
 -- The faults of a collection from bytes to bytes.
-use Rattle.std.proofs.Common.{◌≡◌, ◌≢◌, ℕ, Bool, true, false, List, [], ◌∷◌, sym, ◌∙◌, subst, inl, inr, Option, Some, None, Result, Ok, Err}
+use Rattle.std.proofs.Common.{◌≡◌, ◌≢◌, ◌⊎◌, ℕ, Bool, true, false, List, [], ◌∷◌, sym, ap, ◌∙◌, subst, inl, inr, Option, Some, None, Result, Ok, Err}
 use Rattle.std.specs.Prelude.{IfSome, OnErr, option_map}
 use Rattle.heap_image.specs.declared.fault.Fault.{Fault}
-use Rattle.heap_image.specs.declared.fault.Fault.TheVariants.{TruncatedHeader, Magic, RegionLog, Length, TruncatedBody, Root, LiveOrder, Header, Overlap, Reference, Trailing, Memory, Io, Schedule}
+use Rattle.heap_image.specs.declared.fault.Fault.TheVariants.{TruncatedHeader, Magic, RegionLog, Length, TruncatedBody, Root, LiveOrder, Header, Overlap, Reference, Trailing, Memory, Workers, Gate, Io, Schedule}
 use Rattle.heap_image.specs.ImageText.{fault_if, first_some, first_fault, faults}
+use Rattle.heap_image.specs.HeapImage.{HeapImage}
 use Rattle.heap_image.specs.Refusals.{IsReason}
+use Rattle.collector.specs.declared.outcome.Refusal.{Refusal}
+use Rattle.collector.specs.declared.outcome.Refusal.TheVariants.{Kept, Lost}
+use Rattle.collector.specs.Collections.{IfKept, fault_of}
 use Rattle.collector.specs.Streams.{IsOfBytes}
 
 pub on_err : {A E : Type 0} (r : Result A E) (P : Type 0) → P → OnErr r P
@@ -80,3 +84,17 @@ pub no_schedule : (left : Option (List ℕ)) (fault : Fault) → IfSome left (λ
 no_schedule None fault reason = tt
 no_schedule (Some input) fault reason = λ line same.
     no_fault_of_reading (Some input) (λ _. ⊥) fault (Schedule line) same (λ e. cc) (λ e. cc) (λ none. none) reason
+
+-- what holds anyway
+pub if_told : {A : Type 0} (o : Option A) (P : Type 0) → P → IfSome o (λ _. P)
+if_told None P holds = tt
+if_told (Some x) P holds = holds
+
+-- where a collection ends by fault 16, some worker had begun
+pub lost_by_gate : (r : Refusal) (image : HeapImage) → IfKept r (λ back fault. (back ≡ image) × ((fault ≡ Memory) ⊎ (fault ≡ Workers))) → fault_of r ≡ Gate → r ≡ Lost Gate
+lost_by_gate (Kept back fault) image kept is = absurd (go kept.1)
+  where
+    go : (fault ≡ Memory) ⊎ (fault ≡ Workers) → ⊥
+    go (inl memory) = let e : Gate ≡ Memory = sym is ∙ memory in cc
+    go (inr workers) = let e : Gate ≡ Workers = sym is ∙ workers in cc
+lost_by_gate (Lost fault) image kept is = ap Lost is

@@ -81,8 +81,8 @@ module _ (before after : HeapImage) (long : heap_words (compact before) ≡ heap
   roots_same : HaveSameShape before after → AreAlike new_root (root_at after) (root_count before) → after.roots ≡ (compact before).roots
   roots_same h alike = same_roots after.roots (compact before).roots (h.version ∙ sym (same_version (map (redirected before)) before.roots))
       (ext_get_or 0 (roots_of after) (roots_of (compact before)) (h.roots ∙ sym root_count_same) (λ k l.
-          let m : k < root_count before = subst (λ n. k < n) h.roots l in
-          alike k m ∙ sym (new_root_at k m)))
+      let m : k < root_count before = subst (λ n. k < n) h.roots l in
+      alike k m ∙ sym (new_root_at k m)))
 
   pub root_other : (i : ℕ) → IsLeastDifference new_root (root_at after) (root_count before) i → IsLeastDifference (root_at (compact before)) (root_at after) (root_count (compact before)) i
   root_other i other = record {

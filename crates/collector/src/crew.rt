@@ -175,7 +175,6 @@ impl<'a, D: Desk, G: Gate, W: Wait> Crew<'a, D, G, W> {
     /// Fills the region of a ticket, and queues those to fill that nobody has to read any more.
     fn fill(&self, worker: &mut Worker<D::Seat>, ticket: Ticket) -> Result<Done, Fault>
         requires seat { D.serves self.now.desk.now worker.old.seat }
-        requires region { ticket.region < fill_count self.now.plan.now }
         requires unused { IsUnused ticket }
         requires ticket { D.tells → IsTicketOf (D.moves self.now.desk.now) (D.caller worker.old.seat) ticket }
         ensures seat { D.serves self.now.desk.now worker.new.seat }
@@ -209,7 +208,6 @@ impl<'a, D: Desk, G: Gate, W: Wait> Crew<'a, D, G, W> {
     ) -> Result<Done, Fault>
         requires seat { D.serves self.now.desk.now seat.old }
         requires callable { F.IsAlwaysCallable on_last }
-        requires region { ticket.region < fill_count self.now.plan.now }
         requires unused { IsUnused ticket }
         requires ticket { D.tells → IsTicketOf (D.moves self.now.desk.now) (D.caller seat.old) ticket }
         ensures seat { D.serves self.now.desk.now seat.new }

@@ -20,9 +20,9 @@ use std::thread::Threads;
 
 /// Reads an image, compacts it as [`collect`] does, and writes the compaction.
 ///
-/// Nothing is written before the collection has ended well. A fault of 1 to 10 is the first fault of the input, fault
-/// 13 says that a device has failed, and the others are those of `collect`. After fault 13 in writing, a beginning of
-/// the text was written.
+/// Nothing is written before the collection has ended well. A fault of 1 to 10, or 17, is the first fault of the input,
+/// fault 13 says that a device has failed, and the others are those of `collect`. After fault 13 in writing, a beginning
+/// of the text was written; after any other fault, nothing.
 pub fn collect_stream<R: Intake, O: Outlet, G: Gate + Sync, T: Threads + Sync, W: Wait + Sync>(
     alloc: Global,
     reader: &mut R,
@@ -40,6 +40,7 @@ pub fn collect_stream<R: Intake, O: Outlet, G: Gate + Sync, T: Threads + Sync, W
     // Nothing was written, or the collection had ended well.
     ensures written { OnErr result ((writer.new ≡ writer.old)
         ⊎ IsBegun (R.left reader.old) (R.left reader.new) (O.took writer.old) (O.took writer.new)) }
+    ensures nothing_yet { IfErr result (λ fault. fault ≢ Fault.Io → writer.new ≡ writer.old) }
     ensures bytes { IfErr result (λ fault. IsOfBytes fault
         → IfSome (R.left reader.old) (λ input. first_fault input ≡ Some fault)) }
     ensures device { result ≡ Err Fault.Io
@@ -47,7 +48,8 @@ pub fn collect_stream<R: Intake, O: Outlet, G: Gate + Sync, T: Threads + Sync, W
     // Of an input that is told.
     ensures workers { result ≡ Err Fault.Workers → IfSome (R.left reader.old) (λ _. AreNoneOrTooMany workers) }
     ensures gate { result ≡ Err Fault.Gate → IfSome (R.left reader.old)
-        (λ _. (r : ℕ) × MayBeRefused (λ n. G.may_refuse gate.now n r) workers) }
+        (λ _. (image : HeapImage) × IsRead image (R.left reader.old) (R.left reader.new)
+        × MayBeRefused (λ r. MayBeRefused (λ n. G.may_refuse gate.now n r) workers) (fill_count image)) }
     ensures schedule { IfErr result (λ fault. IfSome (R.left reader.old)
         (λ _. (line : ℕ) → fault ≢ Fault.Schedule line)) }
 {

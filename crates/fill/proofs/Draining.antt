@@ -17,10 +17,10 @@ use Rattle.history.specs.declared.entry.Entry.{Entry}
 use Rattle.history.specs.declared.event.Event.TheVariants.{Drain, Complete}
 use Rattle.history.specs.declared.reply.Reply.TheVariants.{Done}
 use Rattle.history.specs.MoveTable.{MoveTable, region_count, reads}
-use Rattle.history.specs.History.{entry}
+use Rattle.history.specs.History.{BeginsWith, entry}
 use Rattle.claim_board.specs.declared.drained.Drained.{Drained}
 use Rattle.claim_board.specs.declared.drained.Drained.TheVariants.{Last, NotLast}
-use Rattle.claim_board.specs.Callers.{Caller, Gains}
+use Rattle.claim_board.specs.Callers.{Caller, Gains, IsSeenLast}
 use Rattle.claim_board.specs.Drains.{reply_of}
 use Rattle.fill.specs.Drains.{SourceDrain, source_drain, is_last, sources_below, sources_of, last_sources, drain_calls, GainsAll, TellsLast, HasDrained, HasFilled}
 
@@ -77,6 +77,16 @@ module _ (m : MoveTable) (d : ℕ) where
 last_append : (xs ys : List SourceDrain) → last_sources (xs ++ ys) ≡ last_sources xs ++ last_sources ys
 last_append xs ys = ap sources_of (filter-append (λ x. is_last x.answer) xs ys) ∙ map-append (λ x. x.source) (filter (λ x. is_last x.answer) xs) (filter (λ x. is_last x.answer) ys)
 
+-- what is seen after one call more begins with what was seen before the calls before it
+seen_more : (old mid new : List Entry) (e : Entry) → BeginsWith mid old → IsSeenLast mid new e → BeginsWith new old
+seen_more old mid new e first last =
+    let began = last.1 in (
+      (first.0 ++ began.0) ++ e ∷ [],
+      last.2
+          ∙ (ap (λ (es : List Entry). es ++ e ∷ []) (began.1 ∙ (ap (λ (es : List Entry). es ++ began.0) first.1 ∙ append_assoc old first.0 began.0))
+          ∙ append_assoc old (first.0 ++ began.0) (e ∷ [])),
+    )
+
 -- one call more
 gains_more : (old mid new : Caller) (d s : ℕ) (answer : Drained) (drains : List SourceDrain) → GainsAll old mid (drain_calls old.worker d drains) → Gains mid new (Drain d s) (reply_of answer)
     → GainsAll old new (drain_calls old.worker d (drains ++ source_drain s answer ∷ []))
@@ -85,6 +95,7 @@ gains_more old mid new d s answer drains before g =
     record {
       board = g.board ∙ before.board;
       worker = g.worker ∙ before.worker;
+      seen = seen_more old.seen mid.seen new.seen (entry mid.worker (Drain d s) (reply_of answer)) before.seen g.seen;
       mine = g.mine ∙ ap (λ (w : ℕ). mid.mine ++ call w) before.worker ∙ ap (λ (es : List Entry). es ++ call old.worker) before.mine ∙ append_assoc old.mine (drain_calls old.worker d drains) (call old.worker)
           ∙ ap (λ (es : List Entry). old.mine ++ es) (sym (map-append (λ x. entry old.worker (Drain d x.source) (reply_of x.answer)) drains (source_drain s answer ∷ [])));
     }
@@ -104,7 +115,12 @@ module _ {F : Type 0} (step : F → ℕ → F → Type 0) (tells : Type 0) (m : 
         drains = [];
         each = sym none;
         told = refl;
-        gains = λ t. record { board = ap (λ c. c.board) (same t); worker = ap (λ c. c.worker) (same t); mine = ap (λ c. c.mine) (same t) ∙ sym (append-nil old.mine) };
+        gains = λ t. record {
+          board = ap (λ c. c.board) (same t);
+          worker = ap (λ c. c.worker) (same t);
+          seen = ([], ap (λ c. c.seen) (same t) ∙ sym (append-nil old.seen));
+          mine = ap (λ c. c.mine) (same t) ∙ sym (append-nil old.mine);
+        };
       }
 
   pub drained_more : (next s : ℕ) (answer : Drained) (old mid new : Caller) (f g h : F) → HasDrained step tells m d next old mid f g → next ≤ s → ((t : ℕ) → next ≤ t → t < s → reads m d t ≡ false) → reads m d s ≡ true
@@ -137,6 +153,7 @@ module _ {F : Type 0} (step : F → ℕ → F → Type 0) (tells : Type 0) (m : 
         gains = λ t. let b = h.gains t in let a = last t in record {
           board = a.board ∙ b.board;
           worker = a.worker ∙ b.worker;
+          seen = seen_more old.seen mid.seen new.seen (entry mid.worker (Complete d) Done) b.seen a.seen;
           mine = a.mine ∙ ap (λ (w : ℕ). mid.mine ++ call w) b.worker ∙ ap (λ (es : List Entry). es ++ call old.worker) b.mine ∙ append_assoc old.mine (drain_calls old.worker d h.drains) (call old.worker);
         };
       }

@@ -7,7 +7,7 @@ use Rattle.history.specs.declared.entry.Entry.{Entry}
 use Rattle.history.specs.declared.event.Event.TheVariants.{Drain, Complete}
 use Rattle.history.specs.declared.reply.Reply.TheVariants.{Done}
 use Rattle.history.specs.MoveTable.{MoveTable, region_count, reads}
-use Rattle.history.specs.History.{entry}
+use Rattle.history.specs.History.{BeginsWith, entry}
 use Rattle.claim_board.specs.declared.drained.Drained.{Drained}
 use Rattle.claim_board.specs.declared.drained.Drained.TheVariants.{Last, NotLast}
 use Rattle.claim_board.specs.Callers.{Caller}
@@ -43,10 +43,11 @@ last_sources drains = sources_of (filter (λ x. is_last x.answer) drains)
 abbrev pub drain_calls : ℕ → ℕ → List SourceDrain → List Entry
 drain_calls worker d drains = map (λ x. entry worker (Drain d x.source) (reply_of x.answer)) drains
 
--- the same worker of the same board, with these calls more
+-- The same worker of the same board, with these calls more. What it sees now begins with all that it had seen.
 pub record GainsAll (old new : Caller) (calls : List Entry) : Type 0 where
   pub board : new.board ≡ old.board
   pub worker : new.worker ≡ old.worker
+  pub seen : BeginsWith new.seen old.seen
   pub mine : new.mine ≡ old.mine ++ calls
 
 -- Where a step of f is a call of it: whether the drain of a source has f called with that source.

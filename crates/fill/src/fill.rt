@@ -1,5 +1,5 @@
 //! The fill of one region.
-ghost use Rattle.std.specs.Prelude.{◌≡◌, ℕ, ◌+◌, ◌<◌, ◌≤◌, [], IfOk, IfErr, OnOk};
+ghost use Rattle.std.specs.Prelude.{◌≡◌, ℕ, ◌+◌, ◌<◌, ◌≤◌, [], IfOk, IfErr, OnOk, Err};
 ghost use Rattle.heap_image.specs.HeapImage.{region_words, region_count, start_of, block_of};
 ghost use Rattle.summary.specs.NewAddresses.{prefix_end};
 ghost use Rattle.summary.specs.RegionData.{fill_count};
@@ -102,8 +102,9 @@ fn fill_target<D: Desk, F: FnMut(u32), W: Wait>(
 /// ascending; `on_last` is called after each drain that answered `Last`, with the source's number. The desk is told how
 /// many words are written before each drain, and before the completion.
 ///
-/// Fault 15 comes where a cell is not as a legal history leaves it, and the desk may answer faults of its own. The
-/// ticket and what came from it are given up then, and the region's words are spoiled if it was opened to write.
+/// Fault 15 comes where the region is not to be filled, and where a cell is not as a legal history leaves it, and the
+/// desk may answer faults of its own. The ticket and what came from it are given up then, and the region's words are
+/// spoiled if it was opened to write.
 pub fn fill_region<D: Desk, F: FnMut(u32), W: Wait>(
     desk: &D,
     cells: &Cells,
@@ -119,11 +120,11 @@ pub fn fill_region<D: Desk, F: FnMut(u32), W: Wait>(
     requires marks { marks.now ≡ plan.now }
     requires cells { cells.now ≡ plan.now }
     requires callable { F.IsAlwaysCallable on_last.old }
-    requires to_fill { ticket.region < fill_count plan.now }
     requires unused { IsUnused ticket }
     requires ticket { D.tells → IsTicketOf (D.moves desk.now) (D.caller seat.old) ticket }
     ensures seat { D.serves desk.now seat.new }
     ensures callable { F.IsAlwaysCallable on_last.new }
+    ensures outside { fill_count plan.now ≤ ticket.region → result ≡ Err (Fault.Overwritten ticket.region) }
     ensures filled { OnOk result (HasFilled (λ f s f'. F.step f s tt f') D.tells (image_table plan.now) ticket.region (D.caller seat.old) (D.caller seat.new) on_last.old on_last.new) }
     ensures done { IfOk result (λ x. (x.0.region ≡ ticket.region) × (D.tells → IsDoneOf (D.caller seat.new) x.0)) }
     ensures placed { IfOk result (λ x. x.1 ≡ record { image = plan.now; region = ticket.region }) }
@@ -132,6 +133,11 @@ pub fn fill_region<D: Desk, F: FnMut(u32), W: Wait>(
     moves_of_images();
     regions_to_fill();
     let _regions = plan.regions();
+    let region = ticket.region();
+    if region >= plan.fill_regions() {
+        ticket.give_up();
+        return Err(Fault::Overwritten(region));
+    }
     let guide = Guide::new(plan, marks);
     let mut ticket = ticket;
     let Some(right) = ticket.right() else {

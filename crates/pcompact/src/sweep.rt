@@ -6,7 +6,10 @@ ghost use Rattle.claim_board.specs.Tickets.{IsUnused, IsTicketOf};
 ghost use Rattle.pcompact.specs.Tallies.{Adds, AreTallies};
 
 use crate::tally::Tally;
-use claim_board::{Board, Pass, Ticket, one_more_source_is_drained, swept_tickets_have_none_left};
+use claim_board::{
+    Board, Pass, Ticket, appended_calls_are_gained, one_more_source_is_drained,
+    swept_tickets_have_none_left,
+};
 use history::Moves;
 use std::alloc::{AllocError, Global};
 
@@ -78,6 +81,7 @@ fn fill<M: Moves>(board: &Board, moves: &M, pass: &mut Pass, mut ticket: Ticket)
     ensures tally { Adds ticket.region (record { claims = 0; completions = 1 }) (mine pass.old) (mine pass.new) }
 {
     swept_tickets_have_none_left();
+    appended_calls_are_gained();
     one_more_source_is_drained();
     let _regions = moves.regions();
     while let Some(opening) = ticket.open(moves) {

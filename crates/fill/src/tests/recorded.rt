@@ -1,13 +1,14 @@
 //! What a recorder keeps of the fills of the base heap: how many words are noted, and when.
-ghost use Rattle.std.specs.Prelude.{◌≡◌};
+ghost use Rattle.std.specs.Prelude.{◌≡◌, ◌<◌, IfOk};
 ghost use Rattle.history.specs.ImageMoves.{image_table};
 ghost use Rattle.claim_board.specs.Recorders.{moves as moves_of, worker_count};
+ghost use Rattle.claim_board.specs.Tickets.{IsUnused};
 
 use crate::fill_region;
 use crate::tests::{BASE, BASE_LIVE, image_of};
-use claim_board::{Desk, Recorder};
+use claim_board::{Desk, Recorder, Ticket};
 use heap_image::{Fault, Image};
-use history::{moves_of_images, write_schedule};
+use history::{GivenMoves, Moves, moves_of_images, write_schedule};
 use mark_bitmap::Marks;
 use region_cells::Cells;
 use std::alloc::{AllocError, Global};
@@ -132,6 +133,65 @@ fn base_schedule<R: Threads + Wait + Sync>(
     }
     let RecordedHeap { recorder, .. } = heap;
     Ok(write_schedule(alloc, &recorder.into_schedule())?)
+}
+
+/// A ticket of a recorder of four regions, all to be filled.
+fn other_ticket<W: Wait>(alloc: Global, region: u32, wait: &W) -> Result<Ticket, Fail>
+    requires { region < 4 }
+    ensures { IfOk result (λ ticket. (ticket.region ≡ region) × IsUnused ticket) }
+{
+    let fill = Vec::from_slice(alloc, [true; 4].as_slice())?;
+    let moves = GivenMoves::new(fill, Vec::new(alloc)).ok_or("no table of moves")?;
+    if moves.regions() != 4 {
+        return Err(Fail::from("not four regions"));
+    }
+    let recorder = Recorder::new(alloc, &moves, 1)?;
+    let mut seat = 0;
+    match recorder.claim(&mut seat, region, wait)? {
+        Some(ticket) => Ok(ticket),
+        None => Err(Fail::from("the region was not claimed")),
+    }
+}
+
+/// What a fill of the heap meets that is handed a ticket of another recorder.
+fn foreign_fault<W: Wait>(
+    heap: &RecordedHeap,
+    alloc: Global,
+    region: u32,
+    wait: &W,
+) -> Result<Option<Fault>, Fail>
+    requires { region < 4 }
+{
+    let ticket = other_ticket(alloc, region, wait)?;
+    let mut seat = 0;
+    let filled = fill_region(
+        &heap.recorder,
+        &heap.cells,
+        &heap.plan,
+        &heap.marks,
+        &mut seat,
+        ticket,
+        &mut |_source: u32| {},
+        wait,
+    );
+    match filled {
+        Ok((done, _placed)) => {
+            done.give_up();
+            Ok(None)
+        }
+        Err(fault) => Ok(Some(fault)),
+    }
+}
+
+#[test]
+fn a_region_that_is_not_to_be_filled_is_refused(rt: HostRuntime) -> Result<(), Fail> {
+    let image = image_of(rt.alloc(), 0, &BASE, &BASE_LIVE, &rt)?;
+    let heap = heap_of(rt.alloc(), image, &rt)?;
+    let fault = Some(Fault::Overwritten(3));
+    assert_eq!(rt; foreign_fault(&heap, rt.alloc(), 3, &rt)?, fault);
+    let RecordedHeap { recorder, .. } = heap;
+    assert!(rt; recorder.into_schedule().is_empty());
+    Ok(())
 }
 
 #[test]

@@ -5,6 +5,7 @@ use Rattle.history.specs.MoveTable.{MoveTable, IsMoveTable, reads}
 use Rattle.claim_board.specs.Boards.{moves, caller}
 use Rattle.claim_board.specs.Callers.{Gains}
 use Rattle.claim_board.specs.Drains.{reply_of}
+use Rattle.claim_board.proofs.Others.{gains_call}
 use Rattle.claim_board.proofs.tests.fill.Goals as goal
 
 pub drain-answer-requires-clause-ticket : goal.drain-answer-requires-clause-ticket
@@ -20,7 +21,7 @@ loop-opening-preserved c =
     let reply = reply_of c.drain-answer.result in
     let same : Drain c.close.result.destination c.close.result.source ≡ Drain t.region s = λ j. Drain ((c.close.ensures.pair.0 ∙ o.reads.0) j) (c.close.ensures.pair.1 j) in
     let gains : Gains (caller c.loop-opening.pass) (caller c.drain-answer.new.pass) (Drain t.region s) reply =
-    subst (λ (event : Event). Gains (caller c.loop-opening.pass) (caller c.drain-answer.new.pass) event reply) same (record { board = e.entry.board; worker = e.entry.worker; mine = e.entry.history.mine_is }) in
+    subst (λ (event : Event). Gains (caller c.loop-opening.pass) (caller c.drain-answer.new.pass) event reply) same (gains_call c.args.board.now c.loop-opening.pass c.drain-answer.new.pass (Drain c.close.result.destination c.close.result.source) reply e.entry) in
     let skipped = subst (λ (m : MoveTable). (q : ℕ) → t.next ≤ q → q < s → reads m t.region q ≡ false) c.moves-moves.ensures o.least in (
       e.entry.board ∙ i.0,
       e.ticket,

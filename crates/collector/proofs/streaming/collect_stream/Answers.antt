@@ -1,14 +1,15 @@
-use Rattle.std.proofs.Common.{◌≡◌, ℕ, subst, inr}
+use Rattle.std.proofs.Common.{◌≡◌, ℕ, Err, ap, subst, inr}
 use Rattle.std.specs.Io.KnownBytes.{Appends}
 use Rattle.std.proofs.lemmas.Result.{err_from_is_err_and}
 use Rattle.heap_image.specs.HeapImage.{HeapImage}
 use Rattle.heap_image.specs.ImageText.{text}
 use Rattle.heap_image.specs.Outgoing.{TakesBeginning}
+use Rattle.summary.specs.RegionData.{fill_count}
 use Rattle.heap_image.specs.declared.fault.Fault.TheVariants.{Workers, Gate}
 use Rattle.collector.specs.Collections.{AreNoneOrTooMany}
 use Rattle.collector.specs.Halts.{MayBeRefused}
-use Rattle.collector.specs.Streams.{IsBegun}
-use Rattle.collector.proofs.Reasons.{no_fault_of_reading, no_schedule}
+use Rattle.collector.specs.Streams.{IsRead, IsBegun}
+use Rattle.collector.proofs.Reasons.{no_fault_of_reading, no_schedule, if_told, lost_by_gate}
 use Rattle.collector.proofs.streaming.collect_stream.Goals as goal
 
 pub returns-in_err-image-clause-workers : goal.returns-in_err-image-clause-workers
@@ -25,7 +26,8 @@ returns-in_err-image-clause-gate g c is =
     let fault = c.in_err-image.field-0.0 in
     let left = g.R.Intake.left c.args.reader.now in
     let same : fault ≡ Gate = cc (p.1, p.2, is) in
-    no_fault_of_reading left (λ _. (r : ℕ) × MayBeRefused (λ n. g.G.Gate.may_refuse c.args.gate.now n r) c.args.workers) fault Gate same (λ e. cc) (λ e. cc) (λ none. none) c.in_err-image.ensures.fault
+    let refuses : Type 0 = (image : HeapImage) × IsRead image left (g.R.Intake.left c.read_image.new.reader) × MayBeRefused (λ r. MayBeRefused (λ n. g.G.Gate.may_refuse c.args.gate.now n r) c.args.workers) (fill_count image) in
+    no_fault_of_reading left (λ _. refuses) fault Gate same (λ e. cc) (λ e. cc) (λ none. none) c.in_err-image.ensures.fault
 
 pub returns-in_err-image-clause-schedule : goal.returns-in_err-image-clause-schedule
 returns-in_err-image-clause-schedule g c =
@@ -55,3 +57,12 @@ returns-in_ok-write_image-in-Ok-clause-text g c =
       subst (λ (image : HeapImage). Appends took took' (text image)) c.in-Ok.ensures.image c.in_ok-write_image-in-Ok.ensures.text,
       c.in-Ok.ensures.figures,
     )
+
+pub returns-in-Err-clause-gate : goal.returns-in-Err-clause-gate
+returns-in-Err-clause-gate g c is =
+    let read = c.in_ok-image.ensures in
+    let left = g.R.Intake.left c.args.reader.now in
+    let left' = g.R.Intake.left c.read_image.new.reader in
+    let by_gate = c.in-Err.ensures.gate (ap Err (lost_by_gate c.in-Err.refusal c.in_ok-image.image c.in-Err.ensures.kept (cc (is, c.fault.ensures)))) in
+    let whole : IsRead c.in_ok-image.image left left' = record { valid = read.valid; text = read.text; end = read.end } in
+    if_told left ((image : HeapImage) × IsRead image left left' × MayBeRefused (λ r. MayBeRefused (λ n. g.G.Gate.may_refuse c.args.gate.now n r) c.args.workers) (fill_count image)) (c.in_ok-image.image, whole, by_gate)

@@ -6,7 +6,9 @@ use Rattle.fill.proofs.fill.fill_region.Goals as goal
 pub write-requires : goal.write-requires
 write-requires g c =
     let few = c.regions_to_fill.ensures.few c.args.plan.now c.regions-regions.ensures.valid in
-    let inside = c.requires.to_fill in
+    let inside = c.if-region-fill_regions.false in
+    let region = c.region-region.ensures in
+    let count = c.fill_regions.ensures in
     let here = c.in-Some.ensures.right.0 in
     let cells = ap region_count c.requires.cells in
     omega arith

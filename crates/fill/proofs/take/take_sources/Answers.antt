@@ -1,4 +1,4 @@
-use Rattle.std.proofs.Common.{◌≡◌, ℕ, ◌+◌, ◌<◌, ◌≤◌, false, sym, ap, ◌∙◌, subst, arith}
+use Rattle.std.proofs.Common.{◌≡◌, ℕ, ◌+◌, ◌<◌, ◌≤◌, false, [], refl, sym, ap, ◌∙◌, subst, arith}
 use Rattle.heap_image.specs.HeapImage.{HeapImage, IsValid, region_count, start_of, word_at}
 use Rattle.history.specs.declared.event.Event.{Event}
 use Rattle.history.specs.declared.event.Event.TheVariants.{Drain}
@@ -9,8 +9,8 @@ use Rattle.claim_board.specs.Callers.{Gains}
 use Rattle.claim_board.specs.Drains.{reply_of}
 use Rattle.fill.specs.Splits.{IsSplit}
 use Rattle.fill.specs.Filling.{copied_word, written_to}
-use Rattle.fill.specs.Drains.{HasDrained, TellsLast}
-use Rattle.fill.proofs.Draining.{opened_source, skipped_sources, last_sources_past, drained_more, drained_all}
+use Rattle.fill.specs.Drains.{HasDrained, TellsLast, sources_below}
+use Rattle.fill.proofs.Draining.{undrained, opened_source, skipped_sources, last_sources_past, drained_more, drained_all}
 use Rattle.fill.proofs.take.take_sources.Goals as goal
 
 pub copy_opened-requires-clause-ordered : goal.copy_opened-requires-clause-ordered
@@ -35,6 +35,30 @@ overflow_add-from-in-Some g c =
     let few : table_regions (image_table image) ≤ 16384 = (c.moves_of_images.ensures.lawful image c.prefix_end-prefix_end.ensures.valid).few in
     let e : c.source-s.result ≡ c.in-Some.opening.source = c.source-s.ensures in
     omega arith
+
+pub loop-opening-init : goal.loop-opening-init
+loop-opening-init g c =
+    let image : HeapImage = c.args.guide.now in
+    let d : ℕ = c.args.ticket.now.region in
+    let old = g.D.Desk.caller c.args.seat.now in
+    let first : c.args.ticket.now.next ≡ 0 = c.requires.unopened in
+    let here : c.region-d.result ≡ d = c.region-d.ensures in
+    let none : sources_below (image_table image) d c.args.ticket.now.next ≡ [] = ap (sources_below (image_table image) d) first in
+    record {
+      serves = c.requires.seat;
+      callable = c.requires.callable;
+      region = refl;
+      claimed = refl;
+      is_ticket = c.requires.ticket;
+      swept = λ tells s low reads. absurd (omega arith);
+      drained = undrained (λ f q h. goal.F-step g f q tt h) g.D.Desk.tells (image_table image) d c.args.ticket.now.next old old c.args.on_last.now none (λ tells. refl);
+      inside = omega arith;
+      next = omega arith;
+      place = c.requires.place ∙ ap (λ (r : ℕ). written_to image (start_of image d) (start_of image (r + 1))) (sym here);
+      split = c.requires.split;
+      long = c.requires.words;
+      hand = record { image = refl; right = refl };
+    }
 
 pub loop-opening-preserved : goal.loop-opening-preserved
 loop-opening-preserved g c =

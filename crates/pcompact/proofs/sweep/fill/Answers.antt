@@ -22,7 +22,7 @@ loop-opening-preserved g c =
     let reply = reply_of c.drain.result in
     let same : Drain c.close.result.destination c.close.result.source ≡ Drain t.region s = λ j. Drain ((c.close.ensures.pair.0 ∙ o.reads.0) j) (c.close.ensures.pair.1 j) in
     let gains : Gains (caller c.loop-opening.pass) (caller c.drain.new.pass) (Drain t.region s) reply =
-    subst (λ (event : Event). Gains (caller c.loop-opening.pass) (caller c.drain.new.pass) event reply) same (record { board = e.entry.board; worker = e.entry.worker; mine = e.entry.history.mine_is }) in
+    subst (λ (event : Event). Gains (caller c.loop-opening.pass) (caller c.drain.new.pass) event reply) same (c.appended_calls_are_gained.ensures c.args.board.now c.loop-opening.pass c.drain.new.pass (Drain c.close.result.destination c.close.result.source) reply e.entry) in
     let skipped = subst (λ (m : MoveTable). (q : ℕ) → t.next ≤ q → q < s → reads m t.region q ≡ false) c.requires.moves o.least in
     let here : c.drain.new.ticket.region ≡ t.region = e.same.0 ∙ o.same.0 in
     let adds : Adds region none (mine c.args.pass.now) (mine c.drain.new.pass) =

@@ -7,4 +7,4 @@ use Rattle.claim_board.proofs.tests.rows.claims.Goals as goal
 
 pub returns-clause-others : goal.returns-clause-others
 returns-clause-others c =
-    leaves_call c.args.board.now c.args.region c.args.pass.now c.claim-ticket.new.pass (Claim c.args.region) (if is_some c.claim-ticket.result then Yes else No) c.claim-ticket.ensures.entry (λ q apart. apart)
+    leaves_call c.args.board.now c.args.region c.args.pass.now c.claim-ticket.new.pass (Claim c.args.region) (if is_some c.claim-ticket.result then Yes else No) c.claim-ticket.ensures.entry (λ q apart. tt)
