@@ -1,6 +1,6 @@
 //! What roots reach: graphs of some shapes, and thousands of small heaps beside a plain marking program.
-use super::{PAIR, refused};
 use super::roots::{is_live, object, rooted_text};
+use super::{PAIR, refused};
 use crate::{Fault, decode, header};
 use std::alloc::{AllocError, Global};
 use std::collections::{BTreeSet, VecDeque};
@@ -218,7 +218,9 @@ impl Search<'_> {
 
     /// What is first wrong with these roots or what they reach.
     fn fault(&self, roots: &[u64]) -> Option<Fault> {
-        let outside = roots.iter().position(|root| *root > self.words.len() as u64);
+        let outside = roots
+            .iter()
+            .position(|root| *root > self.words.len() as u64);
         if let Some(index) = outside {
             return Some(Fault::Root(u32::try_from(index).unwrap_or(u32::MAX)));
         }

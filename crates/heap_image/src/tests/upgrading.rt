@@ -1,8 +1,8 @@
 //! Images with a live list, upgraded to ones with roots.
 use super::roots::rooted_text;
 use super::{BASE, Full, base_text, front, text_of};
-use crate::{Fault, FromRead, Image, ToWrite, decode, encode, upgrade, upgrade_stream};
-use std::alloc::{AllocError, Global};
+use crate::{Fault, FromRead, ToWrite, decode, encode, upgrade, upgrade_stream};
+use std::alloc::Global;
 use std::test::Fail;
 use std::thread::Threads;
 
@@ -72,7 +72,12 @@ fn a_full_writer_has_the_beginning(rt: HostRuntime) -> Result<(), Fail> {
             limit,
             fails: limit % 2 == 0,
         });
-        let answer = upgrade_stream(rt.alloc(), &mut FromRead::new(old.as_slice()), &mut full, &rt);
+        let answer = upgrade_stream(
+            rt.alloc(),
+            &mut FromRead::new(old.as_slice()),
+            &mut full,
+            &rt,
+        );
         assert_eq!(rt; answer, Err(Fault::Io), "at {limit}");
         assert_eq!(rt; full.into_inner().bytes.as_slice(), &text[..limit]);
     }
@@ -100,7 +105,12 @@ fn is_written(alloc: Global, threads: &(impl Threads + Sync)) -> Result<bool, Fa
         fails: true,
     });
     let old = base_text(alloc)?;
-    let answer = upgrade_stream(alloc, &mut FromRead::new(old.as_slice()), &mut writer, threads);
+    let answer = upgrade_stream(
+        alloc,
+        &mut FromRead::new(old.as_slice()),
+        &mut writer,
+        threads,
+    );
     let written = writer.into_inner().bytes;
     match answer {
         Ok(count) => Ok(count == 4 && written == wanted),
