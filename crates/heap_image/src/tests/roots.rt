@@ -1,7 +1,7 @@
 //! Images with roots: the worked ones, and those that are refused.
-use super::{BASE, Full, Trickle, beginning, fault_of, refused};
+use super::{BASE, Trickle, base_text, beginning, fault_of, front, refused};
 use crate::{
-    Fault, FromRead, Image, ToWrite, decode_by_threads, encode, read_image_by_threads, upgrade,
+    Fault, FromRead, decode_by_threads, encode, header, mark_from_roots, read_image_by_threads,
 };
 use std::alloc::{AllocError, Global};
 use std::process::Abort;
@@ -168,6 +168,33 @@ fn only_what_is_reached_may_not_overlap(rt: HostRuntime) -> Result<(), Fail> {
     Ok(())
 }
 
+/// What the base heap's roots reach by the call that marks, for as many roots as it has live objects.
+fn marked_in_base(
+    alloc: Global,
+    threads: &(impl Threads + Sync),
+    roots: &[u64],
+) -> Result<Vec<u64>, Fault> {
+    let text = base_text(alloc)?;
+    let parts = decode_by_threads(alloc, text.as_slice(), threads)?.into_parts();
+    if roots.len() > parts.live.len() {
+        return Err(Fault::Length);
+    }
+    mark_from_roots(alloc, parts.region_log, parts.regions.as_slice(), roots)
+}
+
+#[test]
+fn the_call_that_marks_says_the_same(rt: HostRuntime) -> Result<(), Fail> {
+    let live = marked_in_base(rt.alloc(), &rt, &[21, 0])?;
+    assert_eq!(rt; live.as_slice(), &BASE[32..]);
+    let none = marked_in_base(rt.alloc(), &rt, &[0, 0, 0, 0])?;
+    assert!(rt; none.is_empty());
+    let rows: [(&[u64], Fault); 2] = [(&[4], Fault::Header(3)), (&[4, 33], Fault::Root(1))];
+    for (roots, fault) in rows {
+        assert_eq!(rt; marked_in_base(rt.alloc(), &rt, roots).err(), Some(fault));
+    }
+    Ok(())
+}
+
 /// An object's data, a dead object and a filler, each with what looks like headers and references.
 #[test]
 fn what_looks_like_an_object_is_dead(rt: HostRuntime) -> Result<(), Fail> {
@@ -227,8 +254,9 @@ fn a_writer_is_full_at_each_byte(rt: HostRuntime) -> Result<(), Fail> {
 
 /// Whether the base with roots comes through each call that takes memory.
 fn comes_through(alloc: Global, threads: &(impl Threads + Sync)) -> Result<bool, Fault> {
-    let words = &BASE[..32];
-    is_live(threads, alloc, words, &[21, 0], &BASE[32..])
+    let marked = marked_in_base(alloc, threads, &[21, 0])?;
+    let is_right = marked.as_slice() == &BASE[32..];
+    Ok(is_right && is_live(threads, alloc, &BASE[..32], &[21, 0], &BASE[32..])?)
 }
 
 /// The script tests/crate-allocations runs this with each allocation refused in turn.

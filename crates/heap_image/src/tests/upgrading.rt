@@ -1,8 +1,8 @@
 //! Images with a live list, upgraded to ones with roots.
 use super::roots::rooted_text;
-use super::{BASE, Full, base_text, front, text_of};
-use crate::{Fault, FromRead, Image, ToWrite, decode_by_threads, encode, upgrade, upgrade_stream};
-use std::alloc::{AllocError, Global};
+use super::{BASE, Full, base_text, front, refused, text_of};
+use crate::{Fault, FromRead, ToWrite, decode_by_threads, encode, upgrade, upgrade_stream};
+use std::alloc::Global;
 use std::test::Fail;
 use std::thread::Threads;
 
