@@ -11,43 +11,55 @@ struct Board {
     remaining: AtomicU64,
 }
 
-struct Moves {
-    fill: Vec<bool>,
-    pairs: Vec<(u32, u32)>,
-    first: Vec<Option<u32>>,
+/// Tells the next source of a region.
+trait Moves: Sync {
+    fn next_source(&self, destination: u32, from: u32) -> Option<u32>;
 }
 
-impl Moves {
+/// The table of moves, which is searched.
+struct Table {
+    fill: Vec<bool>,
+    pairs: Vec<(u32, u32)>,
+}
+
+impl Moves for Table {
     fn next_source(&self, destination: u32, from: u32) -> Option<u32> {
-        if from == 0 { self.first[destination as usize] } else { search(&self.pairs, destination, from) }
+        let at = self.pairs.partition_point(|pair| *pair < (destination, from));
+        let &(d, s) = self.pairs.get(at)?;
+        if d == destination { Some(s) } else { None }
     }
 }
 
-fn search(pairs: &[(u32, u32)], destination: u32, from: u32) -> Option<u32> {
-    let at = pairs.partition_point(|pair| *pair < (destination, from));
-    let &(d, s) = pairs.get(at)?;
-    if d == destination { Some(s) } else { None }
+/// The table and the first source of each region.
+struct Indexed {
+    table: Table,
+    first: Vec<Option<u32>>,
 }
 
-fn moves() -> Moves {
+impl Moves for Indexed {
+    fn next_source(&self, destination: u32, from: u32) -> Option<u32> {
+        if from == 0 { self.first[destination as usize] } else { self.table.next_source(destination, from) }
+    }
+}
+
+fn table() -> Table {
     let fill = vec![true; REGIONS as usize];
-    let pairs: Vec<_> = (0..REGIONS).step_by(2).map(|region| (region, region + 1)).collect();
-    let first = (0..REGIONS).map(|region| search(&pairs, region, 0)).collect();
-    Moves { fill, pairs, first }
+    let pairs = (0..REGIONS).step_by(2).map(|region| (region, region + 1)).collect();
+    Table { fill, pairs }
 }
 
-fn board(moves: &Moves) -> Board {
-    let mut readers = vec![0u64; moves.fill.len()];
-    for &(_, source) in &moves.pairs {
+fn board(table: &Table) -> Board {
+    let mut readers = vec![0u64; table.fill.len()];
+    for &(_, source) in &table.pairs {
         readers[source as usize] += 1;
     }
     Board {
         words: readers.into_iter().map(AtomicU64::new).collect(),
-        remaining: AtomicU64::new(moves.fill.iter().filter(|fills| **fills).count() as u64),
+        remaining: AtomicU64::new(table.fill.iter().filter(|fills| **fills).count() as u64),
     }
 }
 
-fn fill(board: &Board, moves: &Moves, region: u32) -> u64 {
+fn fill(board: &Board, moves: &impl Moves, region: u32) -> u64 {
     if board.words[region as usize].compare_exchange(0, 8, SeqCst, SeqCst).is_err() {
         return 0;
     }
@@ -61,30 +73,37 @@ fn fill(board: &Board, moves: &Moves, region: u32) -> u64 {
     steps
 }
 
-fn work(board: &Board, moves: &Moves, from: u32, to: u32) -> u64 {
+fn work(board: &Board, moves: &impl Moves, from: u32, to: u32) -> u64 {
     (from..to).map(|region| fill(board, moves, region)).sum()
 }
 
-fn main() {
-    let moves = moves();
+fn measure(name: &str, table: &Table, moves: &impl Moves) {
     for threads in [1u32, 2, 4] {
         let mut least = u128::MAX;
         let mut steps = 0;
         for _ in 0..ROUNDS {
-            let board = board(&moves);
+            let board = board(table);
             let start = Instant::now();
             steps = thread::scope(|scope| {
                 let part = REGIONS / threads;
                 let others: Vec<_> = (1..threads)
                     .map(|k| {
-                        let (board, moves) = (&board, &moves);
+                        let board = &board;
                         scope.spawn(move || work(board, moves, k * part, (k + 1) * part))
                     })
                     .collect();
-                work(&board, &moves, 0, part) + others.into_iter().map(|one| one.join().unwrap()).sum::<u64>()
+                work(&board, moves, 0, part) + others.into_iter().map(|one| one.join().unwrap()).sum::<u64>()
             });
             least = least.min(start.elapsed().as_nanos());
         }
-        println!("{threads} {least} {steps}");
+        println!("{name} {threads} {least} {steps}");
     }
+}
+
+fn main() {
+    let table = table();
+    let first = (0..REGIONS).map(|region| table.next_source(region, 0)).collect();
+    let indexed = Indexed { table, first };
+    measure("indexed", &indexed.table, &indexed);
+    measure("searched", &indexed.table, &indexed.table);
 }

@@ -150,6 +150,7 @@ fn an_index_finds_each_source_from_anywhere(rt: HostRuntime) -> Result<(), Fail>
     let fill = [true, true, false, true, false, false];
     let table = given(rt.alloc(), &fill, &MANY_SOURCES)?.ok_or("a table")?;
     let indexed = IndexedMoves::new(rt.alloc(), table)?;
+    assert_eq!(rt; indexed.regions(), 6);
     let sources = [Some(1), Some(1), Some(2), Some(4), Some(4), Some(5), None];
     for (from, source) in sources.into_iter().enumerate() {
         assert_eq!(rt; indexed.next_source(0, from as u32), source);
