@@ -69,27 +69,6 @@ first_is input fault is = first_of (faults input) fault all is
       ),
     )
 
--- reading answers no other fault than these of an input that is told
-pub no_fault_of_reading : (left : Option (List ℕ)) (Q : List ℕ → Type 0) (fault other : Fault) → fault ≡ other
-    → other ≢ Memory → other ≢ Io → (IsOfBytes other → ⊥) → IfSome left (λ input. IsReason input fault) → IfSome left Q
-no_fault_of_reading None Q fault other same no_memory no_io unlike reason = tt
-no_fault_of_reading (Some input) Q fault other same no_memory no_io unlike reason = absurd (go reason)
-  where
-    go : IsReason input fault → ⊥
-    go (inl memory) = no_memory (sym same ∙ memory)
-    go (inr (inl io)) = no_io (sym same ∙ io)
-    go (inr (inr first)) = unlike (subst IsOfBytes same (first_is input fault first))
-
-pub no_schedule : (left : Option (List ℕ)) (fault : Fault) → IfSome left (λ input. IsReason input fault) → IfSome left (λ _. (line : ℕ) → fault ≢ Schedule line)
-no_schedule None fault reason = tt
-no_schedule (Some input) fault reason = λ line same.
-    no_fault_of_reading (Some input) (λ _. ⊥) fault (Schedule line) same (λ e. cc) (λ e. cc) (λ none. none) reason
-
--- what holds anyway
-pub if_told : {A : Type 0} (o : Option A) (P : Type 0) → P → IfSome o (λ _. P)
-if_told None P holds = tt
-if_told (Some x) P holds = holds
-
 -- where a collection ends by fault 16, some worker had begun
 pub lost_by_gate : (r : Refusal) (image : HeapImage) → IfKept r (λ back fault. (back ≡ image) × ((fault ≡ Memory) ⊎ (fault ≡ Workers))) → fault_of r ≡ Gate → r ≡ Lost Gate
 lost_by_gate (Kept back fault) image kept is = absurd (go kept.1)

@@ -45,13 +45,11 @@ pub fn collect_stream<R: Intake, O: Outlet, G: Gate + Sync, T: Threads + Sync, W
         → IfSome (R.left reader.old) (λ input. first_fault input ≡ Some fault)) }
     ensures device { result ≡ Err Fault.Io
         → IsTrue (R.has_failed reader.new) ⊎ IsTrue (O.has_failed writer.new) }
-    // Of an input that is told.
-    ensures workers { result ≡ Err Fault.Workers → IfSome (R.left reader.old) (λ _. AreNoneOrTooMany workers) }
-    ensures gate { result ≡ Err Fault.Gate → IfSome (R.left reader.old)
-        (λ _. (image : HeapImage) × IsRead image (R.left reader.old) (R.left reader.new)
-        × MayBeRefused (λ r. MayBeRefused (λ n. G.may_refuse gate.now n r) workers) (fill_count image)) }
-    ensures schedule { IfErr result (λ fault. IfSome (R.left reader.old)
-        (λ _. (line : ℕ) → fault ≢ Fault.Schedule line)) }
+    ensures workers { result ≡ Err Fault.Workers → AreNoneOrTooMany workers }
+    ensures gate { result ≡ Err Fault.Gate → (image : HeapImage)
+        × IsRead image (R.left reader.old) (R.left reader.new)
+        × MayBeRefused (λ r. MayBeRefused (λ n. G.may_refuse gate.now n r) workers) (fill_count image) }
+    ensures schedule { IfErr result (λ fault. (line : ℕ) → fault ≢ Fault.Schedule line) }
 {
     let image = read_image_by_threads(alloc, reader, threads)?;
     match collect(alloc, image, workers, gate, threads, wait) {

@@ -4,35 +4,34 @@ use Rattle.std.proofs.lemmas.Result.{err_from_is_err_and}
 use Rattle.heap_image.specs.HeapImage.{HeapImage}
 use Rattle.heap_image.specs.ImageText.{text}
 use Rattle.heap_image.specs.Outgoing.{TakesBeginning}
-use Rattle.summary.specs.RegionData.{fill_count}
-use Rattle.heap_image.specs.declared.fault.Fault.TheVariants.{Workers, Gate}
-use Rattle.collector.specs.Collections.{AreNoneOrTooMany}
-use Rattle.collector.specs.Halts.{MayBeRefused}
-use Rattle.collector.specs.Streams.{IsRead, IsBegun}
-use Rattle.collector.proofs.Reasons.{no_fault_of_reading, no_schedule, if_told, lost_by_gate}
+use Rattle.heap_image.specs.declared.fault.Fault.{Fault}
+use Rattle.heap_image.specs.declared.fault.Fault.TheVariants.{Workers, Gate, Schedule}
+use Rattle.heap_image.specs.Reading.{IsRead}
+use Rattle.heap_image.specs.Refusals.{IsOfReading}
+use Rattle.collector.specs.Streams.{IsBegun}
+use Rattle.collector.proofs.Reasons.{lost_by_gate}
 use Rattle.collector.proofs.streaming.collect_stream.Goals as goal
+
+-- reading answers no other fault than these
+no_such_reading : {P : Type 0} (fault other : Fault) → fault ≡ other → (IsOfReading other → ⊥) → IsOfReading fault → P
+no_such_reading fault other same none kind = absurd (none (subst IsOfReading same kind))
 
 pub returns-in_err-image-clause-workers : goal.returns-in_err-image-clause-workers
 returns-in_err-image-clause-workers g c is =
     let p = err_from_is_err_and c.from_residual.result c.from_residual.ensures.1 in
     let fault = c.in_err-image.field-0.0 in
-    let left = g.R.Intake.left c.args.reader.now in
-    let same : fault ≡ Workers = cc (p.1, p.2, is) in
-    no_fault_of_reading left (λ _. AreNoneOrTooMany c.args.workers) fault Workers same (λ e. cc) (λ e. cc) (λ none. none) c.in_err-image.ensures.fault
+    no_such_reading fault Workers (cc (p.1, p.2, is)) (λ none. none) c.in_err-image.ensures.kind
 
 pub returns-in_err-image-clause-gate : goal.returns-in_err-image-clause-gate
 returns-in_err-image-clause-gate g c is =
     let p = err_from_is_err_and c.from_residual.result c.from_residual.ensures.1 in
     let fault = c.in_err-image.field-0.0 in
-    let left = g.R.Intake.left c.args.reader.now in
-    let same : fault ≡ Gate = cc (p.1, p.2, is) in
-    let refuses : Type 0 = (image : HeapImage) × IsRead image left (g.R.Intake.left c.read_image.new.reader) × MayBeRefused (λ r. MayBeRefused (λ n. g.G.Gate.may_refuse c.args.gate.now n r) c.args.workers) (fill_count image) in
-    no_fault_of_reading left (λ _. refuses) fault Gate same (λ e. cc) (λ e. cc) (λ none. none) c.in_err-image.ensures.fault
+    no_such_reading fault Gate (cc (p.1, p.2, is)) (λ none. none) c.in_err-image.ensures.kind
 
 pub returns-in_err-image-clause-schedule : goal.returns-in_err-image-clause-schedule
 returns-in_err-image-clause-schedule g c =
     let p = err_from_is_err_and c.from_residual.result c.from_residual.ensures.1 in
-    rw (p.1, p.2) (no_schedule (g.R.Intake.left c.args.reader.now) c.in_err-image.field-0.0 c.in_err-image.ensures.fault)
+    rw (p.1, p.2) (λ line same. no_such_reading c.in_err-image.field-0.0 (Schedule line) same (λ none. none) c.in_err-image.ensures.kind)
 
 pub returns-in_err-write_image-in-Ok-clause-written : goal.returns-in_err-write_image-in-Ok-clause-written
 returns-in_err-write_image-in-Ok-clause-written g c =
@@ -40,7 +39,7 @@ returns-in_err-write_image-in-Ok-clause-written g c =
     let read = c.in_ok-image.ensures in
     let took = g.O.Outlet.took c.args.writer.now in
     let took' = g.O.Outlet.took c.write_image.new.writer in
-    let begun : IsBegun (g.R.Intake.left c.args.reader.now) (g.R.Intake.left c.read_image.new.reader) took took' = record {
+    let begun : IsBegun (g.R.Intake.left c.args.reader.now) (g.R.Intake.left c.read_image_by_threads.new.reader) took took' = record {
       image = c.in_ok-image.image;
       read = record { valid = read.valid; text = read.text; end = read.end };
       written = subst (λ (image : HeapImage). TakesBeginning took took' (text image)) c.in-Ok.ensures.image c.in_err-write_image-in-Ok.ensures.beginning;
@@ -62,7 +61,7 @@ pub returns-in-Err-clause-gate : goal.returns-in-Err-clause-gate
 returns-in-Err-clause-gate g c is =
     let read = c.in_ok-image.ensures in
     let left = g.R.Intake.left c.args.reader.now in
-    let left' = g.R.Intake.left c.read_image.new.reader in
+    let left' = g.R.Intake.left c.read_image_by_threads.new.reader in
     let by_gate = c.in-Err.ensures.gate (ap Err (lost_by_gate c.in-Err.refusal c.in_ok-image.image c.in-Err.ensures.kept (cc (is, c.fault.ensures)))) in
     let whole : IsRead c.in_ok-image.image left left' = record { valid = read.valid; text = read.text; end = read.end } in
-    if_told left ((image : HeapImage) × IsRead image left left' × MayBeRefused (λ r. MayBeRefused (λ n. g.G.Gate.may_refuse c.args.gate.now n r) c.args.workers) (fill_count image)) (c.in_ok-image.image, whole, by_gate)
+    (c.in_ok-image.image, whole, by_gate)
