@@ -13,7 +13,11 @@ use summary::compact_plainly;
 const ALLOWANCE: u64 = 2;
 
 /// A base heap with allowance 2.
-pub(crate) fn image(alloc: Global, base: Base, threads: &(impl Threads + Sync)) -> Result<Image, Fault> {
+pub(crate) fn image(
+    alloc: Global,
+    base: Base,
+    threads: &(impl Threads + Sync),
+) -> Result<Image, Fault> {
     decode_by_threads(alloc, base.text(alloc, ALLOWANCE)?.as_slice(), threads)
 }
 

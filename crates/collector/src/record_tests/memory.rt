@@ -17,7 +17,14 @@ fn comes_through<R: Threads + Wait + Sync>(
     base: Base,
 ) -> Result<bool, Fault> {
     let text = base.text(alloc, 2)?;
-    match record(alloc, decode_by_threads(alloc, &text, rt)?, 2, &OpenGate, rt, rt) {
+    match record(
+        alloc,
+        decode_by_threads(alloc, &text, rt)?,
+        2,
+        &OpenGate,
+        rt,
+        rt,
+    ) {
         Ok((outcome, schedule)) => is_right(alloc, rt, &text, &outcome, &schedule),
         Err(Refusal::Kept(image, fault)) => {
             if encode(alloc, &image)?.as_slice() == text.as_slice() {
