@@ -500,7 +500,7 @@ fn roots_are_handed_on(rt: HostRuntime) -> Result<(), Fail> {
     let Ok(parts) = cells.into_regions() else {
         return Err(Fail::from("nothing is to be filled"));
     };
-    match parts.roots {
+    match &parts.roots {
         Some(roots) => assert_eq!(rt; roots.as_slice(), [0, 0].as_slice()),
         None => return Err(Fail::from("no roots")),
     }
