@@ -51,26 +51,31 @@ fn moved(alloc: Global, last: u64) -> Result<Vec<u8>, Fail> {
 /// Asserts that `collect` with these workers makes the compacted image.
 fn assert_collected<R: Files + AllocGlobal + Threads + Wait + Abort + Sync>(
     rt: &R,
+    before: &str,
+    after: &str,
     workers: &str,
 ) -> Result<(), Fail> {
-    let (before, after) = ("rooted_collect.image", "rooted_collect.out");
-    fs::write(rt, before, base(rt.alloc())?.as_slice())?;
     let words = ["collect", before, after, "--workers", workers];
     assert_run(rt, &words, 0, COLLECTED, "")?;
+    let written = fs::read(rt, after)?;
     assert!(rt;
-        fs::read(rt, after)?.as_slice() == moved(rt.alloc(), 4)?.as_slice(),
+        written.as_slice() == moved(rt.alloc(), 4)?.as_slice(),
         "with {workers} workers"
     );
-    assert_run(rt, &["verify", before, after], 0, "same\n", "")?;
-    fs::remove_file(rt, before)?;
-    fs::remove_file(rt, after)?;
     Ok(())
 }
 
 #[test]
 fn collect_redirects_the_roots(rt: HostRuntime) -> Result<(), Fail> {
-    assert_collected(&rt, "1")?;
-    assert_collected(&rt, "4")
+    let (before, after) = ("rooted_collect.image", "rooted_collect.out");
+    fs::write(&rt, before, base(rt.alloc())?.as_slice())?;
+    assert_collected(&rt, before, after, "1")?;
+    assert_run(&rt, &["verify", before, after], 0, "same\n", "")?;
+    assert_collected(&rt, before, after, "4")?;
+    assert_run(&rt, &["verify", before, after], 0, "same\n", "")?;
+    fs::remove_file(&rt, before)?;
+    fs::remove_file(&rt, after)?;
+    Ok(())
 }
 
 #[test]
