@@ -71,3 +71,20 @@ replay_is_called = (refl, refl)
 pub verify_is_called : IsCallOf (codes "verify") (codes "verify" ∷ codes "heap.pcheap" ∷ codes "out.pcheap" ∷ [])
 unfolding clap_on_literals
 verify_is_called = (refl, refl)
+
+pub upgrade_is_called : IsCallOf (codes "upgrade") (codes "upgrade" ∷ codes "heap.pcheap" ∷ codes "out.pcheap" ∷ [])
+unfolding clap_on_literals
+upgrade_is_called = (refl, refl)
+
+-- the same with options that take no value
+pub collect_is_called_with_flags : IsCallOf (codes "collect") (codes "collect" ∷ codes "heap.pcheap" ∷ codes "heap.pcheap" ∷ codes "--workers" ∷ codes "2" ∷ codes "--atomic" ∷ codes "--verbose" ∷ [])
+unfolding clap_on_literals
+collect_is_called_with_flags = (refl, refl)
+
+pub summary_is_called_with_flag : IsCallOf (codes "summary") (codes "summary" ∷ codes "--verbose" ∷ codes "heap.pcheap" ∷ [])
+unfolding clap_on_literals
+summary_is_called_with_flag = (refl, refl)
+
+pub upgrade_is_called_with_flag : IsCallOf (codes "upgrade") (codes "upgrade" ∷ codes "heap.pcheap" ∷ codes "--atomic" ∷ codes "out.pcheap" ∷ [])
+unfolding clap_on_literals
+upgrade_is_called_with_flag = (refl, refl)

@@ -2,6 +2,7 @@ use Rattle.std.specs.Prelude.{◌≡◌, ℕ, pos, true, List, map, String, code
 use Rattle.clap.specs.Walk.{Rule, Text}
 use Rattle.clap.specs.Words.{App, new_app, new_rule, subcommand_of, takes, with_rule, with_subcommand}
 use Rattle.clap.specs.declared.builder.value_parser.ValueParser.TheVariants.{Signed}
+use Rattle.clap.specs.declared.builder.action.ArgAction.TheVariants.{SetTrue}
 
 module _ {A : Type 0} where
   -- the words have these texts
@@ -27,31 +28,50 @@ workers_rule = record (new_rule (codes "workers")) {
   required = true;
 }
 
+-- an option of this name, which takes no value and may be left out
+abbrev pub flag_rule : Text → Rule
+flag_rule name = record (new_rule name) { long = Some name; action = Some SetTrue }
+
+-- the option by which a command says at length what goes wrong
+abbrev pub verbose_rule : Rule
+verbose_rule = flag_rule (codes "verbose")
+
+-- the option by which files are replaced only once all is done
+abbrev pub atomic_rule : Rule
+atomic_rule = flag_rule (codes "atomic")
+
 abbrev pub board_command : App
 board_command = new_app (codes "board")
 
 abbrev pub summary_command : App
-summary_command = with_rule (new_app (codes "summary")) (file_rule (codes "IMAGE"))
+summary_command = with_rule (with_rule (new_app (codes "summary")) (file_rule (codes "IMAGE"))) verbose_rule
 
 abbrev pub collect_command : App
-collect_command = with_rule (with_rule (with_rule (new_app (codes "collect")) (file_rule (codes "IMAGE"))) (file_rule (codes "OUT"))) workers_rule
+collect_command =
+    with_rule (with_rule (with_rule (with_rule (with_rule (new_app (codes "collect")) (file_rule (codes "IMAGE"))) (file_rule (codes "OUT")))
+    workers_rule) atomic_rule) verbose_rule
 
 abbrev pub verify_command : App
-verify_command = with_rule (with_rule (new_app (codes "verify")) (file_rule (codes "BEFORE"))) (file_rule (codes "AFTER"))
+verify_command = with_rule (with_rule (with_rule (new_app (codes "verify")) (file_rule (codes "BEFORE"))) (file_rule (codes "AFTER"))) verbose_rule
 
 abbrev pub record_command : App
 record_command =
-    with_rule (with_rule (with_rule (with_rule (new_app (codes "record")) (file_rule (codes "IMAGE"))) (file_rule (codes "OUT")))
-    (file_rule (codes "SCHEDULE"))) workers_rule
+    with_rule (with_rule (with_rule (with_rule (with_rule (with_rule (new_app (codes "record")) (file_rule (codes "IMAGE"))) (file_rule (codes "OUT")))
+    (file_rule (codes "SCHEDULE"))) workers_rule) atomic_rule) verbose_rule
 
 abbrev pub replay_command : App
-replay_command = with_rule (with_rule (new_app (codes "replay")) (file_rule (codes "IMAGE"))) (file_rule (codes "SCHEDULE"))
+replay_command = with_rule (with_rule (with_rule (new_app (codes "replay")) (file_rule (codes "IMAGE"))) (file_rule (codes "SCHEDULE"))) verbose_rule
+
+abbrev pub upgrade_command : App
+upgrade_command =
+    with_rule (with_rule (with_rule (with_rule (new_app (codes "upgrade")) (file_rule (codes "IMAGE"))) (file_rule (codes "OUT"))) atomic_rule)
+    verbose_rule
 
 -- the program and its commands, as the reading of the words sees them
 abbrev pub commands : App
 commands =
-    with_subcommand (with_subcommand (with_subcommand (with_subcommand (with_subcommand (with_subcommand program
-    board_command.top) summary_command.top) collect_command.top) verify_command.top) record_command.top) replay_command.top
+    with_subcommand (with_subcommand (with_subcommand (with_subcommand (with_subcommand (with_subcommand (with_subcommand program
+    board_command.top) summary_command.top) collect_command.top) verify_command.top) record_command.top) replay_command.top) upgrade_command.top
 
 -- the program takes the line, which calls the command of this name
 abbrev pub IsCallOf : Text → List Text → Type 0

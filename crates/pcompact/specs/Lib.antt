@@ -10,3 +10,4 @@ pub mod Verification
 pub mod Collection
 pub mod Recording
 pub mod Replaying
+pub mod Upgrading

@@ -1,10 +1,10 @@
 -- Which command a request is for.
 use Rattle.std.specs.Prelude.{Bool, true, false}
 use Rattle.pcompact.specs.declared.command_line.Request.{Request}
-use Rattle.pcompact.specs.declared.command_line.Request.TheVariants.{Summary, Collect, Verify, Record, Replay}
+use Rattle.pcompact.specs.declared.command_line.Request.TheVariants.{Summary, Collect, Verify, Record, Replay, Upgrade}
 
 abbrev pub is_summary : Request → Bool
-is_summary (Summary image) = true
+is_summary (Summary asked) = true
 is_summary _ = false
 
 abbrev pub is_collect : Request → Bool
@@ -22,3 +22,7 @@ is_record _ = false
 abbrev pub is_replay : Request → Bool
 is_replay (Replay asked) = true
 is_replay _ = false
+
+abbrev pub is_upgrade : Request → Bool
+is_upgrade (Upgrade asked) = true
+is_upgrade _ = false

@@ -2,7 +2,7 @@
 ghost use Rattle.std.specs.Prelude.{◌≡◌, ◌∷◌, [], codes, true, IfOk, MatchResult};
 ghost use Rattle.clap.specs.Words.{kind_of, subcommand_name_of};
 ghost use Rattle.pcompact.specs.CommandLine.{AreWords, AreCallOf};
-ghost use Rattle.pcompact.specs.Request.{is_summary, is_collect, is_verify, is_record, is_replay};
+ghost use Rattle.pcompact.specs.Request.{is_summary, is_collect, is_verify, is_record, is_replay, is_upgrade};
 ghost use Rattle.pcompact.specs.Failure.{out_of_memory};
 
 use crate::commands::command;
@@ -16,8 +16,8 @@ use std::alloc::{AllocError, Global};
 pub enum Request<'a> {
     /// The command `board`.
     Board,
-    /// The command `summary`, of the image in a file.
-    Summary(&'a str),
+    /// The command `summary`.
+    Summary(Inspection<'a>),
     /// The command `collect`.
     Collect(Collection<'a>),
     /// The command `verify`.
@@ -26,8 +26,19 @@ pub enum Request<'a> {
     Record(Recording<'a>),
     /// The command `replay`.
     Replay(Replay<'a>),
+    /// The command `upgrade`.
+    Upgrade(Upgrade<'a>),
     /// To show this text, help or the version, of whole lines.
     Show(String),
+}
+
+/// A look at the image in a file.
+#[derive(Drop)]
+pub struct Inspection<'a> {
+    /// The file with the image.
+    pub image: &'a str,
+    /// Whether to say at length what goes wrong.
+    pub verbose: bool,
 }
 
 /// A collection of one file into another.
@@ -39,6 +50,10 @@ pub struct Collection<'a> {
     pub out: &'a str,
     /// How many workers share the work.
     pub workers: u32,
+    /// Whether what is written takes its place only once all is done.
+    pub atomic: bool,
+    /// Whether to say at length what goes wrong.
+    pub verbose: bool,
 }
 
 /// A collection of one file into another, with what the workers did in a third.
@@ -57,6 +72,8 @@ pub struct Replay<'a> {
     pub image: &'a str,
     /// The file with the schedule.
     pub schedule: &'a str,
+    /// Whether to say at length what goes wrong.
+    pub verbose: bool,
 }
 
 /// A comparison of two files.
@@ -66,6 +83,21 @@ pub struct Comparison<'a> {
     pub before: &'a str,
     /// The file with the image that should be its compaction.
     pub after: &'a str,
+    /// Whether to say at length what goes wrong.
+    pub verbose: bool,
+}
+
+/// An upgrade of one file into another.
+#[derive(Drop)]
+pub struct Upgrade<'a> {
+    /// The file with the image.
+    pub image: &'a str,
+    /// The file for the upgraded one.
+    pub out: &'a str,
+    /// Whether what is written takes its place only once all is done.
+    pub atomic: bool,
+    /// Whether to say at length what goes wrong.
+    pub verbose: bool,
 }
 
 /// Reads the words that follow the program's name.
@@ -77,6 +109,7 @@ pub fn read(alloc: Global, words: &[String]) -> Result<Request<'_>, Failure>
     ensures record { AreCallOf (codes "record") words.now → IfOk result (λ request. is_record request ≡ true) }
     ensures replay { AreCallOf (codes "replay") words.now → IfOk result (λ request. is_replay request ≡ true) }
     ensures verify { AreCallOf (codes "verify") words.now → IfOk result (λ request. is_verify request ≡ true) }
+    ensures upgrade { AreCallOf (codes "upgrade") words.now → IfOk result (λ request. is_upgrade request ≡ true) }
 {
     match command(alloc)?.try_get_matches_from(words) {
         Ok(matches) => requested(alloc, &matches),
@@ -92,14 +125,16 @@ fn requested<'a>(alloc: Global, matches: &ArgMatches<'a>) -> Result<Request<'a>,
     ensures record { subcommand_name_of matches.now ≡ Some (codes "record") → IfOk result (λ request. is_record request ≡ true) }
     ensures replay { subcommand_name_of matches.now ≡ Some (codes "replay") → IfOk result (λ request. is_replay request ≡ true) }
     ensures verify { subcommand_name_of matches.now ≡ Some (codes "verify") → IfOk result (λ request. is_verify request ≡ true) }
+    ensures upgrade { subcommand_name_of matches.now ≡ Some (codes "upgrade") → IfOk result (λ request. is_upgrade request ≡ true) }
 {
     let request = match matches.subcommand() {
         Some(("board", _)) => Some(Request::Board),
-        Some(("summary", given)) => given.get_str("IMAGE").map(Request::Summary),
+        Some(("summary", given)) => read_inspection(given).map(Request::Summary),
         Some(("collect", given)) => read_collection(given).map(Request::Collect),
         Some(("verify", given)) => read_comparison(given).map(Request::Verify),
         Some(("record", given)) => read_recording(given).map(Request::Record),
         Some(("replay", given)) => read_replay(given).map(Request::Replay),
+        Some(("upgrade", given)) => read_upgrade(given).map(Request::Upgrade),
         _ => None,
     };
     match request {
@@ -108,12 +143,22 @@ fn requested<'a>(alloc: Global, matches: &ArgMatches<'a>) -> Result<Request<'a>,
     }
 }
 
+/// What `summary` is given.
+fn read_inspection<'a>(given: &ArgMatches<'a>) -> Option<Inspection<'a>> {
+    Some(Inspection {
+        image: given.get_str("IMAGE")?,
+        verbose: given.get_flag("verbose"),
+    })
+}
+
 /// What `collect` is given.
 fn read_collection<'a>(given: &ArgMatches<'a>) -> Option<Collection<'a>> {
     Some(Collection {
         image: given.get_str("IMAGE")?,
         out: given.get_str("OUT")?,
         workers: given.get_one("workers")?,
+        atomic: given.get_flag("atomic"),
+        verbose: given.get_flag("verbose"),
     })
 }
 
@@ -122,6 +167,7 @@ fn read_comparison<'a>(given: &ArgMatches<'a>) -> Option<Comparison<'a>> {
     Some(Comparison {
         before: given.get_str("BEFORE")?,
         after: given.get_str("AFTER")?,
+        verbose: given.get_flag("verbose"),
     })
 }
 
@@ -138,6 +184,17 @@ fn read_replay<'a>(given: &ArgMatches<'a>) -> Option<Replay<'a>> {
     Some(Replay {
         image: given.get_str("IMAGE")?,
         schedule: given.get_str("SCHEDULE")?,
+        verbose: given.get_flag("verbose"),
+    })
+}
+
+/// What `upgrade` is given.
+fn read_upgrade<'a>(given: &ArgMatches<'a>) -> Option<Upgrade<'a>> {
+    Some(Upgrade {
+        image: given.get_str("IMAGE")?,
+        out: given.get_str("OUT")?,
+        atomic: given.get_flag("atomic"),
+        verbose: given.get_flag("verbose"),
     })
 }
 

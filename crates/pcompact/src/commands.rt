@@ -2,9 +2,9 @@
 ghost use Rattle.std.specs.Prelude.{◌≡◌, codes, false, IfOk};
 ghost use Rattle.clap.specs.Words.{app_of, rule_of};
 ghost use Rattle.clap.specs.declared.builder.command.Command.TheViews.{out-Command as fields_of};
-ghost use Rattle.pcompact.specs.CommandLine.{board_command, collect_command, commands, file_rule, program, record_command, replay_command, summary_command, verify_command, workers_rule};
+ghost use Rattle.pcompact.specs.CommandLine.{board_command, collect_command, commands, file_rule, flag_rule, program, record_command, replay_command, summary_command, upgrade_command, verify_command, workers_rule};
 
-use clap::{Arg, Command, value_parser};
+use clap::{Arg, ArgAction, Command, value_parser};
 use std::alloc::{AllocError, Global};
 
 const ABOUT: &str = "Full collection of a heap image by parallel sliding compaction";
@@ -25,7 +25,8 @@ pub fn command<'a>(alloc: Global) -> Result<Command<'a>, AllocError>
         .subcommand(collect(alloc)?)?
         .subcommand(verify(alloc)?)?
         .subcommand(record(alloc)?)?
-        .subcommand(replay(alloc)?)
+        .subcommand(replay(alloc)?)?
+        .subcommand(upgrade(alloc)?)
 }
 
 /// The program, with no command yet.
@@ -58,7 +59,8 @@ fn summary<'a>(alloc: Global) -> Result<Command<'a>, AllocError>
 {
     Command::new(alloc, "summary")
         .about("Prints what a collection of a heap image will do, region by region")
-        .arg(image(alloc))
+        .arg(image(alloc))?
+        .arg(verbose(alloc))
 }
 
 fn collect<'a>(alloc: Global) -> Result<Command<'a>, AllocError>
@@ -69,7 +71,9 @@ fn collect<'a>(alloc: Global) -> Result<Command<'a>, AllocError>
         .about("Collects a heap image, and writes the compacted one")
         .arg(image(alloc))?
         .arg(file(alloc, "OUT", "The file for the compacted image"))?
-        .arg(workers(alloc))
+        .arg(workers(alloc))?
+        .arg(atomic(alloc))?
+        .arg(verbose(alloc))
 }
 
 fn verify<'a>(alloc: Global) -> Result<Command<'a>, AllocError>
@@ -83,7 +87,8 @@ fn verify<'a>(alloc: Global) -> Result<Command<'a>, AllocError>
             alloc,
             "AFTER",
             "A file with the image that should be its compaction",
-        ))
+        ))?
+        .arg(verbose(alloc))
 }
 
 fn record<'a>(alloc: Global) -> Result<Command<'a>, AllocError>
@@ -99,7 +104,9 @@ fn record<'a>(alloc: Global) -> Result<Command<'a>, AllocError>
             "SCHEDULE",
             "The file for the schedule of the workers",
         ))?
-        .arg(workers(alloc))
+        .arg(workers(alloc))?
+        .arg(atomic(alloc))?
+        .arg(verbose(alloc))
 }
 
 fn replay<'a>(alloc: Global) -> Result<Command<'a>, AllocError>
@@ -109,7 +116,20 @@ fn replay<'a>(alloc: Global) -> Result<Command<'a>, AllocError>
     Command::new(alloc, "replay")
         .about("Follows a schedule word by word, and prints it with each reply")
         .arg(image(alloc))?
-        .arg(file(alloc, "SCHEDULE", "A file with a schedule"))
+        .arg(file(alloc, "SCHEDULE", "A file with a schedule"))?
+        .arg(verbose(alloc))
+}
+
+fn upgrade<'a>(alloc: Global) -> Result<Command<'a>, AllocError>
+    ensures app { IfOk result (λ command. app_of command ≡ upgrade_command) }
+    ensures local { IfOk result (λ command. (fields_of command).has_globals ≡ false) }
+{
+    Command::new(alloc, "upgrade")
+        .about("Writes a heap image as one with roots")
+        .arg(image(alloc))?
+        .arg(file(alloc, "OUT", "The file for the upgraded image"))?
+        .arg(atomic(alloc))?
+        .arg(verbose(alloc))
 }
 
 /// The file that is read.
@@ -139,4 +159,35 @@ fn workers<'a>(alloc: Global) -> Arg<'a>
         .value_parser(value_parser!(u32))
         .help("How many workers share the work, from 1 to 64")
         .required(true)
+}
+
+/// Whether files are replaced only once all is done.
+fn atomic<'a>(alloc: Global) -> Arg<'a>
+    ensures rule { rule_of result ≡ flag_rule (codes "atomic") }
+    ensures local { result.global ≡ false }
+{
+    flag(
+        alloc,
+        "atomic",
+        "Replaces files only once the command has ended well",
+    )
+}
+
+/// Whether to say at length what goes wrong.
+fn verbose<'a>(alloc: Global) -> Arg<'a>
+    ensures rule { rule_of result ≡ flag_rule (codes "verbose") }
+    ensures local { result.global ≡ false }
+{
+    flag(alloc, "verbose", "Says more of what goes wrong")
+}
+
+/// An option that takes no value and may be left out.
+fn flag<'a>(alloc: Global, name: &'a str, help: &'a str) -> Arg<'a>
+    ensures rule { rule_of result ≡ flag_rule name.now }
+    ensures local { result.global ≡ false }
+{
+    Arg::new(alloc, name)
+        .long(name)
+        .action(ArgAction::SetTrue)
+        .help(help)
 }

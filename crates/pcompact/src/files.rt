@@ -3,13 +3,15 @@ ghost use Rattle.std.specs.Prelude.{◌≡◌, codes, IfOk, string_bytes};
 ghost use Rattle.pcompact.specs.Collection.{IsFigures};
 ghost use Rattle.pcompact.specs.Replaying.{IsReplay};
 ghost use Rattle.pcompact.specs.Summary.{IsSummary};
+ghost use Rattle.pcompact.specs.Upgrading.{IsRootCount};
 
 use crate::collection::collect_into;
-use crate::command_line::{Collection, Comparison, Recording, Replay};
+use crate::command_line::{Collection, Comparison, Inspection, Recording, Replay, Upgrade};
 use crate::failure::Failure;
 use crate::recording::record_into;
 use crate::replaying::replay_text;
 use crate::summarize::summarize;
+use crate::upgrading::upgrade_into;
 use crate::verification::verify_images;
 use collector::Verdict;
 use heap_image::{Fault, FromRead, ToWrite};
@@ -24,12 +26,12 @@ const SAME_FILE: &str = "pcompact: same file\n";
 /// What `summary` prints of the image in a file.
 pub fn summary<H: Files + AllocGlobal, T: Threads + Sync>(
     host: &H,
-    name: &str,
+    asked: &Inspection<'_>,
     threads: &T,
 ) -> Result<String, Fault>
     ensures { IfOk result (λ text. IsSummary (string_bytes text)) }
 {
-    let file = opened(fs::open(host, name))?;
+    let file = opened(fs::open(host, asked.image))?;
     summarize(host.alloc(), &mut FromRead::new(file), threads)
 }
 
@@ -66,6 +68,7 @@ pub fn record<H: Files + AllocGlobal, T: Threads + Sync, L: Wait + Sync>(
         image,
         out,
         workers,
+        ..
     } = asked.collection;
     must_differ(host.alloc(), image, out)?;
     must_differ(host.alloc(), image, asked.schedule)?;
@@ -100,6 +103,19 @@ pub fn replay<H: Files + AllocGlobal, T: Threads + Sync>(
     let mut schedule = opened(fs::open(host, asked.schedule))?;
     let image = &mut FromRead::new(image);
     Ok(replay_text(host.alloc(), image, &mut schedule, threads)?)
+}
+
+/// Upgrades the image of one file into another, and answers what `upgrade` prints. The first is opened
+/// before the second is made or emptied.
+pub fn upgrade<H: Files + AllocGlobal>(host: &H, asked: &Upgrade<'_>) -> Result<Vec<u8>, Failure>
+    ensures { IfOk result (λ text. IsRootCount text.items) }
+{
+    must_differ(host.alloc(), asked.image, asked.out)?;
+    let image = opened(fs::open(host, asked.image))?;
+    let out = opened(fs::create(host, asked.out))?;
+    let image = &mut FromRead::new(image);
+    let line = upgrade_into(host.alloc(), image, &mut ToWrite::new(out))?;
+    Ok(line.into_bytes())
 }
 
 /// What `verify` prints where one file has the compaction of another.

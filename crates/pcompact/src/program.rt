@@ -8,6 +8,7 @@ ghost use Rattle.pcompact.specs.CommandLine.{AreWords, AreCallOf};
 ghost use Rattle.pcompact.specs.Failure.{out_of_memory, status_of};
 ghost use Rattle.pcompact.specs.Replaying.{IsReplay};
 ghost use Rattle.pcompact.specs.Summary.{IsSummary};
+ghost use Rattle.pcompact.specs.Upgrading.{IsRootCount};
 
 use crate::command_line::Request;
 use crate::failure::Failure;
@@ -61,6 +62,9 @@ pub fn run<H: Files + AllocGlobal, T: Threads + Sync, L: Wait + Sync, A: Write, 
     ensures verify { AreCallOf (codes "verify") words.now → result ≡ 0
         → (text : List ℕ) × (text ≡ codes "same\n")
         × Appends (A.contents out.old) (A.contents out.new) text }
+    ensures upgrade { AreCallOf (codes "upgrade") words.now → result ≡ 0
+        → (text : List ℕ) × IsRootCount text
+        × Appends (A.contents out.old) (A.contents out.new) text }
 {
     let text = match answer(host, words, threads, wait) {
         Ok(text) => text,
@@ -86,14 +90,16 @@ fn answer<H: Files + AllocGlobal, T: Threads + Sync, L: Wait + Sync>(
     ensures record { AreCallOf (codes "record") words.now → IfOk result (λ text. IsFigures text.items) }
     ensures replay { AreCallOf (codes "replay") words.now → IfOk result (λ text. IsReplay text.items) }
     ensures verify { AreCallOf (codes "verify") words.now → IfOk result (λ text. text.items ≡ codes "same\n") }
+    ensures upgrade { AreCallOf (codes "upgrade") words.now → IfOk result (λ text. IsRootCount text.items) }
 {
     match command_line::read(host.alloc(), words)? {
         Request::Board => Ok(board::board(host.alloc(), threads)?.into_bytes()),
-        Request::Summary(image) => Ok(files::summary(host, image, threads)?.into_bytes()),
+        Request::Summary(asked) => Ok(files::summary(host, &asked, threads)?.into_bytes()),
         Request::Collect(asked) => files::collect(host, &asked, threads, wait),
         Request::Verify(asked) => files::verify(host, &asked, threads),
         Request::Record(asked) => files::record(host, &asked, threads, wait),
         Request::Replay(asked) => files::replay(host, &asked, threads),
+        Request::Upgrade(asked) => files::upgrade(host, &asked),
         Request::Show(text) => Ok(text.into_bytes()),
     }
 }

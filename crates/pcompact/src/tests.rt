@@ -11,6 +11,7 @@ use std::{fs, io};
 mod files;
 mod library;
 mod roots;
+mod upgrading;
 mod usage;
 
 const BOARD: &str = "\
@@ -32,6 +33,7 @@ Commands:
   verify   Says whether a heap image is the compaction of another, or where they differ
   record   Collects a heap image, and writes down what each worker did
   replay   Follows a schedule word by word, and prints it with each reply
+  upgrade  Writes a heap image as one with roots
   help     Print this message or the help of the given subcommand(s)
 
 Options:
@@ -56,20 +58,21 @@ Options:
 const SUMMARY_HELP: &str = "\
 Prints what a collection of a heap image will do, region by region
 
-Usage: pcompact summary <IMAGE>
+Usage: pcompact summary [OPTIONS] <IMAGE>
 
 Arguments:
   <IMAGE>  A file with a heap image
 
 Options:
-  -h, --help  Print help
+      --verbose  Says more of what goes wrong
+  -h, --help     Print help
 ";
 
 const VERSION: &str = "pcompact 0.1.0\n";
 
 const NO_COMMAND: &str = "\
 error: 'pcompact' requires a subcommand but one was not provided
-  [subcommands: board, summary, collect, verify, record, replay, help]
+  [subcommands: board, summary, collect, verify, record, replay, upgrade, help]
 
 Usage: pcompact <COMMAND>
 

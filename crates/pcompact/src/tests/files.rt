@@ -87,7 +87,7 @@ schedule 1 1
 finished
 ";
 
-const SAME_FILE: &str = "pcompact: same file\n";
+pub(super) const SAME_FILE: &str = "pcompact: same file\n";
 
 const FAULT_12: &str = "pcompact: fault 12 workers\n";
 

@@ -25,7 +25,7 @@ const OVERLAPPING: [u64; 8] = [
 ];
 
 /// The image of a heap with these words and roots.
-fn image(alloc: Global, words: &[u64], roots: &[u64]) -> Result<Vec<u8>, Fail> {
+pub(super) fn image(alloc: Global, words: &[u64], roots: &[u64]) -> Result<Vec<u8>, Fail> {
     let counts = 3 | (roots.len() as u64) << 32;
     let front = [MAGIC, counts, words.len() as u64, 0];
     let mut image = Vec::new(alloc);

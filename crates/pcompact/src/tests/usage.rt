@@ -5,7 +5,7 @@ use std::test::Fail;
 const COLLECT_HELP: &str = "\
 Collects a heap image, and writes the compacted one
 
-Usage: pcompact collect --workers <n> <IMAGE> <OUT>
+Usage: pcompact collect [OPTIONS] --workers <n> <IMAGE> <OUT>
 
 Arguments:
   <IMAGE>  A file with a heap image
@@ -13,13 +13,15 @@ Arguments:
 
 Options:
       --workers <n>  How many workers share the work, from 1 to 64
+      --atomic       Replaces files only once the command has ended well
+      --verbose      Says more of what goes wrong
   -h, --help         Print help
 ";
 
 const RECORD_HELP: &str = "\
 Collects a heap image, and writes down what each worker did
 
-Usage: pcompact record --workers <n> <IMAGE> <OUT> <SCHEDULE>
+Usage: pcompact record [OPTIONS] --workers <n> <IMAGE> <OUT> <SCHEDULE>
 
 Arguments:
   <IMAGE>     A file with a heap image
@@ -28,33 +30,52 @@ Arguments:
 
 Options:
       --workers <n>  How many workers share the work, from 1 to 64
+      --atomic       Replaces files only once the command has ended well
+      --verbose      Says more of what goes wrong
   -h, --help         Print help
 ";
 
 const REPLAY_HELP: &str = "\
 Follows a schedule word by word, and prints it with each reply
 
-Usage: pcompact replay <IMAGE> <SCHEDULE>
+Usage: pcompact replay [OPTIONS] <IMAGE> <SCHEDULE>
 
 Arguments:
   <IMAGE>     A file with a heap image
   <SCHEDULE>  A file with a schedule
 
 Options:
-  -h, --help  Print help
+      --verbose  Says more of what goes wrong
+  -h, --help     Print help
 ";
 
 const VERIFY_HELP: &str = "\
 Says whether a heap image is the compaction of another, or where they differ
 
-Usage: pcompact verify <BEFORE> <AFTER>
+Usage: pcompact verify [OPTIONS] <BEFORE> <AFTER>
 
 Arguments:
   <BEFORE>  A file with a heap image
   <AFTER>   A file with the image that should be its compaction
 
 Options:
-  -h, --help  Print help
+      --verbose  Says more of what goes wrong
+  -h, --help     Print help
+";
+
+const UPGRADE_HELP: &str = "\
+Writes a heap image as one with roots
+
+Usage: pcompact upgrade [OPTIONS] <IMAGE> <OUT>
+
+Arguments:
+  <IMAGE>  A file with a heap image
+  <OUT>    The file for the upgraded image
+
+Options:
+      --atomic   Replaces files only once the command has ended well
+      --verbose  Says more of what goes wrong
+  -h, --help     Print help
 ";
 
 const NO_WORKERS: &str = "\
@@ -89,7 +110,7 @@ error: unexpected argument '-1' found
 
   tip: to pass '-1' as a value, use '-- -1'
 
-Usage: pcompact collect --workers <n> <IMAGE> <OUT>
+Usage: pcompact collect [OPTIONS] --workers <n> <IMAGE> <OUT>
 
 For more information, try '--help'.
 ";
@@ -99,7 +120,8 @@ fn help_of_commands_over_files(rt: HostRuntime) -> Result<(), Fail> {
     assert_run(&rt, &["collect", "--help"], 0, COLLECT_HELP, "")?;
     assert_run(&rt, &["record", "-h"], 0, RECORD_HELP, "")?;
     assert_run(&rt, &["help", "replay"], 0, REPLAY_HELP, "")?;
-    assert_run(&rt, &["verify", "--help"], 0, VERIFY_HELP, "")
+    assert_run(&rt, &["verify", "--help"], 0, VERIFY_HELP, "")?;
+    assert_run(&rt, &["upgrade", "--help"], 0, UPGRADE_HELP, "")
 }
 
 #[test]

@@ -2,7 +2,7 @@ use Rattle.std.proofs.Common.{◌≡◌, ◌∙◌, ap, ap₂, refl, subst, sym,
 use Rattle.std.specs.Prelude.{string_bytes}
 use Rattle.clap.specs.Words.{app_of, takes}
 use Rattle.pcompact.specs.CommandLine.{commands}
-use Rattle.pcompact.specs.Request.{is_summary, is_collect, is_verify, is_record, is_replay}
+use Rattle.pcompact.specs.Request.{is_summary, is_collect, is_verify, is_record, is_replay, is_upgrade}
 use Rattle.pcompact.proofs.CommandLineLemmas.{IsBoardRequest, board_is_taken, calls_board, met_by_call, no_request}
 use Rattle.pcompact.proofs.command_line.read.Goals as goal
 
@@ -56,4 +56,12 @@ returns-in-Ok-clause-verify c = λ call. c.requested.ensures.verify (met_by_call
 
 pub returns-in-Err-clause-verify : goal.returns-in-Err-clause-verify
 returns-in-Err-clause-verify c = λ call. no_request (λ request. is_verify request ≡ true) c.answered.result (c.answered.ensures
+    (c.in-Err.ensures.passes (ap (λ a. takes a (map string_bytes c.args.words.now)) c.in_ok-command.ensures ∙ call.0)))
+
+pub returns-in-Ok-clause-upgrade : goal.returns-in-Ok-clause-upgrade
+returns-in-Ok-clause-upgrade c = λ call. c.requested.ensures.upgrade (met_by_call (app_of c.in_ok-command.field-0)
+    (map string_bytes c.args.words.now) (codes "upgrade") c.in-Ok.matches c.in_ok-command.ensures c.in-Ok.ensures.matches call)
+
+pub returns-in-Err-clause-upgrade : goal.returns-in-Err-clause-upgrade
+returns-in-Err-clause-upgrade c = λ call. no_request (λ request. is_upgrade request ≡ true) c.answered.result (c.answered.ensures
     (c.in-Err.ensures.passes (ap (λ a. takes a (map string_bytes c.args.words.now)) c.in_ok-command.ensures ∙ call.0)))

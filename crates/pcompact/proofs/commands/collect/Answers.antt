@@ -11,11 +11,15 @@ returns-clause-app c =
     let start : app_of c.about.result ≡ new_app (codes "collect") = ap app_of_fields c.about.ensures ∙ c.new.ensures.app in
     let step0 = c.in_ok-arg.ensures.shape c.image.ensures.local ∙ ap₂ with_rule start c.image.ensures.rule in
     let step1 = c.in_ok-arg-2.ensures.shape c.file.ensures.local ∙ ap₂ with_rule step0 c.file.ensures.rule in
-    IfOk-weaker c.arg-3.result _ _ (λ command added. added.shape c.workers.ensures.local ∙ ap₂ with_rule step1 c.workers.ensures.rule) c.arg-3.ensures
+    let step2 = c.in_ok-arg-3.ensures.shape c.workers.ensures.local ∙ ap₂ with_rule step1 c.workers.ensures.rule in
+    let step3 = c.in_ok-arg-4.ensures.shape c.atomic.ensures.local ∙ ap₂ with_rule step2 c.atomic.ensures.rule in
+    IfOk-weaker c.arg-5.result _ _ (λ command added. added.shape c.verbose.ensures.local ∙ ap₂ with_rule step3 c.verbose.ensures.rule) c.arg-5.ensures
 
 pub returns-clause-local : goal.returns-clause-local
 returns-clause-local c =
     let start : (out-Command c.about.result).has_globals ≡ false = ap (λ f. f.has_globals) c.about.ensures ∙ c.new.ensures.local in
     let step0 = c.in_ok-arg.ensures.globals ∙ ap₂ ◌||◌ start c.image.ensures.local in
     let step1 = c.in_ok-arg-2.ensures.globals ∙ ap₂ ◌||◌ step0 c.file.ensures.local in
-    IfOk-weaker c.arg-3.result _ _ (λ command added. added.globals ∙ ap₂ ◌||◌ step1 c.workers.ensures.local) c.arg-3.ensures
+    let step2 = c.in_ok-arg-3.ensures.globals ∙ ap₂ ◌||◌ step1 c.workers.ensures.local in
+    let step3 = c.in_ok-arg-4.ensures.globals ∙ ap₂ ◌||◌ step2 c.atomic.ensures.local in
+    IfOk-weaker c.arg-5.result _ _ (λ command added. added.globals ∙ ap₂ ◌||◌ step3 c.verbose.ensures.local) c.arg-5.ensures

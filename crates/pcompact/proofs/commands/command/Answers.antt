@@ -1,7 +1,7 @@
 use Rattle.std.proofs.Common.{◌≡◌, ◌∙◌, ap, ap₂}
 use Rattle.std.proofs.lemmas.Result.{IfOk-weaker}
 use Rattle.clap.specs.Words.{App, app_of, with_subcommand}
-use Rattle.pcompact.specs.CommandLine.{board_command, collect_command, program, record_command, summary_command, verify_command}
+use Rattle.pcompact.specs.CommandLine.{board_command, collect_command, program, record_command, replay_command, summary_command, verify_command}
 use Rattle.pcompact.proofs.commands.command.Goals as goal
 
 pub returns : goal.returns
@@ -22,6 +22,9 @@ returns c =
     let with_record : app_of c.in_ok-subcommand-5.field-0 ≡ with_subcommand (with_subcommand (with_subcommand (with_subcommand (with_subcommand program board_command.top) summary_command.top) collect_command.top) verify_command.top) record_command.top =
     c.in_ok-subcommand-5.ensures.shape c.in_ok-record.ensures.local
     ∙ ap₂ with_subcommand with_verify (ap top_is c.in_ok-record.ensures.app) in
-    IfOk-weaker c.subcommand-6.result _ _
-    (λ command added. added.shape c.in_ok-replay.ensures.local
-    ∙ ap₂ with_subcommand with_record (ap top_is c.in_ok-replay.ensures.app)) c.subcommand-6.ensures
+    let with_replay : app_of c.in_ok-subcommand-6.field-0 ≡ with_subcommand (with_subcommand (with_subcommand (with_subcommand (with_subcommand (with_subcommand program board_command.top) summary_command.top) collect_command.top) verify_command.top) record_command.top) replay_command.top =
+    c.in_ok-subcommand-6.ensures.shape c.in_ok-replay.ensures.local
+    ∙ ap₂ with_subcommand with_record (ap top_is c.in_ok-replay.ensures.app) in
+    IfOk-weaker c.subcommand-7.result _ _
+    (λ command added. added.shape c.in_ok-upgrade.ensures.local
+    ∙ ap₂ with_subcommand with_replay (ap top_is c.in_ok-upgrade.ensures.app)) c.subcommand-7.ensures

@@ -12,7 +12,9 @@ returns-clause-app c =
     let step0 = c.in_ok-arg.ensures.shape c.image.ensures.local ∙ ap₂ with_rule start c.image.ensures.rule in
     let step1 = c.in_ok-arg-2.ensures.shape c.file.ensures.local ∙ ap₂ with_rule step0 c.file.ensures.rule in
     let step2 = c.in_ok-arg-3.ensures.shape c.file-2.ensures.local ∙ ap₂ with_rule step1 c.file-2.ensures.rule in
-    IfOk-weaker c.arg-4.result _ _ (λ command added. added.shape c.workers.ensures.local ∙ ap₂ with_rule step2 c.workers.ensures.rule) c.arg-4.ensures
+    let step3 = c.in_ok-arg-4.ensures.shape c.workers.ensures.local ∙ ap₂ with_rule step2 c.workers.ensures.rule in
+    let step4 = c.in_ok-arg-5.ensures.shape c.atomic.ensures.local ∙ ap₂ with_rule step3 c.atomic.ensures.rule in
+    IfOk-weaker c.arg-6.result _ _ (λ command added. added.shape c.verbose.ensures.local ∙ ap₂ with_rule step4 c.verbose.ensures.rule) c.arg-6.ensures
 
 pub returns-clause-local : goal.returns-clause-local
 returns-clause-local c =
@@ -20,4 +22,6 @@ returns-clause-local c =
     let step0 = c.in_ok-arg.ensures.globals ∙ ap₂ ◌||◌ start c.image.ensures.local in
     let step1 = c.in_ok-arg-2.ensures.globals ∙ ap₂ ◌||◌ step0 c.file.ensures.local in
     let step2 = c.in_ok-arg-3.ensures.globals ∙ ap₂ ◌||◌ step1 c.file-2.ensures.local in
-    IfOk-weaker c.arg-4.result _ _ (λ command added. added.globals ∙ ap₂ ◌||◌ step2 c.workers.ensures.local) c.arg-4.ensures
+    let step3 = c.in_ok-arg-4.ensures.globals ∙ ap₂ ◌||◌ step2 c.workers.ensures.local in
+    let step4 = c.in_ok-arg-5.ensures.globals ∙ ap₂ ◌||◌ step3 c.atomic.ensures.local in
+    IfOk-weaker c.arg-6.result _ _ (λ command added. added.globals ∙ ap₂ ◌||◌ step4 c.verbose.ensures.local) c.arg-6.ensures
