@@ -89,13 +89,14 @@ def try_refused(tried: Tried, text: bytes, said: str) -> None:
     tried.run("summary image", fault(said))
     tried.run("collect image out --workers 2", fault(said, {"out": b""}))
     tried.run("record image out schedule2 --workers 2", fault(said, {"out": b"", "schedule2": b""}))
+    tried.run("upgrade image out", fault(said, {"out": b""}))
     tried.run("replay image schedule", fault(said))
     tried.run("verify image base", fault(said))
     tried.run("verify base image", fault(said))
 
 
 def try_collected(tried: Tried, text: bytes, figures: str, after: bytes) -> None:
-    """What `collect`, `record`, `replay` and `verify` make of an image, by 1 to 64 workers."""
+    """What `collect`, `record`, `replay` and `verify` make of an image, by 1 to 64 workers; and of its upgrade."""
     tried.write("image", text)
     collected = Answer(0, figures, made={"out": after})
     for workers in (1, 2, 4, 64):
@@ -103,3 +104,19 @@ def try_collected(tried: Tried, text: bytes, figures: str, after: bytes) -> None
         tried.run(f"record image out schedule --workers {workers}", collected)
         tried.run("replay image schedule", Answer(0, tried.read("schedule").decode() + "finished\n"))
     tried.run("verify image out", Answer(0, "same\n"))
+    try_upgraded(tried, text)
+    tried.run("collect rooted out --workers 2", Answer(0, figures, made={"out": upgraded(after)}))
+
+
+def upgraded(text: bytes) -> bytes:
+    """The text of an image, upgraded."""
+    return model.encode(model.upgraded(model.decode(text)))
+
+
+def try_upgraded(tried: Tried, text: bytes) -> None:
+    """What `upgrade` makes of the image with this text, and then of the result."""
+    right = upgraded(text)
+    roots = f"roots {len(model.decode(right).roots())}\n"
+    tried.write("image", text)
+    tried.run("upgrade image rooted", Answer(0, roots, made={"rooted": right}))
+    tried.run("upgrade rooted again", Answer(0, roots, made={"again": right}))

@@ -80,6 +80,11 @@ def reached(words: list[int], roots: list[int]) -> set[int]:
     return found
 
 
+def upgraded(image: Image) -> Image:
+    """The same heap in version 2. An image of version 1 gets a root to each live object."""
+    return image if image.version == 2 else dataclasses.replace(image, version=2, tail=[1 + a for a in image.tail])
+
+
 def encode(image: Image) -> bytes:
     """The text of an image, valid or not."""
     magic = next(magic for magic, version in MAGICS.items() if version == image.version)
