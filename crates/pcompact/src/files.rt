@@ -8,20 +8,21 @@ ghost use Rattle.pcompact.specs.Upgrading.{IsRootCount};
 use crate::collection::collect_into;
 use crate::command_line::{Collection, Comparison, Inspection, Recording, Replay, Upgrade};
 use crate::failure::Failure;
+use crate::file_id::FileId;
 use crate::recording::record_into;
 use crate::replaying::replay_text;
 use crate::summarize::summarize;
+use crate::target::Target;
 use crate::upgrading::upgrade_into;
 use crate::verification::verify_images;
 use collector::Verdict;
 use heap_image::{Fault, FromRead, ToWrite};
-use std::alloc::Global;
+use std::alloc::{AllocError, Global};
+use std::fs::OpenFile;
 use std::rt::Files;
 use std::sync::Wait;
 use std::thread::Threads;
 use std::{fs, io};
-
-const SAME_FILE: &str = "pcompact: same file\n";
 
 /// What `summary` prints of the image in a file.
 pub fn summary<H: Files + AllocGlobal, T: Threads + Sync>(
@@ -35,8 +36,7 @@ pub fn summary<H: Files + AllocGlobal, T: Threads + Sync>(
     summarize(host.alloc(), &mut FromRead::new(file), threads)
 }
 
-/// Collects one file into another, and answers what `collect` prints. The first is opened before
-/// the second is made or emptied.
+/// Collects one file into another, and answers what `collect` prints.
 pub fn collect<H: Files + AllocGlobal, T: Threads + Sync, L: Wait + Sync>(
     host: &H,
     asked: &Collection<'_>,
@@ -45,9 +45,7 @@ pub fn collect<H: Files + AllocGlobal, T: Threads + Sync, L: Wait + Sync>(
 ) -> Result<Vec<u8>, Failure>
     ensures { IfOk result (λ text. IsFigures text.items) }
 {
-    must_differ(host.alloc(), asked.image, asked.out)?;
-    let image = opened(fs::open(host, asked.image))?;
-    let out = opened(fs::create(host, asked.out))?;
+    let (image, out) = image_and_out(host, asked.image, asked.out)?;
     let image = &mut FromRead::new(image);
     let out = &mut ToWrite::new(out);
     let line = collect_into(host.alloc(), image, out, asked.workers, threads, wait)?;
@@ -55,7 +53,7 @@ pub fn collect<H: Files + AllocGlobal, T: Threads + Sync, L: Wait + Sync>(
 }
 
 /// Collects one file into another and writes a third with the schedule, and answers what `record`
-/// prints. The first is opened before the others are made or emptied.
+/// prints.
 pub fn record<H: Files + AllocGlobal, T: Threads + Sync, L: Wait + Sync>(
     host: &H,
     asked: &Recording<'_>,
@@ -70,12 +68,7 @@ pub fn record<H: Files + AllocGlobal, T: Threads + Sync, L: Wait + Sync>(
         workers,
         ..
     } = asked.collection;
-    must_differ(host.alloc(), image, out)?;
-    must_differ(host.alloc(), image, asked.schedule)?;
-    must_differ(host.alloc(), out, asked.schedule)?;
-    let image = opened(fs::open(host, image))?;
-    let out = opened(fs::create(host, out))?;
-    let mut schedule = opened(fs::create(host, asked.schedule))?;
+    let (image, out, mut schedule) = image_out_and_schedule(host, image, out, asked.schedule)?;
     let image = &mut FromRead::new(image);
     let out = &mut ToWrite::new(out);
     let line = record_into(
@@ -101,21 +94,63 @@ pub fn replay<H: Files + AllocGlobal, T: Threads + Sync>(
     must_differ(host.alloc(), asked.image, asked.schedule)?;
     let image = opened(fs::open(host, asked.image))?;
     let mut schedule = opened(fs::open(host, asked.schedule))?;
+    if id_of(&image)?.is_same(id_of(&schedule)?) {
+        return Err(same_file(host.alloc())?);
+    }
     let image = &mut FromRead::new(image);
     Ok(replay_text(host.alloc(), image, &mut schedule, threads)?)
 }
 
-/// Upgrades the image of one file into another, and answers what `upgrade` prints. The first is opened
-/// before the second is made or emptied.
+/// Upgrades the image of one file into another, and answers what `upgrade` prints.
 pub fn upgrade<H: Files + AllocGlobal>(host: &H, asked: &Upgrade<'_>) -> Result<Vec<u8>, Failure>
     ensures { IfOk result (λ text. IsRootCount text.items) }
 {
-    must_differ(host.alloc(), asked.image, asked.out)?;
-    let image = opened(fs::open(host, asked.image))?;
-    let out = opened(fs::create(host, asked.out))?;
+    let (image, out) = image_and_out(host, asked.image, asked.out)?;
     let image = &mut FromRead::new(image);
     let line = upgrade_into(host.alloc(), image, &mut ToWrite::new(out))?;
     Ok(line.into_bytes())
+}
+
+/// A file to read and one to write. The first is opened before the second is made or emptied, and
+/// they must not be one file.
+fn image_and_out<H: Files + AllocGlobal>(
+    host: &H,
+    image: &str,
+    out: &str,
+) -> Result<(H::File, H::File), Failure> {
+    must_differ(host.alloc(), image, out)?;
+    let image = opened(fs::open(host, image))?;
+    let id = id_of(&image)?;
+    let out = Target::find(host, out)?;
+    if out.id().is_same(id) {
+        out.leave(host);
+        return Err(same_file(host.alloc())?);
+    }
+    Ok((image, out.emptied()?))
+}
+
+/// A file to read and two to write. The first is opened before the others are made or emptied, and
+/// no two of them must be one file.
+fn image_out_and_schedule<H: Files + AllocGlobal>(
+    host: &H,
+    image: &str,
+    out: &str,
+    schedule: &str,
+) -> Result<(H::File, H::File, H::File), Failure> {
+    must_differ(host.alloc(), image, out)?;
+    must_differ(host.alloc(), image, schedule)?;
+    must_differ(host.alloc(), out, schedule)?;
+    let image = opened(fs::open(host, image))?;
+    let id = id_of(&image)?;
+    let out = Target::find(host, out)?;
+    let schedule = Target::find(host, schedule)?;
+    let is_image = out.id().is_same(id) || schedule.id().is_same(id);
+    if is_image || out.id().is_same(schedule.id()) {
+        schedule.leave(host);
+        out.leave(host);
+        return Err(same_file(host.alloc())?);
+    }
+    Ok((image, out.emptied()?, schedule.emptied()?))
 }
 
 /// What `verify` prints where one file has the compaction of another.
@@ -144,12 +179,24 @@ fn compared<H: Files + AllocGlobal, T: Threads + Sync>(
     verify_images(host.alloc(), before, &mut FromRead::new(after), threads)
 }
 
-/// Two files of one command must have other names. Other ways of naming one file are not noticed.
+/// Two files of one command must have other names.
 fn must_differ(alloc: Global, one: &str, other: &str) -> Result<(), Failure> {
     if one == other {
-        return Err(Failure::usage(alloc, SAME_FILE)?);
+        return Err(same_file(alloc)?);
     }
     Ok(())
+}
+
+fn same_file(alloc: Global) -> Result<Failure, AllocError> {
+    Failure::usage(alloc, "pcompact: same file\n")
+}
+
+/// Which file it is that was opened.
+fn id_of<F: OpenFile>(file: &F) -> Result<FileId, Fault> {
+    match file.metadata() {
+        Ok(metadata) => Ok(FileId::of(&metadata)),
+        Err(_) => Err(Fault::Io),
+    }
 }
 
 fn opened<F>(file: io::Result<F>) -> Result<F, Fault> {

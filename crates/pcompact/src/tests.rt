@@ -11,6 +11,7 @@ use std::{fs, io};
 mod files;
 mod library;
 mod roots;
+mod same_file;
 mod upgrading;
 mod usage;
 
