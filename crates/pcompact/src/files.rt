@@ -7,8 +7,10 @@ ghost use Rattle.pcompact.specs.Upgrading.{IsRootCount};
 
 use crate::collection::collect_into;
 use crate::command_line::{Collection, Comparison, Inspection, Recording, Replay, Upgrade};
+use crate::done::Done;
 use crate::failure::Failure;
 use crate::file_id::FileId;
+use crate::output::Output;
 use crate::recording::record_into;
 use crate::replaying::replay_text;
 use crate::summarize::summarize;
@@ -29,11 +31,12 @@ pub fn summary<H: Files + AllocGlobal, T: Threads + Sync>(
     host: &H,
     asked: &Inspection<'_>,
     threads: &T,
-) -> Result<String, Fault>
-    ensures { IfOk result (λ text. IsSummary (string_bytes text)) }
+) -> Result<Done, Fault>
+    ensures { IfOk result (λ done. IsSummary done.text.items) }
 {
     let file = opened(fs::open(host, asked.image))?;
-    summarize(host.alloc(), &mut FromRead::new(file), threads)
+    let text = summarize(host.alloc(), &mut FromRead::new(file), threads)?;
+    Ok(Done::printing(text.into_bytes()))
 }
 
 /// Collects one file into another, and answers what `collect` prints.
@@ -42,14 +45,28 @@ pub fn collect<H: Files + AllocGlobal, T: Threads + Sync, L: Wait + Sync>(
     asked: &Collection<'_>,
     threads: &T,
     wait: &L,
-) -> Result<Vec<u8>, Failure>
-    ensures { IfOk result (λ text. IsFigures text.items) }
+) -> Result<Done, Failure>
+    ensures { IfOk result (λ done. IsFigures done.text.items) }
 {
-    let (image, out) = image_and_out(host, asked.image, asked.out)?;
+    let (image, mut out) = image_and_out(host, asked.image, asked.out, asked.atomic)?;
     let image = &mut FromRead::new(image);
-    let out = &mut ToWrite::new(out);
-    let line = collect_into(host.alloc(), image, out, asked.workers, threads, wait)?;
-    Ok(line.into_bytes())
+    let written = &mut ToWrite::new(&mut out.file);
+    match collect_into(host.alloc(), image, written, asked.workers, threads, wait) {
+        Ok(line) => ended(host, line, out),
+        Err(fault) => Err(failed(host, fault, out)),
+    }
+}
+
+/// Upgrades the image of one file into another, and answers what `upgrade` prints.
+pub fn upgrade<H: Files + AllocGlobal>(host: &H, asked: &Upgrade<'_>) -> Result<Done, Failure>
+    ensures { IfOk result (λ done. IsRootCount done.text.items) }
+{
+    let (image, mut out) = image_and_out(host, asked.image, asked.out, asked.atomic)?;
+    let image = &mut FromRead::new(image);
+    match upgrade_into(host.alloc(), image, &mut ToWrite::new(&mut out.file)) {
+        Ok(line) => ended(host, line, out),
+        Err(fault) => Err(failed(host, fault, out)),
+    }
 }
 
 /// Collects one file into another and writes a third with the schedule, and answers what `record`
@@ -59,28 +76,73 @@ pub fn record<H: Files + AllocGlobal, T: Threads + Sync, L: Wait + Sync>(
     asked: &Recording<'_>,
     threads: &T,
     wait: &L,
-) -> Result<Vec<u8>, Failure>
-    ensures { IfOk result (λ text. IsFigures text.items) }
+) -> Result<Done, Failure>
+    ensures { IfOk result (λ done. IsFigures done.text.items) }
 {
-    let Collection {
-        image,
-        out,
-        workers,
-        ..
-    } = asked.collection;
-    let (image, out, mut schedule) = image_out_and_schedule(host, image, out, asked.schedule)?;
-    let image = &mut FromRead::new(image);
-    let out = &mut ToWrite::new(out);
+    let (image, mut out, mut schedule) = image_out_and_schedule(host, asked)?;
     let line = record_into(
         host.alloc(),
-        image,
-        out,
-        &mut schedule,
-        workers,
+        &mut FromRead::new(image),
+        &mut ToWrite::new(&mut out.file),
+        &mut schedule.file,
+        asked.collection.workers,
         threads,
         wait,
-    )?;
-    Ok(line.into_bytes())
+    );
+    match line {
+        Ok(line) => both_ended(host, line, out, schedule),
+        Err(fault) => {
+            schedule.abandon(host);
+            Err(failed(host, fault, out))
+        }
+    }
+}
+
+/// What a command has done that prints this line and has written one file.
+fn ended<H: Files>(host: &H, line: String, out: Output<H::File>) -> Result<Done, Failure>
+    ensures { IfOk result (λ done. done.text.items ≡ string_bytes line) }
+{
+    Ok(Done {
+        text: line.into_bytes(),
+        out: out.finish(host)?,
+        schedule: None,
+    })
+}
+
+/// The same of one that has written two files.
+fn both_ended<H: Files>(
+    host: &H,
+    line: String,
+    out: Output<H::File>,
+    schedule: Output<H::File>,
+) -> Result<Done, Failure>
+    ensures { IfOk result (λ done. done.text.items ≡ string_bytes line) }
+{
+    let out = match out.finish(host) {
+        Ok(out) => out,
+        Err(fault) => return Err(failed(host, fault, schedule)),
+    };
+    let mut done = Done {
+        text: line.into_bytes(),
+        out,
+        schedule: None,
+    };
+    match schedule.finish(host) {
+        Ok(schedule) => {
+            done.schedule = schedule;
+            Ok(done)
+        }
+        Err(fault) => {
+            done.remove(host);
+            Err(Failure::from(fault))
+        }
+    }
+}
+
+/// Why a command fails that met this fault while it wrote a file.
+fn failed<H: Files>(host: &H, fault: Fault, out: Output<H::File>) -> Failure {
+    out.abandon(host);
+    Failure::from(fault)
 }
 
 /// Replays the schedule in a file on the image in another, and answers what `replay` prints.
@@ -88,8 +150,8 @@ pub fn replay<H: Files + AllocGlobal, T: Threads + Sync>(
     host: &H,
     asked: &Replay<'_>,
     threads: &T,
-) -> Result<Vec<u8>, Failure>
-    ensures { IfOk result (λ text. IsReplay text.items) }
+) -> Result<Done, Failure>
+    ensures { IfOk result (λ done. IsReplay done.text.items) }
 {
     must_differ(host.alloc(), asked.image, asked.schedule)?;
     let image = opened(fs::open(host, asked.image))?;
@@ -98,59 +160,8 @@ pub fn replay<H: Files + AllocGlobal, T: Threads + Sync>(
         return Err(same_file(host.alloc())?);
     }
     let image = &mut FromRead::new(image);
-    Ok(replay_text(host.alloc(), image, &mut schedule, threads)?)
-}
-
-/// Upgrades the image of one file into another, and answers what `upgrade` prints.
-pub fn upgrade<H: Files + AllocGlobal>(host: &H, asked: &Upgrade<'_>) -> Result<Vec<u8>, Failure>
-    ensures { IfOk result (λ text. IsRootCount text.items) }
-{
-    let (image, out) = image_and_out(host, asked.image, asked.out)?;
-    let image = &mut FromRead::new(image);
-    let line = upgrade_into(host.alloc(), image, &mut ToWrite::new(out))?;
-    Ok(line.into_bytes())
-}
-
-/// A file to read and one to write. The first is opened before the second is made or emptied, and
-/// they must not be one file.
-fn image_and_out<H: Files + AllocGlobal>(
-    host: &H,
-    image: &str,
-    out: &str,
-) -> Result<(H::File, H::File), Failure> {
-    must_differ(host.alloc(), image, out)?;
-    let image = opened(fs::open(host, image))?;
-    let id = id_of(&image)?;
-    let out = Target::find(host, out)?;
-    if out.id().is_same(id) {
-        out.leave(host);
-        return Err(same_file(host.alloc())?);
-    }
-    Ok((image, out.emptied()?))
-}
-
-/// A file to read and two to write. The first is opened before the others are made or emptied, and
-/// no two of them must be one file.
-fn image_out_and_schedule<H: Files + AllocGlobal>(
-    host: &H,
-    image: &str,
-    out: &str,
-    schedule: &str,
-) -> Result<(H::File, H::File, H::File), Failure> {
-    must_differ(host.alloc(), image, out)?;
-    must_differ(host.alloc(), image, schedule)?;
-    must_differ(host.alloc(), out, schedule)?;
-    let image = opened(fs::open(host, image))?;
-    let id = id_of(&image)?;
-    let out = Target::find(host, out)?;
-    let schedule = Target::find(host, schedule)?;
-    let is_image = out.id().is_same(id) || schedule.id().is_same(id);
-    if is_image || out.id().is_same(schedule.id()) {
-        schedule.leave(host);
-        out.leave(host);
-        return Err(same_file(host.alloc())?);
-    }
-    Ok((image, out.emptied()?, schedule.emptied()?))
+    let text = replay_text(host.alloc(), image, &mut schedule, threads)?;
+    Ok(Done::printing(text))
 }
 
 /// What `verify` prints where one file has the compaction of another.
@@ -158,11 +169,11 @@ pub fn verify<H: Files + AllocGlobal, T: Threads + Sync>(
     host: &H,
     asked: &Comparison<'_>,
     threads: &T,
-) -> Result<Vec<u8>, Failure>
-    ensures { IfOk result (λ text. text.items ≡ codes "same\n") }
+) -> Result<Done, Failure>
+    ensures { IfOk result (λ done. done.text.items ≡ codes "same\n") }
 {
     match compared(host, asked, threads)? {
-        Verdict::Same => Ok(Vec::from_slice(host.alloc(), b"same\n")?),
+        Verdict::Same => Ok(Done::printing(Vec::from_slice(host.alloc(), b"same\n")?)),
         difference => Err(Failure::Differs(difference)),
     }
 }
@@ -177,6 +188,61 @@ fn compared<H: Files + AllocGlobal, T: Threads + Sync>(
     let after = opened(fs::open(host, asked.after))?;
     let before = &mut FromRead::new(before);
     verify_images(host.alloc(), before, &mut FromRead::new(after), threads)
+}
+
+/// A file to read and one to write. The first is opened before the second is made or emptied. They
+/// may be one file only where that is replaced.
+fn image_and_out<H: Files + AllocGlobal>(
+    host: &H,
+    image: &str,
+    out: &str,
+    atomic: bool,
+) -> Result<(H::File, Output<H::File>), Failure> {
+    if !atomic {
+        must_differ(host.alloc(), image, out)?;
+    }
+    let image = opened(fs::open(host, image))?;
+    let id = id_of(&image)?;
+    let out = Target::find(host, out, atomic)?;
+    if !atomic && out.is(id) {
+        out.leave(host);
+        return Err(same_file(host.alloc())?);
+    }
+    Ok((image, out.begin(host)?))
+}
+
+/// A file to read and two to write. The first is opened before the others are made or emptied. No
+/// two may be one file, but for the first two where OUT is replaced.
+fn image_out_and_schedule<H: Files + AllocGlobal>(
+    host: &H,
+    asked: &Recording<'_>,
+) -> Result<(H::File, Output<H::File>, Output<H::File>), Failure> {
+    let Collection {
+        image,
+        out,
+        atomic,
+        ..
+    } = asked.collection;
+    if !atomic {
+        must_differ(host.alloc(), image, out)?;
+    }
+    must_differ(host.alloc(), image, asked.schedule)?;
+    must_differ(host.alloc(), out, asked.schedule)?;
+    let image = opened(fs::open(host, image))?;
+    let id = id_of(&image)?;
+    let out = Target::find(host, out, atomic)?;
+    let schedule = Target::find(host, asked.schedule, atomic)?;
+    let is_image = !atomic && out.is(id) || schedule.is(id);
+    if is_image || schedule.is_same(host, &out) {
+        schedule.leave(host);
+        out.leave(host);
+        return Err(same_file(host.alloc())?);
+    }
+    let out = out.begin(host)?;
+    match schedule.begin(host) {
+        Ok(schedule) => Ok((image, out, schedule)),
+        Err(fault) => Err(failed(host, fault, out)),
+    }
 }
 
 /// Two files of one command must have other names.

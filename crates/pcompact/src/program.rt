@@ -11,6 +11,7 @@ ghost use Rattle.pcompact.specs.Summary.{IsSummary};
 ghost use Rattle.pcompact.specs.Upgrading.{IsRootCount};
 
 use crate::command_line::Request;
+use crate::done::Done;
 use crate::failure::Failure;
 use crate::{board, command_line, files};
 use collector::Verdict;
@@ -66,41 +67,54 @@ pub fn run<H: Files + AllocGlobal, T: Threads + Sync, L: Wait + Sync, A: Write, 
         → (text : List ℕ) × IsRootCount text
         × Appends (A.contents out.old) (A.contents out.new) text }
 {
-    let text = match answer(host, words, threads, wait) {
-        Ok(text) => text,
+    let done = match answer(host, words, threads, wait) {
+        Ok(done) => done,
         Err(failure) => return tell(&failure, err),
     };
-    match show(text.as_slice(), out) {
+    match end(host, done, out) {
         Ok(()) => 0,
-        Err(_) => tell(&Failure::Fault(Fault::Io), err),
+        Err(fault) => tell(&Failure::Fault(fault), err),
     }
 }
 
-/// What the words ask for, as the text for standard output.
+/// Shows what a command prints. Then the files take their places that are to replace others.
+fn end<H: Files, A: Write>(host: &H, done: Done, out: &mut A) -> Result<(), Fault>
+    ensures { OnOk result (Appends (A.contents out.old) (A.contents out.new) done.text.items) }
+{
+    match show(done.text.as_slice(), out) {
+        Ok(()) => done.take_places(host),
+        Err(_) => {
+            done.remove(host);
+            Err(Fault::Io)
+        }
+    }
+}
+
+/// What the words ask for, but for its end.
 fn answer<H: Files + AllocGlobal, T: Threads + Sync, L: Wait + Sync>(
     host: &H,
     words: &[String],
     threads: &T,
     wait: &L,
-) -> Result<Vec<u8>, Failure>
+) -> Result<Done, Failure>
     ensures board { AreWords words.now (codes "board" ∷ []) → MatchResult result
-        (λ text. IsBoardText text.items) (λ failure. failure ≡ out_of_memory) }
-    ensures summary { AreCallOf (codes "summary") words.now → IfOk result (λ text. IsSummary text.items) }
-    ensures collect { AreCallOf (codes "collect") words.now → IfOk result (λ text. IsFigures text.items) }
-    ensures record { AreCallOf (codes "record") words.now → IfOk result (λ text. IsFigures text.items) }
-    ensures replay { AreCallOf (codes "replay") words.now → IfOk result (λ text. IsReplay text.items) }
-    ensures verify { AreCallOf (codes "verify") words.now → IfOk result (λ text. text.items ≡ codes "same\n") }
-    ensures upgrade { AreCallOf (codes "upgrade") words.now → IfOk result (λ text. IsRootCount text.items) }
+        (λ done. IsBoardText done.text.items) (λ failure. failure ≡ out_of_memory) }
+    ensures summary { AreCallOf (codes "summary") words.now → IfOk result (λ done. IsSummary done.text.items) }
+    ensures collect { AreCallOf (codes "collect") words.now → IfOk result (λ done. IsFigures done.text.items) }
+    ensures record { AreCallOf (codes "record") words.now → IfOk result (λ done. IsFigures done.text.items) }
+    ensures replay { AreCallOf (codes "replay") words.now → IfOk result (λ done. IsReplay done.text.items) }
+    ensures verify { AreCallOf (codes "verify") words.now → IfOk result (λ done. done.text.items ≡ codes "same\n") }
+    ensures upgrade { AreCallOf (codes "upgrade") words.now → IfOk result (λ done. IsRootCount done.text.items) }
 {
     match command_line::read(host.alloc(), words)? {
-        Request::Board => Ok(board::board(host.alloc(), threads)?.into_bytes()),
-        Request::Summary(asked) => Ok(files::summary(host, &asked, threads)?.into_bytes()),
+        Request::Board => Ok(Done::printing(board::board(host.alloc(), threads)?.into_bytes())),
+        Request::Summary(asked) => Ok(files::summary(host, &asked, threads)?),
         Request::Collect(asked) => files::collect(host, &asked, threads, wait),
         Request::Verify(asked) => files::verify(host, &asked, threads),
         Request::Record(asked) => files::record(host, &asked, threads, wait),
         Request::Replay(asked) => files::replay(host, &asked, threads),
         Request::Upgrade(asked) => files::upgrade(host, &asked),
-        Request::Show(text) => Ok(text.into_bytes()),
+        Request::Show(text) => Ok(Done::printing(text.into_bytes())),
     }
 }
 

@@ -1,0 +1,60 @@
+//! `Done`.
+ghost use Rattle.std.specs.Prelude.{◌≡◌};
+
+use crate::replacement::Replacement;
+use heap_image::Fault;
+use std::rt::Files;
+
+/// What a command has done, but for its end.
+#[derive(Drop)]
+pub struct Done {
+    /// What it prints.
+    pub text: Vec<u8>,
+    /// The new file for OUT, where it takes its place once all is printed.
+    pub out: Option<Replacement>,
+    /// That for SCHEDULE.
+    pub schedule: Option<Replacement>,
+}
+
+impl Done {
+    /// It prints this, and no file takes the place of another.
+    pub fn printing(text: Vec<u8>) -> Done
+        ensures { result.text ≡ text }
+    {
+        Done {
+            text,
+            out: None,
+            schedule: None,
+        }
+    }
+
+    /// The new files take their places, OUT's first.
+    ///
+    /// After fault 13 no new file is left beside a place. OUT's may have taken its place.
+    pub fn take_places<H: Files>(self, host: &H) -> Result<(), Fault> {
+        if let Err(fault) = taken(host, self.out) {
+            removed(host, self.schedule);
+            return Err(fault);
+        }
+        taken(host, self.schedule)
+    }
+
+    /// Removes the new files.
+    pub fn remove<H: Files>(self, host: &H) {
+        removed(host, self.out);
+        removed(host, self.schedule);
+    }
+}
+
+fn taken<H: Files>(host: &H, replacement: Option<Replacement>) -> Result<(), Fault> {
+    match replacement {
+        Some(replacement) => replacement.take_place(host),
+        None => Ok(()),
+    }
+}
+
+fn removed<H: Files>(host: &H, replacement: Option<Replacement>) {
+    if let Some(replacement) = replacement {
+        replacement.remove(host);
+    }
+}
