@@ -1,13 +1,16 @@
-// Preloaded into a program, lets one of its opens, reads and writes fail: the one whose number, from
-// 1, the environment gives as FAILED. With ONE set, each read and write moves one byte at most.
-// nth_call.h says how many such calls were made. Files in which the system tells of itself, as how many
-// processors there are, are left alone and not counted: no command names them.
+// Preloaded into a program, lets one of its calls on files fail, as opens, reads and writes: the one
+// whose number, from 1, the environment gives as FAILED. With ONE set, each read and write moves one
+// byte at most. nth_call.h says how many such calls were made. Files in which the system tells of itself,
+// as how many processors there are, are left alone and not counted: no command names them. Nor is it
+// counted that a file is removed: the program does so only after another fault.
 #define _GNU_SOURCE
 #include <dlfcn.h>
 #include <errno.h>
 #include <fcntl.h>
 #include <stdarg.h>
+#include <stdio.h>
 #include <string.h>
+#include <sys/stat.h>
 
 #include "nth_call.h"
 
@@ -69,4 +72,55 @@ ssize_t write(int file, const void *bytes, size_t size) {
         next = (ssize_t(*)(int, const void *, size_t))dlsym(RTLD_NEXT, "write");
     }
     return fails() ? -1 : next(file, bytes, moved(size));
+}
+
+int statx(int folder, const char *name, int flags, unsigned mask, struct statx *told) {
+    static int (*next)(int, const char *, int, unsigned, struct statx *);
+    if (!next) {
+        next = (int (*)(int, const char *, int, unsigned, struct statx *))dlsym(RTLD_NEXT, "statx");
+    }
+    if (is_left_alone(folder)) {
+        return next(folder, name, flags, mask, told);
+    }
+    return fails() ? -1 : next(folder, name, flags, mask, told);
+}
+
+int ftruncate(int file, off_t length) {
+    static int (*next)(int, off_t);
+    if (!next) {
+        next = (int (*)(int, off_t))dlsym(RTLD_NEXT, "ftruncate");
+    }
+    return fails() ? -1 : next(file, length);
+}
+
+int fsync(int file) {
+    static int (*next)(int);
+    if (!next) {
+        next = (int (*)(int))dlsym(RTLD_NEXT, "fsync");
+    }
+    return fails() ? -1 : next(file);
+}
+
+int fchmod(int file, mode_t mode) {
+    static int (*next)(int, mode_t);
+    if (!next) {
+        next = (int (*)(int, mode_t))dlsym(RTLD_NEXT, "fchmod");
+    }
+    return fails() ? -1 : next(file, mode);
+}
+
+int chown(const char *name, uid_t owner, gid_t group) {
+    static int (*next)(const char *, uid_t, gid_t);
+    if (!next) {
+        next = (int (*)(const char *, uid_t, gid_t))dlsym(RTLD_NEXT, "chown");
+    }
+    return fails() ? -1 : next(name, owner, group);
+}
+
+int rename(const char *from, const char *to) {
+    static int (*next)(const char *, const char *);
+    if (!next) {
+        next = (int (*)(const char *, const char *))dlsym(RTLD_NEXT, "rename");
+    }
+    return fails() ? -1 : next(from, to);
 }

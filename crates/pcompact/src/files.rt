@@ -1,5 +1,5 @@
 //! The commands over files. A file that can't be opened is fault 13.
-ghost use Rattle.std.specs.Prelude.{◌≡◌, codes, IfOk, string_bytes};
+ghost use Rattle.std.specs.Prelude.{◌≡◌, ◌≢◌, codes, IfOk, OnOk, string_bytes};
 ghost use Rattle.pcompact.specs.Collection.{IsFigures};
 ghost use Rattle.pcompact.specs.Replaying.{IsReplay};
 ghost use Rattle.pcompact.specs.Summary.{IsSummary};
@@ -233,7 +233,7 @@ fn image_out_and_schedule<H: Files + AllocGlobal>(
     let out = Target::find(host, out, atomic)?;
     let schedule = Target::find(host, asked.schedule, atomic)?;
     let is_image = !atomic && out.is(id) || schedule.is(id);
-    if is_image || schedule.is_same(host, &out) {
+    if is_image || schedule.is_same(host, &out)? {
         schedule.leave(host);
         out.leave(host);
         return Err(same_file(host.alloc())?);
@@ -246,7 +246,9 @@ fn image_out_and_schedule<H: Files + AllocGlobal>(
 }
 
 /// Two files of one command must have other names.
-fn must_differ(alloc: Global, one: &str, other: &str) -> Result<(), Failure> {
+fn must_differ(alloc: Global, one: &str, other: &str) -> Result<(), Failure>
+    ensures { OnOk result (one.now ≢ other.now) }
+{
     if one == other {
         return Err(same_file(alloc)?);
     }

@@ -18,8 +18,9 @@ impl<F: OpenFile + Drop> Output<F> {
     ///
     /// After fault 13 such a file is removed.
     pub fn finish<H: Files<File = F>>(self, host: &H) -> Result<Option<Replacement>, Fault> {
-        match self.replacement {
-            Some(replacement) if self.file.sync_all().is_err() => {
+        let Output { file, replacement } = self;
+        match replacement {
+            Some(replacement) if file.sync_all().is_err() => {
                 replacement.remove(host);
                 Err(Fault::Io)
             }
@@ -30,7 +31,8 @@ impl<F: OpenFile + Drop> Output<F> {
     /// Ends the writing where something went wrong. A file that would take the place of another is
     /// removed.
     pub fn abandon<H: Files<File = F>>(self, host: &H) {
-        if let Some(replacement) = self.replacement {
+        let Output { replacement, .. } = self;
+        if let Some(replacement) = replacement {
             replacement.remove(host);
         }
     }

@@ -26,7 +26,8 @@ use std::thread::Threads;
 ///
 /// `out` and `err` stand for standard output and standard error. What a command prints is written
 /// to `out` whole, once its work is done, and flushed; a write or flush of `out` that fails is
-/// fault 13. A failed write to `err` changes nothing.
+/// fault 13. Files that are to replace others take their places after that. A failed write to `err`
+/// changes nothing.
 ///
 /// `host` opens files and allocates, `threads` starts threads, and `wait` waits for them.
 pub fn run<H: Files + AllocGlobal, T: Threads + Sync, L: Wait + Sync, A: Write, B: Write>(

@@ -57,18 +57,14 @@ impl<'a, F: OpenFile + Drop> Target<'a, F> {
         host: &H,
         name: &'a str,
     ) -> Result<Target<'a, F>, Failure> {
-        let found = match fs::metadata(host, name) {
-            Ok(found) if found.is_file() => Some(checked(writable(host, name))?),
-            Err(error) if is_free(host, name, &error) => None,
-            Err(error) if error.kind() != ErrorKind::NotFound => {
-                return Err(Failure::from(Fault::Io));
+        let (place, found) = match fs::symlink_metadata(host, name) {
+            Ok(named) => standing(host, name, named.is_symlink())?,
+            Err(error) if error.kind() == ErrorKind::NotFound => {
+                (PathBuf::from_str(host.alloc(), name)?, None)
             }
-            _ => {
-                let reason = "pcompact: not a regular file\n";
-                return Err(Failure::usage(host.alloc(), reason)?);
-            }
+            Err(_) => return Err(Failure::from(Fault::Io)),
         };
-        let way = Way::Beside(place_of(host, name)?);
+        let way = Way::Beside(place);
         Ok(Target { name, found, way })
     }
 
@@ -80,12 +76,16 @@ impl<'a, F: OpenFile + Drop> Target<'a, F> {
         }
     }
 
-    /// Whether both are one file, or will be.
-    pub fn is_same<H: Files<File = F>>(&self, host: &H, other: &Target<'_, F>) -> bool {
+    /// Whether both are one file, or will be. Fault 13 where the system doesn't tell.
+    pub fn is_same<H: Files<File = F>>(
+        &self,
+        host: &H,
+        other: &Target<'_, F>,
+    ) -> Result<bool, Fault> {
         match (&self.found, &other.found) {
-            (Some(one), Some(other)) => FileId::of(one).is_same(FileId::of(other)),
+            (Some(one), Some(other)) => Ok(FileId::of(one).is_same(FileId::of(other))),
             (None, None) => is_one_place(host, Path::new(self.name), Path::new(other.name)),
-            _ => false,
+            _ => Ok(false),
         }
     }
 
@@ -103,9 +103,10 @@ impl<'a, F: OpenFile + Drop> Target<'a, F> {
     ///
     /// After fault 13, or 11 for want of memory, it is as it was.
     pub fn begin<H: Files<File = F> + AllocGlobal>(self, host: &H) -> Result<Output<F>, Fault> {
-        match self.way {
+        let Target { found, way, .. } = self;
+        match way {
             Way::InPlace { file, .. } => {
-                if self.found.is_some_and(|found: Metadata| found.is_file()) {
+                if found.is_some_and(|found: Metadata| found.is_file()) {
                     checked(file.set_len(0))?;
                 }
                 Ok(Output {
@@ -114,7 +115,7 @@ impl<'a, F: OpenFile + Drop> Target<'a, F> {
                 })
             }
             Way::Beside(place) => {
-                let (file, replacement) = Replacement::make(host, place, self.found.as_ref())?;
+                let (file, replacement) = Replacement::make(host, place, found.as_ref())?;
                 Ok(Output {
                     file,
                     replacement: Some(replacement),
@@ -144,14 +145,27 @@ fn writable<H: Files>(host: &H, name: &str) -> io::Result<Metadata> {
     OpenOptions::new().write(true).open(host, name)?.metadata()
 }
 
-/// Whether this error tells that nothing has the name, not even a link that leads to nothing.
-fn is_free<H: Files>(host: &H, name: &str, error: &io::Error) -> bool {
-    error.kind() == ErrorKind::NotFound && fs::symlink_metadata(host, name).is_err()
+/// The place of a file that is to be replaced, and what is told of it. It must be a regular file.
+fn standing<H: Files + AllocGlobal>(
+    host: &H,
+    name: &str,
+    is_link: bool,
+) -> Result<(PathBuf, Option<Metadata>), Failure> {
+    match fs::metadata(host, name) {
+        Ok(found) if found.is_file() => {}
+        Err(error) if error.kind() != ErrorKind::NotFound => return Err(Failure::from(Fault::Io)),
+        _ => {
+            let reason = "pcompact: not a regular file\n";
+            return Err(Failure::usage(host.alloc(), reason)?);
+        }
+    }
+    let place = place_of(host, name, is_link)?;
+    Ok((place, Some(checked(writable(host, name))?)))
 }
 
 /// The place of a file: its name, or where that leads if it is a link.
-fn place_of<H: Files + AllocGlobal>(host: &H, name: &str) -> Result<PathBuf, Fault> {
-    if !Path::new(name).is_symlink(host) {
+fn place_of<H: Files + AllocGlobal>(host: &H, name: &str, is_link: bool) -> Result<PathBuf, Fault> {
+    if !is_link {
         return Ok(PathBuf::from_str(host.alloc(), name)?);
     }
     match fs::canonicalize(host, name) {
@@ -162,17 +176,13 @@ fn place_of<H: Files + AllocGlobal>(host: &H, name: &str) -> Result<PathBuf, Fau
 }
 
 /// Whether both are one name in one folder.
-fn is_one_place<H: Files>(host: &H, one: Path<'_>, other: Path<'_>) -> bool {
+fn is_one_place<H: Files>(host: &H, one: Path<'_>, other: Path<'_>) -> Result<bool, Fault> {
     if one.file_name() != other.file_name() {
-        return false;
+        return Ok(false);
     }
-    match (
-        fs::metadata(host, folder_of(one)),
-        fs::metadata(host, folder_of(other)),
-    ) {
-        (Ok(one), Ok(other)) => FileId::of(&one).is_same(FileId::of(&other)),
-        _ => false,
-    }
+    let one = checked(fs::metadata(host, folder_of(one)))?;
+    let other = checked(fs::metadata(host, folder_of(other)))?;
+    Ok(FileId::of(&one).is_same(FileId::of(&other)))
 }
 
 /// The folder of a file.

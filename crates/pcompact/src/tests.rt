@@ -10,6 +10,7 @@ use std::{fs, io};
 
 mod files;
 mod library;
+mod replacing;
 mod roots;
 mod same_file;
 mod upgrading;
