@@ -48,10 +48,21 @@ pub fn collect<H: Files + AllocGlobal, T: Threads + Sync, L: Wait + Sync>(
 ) -> Result<Done, Failure>
     ensures { IfOk result (λ done. IsFigures done.text.items) }
 {
-    let (image, mut out) = image_and_out(host, asked.image, asked.out, asked.atomic)?;
+    let (image, out) = image_and_out(host, asked.image, asked.out, asked.atomic)?;
     let image = &mut FromRead::new(image);
-    let written = &mut ToWrite::new(&mut out.file);
-    match collect_into(host.alloc(), image, written, asked.workers, threads, wait) {
+    let Output { file, replacement } = out;
+    let mut written = ToWrite::new(file);
+    let line = collect_into(
+        host.alloc(),
+        image,
+        &mut written,
+        asked.workers,
+        threads,
+        wait,
+    );
+    let file = written.into_inner();
+    let out = Output { file, replacement };
+    match line {
         Ok(line) => ended(host, line, out),
         Err(fault) => Err(failed(host, fault, out)),
     }
@@ -61,9 +72,13 @@ pub fn collect<H: Files + AllocGlobal, T: Threads + Sync, L: Wait + Sync>(
 pub fn upgrade<H: Files + AllocGlobal>(host: &H, asked: &Upgrade<'_>) -> Result<Done, Failure>
     ensures { IfOk result (λ done. IsRootCount done.text.items) }
 {
-    let (image, mut out) = image_and_out(host, asked.image, asked.out, asked.atomic)?;
-    let image = &mut FromRead::new(image);
-    match upgrade_into(host.alloc(), image, &mut ToWrite::new(&mut out.file)) {
+    let (image, out) = image_and_out(host, asked.image, asked.out, asked.atomic)?;
+    let Output { file, replacement } = out;
+    let mut written = ToWrite::new(file);
+    let line = upgrade_into(host.alloc(), &mut FromRead::new(image), &mut written);
+    let file = written.into_inner();
+    let out = Output { file, replacement };
+    match line {
         Ok(line) => ended(host, line, out),
         Err(fault) => Err(failed(host, fault, out)),
     }
@@ -79,16 +94,20 @@ pub fn record<H: Files + AllocGlobal, T: Threads + Sync, L: Wait + Sync>(
 ) -> Result<Done, Failure>
     ensures { IfOk result (λ done. IsFigures done.text.items) }
 {
-    let (image, mut out, mut schedule) = image_out_and_schedule(host, asked)?;
+    let (image, out, mut schedule) = image_out_and_schedule(host, asked)?;
+    let Output { file, replacement } = out;
+    let mut written = ToWrite::new(file);
     let line = record_into(
         host.alloc(),
         &mut FromRead::new(image),
-        &mut ToWrite::new(&mut out.file),
+        &mut written,
         &mut schedule.file,
         asked.collection.workers,
         threads,
         wait,
     );
+    let file = written.into_inner();
+    let out = Output { file, replacement };
     match line {
         Ok(line) => both_ended(host, line, out, schedule),
         Err(fault) => {
