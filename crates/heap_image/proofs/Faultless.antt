@@ -18,7 +18,7 @@ use Rattle.heap_image.proofs.Spans.{Apart}
 use Rattle.heap_image.proofs.LiveWords.{live_apart, live_end-le}
 use Rattle.heap_image.proofs.TextLaws.{valid_numbers, told_image-append, from_tail-with_tail, length_told, fronted, front_log, front_live, front_words, front_length}
 
-find_none : {X : Type 0} (t : X → Bool) (xs : List X) (d : X) → ((i : ℕ) → i < length xs → t (get_or xs i d) ≡ false) → find t xs ≡ None
+pub find_none : {X : Type 0} (t : X → Bool) (xs : List X) (d : X) → ((i : ℕ) → i < length xs → t (get_or xs i d) ≡ false) → find t xs ≡ None
 find_none t [] d h = refl
 find_none t (x ∷ xs) d h = cond-false (t x) (Some x) (find t xs) (h 0 (omega arith)) ∙ find_none t xs d (λ i l. h (suc i) (omega arith))
 
@@ -69,11 +69,11 @@ module _ (image : HeapImage) (sound : HasLiveList image) where
   pub overlapping-None : overlapping image ≡ None
   overlapping-None = ap (option_map (λ (p : ℕ × ℕ). p.1)) (find_none_in_pairs (size_at image) 0 image.live (live_apart image sound))
 
-find_none_in_flat_map : {X : Type 0} (t : X → Bool) (g : ℕ → List X) (xs : List ℕ) → ((i : ℕ) → i < length xs → find t (g (get_or xs i 0)) ≡ None) → find t (flat_map g xs) ≡ None
+pub find_none_in_flat_map : {X : Type 0} (t : X → Bool) (g : ℕ → List X) (xs : List ℕ) → ((i : ℕ) → i < length xs → find t (g (get_or xs i 0)) ≡ None) → find t (flat_map g xs) ≡ None
 find_none_in_flat_map t g [] h = refl
 find_none_in_flat_map t g (x ∷ xs) h = find-append t (g x) (flat_map g xs) ∙ ap (λ o. option_or o (find t (flat_map g xs))) (h 0 (omega arith)) ∙ find_none_in_flat_map t g xs (λ i l. h (suc i) (omega arith))
 
-find_none_in_fields : (t : ℕ × ℕ → Bool) (a b n : ℕ) → ((f : ℕ) → f < b + n → t (a, f) ≡ false) → find t (map (λ f. (a, f)) (range_with_len b n)) ≡ None
+pub find_none_in_fields : (t : ℕ × ℕ → Bool) (a b n : ℕ) → ((f : ℕ) → f < b + n → t (a, f) ≡ false) → find t (map (λ f. (a, f)) (range_with_len b n)) ≡ None
 find_none_in_fields t a b zero h = refl
 find_none_in_fields t a b (suc n) h = cond-false (t (a, b)) (Some (a, b)) (find t (map (λ f. (a, f)) (range_with_len (b + 1) n))) (h b (omega arith)) ∙ find_none_in_fields t a (b + 1) n (λ f l. h f (omega arith))
 

@@ -1,11 +1,11 @@
--- The references of one object, visited one after the other.
-use Rattle.std.proofs.Common.{◌≡◌, ℕ, ◌+◌, Bool, true, false, not, ◌&&◌, ◌||◌, List, [], ◌∷◌, ◌++◌, length, get_or, refl, sym, ◌∙◌, ap, arith, eqb, leb, ltb, add-one}
-use Rattle.std.proofs.lemmas.Bool.{true≢false}
+-- The references of one object, visited one after the other, and what is noted of them.
+use Rattle.std.proofs.Common.{◌≡◌, ℕ, ◌+◌, ◌≤◌, ◌<◌, inl, inr, Bool, true, false, not, ◌&&◌, ◌||◌, List, [], ◌∷◌, ◌++◌, length, get_or, refl, sym, ◌∙◌, ap, subst, arith, eqb, leb, ltb, add-one}
+use Rattle.std.proofs.lemmas.Bool.{true≢false, cases_eq, and_parts, leb-true}
 use Rattle.std.proofs.lemmas.List.Folds.{list_any-append}
 use Rattle.std.specs.List.{list_any, range_with_len, concat}
 use Rattle.heap_image.specs.Header.{size_of, references_of, kind_of}
 use Rattle.heap_image.specs.HeapImage.{HeapImage, image_of, references_at, reference_at, is_unsound, leads_to, refers_to}
-use Rattle.heap_image.specs.Marking.{IsGrown}
+use Rattle.heap_image.specs.Marking.{IsGrown, IsWellFormed}
 use Rattle.heap_image.proofs.Listed.{range_suc}
 use Rattle.heap_image.proofs.Growth.{grown_same, grown_more, grown_as}
 
@@ -51,3 +51,29 @@ module _ (log : ℕ) (regions : List (List ℕ)) (words a : ℕ) (are : words �
   pub followed_all : (n : ℕ) (b0 b1 s0 s1 : List ℕ) → is_unsound image a ≡ false → n ≡ references_at image a → IsGrown words (first_fields n) b0 b1 s0 s1 → IsGrown words (refers_to image a) b0 b1 s0 s1
   followed_all n b0 b1 s0 s1 sound count grown =
       grown_as words (first_fields n) (refers_to image a) b0 b1 s0 s1 (λ b. ap (λ t. not t && first_fields (references_at image a) b) sound ∙ ap (λ m. first_fields m b) (sym count)) grown
+
+  -- what is noted of the first fields, and of one field more
+  abbrev pub AreNoted : Bool → Bool → ℕ → Type 0
+  AreNoted initial now n = now ≡ true → (initial ≡ true) × ((f : ℕ) → f < n → reference_at image a f ≤ words)
+
+  pub noted_more : (n w : ℕ) (initial old new : Bool) → w ≡ reference_at image a n → new ≡ (old && leb w words) → AreNoted initial old n → AreNoted initial new (n + 1)
+  noted_more n w initial old new is made before said =
+      let both = and_parts old (leb w words) (sym made ∙ said) in
+      let first = before both.0 in
+      let low : w ≤ words = leb-true w words both.1 in (
+        first.0,
+        λ f l. elim (cases_eq f n) [
+          | inl last ↦ subst (λ k. reference_at image a k ≤ words) (sym last) (subst (λ k. k ≤ words) is low)
+          | inr other ↦ first.1 f (omega arith)
+        ],
+      )
+
+  pub noted_all : (n : ℕ) (initial now : Bool) → is_unsound image a ≡ false → n ≡ references_at image a → AreNoted initial now n → now ≡ true → (initial ≡ true) × IsWellFormed image a
+  noted_all n initial now sound count noted said =
+      let found = noted said in (
+        found.0,
+        record {
+          sound = sound;
+          inside = λ f l. let low = found.1 f (omega (arith, l, count)) in omega arith;
+        },
+      )

@@ -18,6 +18,7 @@ pub mod Objects
 pub mod Fields
 pub mod Refusing
 pub mod Sending
+pub mod WellFormed
 pub mod WholeBytes
 pub mod SoundObjects
 pub mod Listed

@@ -12,16 +12,16 @@ use Rattle.std.specs.List.{list_any, range_with_len}
 use Rattle.heap_image.specs.HeapImage.{HeapImage, heap_words, leads_to, refers_to, reachable}
 use Rattle.heap_image.specs.Begins.{is_marked}
 use Rattle.heap_image.specs.Reachable.{is_listed, IsClosed}
-use Rattle.heap_image.specs.Marking.{unmarked, addresses, AreStacked, IsGrown, IsMarking, AreReached}
+use Rattle.heap_image.specs.Marking.{unmarked, addresses, AreStacked, IsWellFormed, IsGrown, IsMarking, AreReached, AreReachedWell}
 use Rattle.heap_image.specs.declared.marking.Waiting.{Waiting}
 use Rattle.heap_image.proofs.Growth.{grown_beside, all_left, all_right}
 use Rattle.heap_image.proofs.Reaches.{reachable-IsClosed, reachable-least}
 
 module _ (image : HeapImage) (roots : List ℕ) where
   -- with the roots marked and put on the stack
-  pub marking_first : (bits new_bits stack : List ℕ) → length bits ≡ heap_words image / 64 + 1 → ((a : ℕ) → a < heap_words image → is_marked bits a ≡ false)
-      → IsGrown (heap_words image) (λ b. list_any (λ w. leads_to w b) roots) bits new_bits [] stack → IsMarking image roots new_bits stack
-  marking_first bits new_bits stack room clear grown =
+  pub marking_first : (bits new_bits stack : List ℕ) (well_formed : Bool) → length bits ≡ heap_words image / 64 + 1 → ((a : ℕ) → a < heap_words image → is_marked bits a ≡ false)
+      → IsGrown (heap_words image) (λ b. list_any (λ w. leads_to w b) roots) bits new_bits [] stack → IsMarking image roots new_bits stack well_formed
+  marking_first bits new_bits stack well_formed room clear grown =
       let closed = reachable-IsClosed image roots in
       record {
         room = grown.room ∙ room;
@@ -35,12 +35,20 @@ module _ (image : HeapImage) (roots : List ℕ) where
           | inl old ↦ absurd (false≢true (sym (clear a l) ∙ old))
           | inr waits ↦ inl waits
         ];
+        formed = λ said a l h. elim (grown.pending a l h) [
+          | inl old ↦ absurd (false≢true (sym (clear a l) ∙ old))
+          | inr waits ↦ inl waits
+        ];
       }
 
+  -- what is said once the object at a is followed, and was said before
+  abbrev pub IsNoted : ℕ → Bool → Bool → Type 0
+  IsNoted a well_formed new_well_formed = new_well_formed ≡ true → (well_formed ≡ true) × IsWellFormed image a
+
   -- once the object that was last on the stack is followed
-  pub marking_next : (a : ℕ) (bits new_bits stack rest new_stack : List ℕ) → stack ≡ rest ++ a ∷ [] → IsMarking image roots bits stack
-      → IsGrown (heap_words image) (refers_to image a) bits new_bits rest new_stack → IsMarking image roots new_bits new_stack
-  marking_next a bits new_bits stack rest new_stack popped marking grown =
+  pub marking_next : (a : ℕ) (bits new_bits stack rest new_stack : List ℕ) (well_formed new_well_formed : Bool) → stack ≡ rest ++ a ∷ [] → IsMarking image roots bits stack well_formed
+      → IsGrown (heap_words image) (refers_to image a) bits new_bits rest new_stack → IsNoted a well_formed new_well_formed → IsMarking image roots new_bits new_stack new_well_formed
+  marking_next a bits new_bits stack rest new_stack well_formed new_well_formed popped marking grown noted =
       let closed = reachable-IsClosed image roots in
       let all : AreStacked (heap_words image) bits (rest ++ a ∷ []) = subst (AreStacked (heap_words image) bits) popped marking.inside in
       let last : (a < heap_words image) × (is_marked bits a ≡ true) = All-last rest a all in
@@ -60,6 +68,16 @@ module _ (image : HeapImage) (roots : List ℕ) where
             | inl waits ↦ elim (Contains-push_cases rest a b (subst (λ xs. Contains xs b) popped waits)) [
               | inl still ↦ inl (grown.stacked b still)
               | inr here ↦ inr (λ c m refers. grown.all c m (subst (λ x. refers_to image x c ≡ true) (sym here) refers))
+            ]
+          ]
+        ];
+        formed = λ said b l h. elim (grown.pending b l h) [
+          | inr waits ↦ inl waits
+          | inl old ↦ elim (marking.formed (noted said).0 b l old) [
+            | inr good ↦ inr good
+            | inl waits ↦ elim (Contains-push_cases rest a b (subst (λ xs. Contains xs b) popped waits)) [
+              | inl still ↦ inl (grown.stacked b still)
+              | inr here ↦ inr (subst (IsWellFormed image) here (noted said).1)
             ]
           ]
         ];
@@ -95,8 +113,8 @@ module _ (image : HeapImage) (roots : List ℕ) where
   waits_not : {A : Type 0} → (a : ℕ) → Contains [] a → A
   waits_not a c = let l = c.1 in let no : ⊥ = omega arith in absurd no
 
-  closed : (bits : List ℕ) → IsMarking image roots bits [] → IsClosed image roots (passes bits)
-  closed bits marking = record {
+  closed : (bits : List ℕ) (well_formed : Bool) → IsMarking image roots bits [] well_formed → IsClosed image roots (passes bits)
+  closed bits well_formed marking = record {
     from_roots = λ b l h. passing bits b l (marking.started b l h);
     from_objects = λ a b h refers l.
         let at = in_heap bits a h in
@@ -112,12 +130,20 @@ module _ (image : HeapImage) (roots : List ℕ) where
   both_ways false false h k = refl
 
   -- with nothing on the stack
-  pub marking_last : (bits : List ℕ) → IsMarking image roots bits [] → AreReached image roots bits
-  marking_last bits marking = record {
+  pub marking_last : (bits : List ℕ) (well_formed : Bool) → IsMarking image roots bits [] well_formed → AreReached image roots bits
+  marking_last bits well_formed marking = record {
     room = marking.room;
     marked = λ a l. both_ways (is_marked bits a) (is_listed (reachable image roots) a) (marking.reached a l)
-        (λ h. (in_heap bits a (reachable-least image roots (passes bits) (closed bits marking) a h)).1);
+        (λ h. (in_heap bits a (reachable-least image roots (passes bits) (closed bits well_formed marking) a h)).1);
   }
+
+  pub marking_last-well : (bits : List ℕ) (well_formed : Bool) → IsMarking image roots bits [] well_formed → well_formed ≡ true → AreReachedWell image roots
+  marking_last-well bits well_formed marking said a l h =
+      let at = in_heap bits a (reachable-least image roots (passes bits) (closed bits well_formed marking) a h) in
+      elim (marking.formed said a l at.1) [
+        | inl waits ↦ waits_not a waits
+        | inr good ↦ good
+      ]
 
 -- ---- the same, as the code has it
 
@@ -135,14 +161,17 @@ none_left [] e = refl
 none_left (x ∷ xs) e = let no : ⊥ = omega arith in absurd no
 
 module _ (image : HeapImage) (roots : List ℕ) (words : ℕ) (are : words ≡ heap_words image) where
-  pub marking_begins : (bits new_bits start stack : List ℕ) → start ≡ [] → length bits ≡ words / 64 + 1 → ((a : ℕ) → is_marked bits a ≡ false)
-      → IsGrown words (λ b. list_any (λ w. leads_to w b) roots) bits new_bits start stack → IsMarking image roots new_bits stack
-  marking_begins bits new_bits start stack empty room clear grown =
-      marking_first image roots bits new_bits stack (room ∙ ap (λ n. n / 64 + 1) are) (λ a l. clear a)
+  pub marking_begins : (bits new_bits start stack : List ℕ) (well_formed : Bool) → start ≡ [] → length bits ≡ words / 64 + 1 → ((a : ℕ) → is_marked bits a ≡ false)
+      → IsGrown words (λ b. list_any (λ w. leads_to w b) roots) bits new_bits start stack → IsMarking image roots new_bits stack well_formed
+  marking_begins bits new_bits start stack well_formed empty room clear grown =
+      marking_first image roots bits new_bits stack well_formed (room ∙ ap (λ n. n / 64 + 1) are) (λ a l. clear a)
       (subst (λ n. IsGrown n (λ b. list_any (λ w. leads_to w b) roots) bits new_bits [] stack) are (subst (λ xs. IsGrown words (λ b. list_any (λ w. leads_to w b) roots) bits new_bits xs stack) empty grown))
 
-  pub marking_ends : (bits stack : List ℕ) → stack ≡ [] → IsMarking image roots bits stack → AreReached image roots bits
-  marking_ends bits stack empty marking = marking_last image roots bits (subst (IsMarking image roots bits) empty marking)
+  pub marking_ends : (bits stack : List ℕ) (well_formed : Bool) → stack ≡ [] → IsMarking image roots bits stack well_formed → AreReached image roots bits
+  marking_ends bits stack well_formed empty marking = marking_last image roots bits well_formed (subst (λ xs. IsMarking image roots bits xs well_formed) empty marking)
+
+  pub marking_ends-well : (bits stack : List ℕ) (well_formed : Bool) → stack ≡ [] → IsMarking image roots bits stack well_formed → well_formed ≡ true → AreReachedWell image roots
+  marking_ends-well bits stack well_formed empty marking said = marking_last-well image roots bits well_formed (subst (λ xs. IsMarking image roots bits xs well_formed) empty marking) said
 
 get_or-zeros : (n i : ℕ) → get_or {A = ℕ} (replicate n 0) i 0 ≡ 0
 get_or-zeros zero i = refl
@@ -157,9 +186,9 @@ clear_bits bits n e a =
 
 module _ (image : HeapImage) (roots : List ℕ) where
   -- it does not matter where an address waits
-  pub marking_waits : (bits pending pending' : List ℕ) → ((a : ℕ) → Contains pending a → Contains pending' a) → AreStacked (heap_words image) bits pending'
-      → IsMarking image roots bits pending → IsMarking image roots bits pending'
-  marking_waits bits pending pending' moved inside marking = record {
+  pub marking_waits : (bits pending pending' : List ℕ) (well_formed : Bool) → ((a : ℕ) → Contains pending a → Contains pending' a) → AreStacked (heap_words image) bits pending'
+      → IsMarking image roots bits pending well_formed → IsMarking image roots bits pending' well_formed
+  marking_waits bits pending pending' well_formed moved inside marking = record {
     room = marking.room;
     inside = inside;
     reached = marking.reached;
@@ -168,6 +197,10 @@ module _ (image : HeapImage) (roots : List ℕ) where
       | inl waits ↦ inl (moved a waits)
       | inr done ↦ inr done
     ];
+    formed = λ said a l h. elim (marking.formed said a l h) [
+      | inl waits ↦ inl (moved a waits)
+      | inr good ↦ inr good
+    ];
   }
 
   -- an address that may stand on the stack
@@ -175,13 +208,13 @@ module _ (image : HeapImage) (roots : List ℕ) where
   stacked bits c = (c < heap_words image) × (is_marked bits c ≡ true)
 
   -- an address goes from the end of the stack to the end of a batch
-  pub batch_taken : (a : ℕ) (bits stack rest batch batch' : List ℕ) → stack ≡ rest ++ a ∷ [] → batch' ≡ batch ++ a ∷ []
-      → IsMarking image roots bits (stack ++ batch) → IsMarking image roots bits (rest ++ batch')
-  batch_taken a bits stack rest batch batch' popped pushed marking =
+  pub batch_taken : (a : ℕ) (bits stack rest batch batch' : List ℕ) (well_formed : Bool) → stack ≡ rest ++ a ∷ [] → batch' ≡ batch ++ a ∷ []
+      → IsMarking image roots bits (stack ++ batch) well_formed → IsMarking image roots bits (rest ++ batch') well_formed
+  batch_taken a bits stack rest batch batch' well_formed popped pushed marking =
       let here : AreStacked (heap_words image) bits (rest ++ a ∷ []) = subst (AreStacked (heap_words image) bits) popped (all_left (stacked bits) stack batch marking.inside) in
       let there : AreStacked (heap_words image) bits batch = all_right (stacked bits) stack batch marking.inside in
       let last : stacked bits a = (let c = Contains-push rest a in subst (stacked bits) c.2 (here c.0 a c.1)) in
-      marking_waits bits (stack ++ batch) (rest ++ batch')
+      marking_waits bits (stack ++ batch) (rest ++ batch') well_formed
       (λ b h. elim (Contains-append_cases stack batch b h) [
         | inr later ↦ Contains-append_right rest batch' b (subst (λ xs. Contains xs b) (sym pushed) (Contains-append_left batch (a ∷ []) b later))
         | inl waits ↦ elim (Contains-push_cases rest a b (subst (λ xs. Contains xs b) popped waits)) [
@@ -193,18 +226,20 @@ module _ (image : HeapImage) (roots : List ℕ) where
       marking
 
   -- the last address of a batch is followed
-  pub batch_followed : (words a : ℕ) (bits new_bits stack new_stack batch rest : List ℕ) → words ≡ heap_words image → batch ≡ rest ++ a ∷ []
-      → IsMarking image roots bits (stack ++ batch) → IsGrown words (refers_to image a) bits new_bits stack new_stack → IsMarking image roots new_bits (new_stack ++ rest)
-  batch_followed words a bits new_bits stack new_stack batch rest are last marking grown =
-      marking_next image roots a bits new_bits (stack ++ batch) (stack ++ rest) (new_stack ++ rest) (ap (λ xs. stack ++ xs) last ∙ sym (append_assoc stack rest (a ∷ []))) marking
+  pub batch_followed : (words a : ℕ) (bits new_bits stack new_stack batch rest : List ℕ) (well_formed new_well_formed : Bool) → words ≡ heap_words image → batch ≡ rest ++ a ∷ []
+      → IsMarking image roots bits (stack ++ batch) well_formed → IsGrown words (refers_to image a) bits new_bits stack new_stack → IsNoted image roots a well_formed new_well_formed
+      → IsMarking image roots new_bits (new_stack ++ rest) new_well_formed
+  batch_followed words a bits new_bits stack new_stack batch rest well_formed new_well_formed are last marking grown noted =
+      marking_next image roots a bits new_bits (stack ++ batch) (stack ++ rest) (new_stack ++ rest) well_formed new_well_formed (ap (λ xs. stack ++ xs) last ∙ sym (append_assoc stack rest (a ∷ []))) marking
       (grown_beside (heap_words image) (refers_to image a) bits new_bits stack new_stack rest (subst (λ n. IsGrown n (refers_to image a) bits new_bits stack new_stack) are grown))
+      noted
 
 -- the addresses of a batch with one object more
 pub addresses_push : (batch rest : List Waiting) (w : Waiting) → batch ≡ rest ++ w ∷ [] → addresses batch ≡ addresses rest ++ w.address ∷ []
 addresses_push batch rest w e = ap addresses e ∙ map-append (λ (x : Waiting). x.address) rest (w ∷ [])
 
 -- the addresses of a batch are below the number of words
-pub batch_inside : (image : HeapImage) (roots : List ℕ) (words : ℕ) → words ≡ heap_words image → (bits stack batch : List ℕ) → IsMarking image roots bits (stack ++ batch) → All (λ a. a < words) batch
-batch_inside image roots words are bits stack batch marking = λ k d l.
+pub batch_inside : (image : HeapImage) (roots : List ℕ) (words : ℕ) → words ≡ heap_words image → (bits stack batch : List ℕ) (well_formed : Bool) → IsMarking image roots bits (stack ++ batch) well_formed → All (λ a. a < words) batch
+batch_inside image roots words are bits stack batch well_formed marking = λ k d l.
     let low = (all_right (λ a. (a < heap_words image) × (is_marked bits a ≡ true)) stack batch marking.inside k d l).0 in
     omega arith

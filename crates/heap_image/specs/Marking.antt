@@ -1,7 +1,7 @@
 -- Marks while they grow, and the addresses whose references are still to be followed.
-use Rattle.std.specs.Prelude.{◌≡◌, ◌⊎◌, ℕ, ◌+◌, ◌/◌, ◌<◌, Bool, true, not, List, All, Contains, length, count_by, map}
+use Rattle.std.specs.Prelude.{◌≡◌, ◌⊎◌, ℕ, ◌+◌, ◌/◌, ◌<◌, ◌≤◌, Bool, true, false, not, IsTrue, List, All, Contains, length, count_by, map}
 use Rattle.std.specs.List.{list_any, range_with_len}
-use Rattle.heap_image.specs.HeapImage.{HeapImage, heap_words, leads_to, refers_to, reachable}
+use Rattle.heap_image.specs.HeapImage.{HeapImage, heap_words, references_at, reference_at, is_unsound, leads_to, refers_to, reachable}
 use Rattle.heap_image.specs.Begins.{is_marked}
 use Rattle.heap_image.specs.Reachable.{is_listed}
 use Rattle.heap_image.specs.declared.marking.Waiting.{Waiting}
@@ -29,17 +29,27 @@ pub record IsGrown (words : ℕ) (targets : ℕ → Bool) (bits new_bits stack n
   pub total : length new_stack + unmarked words new_bits ≡ length stack + unmarked words bits
   pub inside : AreStacked words bits stack → AreStacked words new_bits new_stack
 
+-- the object at a has a sound header, and no reference of it leads out of the heap
+pub record IsWellFormed (image : HeapImage) (a : ℕ) : Type 0 where
+  pub sound : is_unsound image a ≡ false
+  pub inside : (f : ℕ) → f < references_at image a → reference_at image a f ≤ heap_words image
+
 -- What is marked is reached, the roots are marked, and what is marked and does not wait on the stack has its references
--- followed.
-pub record IsMarking (image : HeapImage) (roots bits stack : List ℕ) : Type 0 where
+-- followed. Those that were followed are well-formed, if that is said.
+pub record IsMarking (image : HeapImage) (roots bits stack : List ℕ) (well_formed : Bool) : Type 0 where
   pub room : length bits ≡ heap_words image / 64 + 1
   pub inside : AreStacked (heap_words image) bits stack
   pub reached : (a : ℕ) → a < heap_words image → is_marked bits a ≡ true → is_listed (reachable image roots) a ≡ true
   pub started : (a : ℕ) → a < heap_words image → list_any (λ w. leads_to w a) roots ≡ true → is_marked bits a ≡ true
   pub followed : (a : ℕ) → a < heap_words image → is_marked bits a ≡ true
       → Contains stack a ⊎ ((b : ℕ) → b < heap_words image → refers_to image a b ≡ true → is_marked bits b ≡ true)
+  pub formed : IsTrue well_formed → (a : ℕ) → a < heap_words image → is_marked bits a ≡ true → Contains stack a ⊎ IsWellFormed image a
 
 -- the marked addresses are the reachable ones
 pub record AreReached (image : HeapImage) (roots bits : List ℕ) : Type 0 where
   pub room : length bits ≡ heap_words image / 64 + 1
   pub marked : (a : ℕ) → a < heap_words image → is_marked bits a ≡ is_listed (reachable image roots) a
+
+-- the reachable objects have sound headers, and no reference of them leads out of the heap
+abbrev pub AreReachedWell : HeapImage → List ℕ → Type 0
+AreReachedWell image roots = (a : ℕ) → a < heap_words image → is_listed (reachable image roots) a ≡ true → IsWellFormed image a

@@ -1,10 +1,11 @@
 -- An image that was read, and what was read of it before it is checked.
-use Rattle.std.specs.Prelude.{◌≡◌, ℕ, ◌<◌, ◌^◌, List, All, Option, None, length, option_map}
+use Rattle.std.specs.Prelude.{◌≡◌, ℕ, ◌<◌, ◌^◌, IsTrue, List, All, Option, None, length, option_map}
 use Rattle.std.specs.List.{concat}
 use Rattle.std.specs.Io.KnownBytes.{Consumes, IsAtEnd}
 use Rattle.heap_image.specs.HeapImage.{HeapImage, IsValid, IsWithinLimits, heap_words, image_of, roots_or}
 use Rattle.heap_image.specs.ImageText.{text, from_tail, first_some, first_object_fault, live_list_faults}
 use Rattle.heap_image.specs.Begins.{MarkBegins}
+use Rattle.heap_image.specs.Soundness.{AreWellFormed}
 use Rattle.heap_image.specs.declared.read.Unchecked.{Unchecked}
 
 -- all of an input was read, and it is the text of this image
@@ -32,5 +33,6 @@ pub record IsFound (read : Unchecked) : Type 0 where
   pub roots : option_map (λ v. v.items) read.found.roots ≡ (from_tail read.front.rooted (numbers_of read)).roots
   pub inside : All (λ a. a < length (concat read.regions.items)) read.found.live.items
   pub begins : MarkBegins read.found.live.items (length (concat read.regions.items)) read.found.begins.items
+  pub well_formed : IsTrue read.found.well_formed → AreWellFormed (image_of read.front.region_log 0 read.regions.items read.found.live.items)
   pub ordered : first_some (live_list_faults (from_tail read.front.rooted (numbers_of read)))
       ≡ first_object_fault (image_of read.front.region_log 0 read.regions.items read.found.live.items)

@@ -1,6 +1,7 @@
--- What is right with one object of a live list.
-use Rattle.std.specs.Prelude.{ℕ, ◌+◌, ◌<◌, ◌≤◌, IsTrue, length, slice_index}
+-- What is right with the objects of a live list.
+use Rattle.std.specs.Prelude.{◌≡◌, ℕ, ◌+◌, ◌<◌, ◌≤◌, IsTrue, None, length, slice_index}
 use Rattle.heap_image.specs.HeapImage.{HeapImage, HasSoundHeader, end_of, references_at, reference_at, is_null_or_live}
+use Rattle.heap_image.specs.ImageText.{unsound_header, dangling}
 
 -- the i-th live object has a sound header, ends before the next one begins, and its references lead to listed objects
 -- or nowhere
@@ -9,3 +10,8 @@ pub record IsSoundObject (image : HeapImage) (i : ℕ) : Type 0 where
   pub apart : i + 1 < length image.live → end_of image (slice_index image.live i) ≤ slice_index image.live (i + 1)
   pub references : (f : ℕ) → f < references_at image (slice_index image.live i)
       → IsTrue (is_null_or_live image (reference_at image (slice_index image.live i) f))
+
+-- each live object has a sound header, and its references lead to listed objects or nowhere
+pub record AreWellFormed (image : HeapImage) : Type 0 where
+  pub headers : unsound_header image ≡ None
+  pub references : dangling image ≡ None

@@ -5,9 +5,11 @@ ghost use Rattle.heap_image.specs.Header.{size_of, references_of, kind_of};
 ghost use Rattle.heap_image.specs.HeapImage.{FormHeap, image_of, references_at, end_of};
 ghost use Rattle.heap_image.specs.ImageText.{first_object_fault, misplaced_index, is_dangling};
 ghost use Rattle.heap_image.specs.Begins.{MarkBegins};
+ghost use Rattle.heap_image.specs.Soundness.{AreWellFormed};
 
 use crate::begins::is_marked;
 use crate::blocks::word_of;
+use crate::reach::words_in;
 use crate::{Fault, header};
 use raw_region::Region;
 
@@ -43,7 +45,7 @@ pub(crate) fn is_unsound(word: u64, a: u64, words: u64) -> bool
 
 /// Whether each live address has the header of an object that fits, no object begins before the end of the one before
 /// it, and each reference is null or to a live object, whose addresses are marked. Each object is visited once.
-pub(crate) fn check_objects(
+fn check_objects(
     regions: &[Region],
     region_log: u32,
     words: u64,
@@ -77,6 +79,57 @@ pub(crate) fn check_objects(
         (Some(a), _) => Err(Fault::Overlap(a)),
         (None, Some((a, field))) => Err(Fault::Reference(a, field)),
         (None, None) => Ok(()),
+    }
+}
+
+/// What is first wrong with the live objects of the heap in these regions, if anything is. Their addresses are marked, and
+/// may be known to be well-formed. Each object is visited once.
+pub(crate) fn check_live(
+    regions: &[Region],
+    region_log: u32,
+    live: &[u64],
+    bits: &[u64],
+    well_formed: bool,
+) -> Result<(), Fault>
+    requires heap { FormHeap region_log regions.now }
+    requires inside { All (λ a. a < length (concat regions.now)) live.now }
+    requires bits { MarkBegins live.now (length (concat regions.now)) bits.now }
+    requires well_formed { IsTrue well_formed → AreWellFormed (image_of region_log 0 regions.now live.now) }
+    ensures ok { OnOk result (first_object_fault (image_of region_log 0 regions.now live.now) ≡ None) }
+    ensures fault { IfErr result
+        (λ fault. first_object_fault (image_of region_log 0 regions.now live.now) ≡ Some fault) }
+{
+    if well_formed {
+        return check_overlaps(regions, region_log, live);
+    }
+    check_objects(
+        regions,
+        region_log,
+        words_in(regions, region_log),
+        live,
+        bits,
+    )
+}
+
+/// Whether no live object begins before the end of the one before it. All are well-formed.
+fn check_overlaps(regions: &[Region], region_log: u32, live: &[u64]) -> Result<(), Fault>
+    requires heap { FormHeap region_log regions.now }
+    requires inside { All (λ a. a < length (concat regions.now)) live.now }
+    requires well_formed { AreWellFormed (image_of region_log 0 regions.now live.now) }
+    ensures ok { OnOk result (first_object_fault (image_of region_log 0 regions.now live.now) ≡ None) }
+    ensures fault { IfErr result
+        (λ fault. first_object_fault (image_of region_log 0 regions.now live.now) ≡ Some fault) }
+{
+    let mut end = 0;
+    let mut overlap = None;
+    for a in live {
+        overlap = overlap.or((*a < end).then_some(*a));
+        let word = word_of(regions, region_log, *a);
+        end = *a + u64::from(header::size(word));
+    }
+    match overlap {
+        Some(a) => Err(Fault::Overlap(a)),
+        None => Ok(()),
     }
 }
 

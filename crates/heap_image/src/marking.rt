@@ -1,10 +1,10 @@
 //! `Marking`: which addresses are reached from roots, while it is found out.
-ghost use Rattle.std.specs.Prelude.{◌≡◌, ◌<◌, ◌≤◌, ◌+◌, ◌/◌, ◌==◌, ◌||◌, ◌++◌, ℕ, List, [], All, false, length, slice_index, IfOk};
+ghost use Rattle.std.specs.Prelude.{◌≡◌, ◌<◌, ◌≤◌, ◌+◌, ◌/◌, ◌==◌, ◌||◌, ◌++◌, ℕ, List, [], All, false, length, slice_index, IfOk, IsTrue};
 ghost use Rattle.std.specs.List.{concat, list_any};
 ghost use Rattle.std.specs.Vec.{vec_capacity};
 ghost use Rattle.heap_image.specs.HeapImage.{FormHeap, image_of, leads_to, refers_to};
 ghost use Rattle.heap_image.specs.Begins.{is_marked};
-ghost use Rattle.heap_image.specs.Marking.{IsGrown, IsMarking, AreReached, AreStacked, unmarked, addresses};
+ghost use Rattle.heap_image.specs.Marking.{IsGrown, IsMarking, IsWellFormed, AreReached, AreReachedWell, AreStacked, unmarked, addresses};
 
 use crate::begins::is_marked;
 use crate::blocks::word_of;
@@ -35,28 +35,45 @@ pub(crate) struct Marking {
     /// One bit for each address: whether it is marked.
     bits: Vec<u64>,
     stack: Vec<u64>,
+    /// Whether each object that was followed has a sound header, and no reference that leads out of the heap.
+    well_formed: bool,
 }
 
-/// One bit for each address of a heap of so many words in these regions: whether it is reached from the roots.
-pub(crate) fn reached_bits(
+/// What is reached from the roots of a heap.
+#[derive(Drop)]
+pub(crate) struct Marked {
+    /// One bit for each address: whether it is reached.
+    pub(crate) bits: Vec<u64>,
+    /// Whether each of these objects has a sound header, and no reference that leads out of the heap.
+    pub(crate) well_formed: bool,
+}
+
+/// Marks what is reached from the roots in a heap of so many words, which lies in these regions.
+pub(crate) fn mark(
     alloc: Global,
     regions: &[Region],
     region_log: u32,
     words: u64,
     roots: &[u64],
-) -> Result<Vec<u64>, AllocError>
+) -> Result<Marked, AllocError>
     requires heap { FormHeap region_log regions.now }
     requires words { words ≡ length (concat regions.now) }
-    ensures { IfOk result (λ bits. AreReached (image_of region_log 0 regions.now []) roots.now bits.items) }
+    ensures reached { IfOk result (λ marked. AreReached (image_of region_log 0 regions.now []) roots.now marked.bits.items) }
+    ensures well_formed { IfOk result
+        (λ marked. IsTrue marked.well_formed → AreReachedWell (image_of region_log 0 regions.now []) roots.now) }
 {
     let mut marking = Marking {
         words,
         bits: vec![in alloc; 0u64; (words / 64 + 1) as usize]?,
         stack: Vec::with_capacity(alloc, words as usize)?,
+        well_formed: true,
     };
     let mut batch = Vec::with_capacity(alloc, BATCH)?;
     marking.mark_reached(regions, region_log, roots, &mut batch);
-    Ok(marking.bits)
+    Ok(Marked {
+        bits: marking.bits,
+        well_formed: marking.well_formed,
+    })
 }
 
 impl Marking {
@@ -76,7 +93,8 @@ impl Marking {
         requires room { self.old.words ≤ vec_capacity self.old.stack }
         requires batch { batch.old.items ≡ [] }
         requires batch_room { 64 ≤ vec_capacity batch.old }
-        ensures { AreReached (image_of region_log 0 regions.now []) roots.now self.new.bits.items }
+        ensures reached { AreReached (image_of region_log 0 regions.now []) roots.now self.new.bits.items }
+        ensures well_formed { IsTrue self.new.well_formed → AreReachedWell (image_of region_log 0 regions.now []) roots.now }
     {
         self.visit_all(roots);
         while !self.stack.is_empty() {
@@ -108,8 +126,8 @@ impl Marking {
         requires empty { batch.old.items ≡ [] }
         requires room { 64 ≤ vec_capacity batch.old }
         ensures marking { (roots : List ℕ) → let image = image_of region_log 0 regions.now [] in
-            IsMarking image roots self.old.bits.items self.old.stack.items
-            → IsMarking image roots self.new.bits.items (self.new.stack.items ++ addresses batch.new.items) }
+            IsMarking image roots self.old.bits.items self.old.stack.items self.old.well_formed
+            → IsMarking image roots self.new.bits.items (self.new.stack.items ++ addresses batch.new.items) self.new.well_formed }
         ensures fetched { All (λ w. w.header ≡ slice_index (concat regions.now) w.address) batch.new.items }
         ensures total { length self.new.stack.items + length batch.new.items ≡ length self.old.stack.items }
         ensures some { 0 < length self.old.stack.items → 0 < length batch.new.items }
@@ -136,8 +154,8 @@ impl Marking {
         requires inside { All (λ a. a < self.old.words) (addresses batch.old.items) }
         requires fetched { All (λ w. w.header ≡ slice_index (concat regions.now) w.address) batch.old.items }
         ensures marking { (roots : List ℕ) → let image = image_of region_log 0 regions.now [] in
-            IsMarking image roots self.old.bits.items (self.old.stack.items ++ addresses batch.old.items)
-            → IsMarking image roots self.new.bits.items self.new.stack.items }
+            IsMarking image roots self.old.bits.items (self.old.stack.items ++ addresses batch.old.items) self.old.well_formed
+            → IsMarking image roots self.new.bits.items self.new.stack.items self.new.well_formed }
         ensures total { length self.new.stack.items + unmarked self.new.words self.new.bits.items
             ≡ length self.old.stack.items + unmarked self.old.words self.old.bits.items }
         ensures empty { batch.new.items ≡ [] }
@@ -150,7 +168,7 @@ impl Marking {
         }
     }
 
-    /// Visits what an object refers to, if it has a sound header.
+    /// Visits what an object refers to, if it has a sound header, and notes what is wrong with it.
     fn follow(&mut self, regions: &[Region], region_log: u32, object: Waiting)
         requires heap { FormHeap region_log regions.now }
         requires words { self.old.words ≡ length (concat regions.now) }
@@ -160,14 +178,18 @@ impl Marking {
         requires room { length self.old.stack.items + unmarked self.old.words self.old.bits.items ≤ vec_capacity self.old.stack }
         ensures grown { IsGrown self.old.words (refers_to (image_of region_log 0 regions.now []) object.address)
             self.old.bits.items self.new.bits.items self.old.stack.items self.new.stack.items }
+        ensures well_formed { IsTrue self.new.well_formed
+            → IsTrue self.old.well_formed × IsWellFormed (image_of region_log 0 regions.now []) object.address }
         ensures capacity { vec_capacity self.new.stack ≡ vec_capacity self.old.stack }
         ensures words { self.new.words ≡ self.old.words }
     {
         if is_unsound(object.header, object.address, self.words) {
+            self.well_formed = false;
             return;
         }
         for field in 0..header::references(object.header) {
             let reference = word_of(regions, region_log, object.address + 1 + u64::from(field));
+            self.well_formed &= reference <= self.words;
             self.visit(reference);
         }
     }
@@ -180,6 +202,7 @@ impl Marking {
         requires room { length self.old.stack.items + unmarked self.old.words self.old.bits.items ≤ vec_capacity self.old.stack }
         ensures grown { IsGrown self.old.words (leads_to reference)
             self.old.bits.items self.new.bits.items self.old.stack.items self.new.stack.items }
+        ensures well_formed { self.new.well_formed ≡ self.old.well_formed }
         ensures capacity { vec_capacity self.new.stack ≡ vec_capacity self.old.stack }
         ensures words { self.new.words ≡ self.old.words }
     {
@@ -190,14 +213,14 @@ impl Marking {
         if is_marked(self.bits.as_slice(), a) {
             return;
         }
-        mark(&mut self.bits, a);
+        set_bit(&mut self.bits, a);
         self.stack.push_reserved(a);
     }
 }
 
 /// Sets the bit of an address.
 #[inline]
-fn mark(bits: &mut Vec<u64>, a: u64)
+fn set_bit(bits: &mut Vec<u64>, a: u64)
     requires { a / 64 < length bits.old.items }
     ensures bits { (k : ℕ) → is_marked bits.new.items k ≡ (is_marked bits.old.items k || k == a) }
     ensures room { length bits.new.items ≡ length bits.old.items }

@@ -1,14 +1,15 @@
 //! The live objects of a heap, by what is reached from roots.
-ghost use Rattle.std.specs.Prelude.{◌≡◌, ◌<◌, ◌≤◌, ◌⊎◌, Some, None, true, [], All, length, find, nat_lt, slice_index, IfOk, OnOk, IfErr};
+ghost use Rattle.std.specs.Prelude.{◌≡◌, ◌<◌, ◌≤◌, ◌⊎◌, Some, None, true, [], All, length, find, nat_lt, slice_index, IfOk, OnOk, IfErr, IsTrue};
 ghost use Rattle.std.specs.List.{concat, range_with_len};
 ghost use Rattle.heap_image.specs.HeapImage.{FormHeap, image_of, reachable};
 ghost use Rattle.heap_image.specs.ImageText.{first_some, from_tail, live_list_faults, misplaced_root};
 ghost use Rattle.heap_image.specs.Begins.{MarkBegins};
+ghost use Rattle.heap_image.specs.Soundness.{AreWellFormed};
 
 use crate::Fault;
-use crate::check::check_objects;
+use crate::check::check_live;
 use crate::live_list::marked_addresses;
-use crate::marking::reached_bits;
+use crate::marking::mark;
 use raw_region::Region;
 use std::alloc::Global;
 
@@ -33,14 +34,17 @@ pub fn mark_from_roots(
     ensures fault { let faults = live_list_faults (from_tail true (image_of region_log 0 regions.now roots.now)) in
         IfErr result (λ fault. (fault ≡ Fault.Memory) ⊎ (first_some faults ≡ Some fault)) }
 {
-    let words = words_in(regions, region_log);
-    let Reached { live, begins } = reached_from_roots(alloc, region_log, regions, roots)?;
-    check_objects(
+    let Reached {
+        live,
+        begins,
+        well_formed,
+    } = reached_from_roots(alloc, region_log, regions, roots)?;
+    check_live(
         regions,
         region_log,
-        words,
         live.as_slice(),
         begins.as_slice(),
+        well_formed,
     )?;
     Ok(live)
 }
@@ -52,6 +56,8 @@ pub(crate) struct Reached {
     pub(crate) live: Vec<u64>,
     /// The same as bits.
     pub(crate) begins: Vec<u64>,
+    /// Whether each of these objects is known to have a sound header, and references that are null or to another of them.
+    pub(crate) well_formed: bool,
 }
 
 /// What is reached from the roots of a heap, if no root is above its number of words.
@@ -69,6 +75,8 @@ pub(crate) fn reached_from_roots(
         (λ reached. All (λ a. a < length (concat regions.now)) reached.live.items) }
     ensures begins { IfOk result
         (λ reached. MarkBegins reached.live.items (length (concat regions.now)) reached.begins.items) }
+    ensures well_formed { IfOk result
+        (λ reached. IsTrue reached.well_formed → AreWellFormed (image_of region_log 0 regions.now reached.live.items)) }
     ensures roots { OnOk result
         (misplaced_root (from_tail true (image_of region_log 0 regions.now roots.now)) ≡ None) }
     ensures fault { let faults = live_list_faults (from_tail true (image_of region_log 0 regions.now roots.now)) in
@@ -78,9 +86,13 @@ pub(crate) fn reached_from_roots(
     if let Some(index) = misplaced_root(roots, words) {
         return Err(Fault::Root(index));
     }
-    let begins = reached_bits(alloc, regions, region_log, words, roots)?;
-    let live = marked_addresses(alloc, begins.as_slice(), words)?;
-    Ok(Reached { live, begins })
+    let marked = mark(alloc, regions, region_log, words, roots)?;
+    let live = marked_addresses(alloc, marked.bits.as_slice(), words)?;
+    Ok(Reached {
+        live,
+        begins: marked.bits,
+        well_formed: marked.well_formed,
+    })
 }
 
 /// How many words these regions have.

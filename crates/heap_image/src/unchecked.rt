@@ -1,13 +1,14 @@
 //! `Unchecked`: what was read of an image, before its live objects are checked.
-ghost use Rattle.std.specs.Prelude.{◌≡◌, ◌<◌, ◌≤◌, ◌⊎◌, ◌++◌, Some, None, All, length, IfOk, OnOk, IfErr, option_map};
+ghost use Rattle.std.specs.Prelude.{◌≡◌, ◌<◌, ◌≤◌, ◌⊎◌, ◌++◌, Some, None, All, length, IfOk, OnOk, IfErr, IsTrue, option_map};
 ghost use Rattle.std.specs.List.{concat};
 ghost use Rattle.heap_image.specs.Begins.{MarkBegins};
+ghost use Rattle.heap_image.specs.Soundness.{AreWellFormed};
 ghost use Rattle.heap_image.specs.HeapImage.{FormHeap, image_of, roots_or};
 ghost use Rattle.heap_image.specs.ImageText.{from_tail, first_some, first_object_fault, live_list_faults};
 
 use crate::Fault;
 use crate::begins::begin_bits;
-use crate::check::{check_objects, misplaced_index};
+use crate::check::{check_live, misplaced_index};
 use crate::front::Front;
 use crate::reach::{Reached, reached_from_roots, words_in};
 use crate::soundness::are_sound;
@@ -22,6 +23,8 @@ pub(crate) struct Found {
     pub(crate) live: Vec<u64>,
     /// The same as bits.
     pub(crate) begins: Vec<u64>,
+    /// Whether each of these objects is known to have a sound header, and references that are null or to another of them.
+    pub(crate) well_formed: bool,
     /// The roots, in an image of version 2.
     pub(crate) roots: Option<Vec<u64>>,
 }
@@ -43,6 +46,8 @@ pub(crate) fn find_live_objects(
     ensures inside { IfOk result (λ found. All (λ a. a < length (concat regions.now)) found.live.items) }
     ensures begins { IfOk result
         (λ found. MarkBegins found.live.items (length (concat regions.now)) found.begins.items) }
+    ensures well_formed { IfOk result (λ found. IsTrue found.well_formed
+        → AreWellFormed (image_of front.region_log 0 regions.now found.live.items)) }
     // What is still to be found is wrong with the objects.
     ensures ordered { let image = from_tail front.rooted (image_of front.region_log 0 regions.now tail.items) in
         IfOk result (λ found. first_some (live_list_faults image)
@@ -51,16 +56,16 @@ pub(crate) fn find_live_objects(
         IfErr result (λ fault. (fault ≡ Fault.Memory) ⊎ (first_some (live_list_faults image) ≡ Some fault)) }
 {
     if front.rooted {
-        let Reached { live, begins } = reached_from_roots(
-            alloc,
-            front.region_log,
-            regions,
-            tail.as_slice(),
-        )?;
+        let Reached {
+            live,
+            begins,
+            well_formed,
+        } = reached_from_roots(alloc, front.region_log, regions, tail.as_slice())?;
         let roots = Some(tail);
         return Ok(Found {
             live,
             begins,
+            well_formed,
             roots,
         });
     }
@@ -72,6 +77,7 @@ pub(crate) fn find_live_objects(
     Ok(Found {
         live: tail,
         begins,
+        well_formed: false,
         roots: None,
     })
 }
@@ -83,18 +89,18 @@ impl Found {
         requires heap { FormHeap region_log regions.now }
         requires inside { All (λ a. a < length (concat regions.now)) self.now.live.items }
         requires begins { MarkBegins self.now.live.items (length (concat regions.now)) self.now.begins.items }
+        requires well_formed { IsTrue self.now.well_formed → AreWellFormed (image_of region_log 0 regions.now self.now.live.items) }
         ensures ok { OnOk result
             (first_object_fault (image_of region_log 0 regions.now self.now.live.items) ≡ None) }
         ensures fault { IfErr result
             (λ fault. first_object_fault (image_of region_log 0 regions.now self.now.live.items) ≡ Some fault) }
     {
-        let words = words_in(regions, region_log);
-        check_objects(
+        check_live(
             regions,
             region_log,
-            words,
             self.live.as_slice(),
             self.begins.as_slice(),
+            self.well_formed,
         )
     }
 
@@ -109,6 +115,7 @@ impl Found {
         requires heap { FormHeap region_log regions.now }
         requires inside { All (λ a. a < length (concat regions.now)) self.now.live.items }
         requires begins { MarkBegins self.now.live.items (length (concat regions.now)) self.now.begins.items }
+        requires well_formed { IsTrue self.now.well_formed → AreWellFormed (image_of region_log 0 regions.now self.now.live.items) }
         ensures ok { OnOk result
             (first_object_fault (image_of region_log 0 regions.now self.now.live.items) ≡ None) }
         ensures fault { IfErr result
@@ -116,9 +123,9 @@ impl Found {
     {
         let words = words_in(regions, region_log);
         let (live, begins) = (self.live.as_slice(), self.begins.as_slice());
-        if are_sound(regions, region_log, words, live, begins, threads) {
+        if !self.well_formed && are_sound(regions, region_log, words, live, begins, threads) {
             return Ok(());
         }
-        check_objects(regions, region_log, words, live, begins)
+        self.check(regions, region_log)
     }
 }

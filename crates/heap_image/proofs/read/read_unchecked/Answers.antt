@@ -4,6 +4,7 @@ use Rattle.std.specs.Prelude.{All, option_map}
 use Rattle.std.specs.List.{concat}
 use Rattle.std.specs.Io.KnownBytes.{Consumes}
 use Rattle.heap_image.specs.Begins.{MarkBegins}
+use Rattle.heap_image.specs.Soundness.{AreWellFormed}
 use Rattle.heap_image.specs.HeapImage.{HeapImage, image_of}
 use Rattle.heap_image.specs.ImageText.{listed_text, from_tail, first_some, first_object_fault, live_list_faults}
 use Rattle.heap_image.specs.Reading.{HasFittingNumbers}
@@ -137,6 +138,7 @@ returns-clause-found g c =
       roots = found.roots ∙ ap (λ bs. (from_tail rooted (image_of log 0 bs tail)).roots) same ∙ sym (roots_same rooted log front.allowance blocks tail) ∙ ap (λ xs. (from_tail rooted (image_of log front.allowance blocks xs)).roots) told;
       inside = subst (λ bs. All (λ a. a < length (concat bs)) live) same found.inside;
       begins = subst (λ bs. MarkBegins live (length (concat bs)) c.in_ok-found.found.begins.items) same found.begins;
+      well_formed = λ said. subst (λ bs. AreWellFormed (image_of log 0 bs live)) same (found.well_formed said);
       ordered =
           ap (λ xs. first_some (live_list_faults (from_tail rooted (image_of log front.allowance blocks xs)))) (sym told)
           ∙ ap first_some (faults_same rooted log front.allowance blocks tail)

@@ -56,7 +56,7 @@ loop-object-preserved c =
     let grown = c.follow.ensures.grown in
     let after = c.follow.new.self in
     record {
-      marking = λ roots m. batch_followed image roots c.loop-object.self.words w.address c.loop-object.self.bits.items after.bits.items c.loop-object.self.stack.items after.stack.items (addresses batch) (addresses rest) words (addresses_push batch rest w popped) (before.marking roots m) grown;
+      marking = λ roots m. batch_followed image roots c.loop-object.self.words w.address c.loop-object.self.bits.items after.bits.items c.loop-object.self.stack.items after.stack.items (addresses batch) (addresses rest) c.loop-object.self.well_formed after.well_formed words (addresses_push batch rest w popped) (before.marking roots m) grown c.follow.ensures.well_formed;
       inside = subst (λ n. All (λ a. a < n) (addresses rest)) (sym c.follow.ensures.words) (last_inside c.loop-object.self.words batch rest w popped before.inside).1;
       fetched = (last_fetched (concat c.args.regions.now) batch rest w popped before.fetched).1;
       room = grown.room ∙ before.room;
@@ -71,4 +71,4 @@ returns-clause-marking c = λ roots m.
     let image : HeapImage = image_of c.args.region_log 0 c.args.regions.now [] in
     let stack = c.loop-object.self.stack.items in
     let empty : c.loop-object.batch.items ≡ [] = none_left c.loop-object.batch.items (omega (arith, c.in_default.ensures.cases, c.loop-object.batch.ok.0)) in
-    subst (IsMarking image roots c.loop-object.self.bits.items) (ap (λ xs. stack ++ addresses xs) empty ∙ append-nil stack) (c.loop-object.invariant.marking roots m)
+    subst (λ xs. IsMarking image roots c.loop-object.self.bits.items xs c.loop-object.self.well_formed) (ap (λ xs. stack ++ addresses xs) empty ∙ append-nil stack) (c.loop-object.invariant.marking roots m)

@@ -7,8 +7,8 @@ use Rattle.heap_image.proofs.marking.Marking.follow_batch.Given as goal
 
 abbrev pub invariant-loop-object : goal.invariant-loop-object
 invariant-loop-object l = record {
-  marking : (roots : List ℕ) → IsMarking (image_of l.region_log 0 l.regions []) roots l.initial.self.bits.items (l.initial.self.stack.items ++ addresses l.initial.batch.items)
-      → IsMarking (image_of l.region_log 0 l.regions []) roots l.self.bits.items (l.self.stack.items ++ addresses l.batch.items);
+  marking : (roots : List ℕ) → IsMarking (image_of l.region_log 0 l.regions []) roots l.initial.self.bits.items (l.initial.self.stack.items ++ addresses l.initial.batch.items) l.initial.self.well_formed
+      → IsMarking (image_of l.region_log 0 l.regions []) roots l.self.bits.items (l.self.stack.items ++ addresses l.batch.items) l.self.well_formed;
   inside : All (λ a. a < l.self.words) (addresses l.batch.items);
   fetched : All (λ w. w.header ≡ get_or (concat l.regions) w.address 0) l.batch.items;
   room : length l.self.bits.items ≡ length l.initial.self.bits.items;

@@ -3,7 +3,7 @@ use Rattle.std.proofs.lemmas.Bool.{eqb-true}
 use Rattle.std.specs.Vec.{vec_len}
 use Rattle.heap_image.specs.HeapImage.{HeapImage, image_of}
 use Rattle.heap_image.specs.Marking.{addresses, unmarked}
-use Rattle.heap_image.proofs.MarkingSteps.{unmarked_few, none_left, marking_begins, marking_ends, batch_inside}
+use Rattle.heap_image.proofs.MarkingSteps.{unmarked_few, none_left, marking_begins, marking_ends, marking_ends-well, batch_inside}
 use Rattle.heap_image.proofs.marking.Marking.mark_reached.Goals as goal
 
 pub visit_all-requires-clause-room : goal.visit_all-requires-clause-room
@@ -16,7 +16,7 @@ loop-self-init c =
     let old = c.args.self.now in
     let new = c.visit_all.new.self in
     record {
-      marking = marking_begins image c.args.roots.now old.words c.requires.words old.bits.items new.bits.items old.stack.items new.stack.items c.requires.empty c.requires.bits c.requires.clear grown;
+      marking = marking_begins image c.args.roots.now old.words c.requires.words old.bits.items new.bits.items old.stack.items new.stack.items new.well_formed c.requires.empty c.requires.bits c.requires.clear grown;
       words = c.visit_all.ensures.words ∙ c.requires.words;
       room = rw (c.visit_all.ensures.words) (omega (arith, grown.total, c.visit_all.ensures.capacity, ap length c.requires.empty, unmarked_few old.words old.bits.items, c.requires.room));
       batch = c.requires.batch;
@@ -29,7 +29,7 @@ follow_batch-requires-clause-inside c =
     let new = c.take_batch.new.self in
     let taken = c.take_batch.ensures.marking c.args.roots.now c.loop-self.invariant.marking in
     let words = c.take_batch.ensures.words ∙ c.loop-self.invariant.words in
-    batch_inside image c.args.roots.now new.words words new.bits.items new.stack.items (addresses c.take_batch.new.batch.items) taken
+    batch_inside image c.args.roots.now new.words words new.bits.items new.stack.items (addresses c.take_batch.new.batch.items) new.well_formed taken
 
 pub loop-self-preserved : goal.loop-self-preserved
 loop-self-preserved c =
@@ -47,8 +47,14 @@ loop-self-preserved c =
       batch_room = omega (arith, followed.batch_capacity, taken.batch_capacity, before.batch_room);
     }
 
-pub returns : goal.returns
-returns c =
-    let stack = c.loop-self.self.stack.items in
-    let empty : stack ≡ [] = none_left stack (omega (arith, eqb-true (vec_len c.loop-self.self.stack) 0 (sym (c.loop-self-test.ensures)), c.loop-self.self.stack.ok.0)) in
-    marking_ends (image_of c.args.region_log 0 c.args.regions.now []) c.args.roots.now c.loop-self.self.words c.loop-self.invariant.words c.loop-self.self.bits.items stack empty c.loop-self.invariant.marking
+pub returns-clause-reached : goal.returns-clause-reached
+returns-clause-reached c =
+    let held = c.loop-self.self in
+    let empty : held.stack.items ≡ [] = none_left held.stack.items (omega (arith, eqb-true (vec_len held.stack) 0 (sym (c.loop-self-test.ensures)), held.stack.ok.0)) in
+    marking_ends (image_of c.args.region_log 0 c.args.regions.now []) c.args.roots.now held.words c.loop-self.invariant.words held.bits.items held.stack.items held.well_formed empty c.loop-self.invariant.marking
+
+pub returns-clause-well_formed : goal.returns-clause-well_formed
+returns-clause-well_formed c = λ said.
+    let held = c.loop-self.self in
+    let empty : held.stack.items ≡ [] = none_left held.stack.items (omega (arith, eqb-true (vec_len held.stack) 0 (sym (c.loop-self-test.ensures)), held.stack.ok.0)) in
+    marking_ends-well (image_of c.args.region_log 0 c.args.regions.now []) c.args.roots.now held.words c.loop-self.invariant.words held.bits.items held.stack.items held.well_formed empty c.loop-self.invariant.marking said

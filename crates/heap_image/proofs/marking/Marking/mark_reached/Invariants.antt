@@ -7,7 +7,7 @@ use Rattle.heap_image.proofs.marking.Marking.mark_reached.Given as goal
 
 abbrev pub invariant-loop-self : goal.invariant-loop-self
 invariant-loop-self l = record {
-  marking : IsMarking (image_of l.region_log 0 l.regions []) l.roots l.self.bits.items l.self.stack.items;
+  marking : IsMarking (image_of l.region_log 0 l.regions []) l.roots l.self.bits.items l.self.stack.items l.self.well_formed;
   words : l.self.words ≡ length (concat l.regions);
   room : length l.self.stack.items + unmarked l.self.words l.self.bits.items ≤ vec_capacity l.self.stack;
   batch : l.batch.items ≡ [];

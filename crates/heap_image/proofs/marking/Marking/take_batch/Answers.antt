@@ -16,7 +16,7 @@ loop-self-init c =
     let stack = c.args.self.now.stack.items in
     let none : stack ≡ stack ++ addresses c.args.batch.now.items = sym (ap (λ xs. stack ++ addresses xs) c.requires.empty ∙ append-nil stack) in
     record {
-      marking = λ roots m. subst (IsMarking image roots c.args.self.now.bits.items) none m;
+      marking = λ roots m. subst (λ xs. IsMarking image roots c.args.self.now.bits.items xs c.args.self.now.well_formed) none m;
       fetched = subst (λ xs. (k : ℕ) → (d : Waiting) → k < length xs → (get_or xs k d).header ≡ get_or (concat c.args.regions.now) (get_or xs k d).address 0) (sym c.requires.empty) (λ k d l. let no : ⊥ = omega arith in absurd no);
       inside = c.requires.inside;
       total = let empty = ap length c.requires.empty in omega arith;
@@ -30,7 +30,7 @@ pub returns-in_default-clause-marking : goal.returns-in_default-clause-marking
 returns-in_default-clause-marking c = λ roots m.
     let image : HeapImage = image_of c.args.region_log 0 c.args.regions.now [] in
     let same : c.loop-self.self.stack.items ≡ c.pop.new.self.items = c.in_default.ensures.items ∙ append-nil c.pop.new.self.items in
-    subst (λ xs. IsMarking image roots c.loop-self.self.bits.items (xs ++ addresses c.loop-self.batch.items)) same (c.loop-self.invariant.marking roots m)
+    subst (λ xs. IsMarking image roots c.loop-self.self.bits.items (xs ++ addresses c.loop-self.batch.items) c.loop-self.self.well_formed) same (c.loop-self.invariant.marking roots m)
 
 pub word_of-header-requires-clause-inside : goal.word_of-header-requires-clause-inside
 word_of-header-requires-clause-inside c =
@@ -53,7 +53,7 @@ loop-self-preserved c =
     let pushed = c.push_reserved.ensures.items in
     let before = c.loop-self.invariant in
     record {
-      marking = λ roots m. batch_taken image roots a bits stack rest (addresses batch) (addresses more) popped (addresses_push more batch object pushed) (before.marking roots m);
+      marking = λ roots m. batch_taken image roots a bits stack rest (addresses batch) (addresses more) c.loop-self.self.well_formed popped (addresses_push more batch object pushed) (before.marking roots m);
       fetched = subst (λ xs. (k : ℕ) → (d : Waiting) → k < length xs → (get_or xs k d).header ≡ get_or (concat c.args.regions.now) (get_or xs k d).address 0) (sym pushed)
           (All-push (λ (w : Waiting). w.header ≡ get_or (concat c.args.regions.now) w.address 0) batch object before.fetched c.word_of-header.ensures);
       inside = all_left (λ b. (b < words) × (is_marked bits b ≡ true)) rest (a ∷ []) (subst (AreStacked words bits) popped before.inside);

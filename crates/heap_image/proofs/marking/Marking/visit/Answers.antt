@@ -8,7 +8,7 @@ push_reserved-requires c =
     let a : ℕ = c.args.reference - 1 in
     let l : a < c.args.self.now.words = omega arith in
     let clear : is_marked c.args.self.now.bits.items a ≡ false = ap (λ xs. is_marked xs a) (sym c.as_slice.ensures.value) ∙ sym c.is_marked.ensures ∙ c.if-is_marked.false in
-    let less = unmarked_less c.args.self.now.words a c.args.self.now.bits.items c.mark.new.bits.items l clear c.mark.ensures.bits in
+    let less = unmarked_less c.args.self.now.words a c.args.self.now.bits.items c.set_bit.new.bits.items l clear c.set_bit.ensures.bits in
     let room = c.requires.room in
     omega (arith, c.args.self.now.stack.ok.0)
 
@@ -18,4 +18,4 @@ returns-clause-grown c =
     let l : a < c.args.self.now.words = omega arith in
     let clear : is_marked c.args.self.now.bits.items a ≡ false = ap (λ xs. is_marked xs a) (sym c.as_slice.ensures.value) ∙ sym c.is_marked.ensures ∙ c.if-is_marked.false in
     let is : c.args.reference ≡ a + 1 = omega arith in
-    grown_push c.args.self.now.words c.args.reference a c.args.self.now.bits.items c.mark.new.bits.items c.args.self.now.stack.items c.push_reserved.new.self.items is l clear c.mark.ensures.room c.mark.ensures.bits c.push_reserved.ensures.items
+    grown_push c.args.self.now.words c.args.reference a c.args.self.now.bits.items c.set_bit.new.bits.items c.args.self.now.stack.items c.push_reserved.new.self.items is l clear c.set_bit.ensures.room c.set_bit.ensures.bits c.push_reserved.ensures.items

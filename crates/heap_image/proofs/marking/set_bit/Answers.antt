@@ -1,7 +1,7 @@
 use Rattle.std.proofs.Common.{◌/◌, ◌∙◌}
 use Rattle.std.proofs.lemmas.List.{get_or_default}
 use Rattle.heap_image.proofs.Marks.{marked_set}
-use Rattle.heap_image.proofs.marking.mark.Goals as goal
+use Rattle.heap_image.proofs.marking.set_bit.Goals as goal
 
 pub returns-clause-bits : goal.returns-clause-bits
 returns-clause-bits c = λ k.
