@@ -7,7 +7,7 @@ ghost use Rattle.heap_image.specs.Begins.{is_marked};
 ghost use Rattle.heap_image.specs.Marking.{IsGrown, IsMarking, IsWellFormed, AreReached, AreReachedWell, AreStacked, unmarked, addresses};
 
 use crate::begins::is_marked;
-use crate::blocks::word_of;
+use crate::blocks::{row_of, word_of};
 use crate::check::is_unsound;
 use crate::header;
 use raw_region::Region;
@@ -103,19 +103,25 @@ impl Marking {
         }
     }
 
-    /// Visits what the roots lead to.
-    fn visit_all(&mut self, roots: &[u64])
+    /// Visits what these references lead to, which are the roots or some of an object, and notes whether one leads out of
+    /// the heap.
+    fn visit_all(&mut self, references: &[u64])
         requires few { self.old.words ≤ 4194304 }
         requires bits { self.old.words / 64 < length self.old.bits.items }
         requires room { length self.old.stack.items + unmarked self.old.words self.old.bits.items ≤ vec_capacity self.old.stack }
-        ensures grown { IsGrown self.old.words (λ b. list_any (λ w. leads_to w b) roots.now)
+        ensures grown { IsGrown self.old.words (λ b. list_any (λ w. leads_to w b) references.now)
             self.old.bits.items self.new.bits.items self.old.stack.items self.new.stack.items }
+        ensures well_formed { IsTrue self.new.well_formed
+            → IsTrue self.old.well_formed × All (λ w. w ≤ self.old.words) references.now }
         ensures capacity { vec_capacity self.new.stack ≡ vec_capacity self.old.stack }
         ensures words { self.new.words ≡ self.old.words }
     {
-        for root in roots {
-            self.visit(*root);
+        let mut inside = true;
+        for reference in references {
+            inside &= *reference <= self.words;
+            self.visit(*reference);
         }
+        self.well_formed &= inside;
     }
 
     /// Takes up to 64 addresses from the stack and fetches their headers.
@@ -187,10 +193,12 @@ impl Marking {
             self.well_formed = false;
             return;
         }
-        for field in 0..header::references(object.header) {
-            let reference = word_of(regions, region_log, object.address + 1 + u64::from(field));
-            self.well_formed &= reference <= self.words;
-            self.visit(reference);
+        let mut next = object.address + 1;
+        let end = next + u64::from(header::references(object.header));
+        while next < end {
+            let row = row_of(regions, region_log, next, end);
+            self.visit_all(row);
+            next += row.len() as u64;
         }
     }
 

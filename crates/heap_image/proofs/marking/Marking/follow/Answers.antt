@@ -1,9 +1,10 @@
-use Rattle.std.proofs.Common.{◌≡◌, ◌+◌, ◌&&◌, leb, get_or, ◌∙◌, ap, subst, arith}
-use Rattle.std.specs.List.{concat}
+use Rattle.std.proofs.Common.{◌≡◌, ◌+◌, ◌-◌, ◌∙◌, ◌≤◌, ℕ, ap, subst, arith}
+use Rattle.std.specs.List.{list_any}
+use Rattle.std.specs.Prelude.{IsTrue, All}
 use Rattle.heap_image.specs.Header.{references_of}
 use Rattle.heap_image.specs.HeapImage.{leads_to}
 use Rattle.heap_image.specs.Marking.{IsGrown}
-use Rattle.heap_image.proofs.Following.{unsound_is, followed_none, followed_more, followed_all, noted_more, noted_all}
+use Rattle.heap_image.proofs.Following.{unsound_is, followed_none, followed_row, followed_all, noted_row, noted_all}
 use Rattle.heap_image.proofs.marking.Marking.follow.Goals as goal
 
 pub returns-then-is_unsound-clause-grown : goal.returns-then-is_unsound-clause-grown
@@ -12,30 +13,49 @@ returns-then-is_unsound-clause-grown c =
     followed_none c.args.region_log regions c.args.self.now.words c.args.object.address c.requires.words c.args.self.now.bits.items c.args.self.now.stack.items
     (unsound_is c.args.region_log regions c.args.self.now.words c.args.object.address c.requires.words c.args.object.header c.is_unsound.result c.requires.header c.is_unsound.ensures ∙ c.if-is_unsound.true)
 
-pub loop-field-preserved : goal.loop-field-preserved
-loop-field-preserved c =
+pub loop-next-preserved : goal.loop-next-preserved
+loop-next-preserved c =
+    let log = c.args.region_log in
     let regions = c.args.regions.now in
-    let is = c.word_of-reference.ensures ∙ ap (λ f. get_or (concat regions) (c.args.object.address + 1 + f) 0) c.from.ensures in
-    let grown = subst (λ n. IsGrown n (leads_to c.word_of-reference.result) c.loop-field.self.bits.items c.visit.new.self.bits.items c.loop-field.self.stack.items c.visit.new.self.stack.items) c.loop-field.invariant.words c.visit.ensures.grown in
+    let a = c.args.object.address in
+    let words = c.args.self.now.words in
+    let next = c.loop-next.next in
+    let before = c.loop-next.invariant in
+    let row = c.row_of-row.result.now in
+    let held = c.loop-next.self in
+    let after = c.visit_all.new.self in
+    let is = c.row_of-row.ensures.words in
+    let grown = subst (λ k. IsGrown k (λ b. list_any (λ w. leads_to w b) row) held.bits.items after.bits.items held.stack.items after.stack.items) before.words c.visit_all.ensures.grown in
+    let noted = subst (λ k. IsTrue after.well_formed → IsTrue held.well_formed × All (λ w. w ≤ k) row) before.words c.visit_all.ensures.well_formed in
     record {
-      grown = followed_more c.args.region_log regions c.args.self.now.words c.args.object.address c.requires.words c.loop-field.field c.word_of-reference.result c.args.self.now.bits.items c.loop-field.self.bits.items c.visit.new.self.bits.items c.args.self.now.stack.items c.loop-field.self.stack.items c.visit.new.self.stack.items is c.loop-field.invariant.grown grown;
-      formed = noted_more c.args.region_log regions c.args.self.now.words c.args.object.address c.requires.words c.loop-field.field c.word_of-reference.result c.args.self.now.well_formed c.loop-field.self.well_formed c.visit.new.self.well_formed is (c.visit.ensures.well_formed ∙ ap (λ n. c.loop-field.self.well_formed && leb c.word_of-reference.result n) c.loop-field.invariant.words) c.loop-field.invariant.formed;
-      capacity = c.visit.ensures.capacity ∙ c.loop-field.invariant.capacity;
-      words = c.visit.ensures.words ∙ c.loop-field.invariant.words;
+      grown = followed_row log regions words a c.requires.words next row c.args.self.now.bits.items held.bits.items after.bits.items c.args.self.now.stack.items held.stack.items after.stack.items before.low is before.grown grown;
+      formed = noted_row log regions words a c.requires.words next row c.args.self.now.well_formed held.well_formed after.well_formed before.low is noted before.formed;
+      low = let low = before.low in omega arith;
+      high = c.row_of-row.ensures.within;
+      capacity = c.visit_all.ensures.capacity ∙ before.capacity;
+      words = c.visit_all.ensures.words ∙ before.words;
     }
+
+-- all references were visited when the loop ends
+all_visited : (a next count : ℕ) → next ≤ a + 1 + count → a + 1 + count ≤ next → next - (a + 1) ≡ count
+all_visited a next count high low = omega arith
 
 pub returns-clause-grown : goal.returns-clause-grown
 returns-clause-grown c =
     let regions = c.args.regions.now in
-    let sound = unsound_is c.args.region_log regions c.args.self.now.words c.args.object.address c.requires.words c.args.object.header c.is_unsound.result c.requires.header c.is_unsound.ensures ∙ c.if-is_unsound.false in
-    let last : c.loop-field.field ≡ c.references-field-end.result = (let low = c.loop-field-test.false in let high = c.loop-field.auto.field-end in omega arith) in
-    let count = last ∙ c.references-field-end.ensures ∙ ap references_of c.requires.header in
-    followed_all c.args.region_log regions c.args.self.now.words c.args.object.address c.requires.words c.loop-field.field c.args.self.now.bits.items c.loop-field.self.bits.items c.args.self.now.stack.items c.loop-field.self.stack.items sound count c.loop-field.invariant.grown
+    let a = c.args.object.address in
+    let next = c.loop-next.next in
+    let sound = unsound_is c.args.region_log regions c.args.self.now.words a c.requires.words c.args.object.header c.is_unsound.result c.requires.header c.is_unsound.ensures ∙ c.if-is_unsound.false in
+    let test = c.loop-next-test.false in
+    let count = all_visited a next c.from.result c.loop-next.invariant.high (omega arith) ∙ c.from.ensures ∙ c.references.ensures ∙ ap references_of c.requires.header in
+    followed_all c.args.region_log regions c.args.self.now.words a c.requires.words (next - (a + 1)) c.args.self.now.bits.items c.loop-next.self.bits.items c.args.self.now.stack.items c.loop-next.self.stack.items sound count c.loop-next.invariant.grown
 
 pub returns-clause-well_formed : goal.returns-clause-well_formed
 returns-clause-well_formed c =
     let regions = c.args.regions.now in
-    let sound = unsound_is c.args.region_log regions c.args.self.now.words c.args.object.address c.requires.words c.args.object.header c.is_unsound.result c.requires.header c.is_unsound.ensures ∙ c.if-is_unsound.false in
-    let last : c.loop-field.field ≡ c.references-field-end.result = (let low = c.loop-field-test.false in let high = c.loop-field.auto.field-end in omega arith) in
-    let count = last ∙ c.references-field-end.ensures ∙ ap references_of c.requires.header in
-    noted_all c.args.region_log regions c.args.self.now.words c.args.object.address c.requires.words c.loop-field.field c.args.self.now.well_formed c.loop-field.self.well_formed sound count c.loop-field.invariant.formed
+    let a = c.args.object.address in
+    let next = c.loop-next.next in
+    let sound = unsound_is c.args.region_log regions c.args.self.now.words a c.requires.words c.args.object.header c.is_unsound.result c.requires.header c.is_unsound.ensures ∙ c.if-is_unsound.false in
+    let test = c.loop-next-test.false in
+    let count = all_visited a next c.from.result c.loop-next.invariant.high (omega arith) ∙ c.from.ensures ∙ c.references.ensures ∙ ap references_of c.requires.header in
+    noted_all c.args.region_log regions c.args.self.now.words a c.requires.words (next - (a + 1)) c.args.self.now.well_formed c.loop-next.self.well_formed sound count c.loop-next.invariant.formed

@@ -1,4 +1,8 @@
-use Rattle.std.proofs.Common.{◌+◌, get_or, take, ◌∙◌, subst}
+use Rattle.std.proofs.Common.{◌+◌, ◌≤◌, get_or, take, leb, sym, ◌∙◌, subst}
+use Rattle.std.specs.Prelude.{All}
+use Rattle.std.proofs.lemmas.Bool.{and_parts, leb-true}
+use Rattle.std.proofs.lemmas.List.{take_more}
+use Rattle.std.proofs.lemmas.List.Elements.{All-push}
 use Rattle.std.specs.List.{list_any}
 use Rattle.std.proofs.lemmas.List.Folds.{list_any_more}
 use Rattle.heap_image.specs.HeapImage.{leads_to}
@@ -6,14 +10,19 @@ use Rattle.heap_image.specs.Marking.{IsGrown}
 use Rattle.heap_image.proofs.Growth.{grown_more}
 use Rattle.heap_image.proofs.marking.Marking.visit_all.Goals as goal
 
-pub loop-root-preserved : goal.loop-root-preserved
-loop-root-preserved c =
-    let roots = c.args.roots.now in
-    let i = c.loop-root.root-index in
-    let grown = subst (λ n. IsGrown n (leads_to (get_or roots i 0)) c.loop-root.self.bits.items c.visit.new.self.bits.items c.loop-root.self.stack.items c.visit.new.self.stack.items) c.loop-root.invariant.words c.visit.ensures.grown in
+pub loop-reference-preserved : goal.loop-reference-preserved
+loop-reference-preserved c =
+    let references = c.args.references.now in
+    let i = c.loop-reference.reference-index in
+    let grown = subst (λ n. IsGrown n (leads_to (get_or references i 0)) c.loop-reference.self.bits.items c.visit.new.self.bits.items c.loop-reference.self.stack.items c.visit.new.self.stack.items) c.loop-reference.invariant.words c.visit.ensures.grown in
     record {
-      grown = grown_more c.args.self.now.words (λ b. list_any (λ w. leads_to w b) (take i roots)) (leads_to (get_or roots i 0)) (λ b. list_any (λ w. leads_to w b) (take (i + 1) roots)) c.args.self.now.bits.items c.loop-root.self.bits.items c.visit.new.self.bits.items c.args.self.now.stack.items c.loop-root.self.stack.items c.visit.new.self.stack.items
-          (λ b. list_any_more (λ w. leads_to w b) roots i 0 c.loop-root-test.true) c.loop-root.invariant.grown grown;
-      capacity = c.visit.ensures.capacity ∙ c.loop-root.invariant.capacity;
-      words = c.visit.ensures.words ∙ c.loop-root.invariant.words;
+      grown = grown_more c.args.self.now.words (λ b. list_any (λ w. leads_to w b) (take i references)) (leads_to (get_or references i 0)) (λ b. list_any (λ w. leads_to w b) (take (i + 1) references)) c.args.self.now.bits.items c.loop-reference.self.bits.items c.visit.new.self.bits.items c.args.self.now.stack.items c.loop-reference.self.stack.items c.visit.new.self.stack.items
+          (λ b. list_any_more (λ w. leads_to w b) references i 0 c.loop-reference-test.true) c.loop-reference.invariant.grown grown;
+      inside = λ said.
+          let both = and_parts c.loop-reference.inside (leb (get_or references i 0) c.loop-reference.self.words) said in
+          let low : get_or references i 0 ≤ c.args.self.now.words = subst (λ n. get_or references i 0 ≤ n) c.loop-reference.invariant.words (leb-true (get_or references i 0) c.loop-reference.self.words both.1) in
+          subst (All (λ w. w ≤ c.args.self.now.words)) (sym (take_more references i 0 c.loop-reference-test.true)) (All-push (λ w. w ≤ c.args.self.now.words) (take i references) (get_or references i 0) (c.loop-reference.invariant.inside both.0) low);
+      well_formed = c.visit.ensures.well_formed ∙ c.loop-reference.invariant.well_formed;
+      capacity = c.visit.ensures.capacity ∙ c.loop-reference.invariant.capacity;
+      words = c.visit.ensures.words ∙ c.loop-reference.invariant.words;
     }
