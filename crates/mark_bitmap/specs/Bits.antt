@@ -14,8 +14,17 @@ has words k = bit_at (slice_index words (k / 64)) (k % 64) == 1
 abbrev pub NoneFrom : (ℕ → Bool) → ℕ → Type 0
 NoneFrom test from = (k : ℕ) → from ≤ k → test k ≡ false
 
+-- no address from this one on and below `to` passes the test
+abbrev pub NoneBetween : (ℕ → Bool) → ℕ → ℕ → Type 0
+NoneBetween test from to = (k : ℕ) → from ≤ k → k < to → test k ≡ false
+
 -- a is the first address from this one on that passes the test
 pub record IsFirstFrom (test : ℕ → Bool) (from a : ℕ) : Type 0 where
   pub behind : from ≤ a
   pub passes : IsTrue (test a)
   pub least : (k : ℕ) → from ≤ k → k < a → test k ≡ false
+
+-- a is the first address from this one on that passes the test, and lies below `to`
+pub record IsFirstBetween (test : ℕ → Bool) (from to a : ℕ) : Type 0 where
+  pub first : IsFirstFrom test from a
+  pub below : a < to

@@ -2,7 +2,7 @@
 ghost use Rattle.std.specs.Prelude.{◌≡◌, ℕ, ◌+◌, ◌-◌, ◌*◌, ◌/◌, ◌%◌, ◌^◌, ◌<◌, ◌≤◌, ◌==◌, ◌||◌, ◌&&◌, nat_le, nat_lt, ◌++◌, length, replicate, take, drop, All, slice_index, slice_set, count_by, count_ones, position, not, IfOk, MatchOption};
 ghost use Rattle.std.specs.Int.{bit_at};
 ghost use Rattle.std.specs.List.{range_with_len, list_any};
-ghost use Rattle.mark_bitmap.specs.Bits.{has, room, NoneFrom, IsFirstFrom};
+ghost use Rattle.mark_bitmap.specs.Bits.{has, room, NoneFrom, IsFirstFrom, NoneBetween, IsFirstBetween};
 
 use std::alloc::{AllocError, Global};
 use std::marker::Model;
@@ -97,34 +97,34 @@ impl Bits {
         requires { room self.now < 2 ^ 64 }
         ensures { MatchOption result (NoneFrom (has self.now) from) (IsFirstFrom (has self.now) from) }
     {
-        let start = (from / 64) as usize;
-        let rest = *self.words.get(start)? & (u64::MAX << (from % 64));
-        if rest != 0 {
-            return Some(64 * start as u64 + lowest(rest));
-        }
-        let behind = &self.words[start + 1..];
-        let i = first_nonzero(behind)?;
-        Some(64 * (start + 1 + i) as u64 + lowest(behind[i]))
+        first_in(self.words.as_slice(), from)
     }
 
-    /// The least address from `from` on that is not in the set.
-    pub(crate) fn next_absent(&self, from: u64) -> u64
+    /// The least address of the set from `from` on that lies below `to`. No word past `to` is looked at.
+    pub(crate) fn next_before(&self, from: u64, to: u64) -> Option<u64>
         requires { room self.now < 2 ^ 64 }
-        ensures { IsFirstFrom (λ k. not (has self.now k)) from result }
+        ensures { MatchOption result (NoneBetween (has self.now) from to) (IsFirstBetween (has self.now) from to) }
     {
-        let start = (from / 64) as usize;
-        let Some(word) = self.words.get(start) else {
-            return from;
-        };
-        let rest = lacking(*word) & (u64::MAX << (from % 64));
-        if rest != 0 {
-            return 64 * start as u64 + lowest(rest);
-        }
-        let behind = &self.words[start + 1..];
-        match first_not_full(behind) {
-            Some(i) => 64 * (start + 1 + i) as u64 + lowest(lacking(behind[i])),
-            None => 64 * self.words.len() as u64,
-        }
+        let first = first_in(self.words_below(to), from)?;
+        if first < to { Some(first) } else { None }
+    }
+
+    /// The least address from `from` on and below `to` that is not in the set. No word past `to` is looked at.
+    pub(crate) fn next_absent_before(&self, from: u64, to: u64) -> Option<u64>
+        requires { room self.now < 2 ^ 64 }
+        ensures { MatchOption result (NoneBetween (λ k. not (has self.now k)) from to) (IsFirstBetween (λ k. not (has self.now k)) from to) }
+    {
+        let first = first_not_in(self.words_below(to), from);
+        if first < to { Some(first) } else { None }
+    }
+
+    /// The words that have the bits of the addresses below `to`.
+    #[inline]
+    fn words_below(&self, to: u64) -> &[u64]
+        ensures { result.now ≡ take ((to + 63) / 64) self.now }
+    {
+        let count = self.words.len().min(to.div_ceil(64) as usize);
+        &self.words[..count]
     }
 
     /// How many addresses from `from` up to `to`, itself not included, are in the set.
@@ -161,6 +161,41 @@ impl Bits {
     {
         let below = (1 << (i % 64)) - 1;
         ones(self.words[(i / 64) as usize] & below)
+    }
+}
+
+/// The least address from `from` on that is in the set of these words.
+fn first_in(words: &[u64], from: u64) -> Option<u64>
+    requires { room words.now < 2 ^ 64 }
+    ensures { MatchOption result (NoneFrom (has words.now) from) (IsFirstFrom (has words.now) from) }
+{
+    let start = (from / 64) as usize;
+    let rest = *words.get(start)? & (u64::MAX << (from % 64));
+    if rest != 0 {
+        return Some(64 * start as u64 + lowest(rest));
+    }
+    let behind = &words[start + 1..];
+    let i = first_nonzero(behind)?;
+    Some(64 * (start + 1 + i) as u64 + lowest(behind[i]))
+}
+
+/// The least address from `from` on that is not in the set of these words.
+fn first_not_in(words: &[u64], from: u64) -> u64
+    requires { room words.now < 2 ^ 64 }
+    ensures { IsFirstFrom (λ k. not (has words.now k)) from result }
+{
+    let start = (from / 64) as usize;
+    let Some(word) = words.get(start) else {
+        return from;
+    };
+    let rest = lacking(*word) & (u64::MAX << (from % 64));
+    if rest != 0 {
+        return 64 * start as u64 + lowest(rest);
+    }
+    let behind = &words[start + 1..];
+    match first_not_full(behind) {
+        Some(i) => 64 * (start + 1 + i) as u64 + lowest(lacking(behind[i])),
+        None => 64 * words.len() as u64,
     }
 }
 

@@ -1,7 +1,7 @@
 //! `Marks`: the mark bitmaps of an image.
 ghost use Rattle.std.specs.Prelude.{◌≡◌, ◌*◌, ◌/◌, ◌<◌, ◌≤◌, IsTrue, IfOk, MatchOption};
 ghost use Rattle.heap_image.specs.HeapImage.{IsValid, heap_words, is_live_word, is_dead_word, live_words, size_at};
-ghost use Rattle.mark_bitmap.specs.Bits.{NoneFrom, IsFirstFrom};
+ghost use Rattle.mark_bitmap.specs.Bits.{NoneFrom, IsFirstFrom, NoneBetween, IsFirstBetween};
 ghost use Rattle.mark_bitmap.specs.Marks.{is_begin, is_end, block_words, block_count, block_live};
 
 use crate::bits::Bits;
@@ -96,11 +96,26 @@ impl Marks {
         self.live.next(from)
     }
 
-    /// The first address from `from` on whose word belongs to no live object. The words past the heap belong to none.
-    pub fn next_dead(&self, from: u64) -> u64
-        ensures { IsFirstFrom (is_dead_word self.now) from result }
+    /// The first address from `from` on, below `to`, at which a live object begins. It looks at no mark past `to`.
+    pub fn next_begin_before(&self, from: u64, to: u64) -> Option<u64>
+        ensures { MatchOption result (NoneBetween (is_begin self.now) from to) (IsFirstBetween (is_begin self.now) from to) }
     {
-        self.live.next_absent(from)
+        self.begins.next_before(from, to)
+    }
+
+    /// The first address from `from` on, below `to`, whose word belongs to a live object. It looks at no mark past `to`.
+    pub fn next_live_before(&self, from: u64, to: u64) -> Option<u64>
+        ensures { MatchOption result (NoneBetween (is_live_word self.now) from to) (IsFirstBetween (is_live_word self.now) from to) }
+    {
+        self.live.next_before(from, to)
+    }
+
+    /// The first address from `from` on, below `to`, whose word belongs to no live object. The words past the heap belong
+    /// to none. It looks at no mark past `to`.
+    pub fn next_dead_before(&self, from: u64, to: u64) -> Option<u64>
+        ensures { MatchOption result (NoneBetween (is_dead_word self.now) from to) (IsFirstBetween (is_dead_word self.now) from to) }
+    {
+        self.live.next_absent_before(from, to)
     }
 
     /// How many words from address `from` up to `to`, itself not included, belong to live objects.

@@ -150,8 +150,6 @@ fn base_heap_answers(rt: HostRuntime) -> Result<(), Fail> {
     assert_eq!(rt; ends, [Some(29), None]);
     let live = [marks.next_live(3), marks.next_live(30)];
     assert_eq!(rt; live, [Some(5), None]);
-    let dead = [marks.next_dead(5), marks.next_dead(30), marks.next_dead(99)];
-    assert_eq!(rt; dead, [9, 30, 99]);
     assert!(rt; marks.is_begin(20));
     assert_eq!(rt; marks.size_at(20), 10);
     Ok(())
@@ -196,5 +194,56 @@ fn blocks_count_from_their_own_region(rt: HostRuntime) -> Result<(), Fail> {
         sums.as_slice(),
         [0, 118, 246, 374, 0, 128, 198, 198].as_slice()
     );
+    Ok(())
+}
+
+#[test]
+fn a_search_ends_at_its_bound(rt: HostRuntime) -> Result<(), Fail> {
+    let image = base_image(&rt, rt.alloc())?;
+    let marks = Marks::of(rt.alloc(), &image)?;
+    let begins = [
+        marks.next_begin_before(13, 21),
+        marks.next_begin_before(13, 20),
+        marks.next_begin_before(20, 20),
+    ];
+    assert_eq!(rt; begins, [Some(20), None, None]);
+    let live = [
+        marks.next_live_before(3, 32),
+        marks.next_live_before(3, 5),
+        marks.next_live_before(30, 32),
+    ];
+    assert_eq!(rt; live, [Some(5), None, None]);
+    let dead = [
+        marks.next_dead_before(5, 10),
+        marks.next_dead_before(5, 9),
+        marks.next_dead_before(30, 32),
+        marks.next_dead_before(9, 5),
+        marks.next_dead_before(99, 100),
+    ];
+    assert_eq!(rt; dead, [Some(9), None, Some(30), None, Some(99)]);
+    Ok(())
+}
+
+#[test]
+fn a_run_over_several_words_of_bits_is_seen_to_its_bound(rt: HostRuntime) -> Result<(), Fail> {
+    let image = plain_image(&rt, rt.alloc(), 9, 512, [(60, 200), (260, 252)].as_slice())?;
+    let marks = Marks::of(rt.alloc(), &image)?;
+    let live = [
+        marks.next_live_before(0, 60),
+        marks.next_live_before(0, 61),
+        marks.next_live_before(0, 512),
+    ];
+    assert_eq!(rt; live, [None, Some(60), Some(60)]);
+    let dead = [
+        marks.next_dead_before(60, 128),
+        marks.next_dead_before(60, 512),
+        marks.next_dead_before(60, 513),
+    ];
+    assert_eq!(rt; dead, [None, None, Some(512)]);
+    let begins = [
+        marks.next_begin_before(61, 260),
+        marks.next_begin_before(61, 261),
+    ];
+    assert_eq!(rt; begins, [None, Some(260)]);
     Ok(())
 }

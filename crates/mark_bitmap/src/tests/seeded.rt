@@ -64,7 +64,29 @@ fn firsts_agree(marks: &Marks, objects: &[Object], from: u64, len: u64) -> bool 
         && marks.next_begin(from) == (from..len).find(|a| is_begin(objects, *a))
         && marks.next_end(from) == (from..len).find(|a| is_end(objects, *a))
         && marks.next_live(from) == (from..len).find(|a| is_live(objects, *a))
-        && Some(marks.next_dead(from)) == (from..=len).find(|a| !is_live(objects, *a))
+}
+
+/// How far from an address the bounds of its searches lie at most: in the next word of 64 bits.
+const REACH: u64 = 66;
+
+/// Whether the first addresses from this one on, below each bound in reach, are those of one pass.
+fn bounded_firsts_agree(marks: &Marks, objects: &[Object], from: u64, len: u64) -> bool {
+    let mut begin: Option<u64> = None;
+    let mut live: Option<u64> = None;
+    let mut dead: Option<u64> = None;
+    for to in from..=len.min(from.saturating_add(REACH)) {
+        if marks.next_begin_before(from, to) != begin
+            || marks.next_live_before(from, to) != live
+            || marks.next_dead_before(from, to) != dead
+        {
+            return false;
+        }
+        begin = begin.or(is_begin(objects, to).then_some(to));
+        let here = is_live(objects, to);
+        live = live.or(here.then_some(to));
+        dead = dead.or((!here).then_some(to));
+    }
+    true
 }
 
 /// Whether the counts of live words from this address on are those of one pass.
@@ -108,7 +130,10 @@ fn marks_agree(marks: &Marks, objects: &[Object], len: u64) -> bool
     requires { len ≤ heap_words marks.now }
 {
     for from in 0..len {
-        if !firsts_agree(marks, objects, from, len) || !counts_agree(marks, objects, from, len) {
+        if !firsts_agree(marks, objects, from, len)
+            || !bounded_firsts_agree(marks, objects, from, len)
+            || !counts_agree(marks, objects, from, len)
+        {
             return false;
         }
     }
