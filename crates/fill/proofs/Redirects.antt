@@ -56,6 +56,13 @@ module _ (image : HeapImage) where
       nothing : live_words image B B ≡ 0
       nothing = let z : B - B ≡ 0 = omega arith in ap (λ n. Rattle.std.specs.Prelude.count_by (is_live_word image) (Rattle.std.specs.List.range_with_len B n)) z
 
+  -- a word below an end in the prefix goes below where that end goes
+  pub below-kept : (p end : ℕ) → p < end → end ≤ B → p < slid image end
+  below-kept p end l k = elim (cases_lt end B) [
+    | inl less ↦ let same = slid-low image end less in omega arith
+    | inr more ↦ let up = slid-above image end more in omega arith
+  ]
+
 module _ (image : HeapImage) (sound : HasLiveList image) where
   abbrev place : ℕ → ℕ
   place i = get_or image.live i 0
@@ -132,6 +139,10 @@ module _ (image : HeapImage) (sound : HasLiveList image) where
       let one : new_address image (place o.index) ≡ new_address image a = ap (new_address image) is in
       let two : slid image (place o.index + 0) ≡ slid image a = ap (slid image) (let z : place o.index + 0 ≡ a = omega arith in z) in
       omega arith
+
+  -- an object of the prefix stays
+  pub stays : (a : ℕ) → IsObject image a → a < prefix_end image → a ≡ new_address image a
+  stays a o l = sym (new_address-is a o ∙ slid-low image a l)
 
   pub object_size : (a : ℕ) → IsObject image a → (0 < size_at image a) × (end_of image a ≤ heap_words image) × (references_at image a < size_at image a)
   object_size a o =

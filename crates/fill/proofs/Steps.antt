@@ -4,18 +4,18 @@ use Rattle.std.proofs.lemmas.Bool.{cases_lt, true≢false, eqb-true, eq-eqb}
 use Rattle.std.proofs.lemmas.List.{get_or_default}
 use Rattle.std.proofs.lemmas.List.Folds.{list_any_at, Any-from_list_any}
 use Rattle.std.specs.Prelude.{MatchOption, Option, Some, None}
-use Rattle.mark_bitmap.specs.Bits.{NoneFrom, IsFirstFrom}
+use Rattle.mark_bitmap.specs.Bits.{NoneBetween, IsFirstBetween}
 use Rattle.mark_bitmap.specs.Marks.{is_begin}
 use Rattle.heap_image.specs.Header.{size_of}
 use Rattle.heap_image.specs.HeapImage.{HeapImage, HasLiveList, start_of, word_at, size_at, references_at, reference_at, is_null_or_live}
-use Rattle.summary.specs.NewAddresses.{new_address}
+use Rattle.summary.specs.NewAddresses.{new_address, new_top}
 use Rattle.summary.specs.WordMoves.{slid}
 use Rattle.summary.specs.Compaction.{moved_word, redirected, is_deferred}
 use Rattle.fill.specs.Splits.{IsSplit, Shows}
 use Rattle.fill.specs.Filling.{copied_word}
-use Rattle.fill.specs.Objects.{IsObject, IsNextObject, IsPastObjects, IsPassed, IsMovedTo}
+use Rattle.fill.specs.Objects.{IsObject, IsNextObject, HasNoObject, IsPassed, IsMovedTo}
 use Rattle.fill.proofs.Writing.{split_none, split_skip, split_set, split_all}
-use Rattle.fill.proofs.Redirects.{slid-ordered, moved-object, moved-header, moved-rest, moved-reference, moved-deferred, moved-between, passed-start, new_address-is, object_size}
+use Rattle.fill.proofs.Redirects.{slid-ordered, moved-object, moved-header, moved-rest, moved-reference, moved-deferred, moved-between, moved-top, passed-start, new_address-is, object_size}
 
 module _ (image : HeapImage) (sound : HasLiveList image) where
   abbrev m : ℕ → ℕ
@@ -108,10 +108,24 @@ module _ (image : HeapImage) (sound : HasLiveList image) where
       let far = slid-ordered image a b (n.first b u up) in
       omega arith) l)
 
-  pub region-last : (from start : ℕ) (xs : List ℕ) → IsPassed image from → IsPastObjects image from → IsSplit m c start xs (slid image from) → Shows m start xs
-  region-last from start xs passed none h =
+  -- all that goes to the block lies below `to`
+  abbrev pub IsReached : ℕ → ℕ → List ℕ → Type 0
+  IsReached to start xs = (p : ℕ) → start ≤ p → p < start + length xs → p < new_top image → p < slid image to
+
+  pub region-last : (from to start : ℕ) (xs : List ℕ) → IsPassed image from → HasNoObject image from to → IsReached to start xs → start ≤ slid image from → IsSplit m c start xs (slid image from) → Shows m start xs
+  region-last from to start xs passed none reached low h =
       let end : ℕ = max (slid image from) (start + length xs) in
-      split_all m c start xs end (split_skip m c start xs (slid image from) end h (omega arith) (λ p l less k. moved-between image sound from p passed (λ b u up. (let before = none b u in let no : ⊥ = omega arith in absurd no)) l)) (omega arith)
+      split_all m c start xs end (split_skip m c start xs (slid image from) end h (omega arith) (λ p l less k. same p l k)) (omega arith)
+    where
+      same : (p : ℕ) → slid image from ≤ p → p < start + length xs → c p ≡ m p
+      same p l k = elim (cases_lt p (new_top image)) [
+        | inr top ↦ moved-top image sound p top
+        | inl below ↦ moved-between image sound from p passed (λ b u up.
+            let goes = new_address-is image sound b u in
+            let far = slid-ordered image to b (none b u up) in
+            let here = reached p (omega arith) k below in
+            omega arith) l
+      ]
 
   -- the same of a region whose words come from `first` on, before any object is redirected
   region-begin : (d first : ℕ) (xs : List ℕ) → slid image first ≡ start_of image d → Shows c (start_of image d) xs → IsSplit m c (start_of image d) xs (slid image first)
@@ -120,8 +134,8 @@ module _ (image : HeapImage) (sound : HasLiveList image) where
   pub region-first : (d first a : ℕ) (xs : List ℕ) → slid image first ≡ start_of image d → IsNextObject image first a → Shows c (start_of image d) xs → IsSplit m c (start_of image d) xs (new_address image a)
   region-first d first a xs e n shows = region-next first a (start_of image d) xs (passed-start image sound d first e) n (region-begin d first xs e shows)
 
-  pub region-none : (d first : ℕ) (xs : List ℕ) → slid image first ≡ start_of image d → IsPastObjects image first → Shows c (start_of image d) xs → Shows m (start_of image d) xs
-  region-none d first xs e none shows = region-last first (start_of image d) xs (passed-start image sound d first e) none (region-begin d first xs e shows)
+  pub region-none : (d first to : ℕ) (xs : List ℕ) → slid image first ≡ start_of image d → HasNoObject image first to → IsReached to (start_of image d) xs → Shows c (start_of image d) xs → Shows m (start_of image d) xs
+  region-none d first to xs e none reached shows = region-last first to (start_of image d) xs (passed-start image sound d first e) none reached (omega arith) (region-begin d first xs e shows)
 
   pub region-header : (from a start at : ℕ) (xs : List ℕ) → IsPassed image from → IsNextObject image from a → IsSplit m c start xs (slid image from) → at ≡ new_address image a → start ≤ slid image from → at < start + length xs
       → IsSplit m c start xs at × (get_or xs (at - start) 0 ≡ word_at image a) × (start ≤ at)
@@ -140,16 +154,16 @@ begin-object image a h =
 object-marked : (image : HeapImage) (b : ℕ) → IsObject image b → is_begin image b ≡ true
 object-marked image b o = list_any_at (λ x. eqb x b) image.live o.index 0 o.inside (eq-eqb (get_or image.live o.index 0) b o.is)
 
-pub next-from_begin : (image : HeapImage) (from : ℕ) (o : Option ℕ) → MatchOption o (NoneFrom (is_begin image) from) (IsFirstFrom (is_begin image) from) → MatchOption o (IsPastObjects image from) (IsNextObject image from)
-next-from_begin image from None none = λ b o. elim (cases_lt b from) [
-  | inl less ↦ less
-  | inr up ↦ absurd (true≢false (sym (object-marked image b o) ∙ none b up))
+pub next-from_begin : (image : HeapImage) (from to : ℕ) (o : Option ℕ) → MatchOption o (NoneBetween (is_begin image) from to) (IsFirstBetween (is_begin image) from to) → MatchOption o (HasNoObject image from to) (IsNextObject image from)
+next-from_begin image from to None none = λ b o up. elim (cases_lt b to) [
+  | inl less ↦ absurd (true≢false (sym (object-marked image b o) ∙ none b up less))
+  | inr more ↦ more
 ]
-next-from_begin image from (Some a) found = record {
-  object = begin-object image a found.passes;
-  after = found.behind;
+next-from_begin image from to (Some a) found = record {
+  object = begin-object image a found.first.passes;
+  after = found.first.behind;
   first = λ b o up. elim (cases_lt b a) [
-    | inl less ↦ absurd (true≢false (sym (object-marked image b o) ∙ found.least b up less))
+    | inl less ↦ absurd (true≢false (sym (object-marked image b o) ∙ found.first.least b up less))
     | inr more ↦ more
   ];
 }

@@ -194,6 +194,14 @@ module _ (image : HeapImage) (valid : IsValid image) where
       let rest = written_to-between d from (region_count image) l (omega arith) within (omega arith) last ∙ ap (written_to image (start_of image d)) all_regions in
       written_to-all image valid.live_list (start_of image d) xs to long (place ∙ rest) h
 
+  -- what goes to a region lies below the region behind its last source
+  pub reached-last : (d from p : ℕ) → prefix_end image ≤ start_of image d → d < from → from ≤ region_count image
+      → ((t : ℕ) → from ≤ t → t < region_count image → reads image d t ≡ false) → start_of image d ≤ p → p < start_of image d + S → p < new_top image → p < slid image (start_of image from)
+  reached-last d from p l own within last low high below =
+      let rest : written_to image (start_of image d) (start_of image from) ≡ written_to image (start_of image d) N = written_to-between d from (region_count image) l (omega arith) within (omega arith) last ∙ ap (written_to image (start_of image d)) all_regions in
+      let all = slid-all image valid.live_list in
+      omega arith
+
   -- the source of a region to fill has the word that goes to its start
   pub source_place : (d s : ℕ) → prefix_end image ≤ start_of image d → start_of image d < new_top image → source image d ≡ Some s
       → (reads image d s ≡ true) × (d ≤ s) × (s < region_count image) × (slid image (start_of image s) ≤ start_of image d) × (start_of image d ≤ slid image (start_of image s + S))

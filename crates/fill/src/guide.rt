@@ -1,12 +1,12 @@
 //! What tells a fill where words go.
-ghost use Rattle.std.specs.Prelude.{◌≡◌, ◌+◌, ◌-◌, ◌<◌, ◌≤◌, ◌==◌, ◌||◌, IsTrue, MatchOption, Some};
+ghost use Rattle.std.specs.Prelude.{◌≡◌, ℕ, ◌+◌, ◌-◌, ◌<◌, ◌≤◌, ◌==◌, ◌||◌, true, false, IsTrue, IfSome, MatchOption, Some};
 ghost use Rattle.heap_image.specs.HeapImage.{IsValid, heap_words, region_words, region_count, start_of, is_live_word, is_null_or_live};
 ghost use Rattle.summary.specs.NewAddresses.{prefix_end, new_address, new_top};
 ghost use Rattle.summary.specs.WordMoves.{slid};
 ghost use Rattle.summary.specs.RegionData.{source};
 ghost use Rattle.summary.specs.Compaction.{redirected};
 ghost use Rattle.fill.specs.Runs.{IsNextRun};
-ghost use Rattle.fill.specs.Objects.{IsObject, IsNextObject, IsPastObjects};
+ghost use Rattle.fill.specs.Objects.{IsObject, IsNextObject, HasNoObject};
 
 use crate::runs::{Run, Span};
 use mark_bitmap::Marks;
@@ -122,12 +122,27 @@ impl<'a> Guide<'a> {
         Run::next(self.marks, from, to)
     }
 
-    /// The first live object that begins at or after `from`.
+    /// The first live object that begins at or after `from` and before `to`.
     #[inline]
-    pub(crate) fn next_object(&self, from: u64) -> Option<u64>
-        ensures { MatchOption result (IsPastObjects self.now from) (IsNextObject self.now from) }
+    pub(crate) fn next_object(&self, from: u64, to: u64) -> Option<u64>
+        ensures first { MatchOption result (HasNoObject self.now from to) (IsNextObject self.now from) }
+        ensures below { IfSome result (λ a. a < to) }
     {
-        self.marks.next_begin(from)
+        self.marks.next_begin_before(from, to)
+    }
+
+    /// The first live word at or after `at`, or the prefix end where no word of the prefix from there on is live.
+    pub(crate) fn gap_end(&self, at: u64) -> u64
+        requires { at ≤ prefix_end self.now }
+        ensures behind { at ≤ result }
+        ensures inside { result ≤ prefix_end self.now }
+        ensures dead { (q : ℕ) → at ≤ q → q < result → is_live_word self.now q ≡ false }
+        ensures live { result < prefix_end self.now → is_live_word self.now result ≡ true }
+    {
+        let prefix_end = self.plan.prefix_end();
+        self.marks
+            .next_live_before(at, prefix_end)
+            .unwrap_or(prefix_end)
     }
 
     /// Whether a filler begins at `at`, if the word there is dead.

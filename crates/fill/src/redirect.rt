@@ -2,7 +2,7 @@
 ghost use Rattle.std.specs.Prelude.{◌≡◌, ℕ, ◌+◌, ◌<◌, ◌≤◌, false, length};
 ghost use Rattle.heap_image.specs.HeapImage.{heap_words, region_words, region_count, start_of, word_at, size_at};
 ghost use Rattle.summary.specs.NewAddresses.{prefix_end, new_top};
-ghost use Rattle.summary.specs.WordMoves.{slid, reads};
+ghost use Rattle.summary.specs.WordMoves.{reads};
 ghost use Rattle.summary.specs.Compaction.{is_deferred, moved_word};
 ghost use Rattle.region_cells.specs.Blocks.{moved_block};
 ghost use Rattle.fill.specs.Splits.{IsSplit, Shows};
@@ -42,12 +42,11 @@ fn redirect_object(guide: &Guide<'_>, target: &mut Target<'_>, span: Span, at: u
     }
 }
 
-/// Redirects the references of the live objects that lie wholly in the region `d` once they are moved. The words from
-/// the old address `first` on go to the start of the region.
-pub(crate) fn redirect_region(guide: &Guide<'_>, target: &mut Target<'_>, d: u32, first: u64)
+/// Redirects the references of the live objects that lie wholly in the region `d` of the prefix, where each keeps its
+/// place.
+pub(crate) fn redirect_in_prefix(guide: &Guide<'_>, target: &mut Target<'_>, d: u32)
     requires inside { d < region_count guide.now }
-    requires first { slid guide.now first ≡ start_of guide.now d }
-    requires in_heap { first ≤ heap_words guide.now }
+    requires in_prefix { start_of guide.now d < prefix_end guide.now }
     requires target { target.old.image ≡ guide.now }
     requires words { length target.old.words ≡ region_words guide.now }
     requires copied { Shows (copied_word guide.now) (start_of guide.now d) target.old.words }
@@ -56,16 +55,12 @@ pub(crate) fn redirect_region(guide: &Guide<'_>, target: &mut Target<'_>, d: u32
     ensures hand { SameHand target.old target.new }
 {
     let span = guide.span(d);
-    let mut from = first;
-    while let Some(a) = guide.next_object(from) {
-        let at = guide.new_address(a);
-        if at >= span.end {
-            break;
-        }
-        let header = target.get((at - span.start) as usize);
+    let mut from = span.start;
+    while let Some(a) = guide.next_object(from, span.end) {
+        let header = target.get((a - span.start) as usize);
         let words = u64::from(size(header));
-        if at + words <= span.end {
-            redirect_object(guide, target, span, at);
+        if a + words <= span.end {
+            redirect_object(guide, target, span, a);
         }
         from = a + words;
     }
@@ -117,7 +112,8 @@ pub(crate) fn redirect_moved(guide: &Guide<'_>, target: &mut Target<'_>, d: u32,
     let start = guide.span(d).start;
     let s = guide.source(d);
     let first = first_from(guide, guide.span(s), guide.destination(s), start);
-    if let Some(a) = guide.next_object(first) {
+    let last = guide.span(from - 1).end;
+    if let Some(a) = guide.next_object(first, last) {
         redirect_row(guide, target, d, guide.new_address(a));
     }
 }

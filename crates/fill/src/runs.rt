@@ -25,15 +25,8 @@ impl Run {
         requires { from ≤ to }
         ensures { IsNextRun marks.now from to result.begin result.end }
     {
-        let Some(first) = marks.next_live(from) else {
-            return Run { begin: to, end: to };
-        };
-        if first >= to {
-            return Run { begin: to, end: to };
-        }
-        Run {
-            begin: first,
-            end: marks.next_dead(first).min(to),
-        }
+        let begin = marks.next_live_before(from, to).unwrap_or(to);
+        let end = marks.next_dead_before(begin, to).unwrap_or(to);
+        Run { begin, end }
     }
 }

@@ -10,16 +10,6 @@ use Rattle.fill.proofs.Targets.{shows_start, length_start, prefix-inside}
 use Rattle.fill.proofs.Gaps.{split_stays}
 use Rattle.fill.proofs.prefix.write_fillers.Goals as goal
 
-pub next_run-run-requires : goal.next_run-run-requires
-next_run-run-requires c =
-    let image : HeapImage = c.args.guide.now in
-    let fits = prefix_region image c.args.d c.requires.in_prefix in
-    let at : c.span-span.result.start ≡ start_of image c.args.d = c.span-span.ensures.start in
-    let long : c.span-span.result.end ≡ start_of image c.args.d + region_words image = c.span-span.ensures.end in
-    let high : c.loop-at.at ≤ c.span-span.result.end = c.loop-at.invariant.high in
-    let end : c.prefix_end-end.result ≡ prefix_end image = c.prefix_end-end.ensures.value in
-    omega arith
-
 pub loop-at-init : goal.loop-at-init
 loop-at-init c =
     let image : HeapImage = c.args.guide.now in
@@ -36,24 +26,23 @@ loop-at-init c =
       hand = record { image = refl; right = refl };
     }
 
+pub write_gap-requires-clause-in_prefix : goal.write_gap-requires-clause-in_prefix
+write_gap-requires-clause-in_prefix c =
+    let fits = prefix_region c.args.guide.now c.args.d c.requires.in_prefix in
+    omega (arith, c.span-span.ensures.end)
+
 pub loop-at-smaller : goal.loop-at-smaller
 loop-at-smaller c =
-    let limit : ℕ = c.span-span.result.end in
-    let image : HeapImage = c.args.guide.now in
-    let fits = prefix_region image c.args.d c.requires.in_prefix in
-    let at : c.span-span.result.start ≡ start_of image c.args.d = c.span-span.ensures.start in
-    let long : c.span-span.result.end ≡ start_of image c.args.d + region_words image = c.span-span.ensures.end in
-    let end : c.prefix_end-end.result ≡ prefix_end image = c.prefix_end-end.ensures.value in
     let r = c.next_run-run.ensures in
     let on : c.loop-at.at ≤ c.next_run-run.result.begin = r.after in
     let up : c.next_run-run.result.begin ≤ c.next_run-run.result.end = r.ordered in
-    let test : c.loop-at.at < limit = c.loop-at-test.true in
-    let more : c.loop-at.at < c.next_run-run.result.end = elim (cases_lt c.next_run-run.result.begin c.prefix_end-end.result) [
+    let within : c.next_run-run.result.end ≤ c.span-span.result.end = r.within in
+    let test : c.loop-at.at < c.span-span.result.end = c.loop-at-test.true in
+    let more : c.loop-at.at < c.next_run-run.result.end = elim (cases_lt c.next_run-run.result.begin c.span-span.result.end) [
       | inl less ↦ let some : c.next_run-run.result.begin < c.next_run-run.result.end = r.some less in omega arith
       | inr over ↦ omega arith
     ] in
-    let next : c.min-at.result ≡ min c.next_run-run.result.end limit = omega arith in
-    let smaller : limit - c.min-at.result < limit - c.loop-at.at = omega arith in
+    let smaller : c.span-span.result.end - c.next_run-run.result.end < c.span-span.result.end - c.loop-at.at = omega arith in
     smaller
 
 pub loop-at-preserved : goal.loop-at-preserved
@@ -61,21 +50,18 @@ loop-at-preserved c =
     let image : HeapImage = c.args.guide.now in
     let sound : HasLiveList image = c.span-span.ensures.valid.live_list in
     let start : ℕ = c.span-span.result.start in
-    let limit : ℕ = c.span-span.result.end in
     let r = c.next_run-run.ensures in
     let h = c.loop-at.invariant in
     let on : c.loop-at.at ≤ c.next_run-run.result.begin = r.after in
     let up : c.next_run-run.result.begin ≤ c.next_run-run.result.end = r.ordered in
-    let within : c.next_run-run.result.end ≤ c.prefix_end-end.result = r.within in
-    let end : c.prefix_end-end.result ≡ prefix_end image = c.prefix_end-end.ensures.value in
-    let test : c.loop-at.at < limit = c.loop-at-test.true in
+    let within : c.next_run-run.result.end ≤ c.span-span.result.end = r.within in
+    let fits = prefix_region image c.args.d c.requires.in_prefix in
+    let long : c.span-span.result.end ≡ start_of image c.args.d + region_words image = c.span-span.ensures.end in
     let low : start ≤ c.loop-at.at = h.low in
-    let stop : c.min-stop.result ≡ min c.next_run-run.result.begin limit = omega arith in
-    let next : c.min-at.result ≡ min c.next_run-run.result.end limit = omega arith in
     record {
       low = omega arith;
       high = omega arith;
-      split = split_stays image sound start c.write_gap.new.target.words c.min-stop.result c.min-at.result c.write_gap.ensures.split (omega arith) (omega arith) (λ q l m. r.live q (omega arith) (omega arith));
+      split = split_stays image sound start c.write_gap.new.target.words c.next_run-run.result.begin c.next_run-run.result.end c.write_gap.ensures.split up (omega arith) (λ q l m. r.live q l m);
       len = c.write_gap.ensures.length;
       hand = record { image = c.write_gap.ensures.hand.image ∙ h.hand.image; right = c.write_gap.ensures.hand.right ∙ h.hand.right };
     }

@@ -1,5 +1,5 @@
 use Rattle.std.proofs.Common.{◌≡◌, ◌+◌, ◌-◌, ◌≤◌, ◌<◌, ◌||◌, ℕ, List, length, set, replicate, inl, inr, eqb, sym, ◌∙◌, ap, subst, arith, true, false, length-set}
-use Rattle.std.proofs.lemmas.Bool.{cases_eq}
+use Rattle.std.proofs.lemmas.Bool.{cases_eq, cases_lt}
 use Rattle.heap_image.specs.Header.{filler_header}
 use Rattle.heap_image.specs.HeapImage.{HeapImage, HasLiveList, heap_words, word_at, is_live_word}
 use Rattle.summary.specs.NewAddresses.{prefix_end}
@@ -11,12 +11,20 @@ use Rattle.fill.proofs.Writing.{split_set}
 use Rattle.fill.proofs.Gaps.{copied-first, copied-rest, copied-behind, split_zero}
 use Rattle.fill.proofs.prefix.write_gap.Goals as goal
 
+-- what is dead up to a place, and from there on, is dead
+dead_to_end : (image : HeapImage) (at stop end : ℕ) → ((q : ℕ) → at ≤ q → q < stop → is_live_word image q ≡ false) → ((q : ℕ) → stop ≤ q → q < end → is_live_word image q ≡ false)
+    → (q : ℕ) → at ≤ q → q < end → is_live_word image q ≡ false
+dead_to_end image at stop end below above q l m = elim (cases_lt q stop) [
+  | inl less ↦ below q l less
+  | inr more ↦ above q more m
+]
+
 pub overflow_cast-end : goal.overflow_cast-end
 overflow_cast-end c =
     let image : HeapImage = c.args.guide.now in
     let low = prefix_end-le image c.prefix_end-prefix_end.ensures.valid.live_list in
     let few : heap_words image ≤ 4194304 = c.prefix_end-prefix_end.ensures.valid.limits.few_words in
-    let up : c.args.end ≤ prefix_end image = c.requires.in_prefix in
+    let up : c.gap_end-end.result ≤ prefix_end image = c.gap_end-end.ensures.inside in
     omega arith
 
 pub returns-then-begins_gap-clause-split : goal.returns-then-begins_gap-clause-split
@@ -31,13 +39,16 @@ returns-then-begins_gap-clause-split c =
     let w : ℕ = c.filler.result in
     let low : start ≤ at = r.low in
     let less : at < stop = omega arith in
-    let part : stop ≤ c.args.end = r.part in
+    let end : ℕ = c.gap_end-end.result in
+    let part : stop ≤ end = c.gap_end-end.ensures.behind in
+    let up : end ≤ prefix_end image = c.gap_end-end.ensures.inside in
+    let dead = dead_to_end image at stop end r.dead c.gap_end-end.ensures.dead in
     let high : stop ≤ start + length xs = omega (arith, r.high, r.words, r.span) in
     let begins : (eqb at 0 || is_live_word image (at - 1)) ≡ true = sym c.begins_gap.ensures ∙ c.if-begins_gap.true in
-    let header : copied_word image at ≡ filler_header (c.args.end - at) = copied-first image sound at c.args.end (omega arith) r.in_prefix r.dead r.ends begins in
+    let header : copied_word image at ≡ filler_header (end - at) = copied-first image sound at end (omega arith) up dead c.gap_end-end.ensures.live begins in
     let one = split_set (copied_word image) (word_at image) start xs at w r.split low (omega arith) (c.filler.ensures ∙ sym header) in
     let long = length-set xs (at - start) w in
-    let two = split_zero image sound start (set xs (at - start) w) (at + 1) (stop - at - 1) one (omega arith) (omega arith) (λ q l m. copied-behind image sound at c.args.end q r.in_prefix r.dead (omega arith) (omega arith)) in
+    let two = split_zero image sound start (set xs (at - start) w) (at + 1) (stop - at - 1) one (omega arith) (omega arith) (λ q l m. copied-behind image sound at end q up dead (omega arith) (omega arith)) in
     let i : at + 1 - start ≡ at - start + 1 = omega arith in
     let p : at + 1 + (stop - at - 1) ≡ stop = omega arith in
     subst (λ (ys : List ℕ). IsSplit (copied_word image) (word_at image) start ys stop) (sym (ap (λ t. t.words) c.fill.ensures.value ∙ ap (λ (t : List ℕ). with_words t (c.args.at - c.args.span.start + 1) (replicate (c.args.stop - c.args.at - 1) 0)) (ap (λ t. t.words) c.set.ensures.value)))
@@ -55,14 +66,13 @@ returns-else-begins_gap-clause-split c =
     let xs : List ℕ = c.args.target.now.words in
     let low : start ≤ at = r.low in
     let less : at < stop = omega arith in
-    let part : stop ≤ c.args.end = r.part in
-    let up : c.args.end ≤ prefix_end image = r.in_prefix in
+    let up : stop ≤ prefix_end image = omega (arith, r.high, r.in_prefix) in
     let high : stop ≤ start + length xs = omega (arith, r.high, r.words, r.span) in
     let rest : (eqb at 0 || is_live_word image (at - 1)) ≡ false = sym c.begins_gap.ensures ∙ c.if-begins_gap.false in
     let zeros = λ (q : ℕ) (l : at ≤ q) (m : q < at + (stop - at)). (
     let out : copied_word image q ≡ 0 = elim (cases_eq q at) [
       | inl same ↦ ap (copied_word image) same ∙ copied-rest image sound at (omega arith) (r.dead at (omega arith) (omega arith)) rest
-      | inr other ↦ copied-behind image sound at c.args.end q up r.dead (omega arith) (omega arith)
+      | inr other ↦ copied-behind image sound at stop q up r.dead (omega arith) (omega arith)
     ] in out) in
     let two = split_zero image sound start xs at (stop - at) r.split low (omega arith) zeros in
     let p : at + (stop - at) ≡ stop = omega arith in
@@ -72,4 +82,4 @@ returns-else-begins_gap-clause-split c =
 pub begins_gap-requires : goal.begins_gap-requires
 begins_gap-requires c =
     let low = prefix_end-le c.args.guide.now c.prefix_end-prefix_end.ensures.valid.live_list in
-    omega (arith, c.requires.in_prefix, c.requires.ordered, c.requires.part)
+    omega (arith, c.requires.in_prefix, c.requires.ordered, c.requires.high)

@@ -6,7 +6,7 @@ use Rattle.fill.specs.Splits.{IsSplit}
 use Rattle.fill.specs.Filling.{copied_word}
 use Rattle.fill.specs.Hands.{SameHand}
 use Rattle.fill.specs.Objects.{IsPassed}
-use Rattle.fill.proofs.redirect.redirect_region.Given as goal
+use Rattle.fill.proofs.redirect.redirect_in_prefix.Given as goal
 
 abbrev pub invariant-loop-a : goal.invariant-loop-a
 invariant-loop-a l = record {
