@@ -16,6 +16,8 @@ pub enum Shape {
     Array,
     /// One object, of all words but the first, that refers to itself.
     Object,
+    /// One object of two words at the end of the heap, which is all dense prefix: its allowance is its dead words.
+    Last,
 }
 
 impl FromStr for Shape {
@@ -27,6 +29,7 @@ impl FromStr for Shape {
             "list" => Ok(Shape::List),
             "array" => Ok(Shape::Array),
             "object" => Ok(Shape::Object),
+            "last" => Ok(Shape::Last),
             _ => Err(()),
         }
     }
@@ -34,10 +37,10 @@ impl FromStr for Shape {
 
 pub struct Asked {
     pub words: usize,
-    /// How many of a hundred objects live, about. Arrays and single objects don't ask.
+    /// How many of a hundred objects live, about. Only graphs and lists ask.
     pub live: u64,
     pub region_log: u32,
-    /// How many of a hundred words behind the headers are references, about. Lists and arrays don't ask.
+    /// How many of a hundred words behind the headers are references, about. Only graphs and single objects ask.
     pub references: u64,
     pub shape: Shape,
     /// Whether the image has roots in place of its live list.
@@ -161,6 +164,14 @@ fn object(asked: &Asked) -> (Vec<u64>, Vec<u64>) {
     (words, vec![1])
 }
 
+fn last(asked: &Asked) -> (Vec<u64>, Vec<u64>) {
+    let mut words = vec![0; asked.words];
+    let at = asked.words - 2;
+    words[at] = Header::object(2, 1).0;
+    words[at + 1] = 1 + at as u64;
+    (words, vec![at as u64])
+}
+
 /// Roots that lead to all live objects, in random order: to those that no object refers to, and to one of each circle
 /// that these don't lead to.
 fn roots_of(image: &Image, random: &mut Random) -> Vec<u64> {
@@ -190,8 +201,13 @@ pub fn generate(asked: &Asked) -> Image {
         Shape::List => list(asked, &mut random),
         Shape::Array => array(asked),
         Shape::Object => object(asked),
+        Shape::Last => last(asked),
     };
-    let mut image = Image { region_log: asked.region_log, allowance: 0, words, live, roots: None };
+    let allowance = match asked.shape {
+        Shape::Last => asked.words as u64 - 2,
+        _ => 0,
+    };
+    let mut image = Image { region_log: asked.region_log, allowance, words, live, roots: None };
     if asked.is_rooted {
         image.roots = Some(roots_of(&image, &mut random));
     }

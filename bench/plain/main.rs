@@ -17,7 +17,7 @@ use std::time::Instant;
 
 const USAGE: &str = "usage:
   plain generate OUT --mib n --live percent --log n --references percent
-                     [--shape graph|list|array|object] [--version 1|2]
+                     [--shape graph|list|array|object|last] [--version 1|2]
   plain collect IMAGE OUT
   plain copy IMAGE OUT
   plain move WORDS

@@ -14,9 +14,10 @@
 //!
 //! Every function, and of each query the exact answer, for every valid image: the begin and end bits are those of the
 //! live list and no others; `next_begin` and `next_end` give the least such address, and `None` only where there is
-//! none; `next_live` and `next_dead` give the least live and the least dead word from a place on; `live_words` is the
-//! plain count of the words in live objects, also where a range begins or ends inside one; `size_at` is the size in the
-//! object's header; `block_live` is the plain count from the start of the block's region.
+//! none, and `next_live` the least live word; `next_begin_before`, `next_live_before` and `next_dead_before` give the
+//! least begin, live word and dead word from a place on and before another; `live_words` is the plain count of the
+//! words in live objects, also where a range begins or ends inside one; `size_at` is the size in the object's header;
+//! `block_live` is the plain count from the start of the block's region.
 //!
 //! # What is only tested
 //!

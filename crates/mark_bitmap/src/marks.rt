@@ -96,14 +96,14 @@ impl Marks {
         self.live.next(from)
     }
 
-    /// The first address from `from` on, below `to`, at which a live object begins. It looks at no mark past `to`.
+    /// The first address from `from` on, below `to`, at which a live object begins. The search ends at `to`.
     pub fn next_begin_before(&self, from: u64, to: u64) -> Option<u64>
         ensures { MatchOption result (NoneBetween (is_begin self.now) from to) (IsFirstBetween (is_begin self.now) from to) }
     {
         self.begins.next_before(from, to)
     }
 
-    /// The first address from `from` on, below `to`, whose word belongs to a live object. It looks at no mark past `to`.
+    /// The first address from `from` on, below `to`, whose word belongs to a live object. The search ends at `to`.
     pub fn next_live_before(&self, from: u64, to: u64) -> Option<u64>
         ensures { MatchOption result (NoneBetween (is_live_word self.now) from to) (IsFirstBetween (is_live_word self.now) from to) }
     {
@@ -111,7 +111,7 @@ impl Marks {
     }
 
     /// The first address from `from` on, below `to`, whose word belongs to no live object. The words past the heap belong
-    /// to none. It looks at no mark past `to`.
+    /// to none. The search ends at `to`.
     pub fn next_dead_before(&self, from: u64, to: u64) -> Option<u64>
         ensures { MatchOption result (NoneBetween (is_dead_word self.now) from to) (IsFirstBetween (is_dead_word self.now) from to) }
     {
