@@ -1,6 +1,7 @@
 pub mod Header
 pub mod HeapImage
 pub mod ImageText
+pub mod LengthCause
 pub mod Device
 pub mod StdDevices
 pub mod Incoming

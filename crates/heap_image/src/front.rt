@@ -1,11 +1,12 @@
 //! `Front`: the first 32 bytes of an image's text.
-ghost use Rattle.std.specs.Prelude.{◌≡◌, ◌<◌, ◌≤◌, ◌^◌, ◌+◌, ◌*◌, ◌↔◌, length, Some, IfOk, IfErr, IsTrue};
-ghost use Rattle.heap_image.specs.ImageText.{front, front_faults, first_some};
+ghost use Rattle.std.specs.Prelude.{◌≡◌, ◌≢◌, ◌<◌, ◌≤◌, ◌^◌, ◌+◌, ◌*◌, length, Some, IfOk, IfErr, IfNone, option_map};
+ghost use Rattle.heap_image.specs.ImageText.{front, front_faults, first_some, told_region_log, told_count, told_words};
 ghost use Rattle.heap_image.specs.HeapImage.{IsWithinLimits};
+ghost use Rattle.heap_image.specs.LengthCause.{length_causes, first_length_cause};
 ghost use Rattle.heap_image.specs.Refusals.{IsOfFront};
 
-use crate::Fault;
 use crate::numbers::{u32_at, u64_at};
+use crate::{Fault, LengthCause};
 use byteorder::{ByteOrder, LittleEndian};
 
 /// The 8 bytes with which the text of an image of version 1 begins.
@@ -50,6 +51,32 @@ impl Front {
         ensures fault { IfErr result (λ fault. first_some (front_faults bytes.now) ≡ Some fault) }
         ensures of_front { IfErr result IsOfFront }
     {
+        let told = Front::told(bytes)?;
+        match told.length_cause() {
+            None => Ok(told),
+            Some(_) => Err(Fault::Length),
+        }
+    }
+
+    /// What a front of these bytes tells, whether or not the sizes are those that the format allows, or that its magic or
+    /// its region log is wrong.
+    pub(crate) fn told(bytes: &[u8]) -> Result<Front, Fault>
+        requires { length bytes.now ≡ 32 }
+        ensures told { IfOk result
+            (λ told. bytes.now ≡ front told.rooted told.region_log told.count told.words told.allowance) }
+        ensures region_log { IfOk result (λ told. told.region_log ≡ told_region_log bytes.now) }
+        ensures count { IfOk result (λ told. told.count ≡ told_count bytes.now) }
+        ensures words { IfOk result (λ told. told.words ≡ told_words bytes.now) }
+        ensures low { IfOk result (λ told. 3 ≤ told.region_log) }
+        ensures high { IfOk result (λ told. told.region_log ≤ 16) }
+        ensures fit { IfOk result (λ told. told.allowance < 2 ^ 64) }
+        // Of the faults of a front only 4 can come then.
+        ensures length { IfOk result (λ told. first_some (front_faults bytes.now)
+            ≡ option_map (λ cause. Fault.Length) (first_length_cause bytes.now)) }
+        ensures fault { IfErr result (λ fault. first_some (front_faults bytes.now) ≡ Some fault) }
+        ensures of_front { IfErr result IsOfFront }
+        ensures not_length { IfErr result (λ fault. fault ≢ Fault.Length) }
+    {
         let rooted = bytes[..8] == ROOTED_MAGIC[..];
         if bytes[..8] != MAGIC[..] && !rooted {
             return Err(Fault::Magic);
@@ -58,18 +85,13 @@ impl Front {
         if region_log < MIN_REGION_LOG || region_log > MAX_REGION_LOG {
             return Err(Fault::RegionLog);
         }
-        let told = Front {
+        Ok(Front {
             rooted,
             region_log,
             count: u32_at(bytes, 12),
             words: u64_at(bytes, 16),
             allowance: u64_at(bytes, 24),
-        };
-        if told.sizes_fit() {
-            Ok(told)
-        } else {
-            Err(Fault::Length)
-        }
+        })
     }
 
     /// How many bytes the text has that begins with this front.
@@ -93,23 +115,30 @@ impl Front {
         bytes
     }
 
-    /// Whether the sizes are those that the format allows.
+    /// Which of the conditions of fault 4 is the first that holds.
     #[tactic(auto, using(crate::proofs::Parts::place_by_mask))]
-    fn sizes_fit(&self) -> bool
+    pub(crate) fn length_cause(&self) -> Option<LengthCause>
         requires low { 3 ≤ self.now.region_log }
         requires high { self.now.region_log ≤ 16 }
-        ensures { IsTrue result
-            ↔ IsWithinLimits self.now.region_log self.now.words self.now.count }
+        ensures first { result ≡ first_some (length_causes self.now.region_log self.now.count self.now.words) }
+        ensures none { IfNone result
+            (IsWithinLimits self.now.region_log self.now.words self.now.count) }
     {
-        if self.words == 0 || self.words > MAX_WORDS {
-            return false;
+        if self.words == 0 {
+            return Some(LengthCause::NoWords);
         }
         if self.words & ((1 << self.region_log) - 1) != 0 {
-            return false;
+            return Some(LengthCause::PartialRegion);
+        }
+        if self.words > MAX_WORDS {
+            return Some(LengthCause::TooManyWords);
         }
         if self.words >> self.region_log > MAX_REGIONS {
-            return false;
+            return Some(LengthCause::TooManyRegions);
         }
-        u64::from(self.count) <= self.words
+        if u64::from(self.count) > self.words {
+            return Some(LengthCause::CountAboveWords);
+        }
+        None
     }
 }

@@ -33,6 +33,7 @@ mod image;
 mod incoming;
 mod intake;
 mod laws;
+mod length_cause;
 mod live_list;
 mod marking;
 mod numbers;
@@ -56,6 +57,7 @@ pub use laws::{
     faultless_is_text, faults_of_roots, live_objects_are_reached, one_text,
     reachable_is_the_least_closed, roots_are_null_or_live, text_is_faultless,
 };
+pub use length_cause::LengthCause;
 pub use outlet::{Outlet, ToWrite};
 pub use reach::mark_from_roots;
 pub use read::{read_image, read_image_by_threads};

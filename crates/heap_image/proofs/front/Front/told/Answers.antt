@@ -2,11 +2,11 @@ use Rattle.std.proofs.Common.{◌≡◌, false, not, ◌&&◌, take, ap, arith}
 use Rattle.std.proofs.lemmas.Bool.{and_left, and_right}
 use Rattle.heap_image.specs.ImageText.{magic}
 use Rattle.heap_image.proofs.ReadBack.{front_of_bytes, magic_by_tests}
-use Rattle.heap_image.proofs.front.Front.parse.Goals as goal
-use Rattle.heap_image.proofs.front.Front.parse.Goals.{else-ne-via-then-ne+else-not-rooted, else-ne-via-else-ne}
+use Rattle.heap_image.proofs.front.Front.told.Goals as goal
+use Rattle.heap_image.proofs.front.Front.told.Goals.{else-ne-via-then-ne+else-not-rooted, else-ne-via-else-ne}
 
-pub returns-then-sizes_fit-clause-told : goal.returns-then-sizes_fit-clause-told
-returns-then-sizes_fit-clause-told c =
+pub returns-clause-told : goal.returns-clause-told
+returns-clause-told c =
     let rooted = c.eq-rooted.result in
     let differs = c.ne.result in
     let either : (differs && not rooted) ≡ false = elim c.else-ne.branch [

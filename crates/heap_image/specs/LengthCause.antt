@@ -1,0 +1,23 @@
+-- The conditions of fault 4, one by one.
+use Rattle.std.specs.Prelude.{ℕ, ◌/◌, ◌%◌, ◌^◌, Bool, true, false, not, nat_lt, ◌==◌, List, [], ◌∷◌, Option, None, Some}
+use Rattle.heap_image.specs.ImageText.{first_some, told_region_log, told_count, told_words}
+use Rattle.heap_image.specs.declared.length_cause.LengthCause.{LengthCause}
+use Rattle.heap_image.specs.declared.length_cause.LengthCause.TheVariants.{NoWords, PartialRegion, TooManyWords, TooManyRegions, CountAboveWords}
+
+abbrev pub cause_if : Bool → LengthCause → Option LengthCause
+cause_if true cause = Some cause
+cause_if false cause = None
+
+-- each cause if its condition holds, in the order in which they are tested
+abbrev pub length_causes : (region_log count words : ℕ) → List (Option LengthCause)
+length_causes region_log count words =
+    cause_if (words == 0) NoWords
+    ∷ cause_if (not (words % 2 ^ region_log == 0)) PartialRegion
+    ∷ cause_if (nat_lt 4194304 words) TooManyWords
+    ∷ cause_if (nat_lt 16384 (words / 2 ^ region_log)) TooManyRegions
+    ∷ cause_if (nat_lt words count) CountAboveWords
+    ∷ []
+
+-- the first of these causes, of what the front of a byte list tells
+abbrev pub first_length_cause : List ℕ → Option LengthCause
+first_length_cause bytes = first_some (length_causes (told_region_log bytes) (told_count bytes) (told_words bytes))

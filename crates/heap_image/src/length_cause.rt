@@ -1,0 +1,42 @@
+//! `LengthCause`: which of the conditions of fault 4 is the first that holds.
+ghost use Rattle.std.specs.Prelude.{◌≡◌, ◌↔◌, Some, IfSome, IsTrue, is_some};
+ghost use Rattle.heap_image.specs.ImageText.{front_faults, first_some};
+ghost use Rattle.heap_image.specs.LengthCause.{first_length_cause};
+
+use crate::Fault;
+use crate::front::{FRONT_BYTES, Front};
+use thiserror::Error;
+
+/// Why a front has fault 4: the first of its conditions that holds, in the order in which they stand here.
+#[derive(Debug, Clone, Copy, PartialEq, Eq, Error)]
+pub enum LengthCause {
+    /// There are no words.
+    #[error("the number of words is 0")]
+    NoWords,
+    /// The words don't fill their last region.
+    #[error("the number of words is not a multiple of the words of a region")]
+    PartialRegion,
+    /// There are more words than the format allows.
+    #[error("the number of words is above 4194304")]
+    TooManyWords,
+    /// There are more regions than the format allows.
+    #[error("there are more than 16384 regions")]
+    TooManyRegions,
+    /// The count at offset 12, of live addresses or of roots, is above the number of words.
+    #[error("there are more live addresses or roots than words")]
+    CountAboveWords,
+}
+
+impl LengthCause {
+    /// The cause of fault 4 of a text that begins with these bytes. None exactly where another fault, or none, is the
+    /// first of this front.
+    pub fn of(front: &[u8; FRONT_BYTES]) -> Option<LengthCause>
+        ensures cause { IfSome result (λ cause. first_length_cause front.now ≡ Some cause) }
+        ensures only { IsTrue (is_some result) ↔ (first_some (front_faults front.now) ≡ Some Fault.Length) }
+    {
+        match Front::told(front) {
+            Ok(told) => told.length_cause(),
+            Err(_) => None,
+        }
+    }
+}
