@@ -14,10 +14,12 @@ use Rattle.history.specs.declared.event.Event.TheVariants.{Claim}
 use Rattle.history.specs.History.{entry}
 use Rattle.history.specs.WordMachine.{machine_start, machine_of}
 use Rattle.history.specs.Replay.{IsCallOf, IsReplay, IsRefusedAt, IsChecked}
-use Rattle.history.specs.Ledger.{IsLedger, Tells, Leads, RefusesLine}
+use Rattle.history.specs.LineCause.{IsExplained}
+use Rattle.history.specs.Ledger.{IsLedger, Tells, Leads, RefusesLine, HasCause}
 use Rattle.history.specs.declared.entry.Entry.{Entry}
 use Rattle.history.specs.declared.ledger.Ledger.{Ledger}
 use Rattle.history.specs.declared.line.Line.{Line}
+use Rattle.history.specs.declared.line_cause.LineCause.{LineCause}
 use Rattle.history.proofs.Machines.{replay_more, machine_of-push}
 
 -- the first lines are taken, and the ledger tells the machine to which they lead
@@ -66,6 +68,20 @@ refused_at image v items number ledger same followed inside refuses =
       log = followed.log;
       taken = followed.taken;
       refused = refuses' (machine_of image followed.log) followed.tells;
+    }
+
+-- and the ledger's cause is the machine's
+pub explained_at : (image : HeapImage) (v : ScheduleView) (items : List Line) (number : ℕ) (ledger : Ledger) (cause : LineCause) → items ≡ v.lines → IsFollowed image v number ledger → number < length items
+    → RefusesLine image ledger.scheduler.workers ledger (get_or items number no_line) → HasCause image ledger.scheduler.workers ledger (get_or items number no_line) cause
+    → IsExplained image v (record { number = number + 2; cause = cause })
+unfolding refused_at
+explained_at image v items number ledger cause same followed inside refuses has =
+    let has' : HasCause image v.workers ledger (get_or v.lines number no_line) cause =
+    subst (λ (n : ℕ). HasCause image n ledger (get_or v.lines number no_line) cause) followed.kept.workers
+    (subst (λ (ls : List Line). HasCause image ledger.scheduler.workers ledger (get_or ls number no_line) cause) same has) in
+    record {
+      refused = refused_at image v items number ledger same followed inside refuses;
+      cause = has' (machine_of image followed.log) followed.tells;
     }
 
 -- a line that the ledger takes

@@ -15,12 +15,13 @@ use Rattle.history.specs.Slide.{Slide, Machine, words_of, write_words, copied, A
 use Rattle.history.specs.ImageMoves.{image_table}
 use Rattle.history.specs.WordMachine.{image_slide}
 use Rattle.history.specs.Replay.{IsCallOf}
-use Rattle.history.specs.Ledger.{IsLedger, Tells, Leads, RefusesLine, AreNoted}
+use Rattle.history.specs.Ledger.{IsLedger, Tells, Leads, RefusesLine, HasCause, AreNoted}
 use Rattle.history.specs.declared.entry.Entry.{Entry}
 use Rattle.history.specs.declared.event.Event.{Event}
 use Rattle.history.specs.declared.event.Event.TheVariants.{Claim, Look, Drain, Complete, Settle, Poll, Copy}
 use Rattle.history.specs.declared.ledger.Ledger.{Ledger}
 use Rattle.history.specs.declared.line.Line.{Line}
+use Rattle.history.specs.declared.line_cause.LineCause.TheVariants.{OtherReply}
 use Rattle.history.specs.declared.reply.Reply.{Reply}
 use Rattle.history.proofs.Drained.{choice_cases}
 
@@ -146,3 +147,8 @@ reply_refused image workers old new line told reply is other leads w tells e cal
     subst (λ (f : Entry). IsMachineStep (image_table image) (image_slide image) workers w f) (call_is line e call) step in
     let same : e.reply ≡ reply = step'.1.replied ∙ sym own.1.replied in
     other (some_told told e.reply line.reply is call.told ∙ same)
+
+-- and that reply is the cause
+pub reply_cause : (image : HeapImage) (workers : ℕ) (old new : Ledger) (line : Line) (told reply : Reply) → line.reply ≡ Some told → told ≢ reply
+    → Leads image workers old (entry line.worker line.event reply) new → HasCause image workers old line (OtherReply reply)
+reply_cause image workers old new line told reply is other leads w tells = ((leads w tells).0, (told, is, other))

@@ -7,11 +7,13 @@ use Rattle.history.specs.ImageMoves.{image_table}
 use Rattle.history.specs.Slide.{Machine, IsMachineStep, machine_after}
 use Rattle.history.specs.WordMachine.{image_slide}
 use Rattle.history.specs.Replay.{IsCallOf}
+use Rattle.history.specs.LineCause.{IsCause}
 use Rattle.history.specs.declared.entry.Entry.{Entry}
 use Rattle.history.specs.declared.event.Event.{Event}
 use Rattle.history.specs.declared.event.Event.TheVariants.{Copy}
 use Rattle.history.specs.declared.ledger.Ledger.{Ledger}
 use Rattle.history.specs.declared.line.Line.{Line}
+use Rattle.history.specs.declared.line_cause.LineCause.{LineCause}
 
 -- a ledger of an image and so many workers
 pub record IsLedger (image : HeapImage) (number : ℕ) (ledger : Ledger) : Type 0 where
@@ -33,6 +35,10 @@ Leads image workers old e new =
 abbrev pub RefusesLine : HeapImage → ℕ → Ledger → Line → Type 0
 RefusesLine image workers ledger line =
     (w : Machine) → Tells ledger w → (e : Entry) → IsCallOf line e → ¬ (IsMachineStep (image_table image) (image_slide image) workers w e)
+
+-- this is why each machine that the ledger tells refuses the line
+abbrev pub HasCause : HeapImage → ℕ → Ledger → Line → LineCause → Type 0
+HasCause image workers ledger line cause = (w : Machine) → Tells ledger w → IsCause image workers w line cause
 
 -- how many words of each region are written, before an event and after it
 abbrev pub AreNoted : Event → List ℕ → List ℕ → Type 0

@@ -16,6 +16,7 @@ pub mod Verb
 pub mod ReplyText
 pub mod ReadSchedule
 pub mod Replay
+pub mod LineCause
 pub mod Ledger
 pub mod Carrier
 pub mod Replayed

@@ -1,13 +1,15 @@
 //! Schedules followed without moving a word.
 
-ghost use Rattle.std.specs.Prelude.{◌≡◌, ◌⊎◌, ℕ, IfOk, IfErr};
+ghost use Rattle.std.specs.Prelude.{◌≡◌, ◌⊎◌, ℕ, Bool, IfOk, IfErr, IfSome, IfNone};
 ghost use Rattle.heap_image.specs.declared.fault.Fault.{Fault};
 ghost use Rattle.history.specs.Replay.{IsChecked, IsRefusedAt};
+ghost use Rattle.history.specs.LineCause.{IsExplained};
 
 use crate::ledger::Ledger;
+use crate::refused_line::RefusedLine;
 use crate::schedule::Schedule;
 use heap_image::Fault;
-use std::alloc::Global;
+use std::alloc::{AllocError, Global};
 use summary::Plan;
 
 /// Whether all regions to be filled are settled after the last line of the schedule, each line of
@@ -18,11 +20,41 @@ pub fn check(alloc: Global, plan: &Plan, schedule: &Schedule) -> Result<bool, Fa
     ensures ok { IfOk result (IsChecked plan.now schedule.now) }
     ensures fault { IfErr result (λ fault. (fault ≡ Fault.Memory) ⊎ ((line : ℕ) × (fault ≡ Fault.Schedule line) × IsRefusedAt plan.now schedule.now line)) }
 {
+    match followed(alloc, plan, schedule)? {
+        Ok(settled) => Ok(settled),
+        Err(refused) => Err(Fault::Schedule(refused.number)),
+    }
+}
+
+/// The least line of the schedule's text that the word machine refuses, and why: it doesn't allow the
+/// event, or it gives another reply, which is told. `check` and `replay` answer fault 14 of the same
+/// line. None where the machine takes all lines. Moves no word; linear as `check` is.
+pub fn explain(
+    alloc: Global,
+    plan: &Plan,
+    schedule: &Schedule,
+) -> Result<Option<RefusedLine>, AllocError>
+    ensures refused { IfOk result (λ found. IfSome found (IsExplained plan.now schedule.now)) }
+    ensures none { IfOk result (λ found. IfNone found ((settled : Bool) × IsChecked plan.now schedule.now settled)) }
+{
+    Ok(followed(alloc, plan, schedule)?.err())
+}
+
+/// Whether all regions to be filled are settled after the last line, or the line that is refused.
+fn followed(
+    alloc: Global,
+    plan: &Plan,
+    schedule: &Schedule,
+) -> Result<Result<bool, RefusedLine>, AllocError>
+    ensures taken { IfOk result (λ answer. IfOk answer (IsChecked plan.now schedule.now)) }
+    ensures refused { IfOk result (λ answer. IfErr answer (IsExplained plan.now schedule.now)) }
+{
     let mut ledger = Ledger::new(alloc, plan, schedule.workers())?;
     for (i, line) in schedule.lines().iter().enumerate() {
-        let Some(_reply) = ledger.follow(plan, *line) else {
-            return Err(Fault::Schedule(i as u64 + 2));
-        };
+        if let Err(cause) = ledger.follow(plan, *line) {
+            let number = i as u64 + 2;
+            return Ok(Err(RefusedLine { number, cause }));
+        }
     }
-    Ok(ledger.is_done())
+    Ok(Ok(ledger.is_done()))
 }

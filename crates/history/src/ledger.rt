@@ -1,6 +1,6 @@
 //! The word machine without its heap.
 
-ghost use Rattle.std.specs.Prelude.{◌≡◌, ◌+◌, ◌^◌, ◌<◌, ◌≤◌, ◌↔◌, ℕ, length, slice_index, IsTrue, IfOk, OnErr, IfSome, IfNone};
+ghost use Rattle.std.specs.Prelude.{◌≡◌, ◌+◌, ◌^◌, ◌<◌, ◌≤◌, ◌↔◌, ℕ, length, slice_index, IsTrue, IfOk, OnErr, IfErr};
 ghost use Rattle.history.specs.MoveTable.{reads};
 ghost use Rattle.history.specs.State.{AllAreSettled, Allows};
 ghost use Rattle.history.specs.Scheduler.{state_in};
@@ -9,12 +9,13 @@ ghost use Rattle.history.specs.ImageMoves.{image_table};
 ghost use Rattle.history.specs.Slide.{Machine, IsMachineStep, IsCopiedOut, AllowsWords, words_of};
 ghost use Rattle.history.specs.WordMachine.{image_slide, machine_start};
 ghost use Rattle.history.specs.Replay.{IsCallOf};
-ghost use Rattle.history.specs.Ledger.{IsLedger, Tells, Leads, RefusesLine, AreNoted, taken_up_to};
+ghost use Rattle.history.specs.Ledger.{IsLedger, Tells, Leads, RefusesLine, HasCause, AreNoted, taken_up_to};
 ghost use Rattle.history.specs.Replayed.{places_of};
 ghost use Rattle.history.specs.declared.reply.Reply.{Reply};
 
 use crate::event::{Event, Illegal};
 use crate::line::Line;
+use crate::line_cause::LineCause;
 use crate::reply::Reply;
 use crate::scheduler::Scheduler;
 use std::alloc::{AllocError, Global};
@@ -41,21 +42,22 @@ impl Ledger {
     }
 
     /// The reply to the line, exactly where the word machine allows the line and the line tells this
-    /// reply or none. After `None` the ledger is of no more use.
-    pub(crate) fn follow(&mut self, plan: &Plan, line: Line) -> Option<Reply>
+    /// reply or none; else why not. After `Err` the ledger is of no more use.
+    pub(crate) fn follow(&mut self, plan: &Plan, line: Line) -> Result<Reply, LineCause>
         requires kept { IsLedger plan.now self.old.scheduler.workers self.old }
         requires worker { line.worker < self.old.scheduler.workers }
-        ensures kept { IfSome result (λ reply. IsLedger plan.now self.old.scheduler.workers self.new) }
-        ensures call { IfSome result (λ reply. IsCallOf line (entry line.worker line.event reply)) }
-        ensures leads { IfSome result (λ reply. Leads plan.now self.old.scheduler.workers self.old (entry line.worker line.event reply) self.new) }
-        ensures none { IfNone result (RefusesLine plan.now self.old.scheduler.workers self.old line) }
+        ensures kept { IfOk result (λ reply. IsLedger plan.now self.old.scheduler.workers self.new) }
+        ensures call { IfOk result (λ reply. IsCallOf line (entry line.worker line.event reply)) }
+        ensures leads { IfOk result (λ reply. Leads plan.now self.old.scheduler.workers self.old (entry line.worker line.event reply) self.new) }
+        ensures refused { OnErr result (RefusesLine plan.now self.old.scheduler.workers self.old line) }
+        ensures cause { IfErr result (HasCause plan.now self.old.scheduler.workers self.old line) }
     {
         let Ok(reply) = self.step(plan, line.worker, line.event) else {
-            return None;
+            return Err(LineCause::NotAllowed);
         };
         match line.reply {
-            Some(told) if told != reply => None,
-            _ => Some(reply),
+            Some(told) if told != reply => Err(LineCause::OtherReply(reply)),
+            _ => Ok(reply),
         }
     }
 

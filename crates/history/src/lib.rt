@@ -24,13 +24,14 @@
 //!   `malformed_is_no_schedule` have no body: two schedules with one text are the same, and a text
 //!   with a malformed line is no schedule's.
 //! - `check` follows a schedule by the word machine without moving a word, and `replay` runs it on a
-//!   copy of the heap. Both name the least line that the machine doesn't allow. `what_replays_keep` has
-//!   no body: the calls of a schedule that the machine takes are one legal history.
+//!   copy of the heap. Both name the least line that the machine doesn't allow, and `explain` says why
+//!   it doesn't. `what_replays_keep` has no body: the calls of a schedule that the machine takes are
+//!   one legal history.
 //!
 //! `specs/MoveTable.antt` defines tables of moves, `specs/State.antt` the state and the step,
 //! `specs/History.antt` legal histories and what is said of them, `specs/Slide.antt` and
 //! `specs/WordMachine.antt` the word machine, `specs/ScheduleText.antt` and `specs/ReadSchedule.antt`
-//! the text of a schedule, `specs/Replay.antt` and `specs/Replayed.antt` what a replay finds. The contracts are proved. Only tested: that memory is found where there is
+//! the text of a schedule, `specs/Replay.antt`, `specs/LineCause.antt` and `specs/Replayed.antt` what a replay finds. The contracts are proved. Only tested: that memory is found where there is
 //! some, and that a call of a `LockedBoard` does what `Book::apply` does.
 #![tactic(auto)]
 
@@ -47,6 +48,7 @@ mod indexed_moves;
 mod laws;
 mod ledger;
 mod line;
+mod line_cause;
 mod line_text;
 mod locked_board;
 mod moves;
@@ -57,6 +59,7 @@ mod readers;
 mod reading;
 mod record_laws;
 mod references;
+mod refused_line;
 mod replay_laws;
 mod replayed;
 mod replaying;
@@ -73,7 +76,7 @@ mod whole_histories;
 
 pub use book::Book;
 pub use call_fault::CallFault;
-pub use checking::check;
+pub use checking::{check, explain};
 pub use entry::Entry;
 pub use event::{Event, Illegal};
 pub use given_moves::GivenMoves;
@@ -84,9 +87,11 @@ pub use laws::{
     what_legal_histories_keep, what_own_calls_tell,
 };
 pub use line::Line;
+pub use line_cause::LineCause;
 pub use locked_board::LockedBoard;
 pub use moves::Moves;
 pub use record_laws::checked_histories_are_records;
+pub use refused_line::RefusedLine;
 pub use replay_laws::what_replays_keep;
 pub use replayed::{End, Replayed};
 pub use replaying::replay;

@@ -1,4 +1,5 @@
 //! Schedules of the base heap, whose least bad lines are known from outside.
+mod causes;
 mod rooted;
 
 use crate::checking::check;

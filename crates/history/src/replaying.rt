@@ -64,7 +64,7 @@ fn carry_out(
     let mut lines = Vec::new(alloc);
     for (i, line) in schedule.lines().iter().enumerate() {
         let (first, number) = ledger.places(plan, line.event);
-        let Some(reply) = ledger.follow(plan, *line) else {
+        let Ok(reply) = ledger.follow(plan, *line) else {
             return Err(Fault::Schedule(i as u64 + 2));
         };
         carrier.copy(heap, first, number);

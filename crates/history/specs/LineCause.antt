@@ -1,0 +1,27 @@
+-- Why the word machine refuses a line of a schedule.
+use Rattle.std.specs.Prelude.{◌≡◌, ◌≢◌, ℕ, Some}
+use Rattle.heap_image.specs.HeapImage.{HeapImage}
+use Rattle.history.specs.History.{entry}
+use Rattle.history.specs.Schedule.{ScheduleView}
+use Rattle.history.specs.ImageMoves.{image_table}
+use Rattle.history.specs.Slide.{Machine, IsMachineStep}
+use Rattle.history.specs.WordMachine.{image_slide, machine_of}
+use Rattle.history.specs.Replay.{IsRefusedAt}
+use Rattle.history.specs.declared.line.Line.{Line}
+use Rattle.history.specs.declared.line_cause.LineCause.{LineCause}
+use Rattle.history.specs.declared.line_cause.LineCause.TheVariants.{NotAllowed, OtherReply}
+use Rattle.history.specs.declared.refused_line.RefusedLine.{RefusedLine}
+use Rattle.history.specs.declared.reply.Reply.{Reply}
+
+-- with no reply is the line's event a step of the machine; or with this reply it is, and the line tells another
+abbrev pub IsCause : HeapImage → ℕ → Machine → Line → LineCause → Type 0
+IsCause image workers w line NotAllowed =
+    (reply : Reply) → ¬ (IsMachineStep (image_table image) (image_slide image) workers w (entry line.worker line.event reply))
+IsCause image workers w line (OtherReply found) =
+    IsMachineStep (image_table image) (image_slide image) workers w (entry line.worker line.event found)
+    × ((told : Reply) × (line.reply ≡ Some told) × (told ≢ found))
+
+-- the least line of a schedule's text that the machine refuses, and why it does so after the lines before
+pub record IsExplained (image : HeapImage) (v : ScheduleView) (found : RefusedLine) : Type 0 where
+  pub refused : IsRefusedAt image v found.number
+  pub cause : IsCause image v.workers (machine_of image refused.log) refused.line found.cause
