@@ -148,6 +148,17 @@ class Collection:
         self.owner = {word: a for a in self.live for word in range(a, image.end(a))}
         self.prefix_end = self.find_prefix_end()
         self.new, self.top = self.slide()
+        # Of each new word of an object the old address that it comes from.
+        self.origins = {self.new[a] + word - a: word for word, a in self.owner.items()}
+        # The pairs (destination, source) of regions of which the first takes words from the second.
+        self.reads = {(self.region_of(new), self.region_of(old)) for new, old in self.origins.items()}
+        self.to_fill = {r for r in self.regions() if r * self.region_words < self.top}
+
+    def regions(self) -> range:
+        return range(self.region_of(len(self.image.words)))
+
+    def region_of(self, a: int) -> int:
+        return a // self.region_words
 
     def find_prefix_end(self) -> int:
         dead, best = 0, 0
@@ -190,33 +201,24 @@ class Collection:
         tail = map(self.redirected, self.image.tail) if is_rooted else self.new.values()
         return dataclasses.replace(self.image, words=words, tail=list(tail))
 
-    def filled(self) -> int:
-        return -(-self.top // self.region_words)
-
     def figures(self) -> str:
-        return f"prefix {self.prefix_end} top {self.top} filled {self.filled()}\n"
-
-    def origins(self) -> dict[int, int]:
-        """Of each new word the old address that it comes from."""
-        return {self.new[a] + word - a: word for word, a in self.owner.items()}
+        return f"prefix {self.prefix_end} top {self.top} filled {len(self.to_fill)}\n"
 
     def report(self) -> str:
         """What `summary` prints."""
-        origins = self.origins()
-        reads = {(new // self.region_words, old // self.region_words) for new, old in origins.items()}
-        lines = [self.report_line(r, origins, reads) for r in range(len(self.image.words) // self.region_words)]
+        lines = [self.report_line(r) for r in self.regions()]
         return "".join([f"prefix {self.prefix_end} top {self.top}\n", *lines])
 
-    def report_line(self, r: int, origins: dict[int, int], reads: set[tuple[int, int]]) -> str:
+    def report_line(self, r: int) -> str:
         start = r * self.region_words
         owners = [self.owner[word] for word in range(start, start + self.region_words) if word in self.owner]
         partial = sum(a < start for a in owners)
         is_prefix = start < self.prefix_end
-        slid_below = sum(self.prefix_end <= old < start for old in origins.values())
+        slid_below = sum(self.prefix_end <= old < start for old in self.owner)
         destination = start if is_prefix else self.prefix_end + slid_below
-        count = sum(s == r != d for d, s in reads)
+        count = sum(s == r != d for d, s in self.reads)
         is_moved_to = not is_prefix and start < self.top
-        source = origins[start] // self.region_words if is_moved_to else "-"
+        source = self.region_of(self.origins[start]) if is_moved_to else "-"
         columns = [r, partial, len(owners) - partial, destination, count, source]
         return " ".join(f"{column:>8}" for column in columns) + "\n"
 

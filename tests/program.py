@@ -3,6 +3,7 @@ import dataclasses
 import pathlib
 import shutil
 import subprocess
+from collections.abc import Callable
 
 TOP = pathlib.Path(__file__).resolve().parent.parent
 BUILT = TOP / "out" / "pcompact" / "pcompact"
@@ -32,11 +33,12 @@ def usage(text: str) -> Answer:
 
 
 class Tried:
-    """A copy of the program in a folder, and how often it was tried and wrong."""
+    """A copy of the program in a folder, and how often it was tried and wrong. What is wrong is told at once."""
 
-    def __init__(self, program: pathlib.Path, folder: pathlib.Path):
+    def __init__(self, program: pathlib.Path, folder: pathlib.Path, tell: Callable[[str], None] = print):
         self.program = folder / "pcompact"
         self.folder = folder
+        self.tell = tell
         self.count = 0
         self.wrong = 0
         # Anybody may call it there.
@@ -50,30 +52,35 @@ class Tried:
     def read(self, name: str) -> bytes:
         return (self.folder / name).read_bytes()
 
-    def run(self, words: str | list[str], answer: Answer, **how) -> None:
-        """Runs the program on words, or on those of a text, and compares what it answers."""
+    def run(self, words: str | list[str], answer: Answer, **how) -> bool:
+        """Runs the program on words, or on those of a text, and compares what it answers. Tells whether that is right."""
         words = words.split() if isinstance(words, str) else words
         for name in answer.made:
             (self.folder / name).unlink(missing_ok=True)
         streams = {"stdin": subprocess.DEVNULL, "stdout": subprocess.PIPE, "stderr": subprocess.PIPE, **how}
         if "input" in how:
             del streams["stdin"]
-        done = subprocess.run([self.program, *words], cwd=self.folder, timeout=SECONDS, **streams)
         self.count += 1
-        for what in self.differences(answer, done):
+        try:
+            done = subprocess.run([self.program, *words], cwd=self.folder, timeout=SECONDS, **streams)
+            found = self.differences(answer, done)
+        except subprocess.TimeoutExpired:
+            found = [f"doesn't end within {SECONDS} seconds"]
+        for what in found:
             self.is_wrong(f"pcompact {' '.join(map(str, words))}: {what}")
+        return not found
 
     def is_wrong(self, what: str) -> None:
         self.wrong += 1
-        print(what)
+        self.tell(what)
 
     def differences(self, answer: Answer, done: subprocess.CompletedProcess) -> list[str]:
         found = []
         if done.returncode != answer.status:
             found.append(f"status {done.returncode} and not {answer.status}")
-        if done.stdout is not None and answer.out is not None and done.stdout.decode() != answer.out:
+        if done.stdout is not None and answer.out is not None and done.stdout != answer.out.encode():
             found.append(f"standard output is {done.stdout!r} and not {answer.out!r}")
-        if done.stderr is not None and not is_told(done.stderr.decode(), answer):
+        if done.stderr is not None and not is_told(done.stderr.decode(errors="replace"), answer):
             found.append(f"standard error is {done.stderr!r} and not {answer.err!r}")
         for name, content in answer.made.items():
             file = self.folder / name
