@@ -117,7 +117,7 @@ class ScheduleMaker:
         self.chance = chance
         self.machine = Machine(collection)
         self.workers = chance.choice([1, 2, 2, 3, 8, chance.randint(1, MOST_WORKERS)])
-        self.noise = chance.choice([0, 0, 10, 40])
+        self.noise = chance.choice([0, 10, 10, 40])
         self.unknown = chance.choice([0, 0, 30, 100])
         self.largest_copy = chance.choice([1, 3, LARGEST])
 

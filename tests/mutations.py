@@ -3,7 +3,7 @@ import dataclasses
 import random
 
 from makers import LARGEST
-from model import FRONT, MOST_REGIONS, MOST_WORDS, Image, encode, header, references_of, size_of
+from model import FRONT, MOST_REGIONS, MOST_WORDS, Image, encode, header, is_sound, references_of, size_of
 from schedule_model import FORMS, LARGEST_NUMBER, Schedule
 
 
@@ -22,14 +22,27 @@ class ImageSpoiler:
         return encode(dataclasses.replace(self.image, version=self.version, words=self.words, tail=self.tail))
 
     def changed(self) -> bytes:
-        """Another image, valid where the first one is: other plain data, or other roots to the same objects."""
+        """Another image, mostly valid where the first one is: other plain data, roots to the same objects in another
+        order, or a live object that lies in the data of the one that was live."""
         if self.image.version == 2 and self.tail and self.chance.randrange(2):
             self.chance.shuffle(self.tail)
-        if self.chance.randrange(2):
+        if self.chance.randrange(3) == 0:
+            self.exchange_for_inner()
+        elif self.chance.randrange(2):
             kept = {word for a in self.live for word in range(a, a + 1 + references_of(self.words[a]))}
             a = self.chance.randrange(len(self.words))
             self.words[a] = self.words[a] if a in kept else self.near(self.words[a])
         return self.text()
+
+    def exchange_for_inner(self) -> None:
+        """Lets an object live in place of the one around it."""
+        words = self.words
+        inner = [(a, b) for a in self.live for b in range(a + 1 + references_of(words[a]), a + size_of(words[a]))
+                 if is_sound(words, b) and b + size_of(words[b]) <= a + size_of(words[a])]
+        if inner:
+            a, b = self.chance.choice(inner)
+            base = self.version - 1
+            self.tail = [base + b if number == base + a else number for number in self.tail]
 
     def spoiled(self) -> bytes:
         changes = [self.spoil_header, self.spoil_reference, self.spoil_word, self.spoil_tail, self.spoil_order,
@@ -37,7 +50,7 @@ class ImageSpoiler:
         for change in self.chance.choices(changes, k=self.chance.choice([0, 1, 1, 2, 3])):
             change()
         text = self.text()
-        cuts = [self.cut, self.go_on, self.spoil_front, self.spoil_front]
+        cuts = [self.cut, self.go_on, self.spoil_front, self.spoil_front, self.go_to_limits]
         return self.chance.choice(cuts)(text) if self.chance.randrange(3) == 0 else text
 
     def near(self, number: int) -> int:
@@ -121,13 +134,21 @@ class ImageSpoiler:
         chance = self.chance
         i = chance.randrange(len(numbers))
         numbers[i] = chance.choice([self.near(numbers[i]), *self.limits(*numbers)[i]]) % (1 << (32 if i < 2 else 64))
-        magic = chance.choice([magic, magic, b"PCHEAP01", b"PCHEAP02", b"PCHEAP03", b"pcheap01", bytes(8)])
+        magic = chance.choice([magic] * 6 + [b"PCHEAP01", b"PCHEAP02", b"PCHEAP00", b"PCHEAP03", b"pcheap01", bytes(8)])
         _, count, length, _ = numbers
         end = FRONT.size + 8 * (length + count)
         body = text[FRONT.size:]
         if end < 1 << 20 and chance.randrange(2):
             body = body[:end - FRONT.size].ljust(end - FRONT.size, b"\0")
         return FRONT.pack(magic, *numbers) + body
+
+    def go_to_limits(self, text: bytes) -> bytes:
+        """A head of as many words, regions or roots as there may be, or a region or a root more, and no such body."""
+        magic, _, _, _, allowance = FRONT.unpack_from(text)
+        log = self.chance.choice([3, 7, 8, 9, 16])
+        length = min(MOST_REGIONS << log, MOST_WORDS) + self.chance.choice([0, 0, 1 << log])
+        count = self.chance.choice([0, 1, length, length + 1])
+        return FRONT.pack(magic, log, count, length, allowance) + text[FRONT.size:]
 
     def limits(self, log: int, count: int, length: int, _allowance: int) -> list[list[int]]:
         """Of each number of the head some at its limits."""
@@ -143,13 +164,15 @@ class ScheduleSpoiler:
 
     def __init__(self, chance: random.Random, schedule: Schedule):
         self.chance = chance
+        self.workers = schedule.workers
         self.lines = schedule.text().splitlines(keepends=True)
 
     def spoiled(self) -> bytes:
         chance = self.chance
         of_lines = [self.exchange, self.exchange, self.leave_out, self.double, self.move, self.join_copies]
         of_words = [self.change_number, self.change_number, self.change_reply, self.change_reply, self.change_worker]
-        of_text = [self.change_space, self.change_form, self.change_first_line, self.add_line, self.cut, self.change_byte]
+        of_text = [self.change_space, self.change_form, self.change_first_line, self.change_first_line, self.add_line,
+                   self.cut, self.change_byte]
         for _ in range(chance.choice([1, 1, 1, 2, 3])):
             chance.choice(chance.choice([of_lines, of_lines, of_words, of_words, of_text]))()
         return "".join(self.lines).encode("latin-1")
@@ -210,7 +233,8 @@ class ScheduleSpoiler:
         number = int(word)
         limits = [0, 1, 64, LARGEST_NUMBER, LARGEST_NUMBER + 1, LARGEST, LARGEST + 1, LARGEST + 2 + number]
         spellings = [f"0{number}", f"+{number}", f"-{number}", f"{number}.0", hex(number), f"{number}_0", ""]
-        some = self.chance.choice([[number + 1, max(number - 1, 0)], [number + 1, max(number - 1, 0)], limits, spellings])
+        beside = [number + 1, max(number - 1, 0)]
+        some = self.chance.choice([beside, beside, limits, spellings])
         return str(self.chance.choice(some))
 
     def change_reply(self) -> None:
@@ -222,10 +246,12 @@ class ScheduleSpoiler:
         self.edit(change)
 
     def change_worker(self) -> None:
-        """Another worker, or as many that the first line allows any."""
+        """Another worker, there or not. Sometimes there are as many as there may be."""
         if self.chance.randrange(3) == 0:
+            self.workers = 64
             self.lines[0] = "schedule 1 64\n"
-        self.edit(lambda words: [str(self.chance.choice([0, 1, 2, 63, self.chance.randrange(66)])), *words[1:]])
+        workers = [*[self.chance.randrange(self.workers)] * 3, self.workers - 1, self.workers, self.workers + 1]
+        self.edit(lambda words: [str(self.chance.choice(workers)), *words[1:]])
 
     def change_space(self) -> None:
         """A space, tab or return too many, or another one in place of a space."""
@@ -246,9 +272,9 @@ class ScheduleSpoiler:
         self.edit(change)
 
     def change_first_line(self) -> None:
-        workers = self.chance.choice([0, 1, 2, 3, 63, 64, 65, 100, "01", "", "1 1", LARGEST_NUMBER + 2, LARGEST + 2])
+        workers = self.chance.choice([0, 1, 2, 3, 64, 65, 65, 66, 100, "01", "", "1 1", LARGEST_NUMBER + 2, LARGEST + 2])
         version = self.chance.choice([1, 1, 1, 1, 0, 2, "01"])
-        word = self.chance.choice(["schedule"] * 6 + ["Schedule", "schedules", " schedule", "\xef\xbb\xbfschedule"])
+        word = self.chance.choice(["schedule"] * 12 + ["Schedule", "schedules", " schedule", "\xef\xbb\xbfschedule"])
         self.lines[0] = f"{word} {version} {workers}\n"
 
     def add_line(self) -> None:

@@ -1,0 +1,150 @@
+"""One case of `tests/fuzz`: an image and schedules through each command, and what the model says of them."""
+import dataclasses
+import random
+
+from makers import ImageMaker, LimitMaker, ScheduleMaker, as_version_1, chance_of
+from model import Collection, Fault, Image, decode, encode, upgraded, verdict
+from mutations import ImageSpoiler, ScheduleSpoiler
+from program import TOP, Answer, Tried, differs, fault
+from schedule_model import ANY, MOST_WORKERS, Schedule, is_recorded, read, recorded_by_one, replayed
+
+BASE = (TOP / "examples" / "base.pcheap").read_bytes()
+# Words of an image for which the model takes long.
+MANY_WORDS = 1 << 14
+
+
+def try_refused(tried: Tried, said: str, chance: random.Random) -> None:
+    """An image that is none, under `summary` and other commands."""
+    tried.run("summary image", fault(said))
+    workers = chance.choice([0, 65, *range(1, 9)])
+    # The image is read before the schedule, and before workers are counted.
+    tried.write("schedule", chance.choice(["", "schedule 1 1\n", "schedule 1 1\n0 claim 0 ?"]))
+    commands = [("replay image schedule", {}), ("verify image base", {}), ("verify base image", {}),
+                (f"collect image out --workers {workers}", {"out": b""}),
+                (f"record image out schedule --workers {workers}", {"out": b"", "schedule": b""}),
+                ("upgrade image out", {"out": b""})]
+    for words, made in chance.sample(commands, 2):
+        tried.run(words, fault(said, made))
+
+
+def try_collected(tried: Tried, collection: Collection, chance: random.Random) -> None:
+    """A valid image under all commands but `replay` of schedules of others."""
+    image = collection.image
+    collected = Answer(0, collection.figures(), made={"out": encode(collection.compaction())})
+    tried.run("summary image", Answer(0, collection.report()))
+    for workers in (1, chance.choice([2, 3, 4, 8, chance.randint(2, MOST_WORKERS)])):
+        tried.run(f"collect image out --workers {workers}", collected)
+    tried.run("verify image out", Answer(0, "same\n"))
+    try_recorded(tried, collection, collected, chance.randint(2, 8))
+    alone = recorded_by_one(collection).text()
+    tried.run("record image out schedule --workers 1",
+              dataclasses.replace(collected, made=collected.made | {"schedule": alone.encode()}))
+    if chance.randrange(8) == 0:
+        workers = chance.choice([0, 65, 2 ** 32 - 1])
+        tried.run(f"collect image out --workers {workers}", fault("12 workers", {"out": b""}))
+        tried.run(f"record image out schedule --workers {workers}",
+                  fault("12 workers", {"out": b"", "schedule": b""}))
+    if image.version == 2:
+        try_twin(tried, as_version_1(image), alone)
+    try_upgraded(tried, image)
+
+
+def try_recorded(tried: Tried, collection: Collection, collected: Answer, workers: int) -> None:
+    """What several workers do is any order of whole fills that the word machine allows."""
+    if not tried.run(f"record image out schedule --workers {workers}", collected):
+        return
+    text = tried.read("schedule")
+    tried.run("replay image schedule", Answer(0, text.decode() + "finished\n"))
+    try:
+        schedule = read(text)
+        is_right = (schedule.workers == workers and is_recorded(collection, schedule)
+                    and replayed(collection, schedule) == text.decode() + "finished\n")
+    except Fault:
+        is_right = False
+    if not is_right:
+        tried.is_wrong(f"record by {workers} workers made another schedule: {text!r}")
+
+
+def try_twin(tried: Tried, twin: Image, recorded: str) -> None:
+    """The same heap in version 1 has the same summary and words, and the same schedule with one worker."""
+    collection = Collection(twin)
+    tried.write("twin", encode(twin))
+    tried.run("summary twin", Answer(0, collection.report()))
+    made = {"out": encode(collection.compaction()), "schedule": recorded.encode()}
+    tried.run("record twin out schedule --workers 1", Answer(0, collection.figures(), made=made))
+    tried.run("verify image out", differs("shape"))
+
+
+def try_upgraded(tried: Tried, image: Image) -> None:
+    """Version 2 of the heap, which collects to the same words and figures."""
+    new = upgraded(image)
+    collection = Collection(new)
+    tried.run("upgrade image new", Answer(0, f"roots {len(new.tail)}\n", made={"new": encode(new)}))
+    tried.run("upgrade new newer", Answer(0, f"roots {len(new.tail)}\n", made={"newer": encode(new)}))
+    made = {"out": encode(collection.compaction())}
+    tried.run("collect new out --workers 2", Answer(0, collection.figures(), made=made))
+
+
+def try_verdict(tried: Tried, image: Image, chance: random.Random) -> str:
+    """A valid image beside its compaction, which is changed."""
+    spoiler = ImageSpoiler(chance, Collection(image).compaction())
+    text = spoiler.changed() if chance.randrange(4) else spoiler.spoiled()
+    tried.write("after", text)
+    try:
+        found = verdict(image, decode(text))
+    except Fault as first:
+        tried.run("verify image after", fault(str(first)))
+        return "fault"
+    tried.run("verify image after", differs(found) if found else Answer(0, "same\n"))
+    return found.split()[0] if found else "same"
+
+
+def try_replay(tried: Tried, collection: Collection, name: str, text: bytes) -> str:
+    tried.write(name, text)
+    try:
+        schedule = read(text)
+    except Fault as first:
+        tried.run(f"replay image {name}", fault(str(first)))
+        return "malformed"
+    try:
+        said = replayed(collection, schedule)
+    except Fault as first:
+        tried.run(f"replay image {name}", fault(str(first)))
+        return "refused"
+    tried.run(f"replay image {name}", Answer(0, said))
+    return said.split()[-1]
+
+
+def try_schedules(tried: Tried, collection: Collection, chance: random.Random) -> list[str]:
+    """A valid image with schedules, right and wrong."""
+    alone = recorded_by_one(collection)
+    if len(collection.image.words) > MANY_WORDS:
+        return [try_replay(tried, collection, "spoiled", ScheduleSpoiler(chance, alone).spoiled())]
+    made = ScheduleMaker(chance, collection).schedule()
+    of_another = recorded_by_one(Collection(ImageMaker(chance).image()))
+    found = [try_replay(tried, collection, "made", made.text().encode())]
+    for name in ("spoiled1", "spoiled2", "spoiled3", "spoiled4"):
+        schedule = chance.choice([made, made, made, unreplied(made), unreplied(alone), alone, of_another])
+        found.append(try_replay(tried, collection, name, ScheduleSpoiler(chance, schedule).spoiled()))
+    return found
+
+
+def unreplied(schedule: Schedule) -> Schedule:
+    return dataclasses.replace(schedule, lines=[line.replied(ANY) for line in schedule.lines])
+
+
+def try_case(tried: Tried, chance: random.Random) -> list[str]:
+    """Runs one case, and tells of which kinds it was."""
+    image = (LimitMaker if chance.randrange(200) == 0 else ImageMaker)(chance).image()
+    text = chance_of(chance, 50, encode(image), ImageSpoiler(chance, image).spoiled())
+    tried.write("image", text)
+    try:
+        image = decode(text)
+    except Fault as first:
+        try_refused(tried, str(first), chance)
+        return [f"fault {str(first).split()[0]}"]
+    collection = Collection(image)
+    try_collected(tried, collection, chance)
+    replays = try_schedules(tried, collection, chance)
+    kinds = [f"version {image.version}", f"verdict {try_verdict(tried, image, chance)}"]
+    return kinds + [f"replay {kind}" for kind in replays] + (["at a limit"] if len(image.words) > MANY_WORDS else [])
