@@ -145,12 +145,12 @@ class ScheduleMaker:
         worker = machine.claimed[d]
         if d in machine.filled:
             return [Line(worker, "settle", (d,))]
-        drains = [(d, s) for destination, s in sorted(machine.pending()) if destination == d and machine.are_copied(d, s)]
-        lines = [Line(worker, "drain", pair) for pair in drains]
+        pending = sorted(pair for pair in machine.pending() if pair[0] == d)
+        lines = [Line(worker, "drain", pair) for pair in pending if machine.are_copied(*pair)]
         if machine.unwritten(d):
             count = self.chance.randint(1, min(self.largest_copy, len(machine.unwritten(d))))
             lines.append(Line(worker, "copy", (d, count)))
-        is_ready = not machine.unwritten(d) and not any(pair[0] == d for pair in machine.pending())
+        is_ready = not machine.unwritten(d) and not pending
         return [*lines, Line(worker, "complete", (d,))] if is_ready else lines
 
     def noisy_line(self) -> Line:

@@ -4,7 +4,7 @@ import random
 
 from makers import LARGEST
 from model import FRONT, MOST_REGIONS, MOST_WORDS, Image, encode, header, is_sound, references_of, size_of
-from schedule_model import FORMS, LARGEST_NUMBER, Schedule
+from schedule_model import ANY, FORMS, LARGEST_NUMBER, Schedule
 
 
 class ImageSpoiler:
@@ -129,7 +129,7 @@ class ImageSpoiler:
         return text + bytes(self.chance.choice([1, 8, 40]))
 
     def spoil_front(self, text: bytes) -> bytes:
-        """Another magic, region log, count, length or allowance; some of them with a body that is as long as they say."""
+        """Another magic, region log, count, length or allowance; sometimes with a body that is as long as they say."""
         magic, *numbers = FRONT.unpack_from(text)
         chance = self.chance
         i = chance.randrange(len(numbers))
@@ -145,7 +145,7 @@ class ImageSpoiler:
     def go_to_limits(self, text: bytes) -> bytes:
         """A head of as many words, regions or roots as there may be, or a region or a root more, and no such body."""
         magic, _, _, _, allowance = FRONT.unpack_from(text)
-        log = self.chance.choice([3, 7, 8, 9, 16])
+        log = self.chance.choice([2, 3, 7, 8, 9, 16, 17])
         length = min(MOST_REGIONS << log, MOST_WORDS) + self.chance.choice([0, 0, 1 << log])
         count = self.chance.choice([0, 1, length, length + 1])
         return FRONT.pack(magic, log, count, length, allowance) + text[FRONT.size:]
@@ -153,8 +153,8 @@ class ImageSpoiler:
     def limits(self, log: int, count: int, length: int, _allowance: int) -> list[list[int]]:
         """Of each number of the head some at its limits."""
         region = 1 << min(log, 16)
-        lengths = [0, region, length + region, length - region, length + 1, length // 2, MOST_WORDS, MOST_WORDS + region,
-                   MOST_REGIONS * region, (MOST_REGIONS + 1) * region, 1 << 32, 1 << 61, 1 << 63]
+        lengths = [0, region, length + region, length - region, length + 1, length // 2, MOST_WORDS,
+                   MOST_WORDS + region, MOST_REGIONS * region, (MOST_REGIONS + 1) * region, 1 << 32, 1 << 61, 1 << 63]
         counts = [0, count + 1, length, length + 1, MOST_WORDS, MOST_WORDS + 1, 2 ** 32 - 1]
         return [[2, 3, 4, 16, 17, 31, 32, 63, 64, 2 ** 32 - 1], counts, lengths, [0, 1, LARGEST]]
 
@@ -214,7 +214,7 @@ class ScheduleSpoiler:
         """Makes one line of two copies to a region that follow one another."""
         words = [line.split(" ") for line in self.lines]
         some = [i for i, (one, other) in enumerate(zip(words, words[1:])) if len(one) == len(other) == 5
-                and one[1] == other[1] == "copy" and one[2] == other[2] and (one[3] + other[3]).isdecimal()]
+                and one[1] == other[1] == "copy" and one[2] == other[2] and one[3].isdecimal() and other[3].isdecimal()]
         if some:
             i = self.chance.choice(some)
             self.lines[i:i + 2] = [" ".join([*words[i][:3], str(int(words[i][3]) + int(words[i + 1][3])), words[i][4]])]
@@ -231,7 +231,7 @@ class ScheduleSpoiler:
     def near(self, word: str) -> str:
         """Another number, as it should be written or not."""
         number = int(word)
-        limits = [0, 1, 64, LARGEST_NUMBER, LARGEST_NUMBER + 1, LARGEST, LARGEST + 1, LARGEST + 2 + number]
+        limits = [0, 64, LARGEST_NUMBER, LARGEST_NUMBER + 1, LARGEST_NUMBER + 1 + number, LARGEST, LARGEST + 1 + number]
         spellings = [f"0{number}", f"+{number}", f"-{number}", f"{number}.0", hex(number), f"{number}_0", ""]
         beside = [number + 1, max(number - 1, 0)]
         some = self.chance.choice([beside, beside, limits, spellings])
@@ -242,7 +242,8 @@ class ScheduleSpoiler:
             own = FORMS[words[1]][1] if len(words) > 1 and words[1] in FORMS else ()
             others = [reply for _, replies in FORMS.values() for reply in replies]
             wrong = [words[-1].upper(), words[-1][:-1], words[-1] + "s", "", "??"]
-            return [*words[:-1], self.chance.choice(self.chance.choice([own or others, own or others, others, wrong, "?"]))]
+            some = self.chance.choice([own or others, own or others, others, wrong, ANY])
+            return [*words[:-1], self.chance.choice(some)]
         self.edit(change)
 
     def change_worker(self) -> None:
@@ -272,7 +273,8 @@ class ScheduleSpoiler:
         self.edit(change)
 
     def change_first_line(self) -> None:
-        workers = self.chance.choice([0, 1, 2, 3, 64, 65, 65, 66, 100, "01", "", "1 1", LARGEST_NUMBER + 2, LARGEST + 2])
+        numbers = [0, 1, 2, 3, 64, 65, 65, 66, 100, LARGEST_NUMBER + 2, LARGEST + 2]
+        workers = self.chance.choice([*numbers, "01", "", "1 1"])
         version = self.chance.choice([1, 1, 1, 1, 0, 2, "01"])
         word = self.chance.choice(["schedule"] * 12 + ["Schedule", "schedules", " schedule", "\xef\xbb\xbfschedule"])
         self.lines[0] = f"{word} {version} {workers}\n"

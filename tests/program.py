@@ -53,7 +53,7 @@ class Tried:
         return (self.folder / name).read_bytes()
 
     def run(self, words: str | list[str], answer: Answer, **how) -> bool:
-        """Runs the program on words, or on those of a text, and compares what it answers. Tells whether that is right."""
+        """Runs the program on words, or on those of a text, and compares what it answers. Whether that is right."""
         words = words.split() if isinstance(words, str) else words
         for name in answer.made:
             (self.folder / name).unlink(missing_ok=True)

@@ -77,7 +77,7 @@ def line_of(text: str, workers: int) -> Line | None:
 
 
 def read(text: bytes) -> Schedule:
-    """The schedule that these bytes are the text of. Raises the fault of the least malformed line where there is none."""
+    """The schedule that these bytes are the text of. Raises the fault of the least malformed line."""
     *lines, rest = text.decode("latin-1").split("\n")
     workers = workers_of(lines[0]) if lines else None
     if workers is None:
