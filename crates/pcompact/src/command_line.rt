@@ -32,6 +32,21 @@ pub enum Request<'a> {
     Show(String),
 }
 
+impl Request<'_> {
+    /// Whether to say at length what goes wrong.
+    pub fn is_verbose(&self) -> bool {
+        match self {
+            Request::Summary(asked) => asked.verbose,
+            Request::Collect(asked) => asked.verbose,
+            Request::Verify(asked) => asked.verbose,
+            Request::Record(asked) => asked.collection.verbose,
+            Request::Replay(asked) => asked.verbose,
+            Request::Upgrade(asked) => asked.verbose,
+            Request::Board | Request::Show(_) => false,
+        }
+    }
+}
+
 /// A look at the image in a file.
 #[derive(Drop)]
 pub struct Inspection<'a> {

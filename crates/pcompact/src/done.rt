@@ -2,23 +2,23 @@
 ghost use Rattle.std.specs.Prelude.{◌≡◌};
 
 use crate::replacement::Replacement;
-use heap_image::Fault;
+use crate::trouble::Trouble;
 use std::rt::Files;
 
 /// What a command has done, but for its end.
 #[derive(Drop)]
-pub struct Done {
+pub struct Done<'a> {
     /// What it prints.
     pub text: Vec<u8>,
     /// The new file for OUT, where it takes its place once all is printed.
-    pub out: Option<Replacement>,
+    pub out: Option<Replacement<'a>>,
     /// That for SCHEDULE.
-    pub schedule: Option<Replacement>,
+    pub schedule: Option<Replacement<'a>>,
 }
 
-impl Done {
+impl<'a> Done<'a> {
     /// It prints this, and no file takes the place of another.
-    pub fn printing(text: Vec<u8>) -> Done
+    pub fn printing(text: Vec<u8>) -> Done<'a>
         ensures { result.text ≡ text }
     {
         Done {
@@ -31,10 +31,10 @@ impl Done {
     /// The new files take their places, OUT's first.
     ///
     /// After fault 13 no new file is left beside a place. OUT's may have taken its place.
-    pub fn take_places<H: Files>(self, host: &H) -> Result<(), Fault> {
-        if let Err(fault) = taken(host, self.out) {
+    pub fn take_places<H: Files>(self, host: &H) -> Result<(), Trouble<'a>> {
+        if let Err(trouble) = taken(host, self.out) {
             removed(host, self.schedule);
-            return Err(fault);
+            return Err(trouble);
         }
         taken(host, self.schedule)
     }
@@ -46,14 +46,14 @@ impl Done {
     }
 }
 
-fn taken<H: Files>(host: &H, replacement: Option<Replacement>) -> Result<(), Fault> {
+fn taken<'a, H: Files>(host: &H, replacement: Option<Replacement<'a>>) -> Result<(), Trouble<'a>> {
     match replacement {
         Some(replacement) => replacement.take_place(host),
         None => Ok(()),
     }
 }
 
-fn removed<H: Files>(host: &H, replacement: Option<Replacement>) {
+fn removed<H: Files>(host: &H, replacement: Option<Replacement<'_>>) {
     if let Some(replacement) = replacement {
         replacement.remove(host);
     }

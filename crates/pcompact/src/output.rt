@@ -1,30 +1,38 @@
 //! `Output`.
+use crate::failed_call::Call;
 use crate::replacement::Replacement;
-use heap_image::Fault;
+use crate::trouble::{Trouble, called};
+use crate::watched::Watched;
 use std::fs::OpenFile;
 use std::rt::Files;
 
 /// A file that is being written: where it stands, or as a new one beside it.
 #[derive(Drop)]
-pub struct Output<F: Drop> {
+pub struct Output<'a, F: Drop> {
     /// The file, open for writing.
-    pub file: F,
+    pub file: Watched<'a, F>,
     /// That it takes the place of another in the end.
-    pub replacement: Option<Replacement>,
+    pub replacement: Option<Replacement<'a>>,
 }
 
-impl<F: OpenFile + Drop> Output<F> {
+impl<'a, F: OpenFile + Drop> Output<'a, F> {
     /// Ends the writing. A file that takes the place of another is on the disk then.
     ///
     /// After fault 13 such a file is removed.
-    pub fn finish<H: Files<File = F>>(self, host: &H) -> Result<Option<Replacement>, Fault> {
+    pub fn finish<H: Files<File = F>>(
+        self,
+        host: &H,
+    ) -> Result<Option<Replacement<'a>>, Trouble<'a>> {
         let Output { file, replacement } = self;
-        match replacement {
-            Some(replacement) if file.sync_all().is_err() => {
+        let Some(replacement) = replacement else {
+            return Ok(None);
+        };
+        match called(file.word(), Call::Sync, file.file().sync_all()) {
+            Ok(()) => Ok(Some(replacement)),
+            Err(trouble) => {
                 replacement.remove(host);
-                Err(Fault::Io)
+                Err(trouble)
             }
-            replacement => Ok(replacement),
         }
     }
 

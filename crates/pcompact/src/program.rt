@@ -1,5 +1,5 @@
 //! The whole program, over the writers that it is handed.
-ghost use Rattle.std.specs.Prelude.{◌≡◌, ◌≤◌, ◌∷◌, [], ℕ, List, MatchResult, IfOk, OnOk};
+ghost use Rattle.std.specs.Prelude.{◌≡◌, ◌≤◌, ◌∷◌, [], true, ℕ, List, MatchResult, IfOk, OnOk};
 ghost use Rattle.std.specs.Prelude.{codes, string_bytes};
 ghost use Rattle.std.specs.Io.KnownBytes.{Appends};
 ghost use Rattle.pcompact.specs.Board.{IsBoardText};
@@ -7,12 +7,16 @@ ghost use Rattle.pcompact.specs.Collection.{IsFigures};
 ghost use Rattle.pcompact.specs.CommandLine.{AreWords, AreCallOf};
 ghost use Rattle.pcompact.specs.Failure.{out_of_memory, status_of};
 ghost use Rattle.pcompact.specs.Replaying.{IsReplay};
+ghost use Rattle.pcompact.specs.Request.{is_summary, is_collect, is_verify, is_record, is_replay, is_upgrade};
 ghost use Rattle.pcompact.specs.Summary.{IsSummary};
 ghost use Rattle.pcompact.specs.Upgrading.{IsRootCount};
 
 use crate::command_line::Request;
 use crate::done::Done;
+use crate::failed_call::{Call, FailedCall};
 use crate::failure::Failure;
+use crate::reason::Reason;
+use crate::trouble::Trouble;
 use crate::{board, command_line, files};
 use collector::Verdict;
 use heap_image::Fault;
@@ -27,7 +31,7 @@ use std::thread::Threads;
 /// `out` and `err` stand for standard output and standard error. What a command prints is written
 /// to `out` whole, once its work is done, and flushed; a write or flush of `out` that fails is
 /// fault 13. Files that are to replace others take their places after that. A failed write to `err`
-/// changes nothing.
+/// changes nothing. Where the words ask for it, more lines on `err` follow the one that is owed.
 ///
 /// `host` opens files and allocates, `threads` starts threads, and `wait` waits for them.
 pub fn run<H: Files + AllocGlobal, T: Threads + Sync, L: Wait + Sync, A: Write, B: Write>(
@@ -68,48 +72,54 @@ pub fn run<H: Files + AllocGlobal, T: Threads + Sync, L: Wait + Sync, A: Write, 
         → (text : List ℕ) × IsRootCount text
         × Appends (A.contents out.old) (A.contents out.new) text }
 {
-    let done = match answer(host, words, threads, wait) {
+    let request = match command_line::read(host.alloc(), words) {
+        Ok(request) => request,
+        Err(failure) => return tell(&Trouble::new(failure), false, err),
+    };
+    let verbose = request.is_verbose();
+    let done = match answer(host, request, threads, wait) {
         Ok(done) => done,
-        Err(failure) => return tell(&failure, err),
+        Err(trouble) => return tell(&trouble, verbose, err),
     };
     match end(host, done, out) {
         Ok(()) => 0,
-        Err(fault) => tell(&Failure::Fault(fault), err),
+        Err(trouble) => tell(&trouble, verbose, err),
     }
 }
 
 /// Shows what a command prints. Then the files take their places that are to replace others.
-fn end<H: Files, A: Write>(host: &H, done: Done, out: &mut A) -> Result<(), Fault>
-    ensures { OnOk result (Appends (A.contents out.old) (A.contents out.new) done.text.items) }
+fn end<'a, H: Files, A: Write>(host: &H, done: Done<'a>, out: &mut A) -> Result<(), Trouble<'a>>
+    ensures { OnOk result (Appends (A.contents out.old) (A.contents out.new) done.entry.text.items) }
 {
     match show(done.text.as_slice(), out) {
         Ok(()) => done.take_places(host),
-        Err(_) => {
+        Err(error) => {
             done.remove(host);
-            Err(Fault::Io)
+            let failed = FailedCall::of(Call::Write, &error);
+            Err(Trouble::from(Fault::Io).because(Reason::Output(failed)))
         }
     }
 }
 
-/// What the words ask for, but for its end.
-fn answer<H: Files + AllocGlobal, T: Threads + Sync, L: Wait + Sync>(
+/// What is asked for, but for its end.
+fn answer<'a, H: Files + AllocGlobal, T: Threads + Sync, L: Wait + Sync>(
     host: &H,
-    words: &[String],
+    request: Request<'a>,
     threads: &T,
     wait: &L,
-) -> Result<Done, Failure>
-    ensures board { AreWords words.now (codes "board" ∷ []) → MatchResult result
-        (λ done. IsBoardText done.text.items) (λ failure. failure ≡ out_of_memory) }
-    ensures summary { AreCallOf (codes "summary") words.now → IfOk result (λ done. IsSummary done.text.items) }
-    ensures collect { AreCallOf (codes "collect") words.now → IfOk result (λ done. IsFigures done.text.items) }
-    ensures record { AreCallOf (codes "record") words.now → IfOk result (λ done. IsFigures done.text.items) }
-    ensures replay { AreCallOf (codes "replay") words.now → IfOk result (λ done. IsReplay done.text.items) }
-    ensures verify { AreCallOf (codes "verify") words.now → IfOk result (λ done. done.text.items ≡ codes "same\n") }
-    ensures upgrade { AreCallOf (codes "upgrade") words.now → IfOk result (λ done. IsRootCount done.text.items) }
+) -> Result<Done<'a>, Trouble<'a>>
+    ensures board { request.entry ≡ Request.Board → MatchResult result
+        (λ done. IsBoardText done.text.items) (λ trouble. trouble.failure ≡ out_of_memory) }
+    ensures summary { is_summary request.entry ≡ true → IfOk result (λ done. IsSummary done.text.items) }
+    ensures collect { is_collect request.entry ≡ true → IfOk result (λ done. IsFigures done.text.items) }
+    ensures record { is_record request.entry ≡ true → IfOk result (λ done. IsFigures done.text.items) }
+    ensures replay { is_replay request.entry ≡ true → IfOk result (λ done. IsReplay done.text.items) }
+    ensures verify { is_verify request.entry ≡ true → IfOk result (λ done. done.text.items ≡ codes "same\n") }
+    ensures upgrade { is_upgrade request.entry ≡ true → IfOk result (λ done. IsRootCount done.text.items) }
 {
-    match command_line::read(host.alloc(), words)? {
+    match request {
         Request::Board => Ok(Done::printing(board::board(host.alloc(), threads)?.into_bytes())),
-        Request::Summary(asked) => Ok(files::summary(host, &asked, threads)?),
+        Request::Summary(asked) => files::summary(host, &asked, threads),
         Request::Collect(asked) => files::collect(host, &asked, threads, wait),
         Request::Verify(asked) => files::verify(host, &asked, threads),
         Request::Record(asked) => files::record(host, &asked, threads, wait),
@@ -127,18 +137,21 @@ fn show<A: Write>(text: &[u8], out: &mut A) -> io::Result<()>
     out.flush()
 }
 
-/// Says on `err` why the program fails, and answers the exit status: 2 for words that are no
-/// command, else 1. Where `err` takes no text the status is the same.
-pub fn tell<B: Write>(failure: &Failure, err: &mut B) -> u8
-    ensures { result ≡ status_of failure.now }
+/// Says on `err` why the program fails, at length where that is asked for, and answers the exit
+/// status: 2 for words that are no command, else 1. Where `err` takes no text the status is the same.
+pub fn tell<B: Write>(trouble: &Trouble<'_>, verbose: bool, err: &mut B) -> u8
+    ensures { result ≡ status_of trouble.now.failure }
 {
-    let _ = match failure {
+    let _ = match &trouble.failure {
         Failure::Usage(text) => err.write_all(text.as_bytes()),
         Failure::Fault(fault) => writeln!(err, "pcompact: fault {fault}"),
         Failure::Differs(verdict) => tell_difference(*verdict, err),
     };
+    if verbose {
+        let _ = trouble.tell_more(err);
+    }
     let _ = err.flush();
-    failure.status()
+    trouble.failure.status()
 }
 
 /// Says where two images differ.

@@ -1,4 +1,7 @@
 //! `Replacement`: a new file that takes the place of another.
+use crate::failed_call::{Call, FailedCall};
+use crate::file_word::FileWord;
+use crate::trouble::{Trouble, called};
 use heap_image::Fault;
 use std::alloc::{AllocError, Global};
 use std::fs::{Metadata, OpenFile, OpenOptions, Permissions};
@@ -10,29 +13,38 @@ use std::{fs, io};
 
 /// A new file in the folder of another one, or of where one is to be.
 #[derive(Drop)]
-pub struct Replacement {
+pub struct Replacement<'a> {
+    word: FileWord<'a>,
     new: PathBuf,
     place: PathBuf,
 }
 
-impl Replacement {
+impl<'a> Replacement<'a> {
     /// Makes an empty file beside this place, which nobody else has, and opens it for writing. Who
     /// may read and write it is told by the file that stands there.
     ///
     /// Fault 13 where it can't be made, 11 where memory for its name is refused.
     pub fn make<H: Files + AllocGlobal>(
         host: &H,
+        word: FileWord<'a>,
         place: PathBuf,
         old: Option<&Metadata>,
-    ) -> Result<(H::File, Replacement), Fault> {
-        let (new, file) = make_beside(host, &place, old.is_some())?;
-        let replacement = Replacement { new, place };
-        match old {
-            Some(old) if replacement.take_access(host, &file, old).is_err() => {
+    ) -> Result<(H::File, Replacement<'a>), Trouble<'a>> {
+        let (new, file) = make_beside(host, word, &place, old.is_some())?;
+        let replacement = Replacement { word, new, place };
+        let Some(old) = old else {
+            return Ok((file, replacement));
+        };
+        match called(
+            word,
+            Call::Access,
+            replacement.take_access(host, &file, old),
+        ) {
+            Ok(()) => Ok((file, replacement)),
+            Err(trouble) => {
                 replacement.remove(host);
-                Err(Fault::Io)
+                Err(trouble)
             }
-            _ => Ok((file, replacement)),
         }
     }
 
@@ -46,12 +58,15 @@ impl Replacement {
     /// The new file takes the place, and what stood there is gone.
     ///
     /// After fault 13 what stood there stands there still, and the new file is removed.
-    pub fn take_place<H: Files>(self, host: &H) -> Result<(), Fault> {
-        if fs::rename(host, &self.new, &self.place).is_err() {
-            self.remove(host);
-            return Err(Fault::Io);
+    pub fn take_place<H: Files>(self, host: &H) -> Result<(), Trouble<'a>> {
+        let renamed = fs::rename(host, &self.new, &self.place);
+        match called(self.word, Call::Rename, renamed) {
+            Ok(()) => Ok(()),
+            Err(trouble) => {
+                self.remove(host);
+                Err(trouble)
+            }
         }
-        Ok(())
     }
 
     /// Removes the new file. What stands at the place stays.
@@ -62,11 +77,12 @@ impl Replacement {
 
 /// Makes a file beside this place under the first name that is free, open for writing. It is for its
 /// owner alone where it is private.
-fn make_beside<H: Files + AllocGlobal>(
+fn make_beside<'a, H: Files + AllocGlobal>(
     host: &H,
+    word: FileWord<'a>,
     place: &PathBuf,
     private: bool,
-) -> Result<(PathBuf, H::File), Fault> {
+) -> Result<(PathBuf, H::File), Trouble<'a>> {
     let mode = if private { 0o600 } else { 0o666 };
     for number in 0..u32::MAX {
         let new = beside(host.alloc(), place, number)?;
@@ -78,10 +94,10 @@ fn make_beside<H: Files + AllocGlobal>(
         {
             Ok(file) => return Ok((new, file)),
             Err(error) if error.kind() == ErrorKind::AlreadyExists => {}
-            Err(_) => return Err(Fault::Io),
+            Err(error) => return Err(Trouble::of_call(word, FailedCall::of(Call::Make, &error))),
         }
     }
-    Err(Fault::Io)
+    Err(Trouble::from(Fault::Io).about(word))
 }
 
 /// The name of this number for a file beside a place.

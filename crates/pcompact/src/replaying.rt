@@ -3,13 +3,34 @@ ghost use Rattle.std.specs.Prelude.{◌≡◌, IfOk, IfSome, codes};
 ghost use Rattle.history.specs.ScheduleText.{schedule_text};
 ghost use Rattle.pcompact.specs.Replaying.{IsReplayOf, end_line};
 
+use crate::reason::LineReason;
 use heap_image::{Fault, Intake, read_image_by_threads};
-use history::{End, Schedule, read_schedule, replay, write_schedule};
+use history::{End, Schedule, explain, read_schedule, replay, write_schedule};
 use mark_bitmap::Marks;
-use std::alloc::Global;
+use std::alloc::{AllocError, Global};
 use std::io::{ErrorKind, Read};
 use std::thread::Threads;
 use summary::Plan;
+
+/// A fault of a replay.
+#[derive(Debug, Clone, Copy, PartialEq, Eq)]
+pub struct Unreplayed {
+    pub fault: Fault,
+    /// Of fault 14, why the line isn't taken, where there was memory to find it out.
+    pub line: Option<LineReason>,
+}
+
+impl From<Fault> for Unreplayed {
+    fn from(fault: Fault) -> Unreplayed {
+        Unreplayed { fault, line: None }
+    }
+}
+
+impl From<AllocError> for Unreplayed {
+    fn from(_refused: AllocError) -> Unreplayed {
+        Unreplayed::from(Fault::Memory)
+    }
+}
 
 /// Replays a schedule on a copy of the image, and answers its lines, each with its reply, and
 /// whether the collection was finished.
@@ -18,7 +39,7 @@ pub fn replay_text<R: Intake, S: Read, T: Threads + Sync>(
     input: &mut R,
     schedule: &mut S,
     threads: &T,
-) -> Result<Vec<u8>, Fault>
+) -> Result<Vec<u8>, Unreplayed>
     ensures { IfOk result (λ shown. IsReplayOf (R.left input.old) (R.left input.new)
         (S.remaining schedule.old) shown.items) }
 {
@@ -26,22 +47,47 @@ pub fn replay_text<R: Intake, S: Read, T: Threads + Sync>(
     let asked = schedule_in(alloc, schedule)?;
     let marks = Marks::of(alloc, &image)?;
     let plan = Plan::of(alloc, &image, &marks, threads)?;
-    let replayed = replay(alloc, &image, &marks, &plan, &asked)?;
+    let replayed = match replay(alloc, &image, &marks, &plan, &asked) {
+        Ok(replayed) => replayed,
+        Err(fault) => return Err(refused(alloc, &plan, &asked, fault)),
+    };
     let mut text = write_schedule(alloc, &replayed.lines)?;
     text.extend_from_slice(end_line(&replayed.ended).as_bytes())?;
     Ok(text)
 }
 
 /// The schedule that a file has the text of.
-fn schedule_in<S: Read>(alloc: Global, file: &mut S) -> Result<Schedule, Fault>
+fn schedule_in<S: Read>(alloc: Global, file: &mut S) -> Result<Schedule, Unreplayed>
     ensures { IfOk result (λ schedule. IfSome (S.remaining file.old) (λ bytes. bytes ≡ schedule_text schedule)) }
 {
     let mut text = Vec::new(alloc);
     match file.read_to_end(&mut text) {
-        Ok(_) => read_schedule(alloc, text.as_slice()),
-        Err(error) if error.kind() == ErrorKind::OutOfMemory => Err(Fault::Memory),
-        Err(_) => Err(Fault::Io),
+        Ok(_) => read_schedule(alloc, text.as_slice()).map_err(malformed),
+        Err(error) if error.kind() == ErrorKind::OutOfMemory => Err(Unreplayed::from(
+            Fault::Memory,
+        )),
+        Err(_) => Err(Unreplayed::from(Fault::Io)),
     }
+}
+
+/// A fault of the text of a schedule.
+fn malformed(fault: Fault) -> Unreplayed {
+    let line = match fault {
+        Fault::Schedule(_) => Some(LineReason::Malformed),
+        _ => None,
+    };
+    Unreplayed { fault, line }
+}
+
+/// A fault of the replay of a schedule.
+fn refused(alloc: Global, plan: &Plan, asked: &Schedule, fault: Fault) -> Unreplayed {
+    let line = match explain(alloc, plan, asked) {
+        Ok(Some(refused)) if fault == Fault::Schedule(refused.number) => {
+            Some(LineReason::Refused(refused.cause))
+        }
+        _ => None,
+    };
+    Unreplayed { fault, line }
 }
 
 /// The last line: whether all regions to be filled are settled.

@@ -1,9 +1,13 @@
 //! `Target`.
+use crate::failed_call::{Call, FailedCall};
 use crate::failure::Failure;
 use crate::file_id::FileId;
+use crate::file_word::FileWord;
 use crate::output::Output;
 use crate::replacement::Replacement;
-use heap_image::Fault;
+use crate::trouble::{Trouble, called};
+use crate::watched::Watched;
+use std::alloc::AllocError;
 use std::fs::{Metadata, OpenFile, OpenOptions};
 use std::io::ErrorKind;
 use std::path::{Path, PathBuf};
@@ -13,7 +17,7 @@ use std::{fs, io};
 /// A file to be written. It still is as it was found.
 #[derive(Drop)]
 pub struct Target<'a, F: Drop> {
-    name: &'a str,
+    word: FileWord<'a>,
     /// What was there, or was made for want of it.
     found: Option<Metadata>,
     way: Way<F>,
@@ -29,43 +33,59 @@ enum Way<F: Drop> {
 }
 
 impl<'a, F: OpenFile + Drop> Target<'a, F> {
-    /// Finds the file of this name: opens it for writing, and makes it if it isn't there; or, where
+    /// Finds the file of this word: opens it for writing, and makes it if it isn't there; or, where
     /// it is to be replaced, looks at what is there.
     ///
     /// Fault 13 where it can't be opened for writing, and 11 for want of memory. What is to be
     /// replaced must be a regular file, or not be there.
     pub fn find<H: Files<File = F> + AllocGlobal>(
         host: &H,
-        name: &'a str,
+        word: FileWord<'a>,
         atomic: bool,
-    ) -> Result<Target<'a, F>, Failure> {
+    ) -> Result<Target<'a, F>, Trouble<'a>> {
         if atomic {
-            Target::beside(host, name)
+            Target::beside(host, word)
         } else {
-            Ok(Target::in_place(host, name)?)
+            Target::in_place(host, word)
         }
     }
 
-    fn in_place<H: Files<File = F>>(host: &H, name: &'a str) -> Result<Target<'a, F>, Fault> {
-        let (file, is_new) = checked(open(host, name))?;
-        let found = Some(checked(file.metadata())?);
+    fn in_place<H: Files<File = F>>(
+        host: &H,
+        word: FileWord<'a>,
+    ) -> Result<Target<'a, F>, Trouble<'a>> {
+        let (file, is_new) = called(word, Call::Open, open(host, word.name))?;
+        let found = Some(called(word, Call::Stat, file.metadata())?);
         let way = Way::InPlace { file, is_new };
-        Ok(Target { name, found, way })
+        Ok(Target { word, found, way })
     }
 
     fn beside<H: Files<File = F> + AllocGlobal>(
         host: &H,
-        name: &'a str,
-    ) -> Result<Target<'a, F>, Failure> {
-        let (place, found) = match fs::symlink_metadata(host, name) {
-            Ok(named) => standing(host, name, named.is_symlink())?,
+        word: FileWord<'a>,
+    ) -> Result<Target<'a, F>, Trouble<'a>> {
+        let (place, found) = match fs::symlink_metadata(host, word.name) {
+            Ok(named) => standing(host, word, named.is_symlink())?,
             Err(error) if error.kind() == ErrorKind::NotFound => {
-                (PathBuf::from_str(host.alloc(), name)?, None)
+                (PathBuf::from_str(host.alloc(), word.name)?, None)
             }
-            Err(_) => return Err(Failure::from(Fault::Io)),
+            Err(error) => return Err(Trouble::of_call(word, FailedCall::of(Call::Stat, &error))),
         };
         let way = Way::Beside(place);
-        Ok(Target { name, found, way })
+        Ok(Target { word, found, way })
+    }
+
+    /// The file's word.
+    pub fn word(&self) -> FileWord<'a> {
+        self.word
+    }
+
+    /// Whether a new file is to take its place.
+    pub fn is_replaced(&self) -> bool {
+        match &self.way {
+            Way::InPlace { .. } => false,
+            Way::Beside(_) => true,
+        }
     }
 
     /// Whether it is this file.
@@ -80,11 +100,11 @@ impl<'a, F: OpenFile + Drop> Target<'a, F> {
     pub fn is_same<H: Files<File = F>>(
         &self,
         host: &H,
-        other: &Target<'_, F>,
-    ) -> Result<bool, Fault> {
+        other: &Target<'a, F>,
+    ) -> Result<bool, Trouble<'a>> {
         match (&self.found, &other.found) {
             (Some(one), Some(other)) => Ok(FileId::of(one).is_same(FileId::of(other))),
-            (None, None) => is_one_place(host, Path::new(self.name), Path::new(other.name)),
+            (None, None) => is_one_place(host, self.word, other.word),
             _ => Ok(false),
         }
     }
@@ -92,7 +112,7 @@ impl<'a, F: OpenFile + Drop> Target<'a, F> {
     /// Gives it up unchanged. One that was not there is removed again.
     pub fn leave<H: Files<File = F> + AllocGlobal>(self, host: &H) {
         if let Way::InPlace { is_new: true, .. } = self.way {
-            if let Ok(path) = fs::canonicalize(host, self.name) {
+            if let Ok(path) = fs::canonicalize(host, self.word.name) {
                 let _ = fs::remove_file(host, &path);
             }
         }
@@ -102,22 +122,25 @@ impl<'a, F: OpenFile + Drop> Target<'a, F> {
     /// to be emptied.
     ///
     /// After fault 13, or 11 for want of memory, it is as it was.
-    pub fn begin<H: Files<File = F> + AllocGlobal>(self, host: &H) -> Result<Output<F>, Fault> {
-        let Target { found, way, .. } = self;
+    pub fn begin<H: Files<File = F> + AllocGlobal>(
+        self,
+        host: &H,
+    ) -> Result<Output<'a, F>, Trouble<'a>> {
+        let Target { word, found, way } = self;
         match way {
             Way::InPlace { file, .. } => {
                 if found.is_some_and(|found: Metadata| found.is_file()) {
-                    checked(file.set_len(0))?;
+                    called(word, Call::Empty, file.set_len(0))?;
                 }
                 Ok(Output {
-                    file,
+                    file: Watched::new(word, file),
                     replacement: None,
                 })
             }
             Way::Beside(place) => {
-                let (file, replacement) = Replacement::make(host, place, found.as_ref())?;
+                let (file, replacement) = Replacement::make(host, word, place, found.as_ref())?;
                 Ok(Output {
-                    file,
+                    file: Watched::new(word, file),
                     replacement: Some(replacement),
                 })
             }
@@ -146,43 +169,62 @@ fn writable<H: Files>(host: &H, name: &str) -> io::Result<Metadata> {
 }
 
 /// The place of a file that is to be replaced, and what is told of it. It must be a regular file.
-fn standing<H: Files + AllocGlobal>(
+fn standing<'a, H: Files + AllocGlobal>(
     host: &H,
-    name: &str,
+    word: FileWord<'a>,
     is_link: bool,
-) -> Result<(PathBuf, Option<Metadata>), Failure> {
-    match fs::metadata(host, name) {
+) -> Result<(PathBuf, Option<Metadata>), Trouble<'a>> {
+    match fs::metadata(host, word.name) {
         Ok(found) if found.is_file() => {}
-        Err(error) if error.kind() != ErrorKind::NotFound => return Err(Failure::from(Fault::Io)),
+        Err(error) if error.kind() != ErrorKind::NotFound => {
+            return Err(Trouble::of_call(word, FailedCall::of(Call::Stat, &error)));
+        }
         _ => {
             let reason = "pcompact: not a regular file\n";
-            return Err(Failure::usage(host.alloc(), reason)?);
+            return Err(Trouble::new(Failure::usage(host.alloc(), reason)?).about(word));
         }
     }
-    let place = place_of(host, name, is_link)?;
-    Ok((place, Some(checked(writable(host, name))?)))
+    let place = place_of(host, word, is_link)?;
+    let found = called(word, Call::Open, writable(host, word.name))?;
+    Ok((place, Some(found)))
 }
 
 /// The place of a file: its name, or where that leads if it is a link.
-fn place_of<H: Files + AllocGlobal>(host: &H, name: &str, is_link: bool) -> Result<PathBuf, Fault> {
+fn place_of<'a, H: Files + AllocGlobal>(
+    host: &H,
+    word: FileWord<'a>,
+    is_link: bool,
+) -> Result<PathBuf, Trouble<'a>> {
     if !is_link {
-        return Ok(PathBuf::from_str(host.alloc(), name)?);
+        return Ok(PathBuf::from_str(host.alloc(), word.name)?);
     }
-    match fs::canonicalize(host, name) {
+    match fs::canonicalize(host, word.name) {
         Ok(place) => Ok(place),
-        Err(error) if error.kind() == ErrorKind::OutOfMemory => Err(Fault::Memory),
-        Err(_) => Err(Fault::Io),
+        Err(error) if error.kind() == ErrorKind::OutOfMemory => Err(Trouble::from(AllocError)),
+        Err(error) => Err(Trouble::of_call(word, FailedCall::of(Call::Stat, &error))),
     }
 }
 
 /// Whether both are one name in one folder.
-fn is_one_place<H: Files>(host: &H, one: Path<'_>, other: Path<'_>) -> Result<bool, Fault> {
-    if one.file_name() != other.file_name() {
+fn is_one_place<'a, H: Files>(
+    host: &H,
+    one: FileWord<'a>,
+    other: FileWord<'a>,
+) -> Result<bool, Trouble<'a>> {
+    if Path::new(one.name).file_name() != Path::new(other.name).file_name() {
         return Ok(false);
     }
-    let one = checked(fs::metadata(host, folder_of(one)))?;
-    let other = checked(fs::metadata(host, folder_of(other)))?;
-    Ok(FileId::of(&one).is_same(FileId::of(&other)))
+    let first = called(
+        one,
+        Call::Stat,
+        fs::metadata(host, folder_of(Path::new(one.name))),
+    )?;
+    let second = called(
+        other,
+        Call::Stat,
+        fs::metadata(host, folder_of(Path::new(other.name))),
+    )?;
+    Ok(FileId::of(&first).is_same(FileId::of(&second)))
 }
 
 /// The folder of a file.
@@ -190,12 +232,5 @@ fn folder_of(path: Path<'_>) -> &str {
     match path.parent() {
         Some(folder) if !folder.as_str().is_empty() => folder.as_str(),
         _ => ".",
-    }
-}
-
-fn checked<T>(outcome: io::Result<T>) -> Result<T, Fault> {
-    match outcome {
-        Ok(value) => Ok(value),
-        Err(_) => Err(Fault::Io),
     }
 }

@@ -1,0 +1,89 @@
+//! `FailedCall`.
+use std::io::{Error, ErrorKind, Write};
+use std::{fmt, io};
+
+/// What the system was asked to do with a file.
+#[derive(Debug, Clone, Copy, PartialEq, Eq)]
+pub enum Call {
+    Open,
+    /// To tell which file it is, and of what kind.
+    Stat,
+    /// To make it empty.
+    Empty,
+    /// To make a new file beside it.
+    Make,
+    /// To give the new file the owner and the permissions of the old one.
+    Access,
+    Read,
+    Write,
+    /// To bring what was written onto the disk.
+    Sync,
+    /// To give the new file the name of the old one.
+    Rename,
+}
+
+impl fmt::Display for Call {
+    fn fmt<W: fmt::Write>(&self, f: &mut fmt::Formatter<W>) -> fmt::Result {
+        f.write_str(match self {
+            Call::Open => "open",
+            Call::Stat => "stat",
+            Call::Empty => "empty",
+            Call::Make => "make",
+            Call::Access => "access",
+            Call::Read => "read",
+            Call::Write => "write",
+            Call::Sync => "sync",
+            Call::Rename => "rename",
+        })
+    }
+}
+
+/// A call of the system that failed.
+#[derive(Clone, Copy)]
+pub struct FailedCall {
+    call: Call,
+    kind: ErrorKind,
+    /// The system's own number of the error, where it gave one.
+    number: Option<i32>,
+}
+
+impl FailedCall {
+    /// This call, which failed with this error.
+    pub fn of(call: Call, error: &Error) -> FailedCall {
+        FailedCall {
+            call,
+            kind: error.kind(),
+            number: error.raw_os_error(),
+        }
+    }
+
+    /// A write that took no byte.
+    pub fn full() -> FailedCall {
+        FailedCall {
+            call: Call::Write,
+            kind: ErrorKind::WriteZero,
+            number: None,
+        }
+    }
+
+    /// Writes the lines that tell it: the call, and the reason.
+    pub fn tell<B: Write>(&self, err: &mut B) -> io::Result<()> {
+        writeln!(err, "pcompact: call {}", self.call)?;
+        writeln!(err, "pcompact: reason {self}")
+    }
+}
+
+/// The reason, in words: one of four that users can mend, or the system's own number of it.
+impl fmt::Display for FailedCall {
+    fn fmt<W: fmt::Write>(&self, f: &mut fmt::Formatter<W>) -> fmt::Result {
+        match (self.kind, self.number) {
+            (ErrorKind::NotFound, _) => write!(f, "no such file or folder"),
+            (ErrorKind::PermissionDenied, _) => write!(f, "not permitted"),
+            (ErrorKind::StorageFull | ErrorKind::QuotaExceeded, _) => write!(f, "no space"),
+            (ErrorKind::IsADirectory, _) => write!(f, "a folder"),
+            (ErrorKind::WriteZero, _) => write!(f, "no byte was taken"),
+            (_, Some(number)) => write!(f, "other, error {number} of the system"),
+            (_, None) => write!(f, "other"),
+        }
+    }
+}

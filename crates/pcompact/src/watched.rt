@@ -1,0 +1,141 @@
+//! `Watched`.
+use crate::failed_call::{Call, FailedCall};
+use crate::file_id::FileId;
+use crate::file_word::FileWord;
+use crate::trouble::{Trouble, called};
+use std::fs::OpenFile;
+use std::io::{Read, Write};
+use std::rt::Files;
+use std::{fs, io};
+
+/// How many bytes are kept of those that a file gives first: the front of an image.
+const FRONT_BYTES: usize = 32;
+
+/// A file of the command line, which remembers the first bytes that it gave, and how a call on it
+/// failed. What it gives and takes is what the file gives and takes.
+#[derive(Drop)]
+pub struct Watched<'a, F: Drop> {
+    file: F,
+    word: FileWord<'a>,
+    front: Front,
+    failed: Option<FailedCall>,
+}
+
+impl<'a, F: Drop> Watched<'a, F> {
+    /// This open file, which has this word.
+    pub fn new(word: FileWord<'a>, file: F) -> Watched<'a, F> {
+        Watched {
+            file,
+            word,
+            front: Front::empty(),
+            failed: None,
+        }
+    }
+
+    /// Opens the file of this word for reading.
+    ///
+    /// Fault 13 where it can't be opened.
+    pub fn open<H: Files<File = F>>(
+        host: &H,
+        word: FileWord<'a>,
+    ) -> Result<Watched<'a, F>, Trouble<'a>> {
+        let file = called(word, Call::Open, fs::open(host, word.name))?;
+        Ok(Watched::new(word, file))
+    }
+
+    /// Which file it is.
+    ///
+    /// Fault 13 where the system doesn't tell.
+    pub fn id(&self) -> Result<FileId, Trouble<'a>>
+    where
+        F: OpenFile,
+    {
+        let metadata = called(self.word, Call::Stat, self.file.metadata())?;
+        Ok(FileId::of(&metadata))
+    }
+
+    /// The file itself.
+    pub fn file(&self) -> &F {
+        &self.file
+    }
+
+    /// The file's word.
+    pub fn word(&self) -> FileWord<'a> {
+        self.word
+    }
+
+    /// The first 32 bytes that it gave, and zeros in place of those that it didn't give.
+    pub fn front(&self) -> &[u8; FRONT_BYTES] {
+        &self.front.bytes
+    }
+
+    /// The call on it that failed last.
+    pub fn failed(&self) -> Option<FailedCall> {
+        self.failed
+    }
+}
+
+impl<F: Read + Drop> Read for Watched<'_, F> {
+    ghost remaining = { λ watched. F.remaining watched.file };
+
+    fn read(&mut self, buf: &mut [u8]) -> io::Result<usize> {
+        match self.file.read(buf) {
+            Ok(n) => {
+                self.front.keep(&buf[..n]);
+                Ok(n)
+            }
+            Err(error) => {
+                self.failed = Some(FailedCall::of(Call::Read, &error));
+                Err(error)
+            }
+        }
+    }
+}
+
+impl<F: Write + Drop> Write for Watched<'_, F> {
+    ghost contents = { λ watched. F.contents watched.file };
+
+    fn write(&mut self, buf: &[u8]) -> io::Result<usize> {
+        match self.file.write(buf) {
+            Ok(n) => {
+                if n == 0 && !buf.is_empty() {
+                    self.failed = Some(FailedCall::full());
+                }
+                Ok(n)
+            }
+            Err(error) => {
+                self.failed = Some(FailedCall::of(Call::Write, &error));
+                Err(error)
+            }
+        }
+    }
+
+    fn flush(&mut self) -> io::Result<()> {
+        self.file.flush()
+    }
+}
+
+/// The first bytes of a file.
+#[derive(Drop)]
+struct Front {
+    bytes: [u8; FRONT_BYTES],
+    /// How many of them have come.
+    came: usize,
+}
+
+impl Front {
+    fn empty() -> Front {
+        Front {
+            bytes: [0; FRONT_BYTES],
+            came: 0,
+        }
+    }
+
+    /// Keeps as many of the next bytes as there is room for.
+    fn keep(&mut self, bytes: &[u8]) {
+        let from = self.came.min(FRONT_BYTES);
+        let count = bytes.len().min(FRONT_BYTES - from);
+        self.bytes[from..from + count].copy_from_slice(&bytes[..count]);
+        self.came = from + count;
+    }
+}
