@@ -15,6 +15,7 @@ mod roots;
 mod same_file;
 mod upgrading;
 mod usage;
+mod verbose;
 
 const BOARD: &str = "\
 region 0 claims 1 completions 1
