@@ -34,6 +34,7 @@ class ImageMaker:
         """Words that nobody owns: plain ones, or such as look like headers and references."""
         chance = self.chance
         kinds = [lambda: 999, lambda: 0, lambda: chance.randrange(count + 3), lambda: chance.getrandbits(64),
+                 lambda: header(1, 0),
                  lambda: header(chance.randint(0, 9), chance.randint(0, 3), chance.choice([1, 1, FILLER]))]
         chosen = chance.choices(kinds, k=chance.randint(1, 3))
         return [chance.choice(chosen)() for _ in range(count)]

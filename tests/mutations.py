@@ -35,9 +35,11 @@ class ImageSpoiler:
         return self.text()
 
     def exchange_for_inner(self) -> None:
-        """Lets an object live in place of the one around it."""
+        """Lets an object live in place of the one around it, to which no object refers."""
         words = self.words
-        inner = [(a, b) for a in self.live for b in range(a + 1 + references_of(words[a]), a + size_of(words[a]))
+        referred = {words[field] for a in self.live for field in range(a + 1, a + 1 + references_of(words[a]))}
+        outer = [a for a in self.live if 1 + a not in referred]
+        inner = [(a, b) for a in outer for b in range(a + 1 + references_of(words[a]), a + size_of(words[a]))
                  if is_sound(words, b) and b + size_of(words[b]) <= a + size_of(words[a])]
         if inner:
             a, b = self.chance.choice(inner)
