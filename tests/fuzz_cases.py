@@ -32,10 +32,10 @@ def try_collected(tried: Tried, collection: Collection, chance: random.Random) -
     image = collection.image
     collected = Answer(0, collection.figures(), made={"out": encode(collection.compaction())})
     tried.run("summary image", Answer(0, collection.report()))
-    for workers in (1, chance.choice([2, 3, 4, 8, chance.randint(2, MOST_WORKERS)])):
+    for workers in (1, chance.choice([2, 3, 4, 8, MOST_WORKERS, chance.randint(2, MOST_WORKERS)])):
         tried.run(f"collect image out --workers {workers}", collected)
     tried.run("verify image out", Answer(0, "same\n"))
-    try_recorded(tried, collection, collected, chance.randint(2, 8))
+    try_recorded(tried, collection, collected, chance.choice([*range(2, 9), MOST_WORKERS]))
     alone = recorded_by_one(collection).text()
     tried.run("record image out schedule --workers 1",
               dataclasses.replace(collected, made=collected.made | {"schedule": alone.encode()}))
