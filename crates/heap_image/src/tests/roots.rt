@@ -1,5 +1,8 @@
 //! Images with roots: the worked ones, and those that are refused.
-use super::{BASE, Trickle, base_text, beginning, fault_of, front, refused};
+use super::{
+    BASE, Trickle, allowing_two, are_right, base_text, comes_through, fault_of, refused,
+    try_failing_readers, try_full_writers,
+};
 use crate::{
     Fault, FromRead, decode_by_threads, encode, header, mark_from_roots, read_image_by_threads,
 };
@@ -229,45 +232,30 @@ fn each_beginning_is_refused(rt: HostRuntime) -> Result<(), Fail> {
 #[test]
 fn a_reader_fails_at_each_byte(rt: HostRuntime) -> Result<(), Fail> {
     let text = rooted_text(rt.alloc(), 3, &BASE[..32], &[21, 0])?;
-    for limit in 0..=text.len() {
-        let mut broken = FromRead::new(Trickle {
-            bytes: text.as_slice(),
-            step: 7,
-            limit,
-        });
-        let fault = refused(&rt, read_image_by_threads(rt.alloc(), &mut broken, &rt));
-        assert_eq!(rt; fault, Fault::Io, "at {limit}");
-    }
+    try_failing_readers(&rt, rt.alloc(), &text);
     Ok(())
 }
 
 #[test]
 fn a_writer_is_full_at_each_byte(rt: HostRuntime) -> Result<(), Fail> {
     let text = rooted_text(rt.alloc(), 3, &BASE[..32], &[21, 0])?;
-    let image = decode_by_threads(rt.alloc(), text.as_slice(), &rt)?;
-    for limit in 0..text.len() {
-        let taken = beginning(&rt, rt.alloc(), &image, limit, limit % 2 == 0);
-        assert_eq!(rt; taken.as_slice(), &text[..limit]);
-    }
+    try_full_writers(&rt, rt.alloc(), &text)?;
     Ok(())
 }
 
-/// Whether the base with roots comes through each call that takes memory.
-fn comes_through(alloc: Global, threads: &(impl Threads + Sync)) -> Result<bool, Fault> {
+/// Whether the base with roots and allowance 2 comes through each call that takes memory.
+fn base_comes_through(alloc: Global, threads: &(impl Threads + Sync)) -> Result<bool, Fault> {
     let marked = marked_in_base(alloc, threads, &[21, 0])?;
-    let is_right = marked.as_slice() == &BASE[32..];
-    Ok(is_right && is_live(threads, alloc, &BASE[..32], &[21, 0], &BASE[32..])?)
+    let text = allowing_two(rooted_text(alloc, 3, &BASE[..32], &[21, 0])?);
+    Ok(marked.as_slice() == &BASE[32..] && comes_through(alloc, threads, &text)?)
 }
 
 /// The script tests/crate-allocations runs this with each allocation refused in turn.
 #[test]
 fn refused_memory_is_told(rt: HostRuntime) {
     let answers = [
-        comes_through(rt.alloc(), &rt),
-        comes_through(rt.alloc(), &rt),
+        base_comes_through(rt.alloc(), &rt),
+        base_comes_through(rt.alloc(), &rt),
     ];
-    for answer in &answers {
-        assert!(rt; *answer == Ok(true) || *answer == Err(Fault::Memory));
-    }
-    assert!(rt; answers.contains(&Ok(true)));
+    assert!(rt; are_right(&answers));
 }
