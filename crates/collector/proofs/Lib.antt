@@ -8,3 +8,4 @@ pub mod Settled
 pub mod Failing
 pub mod Reasons
 mod Losses
+mod Upgrades

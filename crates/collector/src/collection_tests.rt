@@ -3,12 +3,13 @@ mod held;
 mod marked;
 mod queues;
 mod stress;
+mod upgraded;
 
 use crate::tests::{BASE_LIVE, BASE_WORDS, image_of};
 use crate::{Figures, Gate, OpenGate, Refusal, Verdict, collect, verify};
 use crossbeam_utils::Backoff;
-use heap_image::{Fault, Image, encode};
-use std::alloc::Global;
+use heap_image::{Fault, Image, encode, header};
+use std::alloc::{AllocError, Global};
 use std::sync::Wait;
 use std::sync::atomic::{AtomicBool, AtomicU32, Ordering};
 use std::test::Fail;
@@ -68,6 +69,48 @@ fn base(allowance: u64) -> Heap<'static> {
     }
 }
 
+/// Four regions that one object fills, so that each is ready at the start.
+fn four_regions(words: &mut [u64; 32]) -> Heap<'_> {
+    words[0] = plain(32);
+    Heap {
+        words: words.as_slice(),
+        live: &[0],
+        allowance: 0,
+    }
+}
+
+/// Two objects, of which the second one goes to the prefix end, where the filler in front of it is cut.
+fn cut_filler(words: &mut [u64; 16]) -> Heap<'_> {
+    words.fill(DEAD);
+    words[..4].fill(0);
+    (words[0], words[10], words[11]) = (plain(4), plain(2), 0);
+    Heap {
+        words: words.as_slice(),
+        live: &[0, 10],
+        allowance: 8,
+    }
+}
+
+/// Two objects far apart. With allowance 14 the filler between them crosses a region end.
+fn long_filler(words: &mut [u64; 24], allowance: u64) -> Heap<'_> {
+    words.fill(DEAD);
+    (words[2], words[3]) = (plain(2), 0);
+    (words[20], words[21], words[22]) = (plain(3), 0, 0);
+    Heap {
+        words: words.as_slice(),
+        live: &[2, 20],
+        allowance,
+    }
+}
+
+fn words_of(alloc: Global, image: &Image) -> Result<Vec<u64>, AllocError> {
+    let mut words = Vec::new(alloc);
+    for a in 0..image.len() {
+        words.push(image.word(a))?;
+    }
+    Ok(words)
+}
+
 #[test]
 fn the_base_heap_is_compacted(rt: HostRuntime) -> Result<(), Fail> {
     for workers in 1..5 {
@@ -120,16 +163,9 @@ fn a_heap_with_no_object_has_nothing_to_fill(rt: HostRuntime) -> Result<(), Fail
 
 #[test]
 fn a_filler_may_cross_a_region_end(rt: HostRuntime) -> Result<(), Fail> {
-    let mut words = [DEAD; 24];
-    for (a, word) in [(2, plain(2)), (3, 0), (20, plain(3)), (21, 0), (22, 0)] {
-        words[a] = word;
-    }
     for (allowance, wanted) in [(14, (16, 19, 3)), (13, (8, 11, 2))] {
-        let heap = Heap {
-            words: words.as_slice(),
-            live: &[2, 20],
-            allowance,
-        };
+        let mut words = [0; 24];
+        let heap = long_filler(&mut words, allowance);
         let found = heap.collected(rt.alloc(), 3, &OpenGate, &rt)?;
         assert_eq!(rt; (found.prefix_end, found.new_top, found.filled), wanted);
     }
@@ -138,24 +174,40 @@ fn a_filler_may_cross_a_region_end(rt: HostRuntime) -> Result<(), Fail> {
 
 #[test]
 fn an_object_moves_down_to_a_cut_filler(rt: HostRuntime) -> Result<(), Fail> {
-    let mut words = [DEAD; 16];
-    for (a, word) in [
-        (0, plain(4)),
-        (1, 0),
-        (2, 0),
-        (3, 0),
-        (10, plain(2)),
-        (11, 0),
-    ] {
-        words[a] = word;
-    }
-    let heap = Heap {
-        words: words.as_slice(),
-        live: &[0, 10],
-        allowance: 8,
-    };
+    let mut words = [0; 16];
+    let heap = cut_filler(&mut words);
     let found = heap.collected(rt.alloc(), 2, &OpenGate, &rt)?;
     assert_eq!(rt; (found.prefix_end, found.new_top, found.filled), (8, 10, 2));
+    Ok(())
+}
+
+/// The words of the base heap, where its last objects stay and its dead words are fillers.
+fn filled_base() -> [u64; 32] {
+    let mut words = BASE_WORDS;
+    for (a, size) in [(3, 2), (9, 3), (14, 6)] {
+        words[a..a + size].fill(0);
+        words[a] = header::filler(size as u32);
+    }
+    words[30..].fill(0);
+    words
+}
+
+#[test]
+fn the_largest_allowance_moves_nothing(rt: HostRuntime) -> Result<(), Fail> {
+    let image = base(u64::MAX).image(rt.alloc(), &rt)?;
+    match collect(rt.alloc(), image, 2, &OpenGate, &rt, &rt) {
+        Ok((outcome, _finished)) => {
+            let found = outcome.figures;
+            assert_eq!(rt;
+                (found.prefix_end, found.new_top, found.filled),
+                (24, 30, 4)
+            );
+            let words = words_of(rt.alloc(), &outcome.image)?;
+            assert_eq!(rt; words.as_slice(), filled_base().as_slice());
+            assert_eq!(rt; outcome.image.live(), BASE_LIVE.as_slice());
+        }
+        Err(refusal) => return Err(Fail::from(refusal.fault())),
+    }
     Ok(())
 }
 
@@ -240,12 +292,7 @@ fn two_workers_fill_at_the_same_time(rt: HostRuntime) -> Result<(), Fail> {
 #[test]
 fn a_worker_steals_what_the_other_leaves(rt: HostRuntime) -> Result<(), Fail> {
     let mut words = [0; 32];
-    words[0] = plain(32);
-    let heap = Heap {
-        words: words.as_slice(),
-        live: &[0],
-        allowance: 0,
-    };
+    let heap = four_regions(&mut words);
     let found = heap.collected(rt.alloc(), 2, &FirstHeld::until(3, false), &rt)?;
     assert_eq!(rt;
         (found.prefix_end, found.new_top, found.filled),

@@ -9,6 +9,7 @@
 //!   when it is made, so that no push takes memory. Others steal from it through a [`Thief`], and
 //!   [`Ready::take`] asks its own queue and then all others.
 //! - [`Gate`] lets workers fill, and hears of it. [`OpenGate`] refuses nobody.
+//! - [`an_upgrade_is_collected_alike`] is the law that a heap is collected alike in both versions.
 //!
 //! # What is proved
 //!
@@ -42,6 +43,7 @@ mod difference;
 mod gate;
 #[cfg(test)]
 mod gate_tests;
+mod laws;
 #[cfg(test)]
 mod memory_tests;
 mod outcome;
@@ -63,6 +65,7 @@ mod worker;
 
 pub use collection::collect;
 pub use gate::{Gate, OpenGate};
+pub use laws::an_upgrade_is_collected_alike;
 pub use outcome::{Figures, Outcome, Refusal};
 pub use ready::{Ready, Thief};
 pub use recorded::record;

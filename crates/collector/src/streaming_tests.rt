@@ -4,9 +4,9 @@ ghost use Rattle.std.specs.Prelude.{◌≤◌, length};
 
 mod rooted;
 
-use crate::tests::{BASE_LIVE, BASE_WORDS, MOVED_LIVE, MOVED_WORDS, image_of};
+use crate::tests::{BASE_LIVE, BASE_WORDS, MOVED_LIVE, MOVED_WORDS, image_of, image_text};
 use crate::{Figures, Gate, OpenGate, collect_stream};
-use heap_image::{Fault, FromRead, Image, Intake, Outlet, ToWrite, encode};
+use heap_image::{Fault, FromRead, Image, Intake, Outlet, ToWrite, encode, header};
 use std::alloc::{AllocError, Global};
 use std::io;
 use std::io::{Read, Write};
@@ -313,6 +313,27 @@ fn no_changed_image_is_collected(rt: HostRuntime) -> Result<(), Fail> {
         let answer = refused(rt.alloc(), &rt, text.as_slice());
         assert_eq!(rt; answer, Some(Err(fault)));
         text.push(0)?;
+        let answer = refused(rt.alloc(), &rt, text.as_slice());
+        assert_eq!(rt; answer, Some(Err(fault)));
+    }
+    Ok(())
+}
+
+/// Each with one word of the base heap changed.
+#[test]
+fn no_malicious_image_is_collected(rt: HostRuntime) -> Result<(), Fail> {
+    let changes = [
+        (0, 0x0100_0000_FFFF_FFFF, Fault::Header(0)),
+        (12, 0x0100_0002_0000_0002, Fault::Header(12)),
+        (12, header::filler(2), Fault::Header(12)),
+        (1, 33, Fault::Reference(0, 0)),
+        (6, u64::MAX, Fault::Reference(5, 0)),
+    ];
+    for (at, word, fault) in changes {
+        let mut words = BASE_WORDS;
+        assert!(rt; at < words.len());
+        words[at] = word;
+        let text = image_text(rt.alloc(), (3, 0), &words, &BASE_LIVE)?;
         let answer = refused(rt.alloc(), &rt, text.as_slice());
         assert_eq!(rt; answer, Some(Err(fault)));
     }

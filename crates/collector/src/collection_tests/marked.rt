@@ -1,8 +1,9 @@
 //! Heaps made from seeds, with roots that reach a part of their objects: beside a plain marking program, which goes by a
 //! queue and a set, and beside the collection of the same heap with a live list.
-use super::stress::{Heap, Shape, gives, reference, seeded_heap};
+use super::stress::{Heap, Shape, gives_by_two, reference, seeded_heap};
+use super::words_of;
 use crate::tests::{Seed, image_text, rooted_text};
-use heap_image::{Fault, Image, decode_by_threads, header};
+use heap_image::{Fault, decode_by_threads, header};
 use std::alloc::{AllocError, Global};
 use std::collections::{BTreeSet, VecDeque};
 use std::sync::Wait;
@@ -125,15 +126,7 @@ fn compacted_text(
     Ok(rooted_text(alloc, heap.sizes, &words_of(alloc, &new)?, &new_roots)?)
 }
 
-fn words_of(alloc: Global, image: &Image) -> Result<Vec<u64>, AllocError> {
-    let mut words = Vec::new(alloc);
-    for a in 0..image.len() {
-        words.push(image.word(a))?;
-    }
-    Ok(words)
-}
-
-/// Whether the heap of this seed is compacted by two numbers of workers, whose sum is 9.
+/// Whether the heap of this seed is compacted by two numbers of workers.
 fn is_compacted<R: Threads + Wait + Sync>(
     alloc: Global,
     rt: &R,
@@ -144,9 +137,7 @@ fn is_compacted<R: Threads + Wait + Sync>(
     let roots = seeded_roots(alloc, seed, &heap.objects)?;
     let before = rooted_text(alloc, heap.sizes, &heap.words, &roots)?;
     let after = compacted_text(alloc, rt, &heap, &roots)?;
-    let texts = (before.as_slice(), after.as_slice());
-    let few = (seed % 4) as u32 + 1;
-    Ok(gives(alloc, rt, few, texts)? && gives(alloc, rt, 9 - few, texts)?)
+    gives_by_two(alloc, rt, seed, (&before, &after))
 }
 
 #[test]

@@ -1,21 +1,11 @@
 //! Collections whose gate shows who fills what: how the first regions are dealt, and how many workers run.
-use super::{FirstHeld, Heap, TURNS, base, plain};
+use super::{FirstHeld, TURNS, base, four_regions};
 use crate::gate_tests::RefusesTheFirst;
 use crate::{Gate, OpenGate, Refusal, collect};
 use crossbeam_utils::Backoff;
 use heap_image::Fault;
 use std::sync::atomic::{AtomicU32, Ordering};
 use std::test::Fail;
-
-/// Four regions that one object fills, so that each is ready at the start.
-fn four_regions(words: &mut [u64; 32]) -> Heap<'_> {
-    words[0] = plain(32);
-    Heap {
-        words: words.as_slice(),
-        live: &[0],
-        allowance: 0,
-    }
-}
 
 /// The number of no worker and no region.
 const NONE: u32 = 64;

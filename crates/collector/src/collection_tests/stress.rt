@@ -153,7 +153,7 @@ fn seeded_words(
 }
 
 /// Whether a collection of the first text by so many workers gives the second.
-pub(super) fn gives<R: Threads + Wait + Sync>(
+fn gives<R: Threads + Wait + Sync>(
     alloc: Global,
     rt: &R,
     workers: u32,
@@ -172,7 +172,18 @@ pub(super) fn gives<R: Threads + Wait + Sync>(
     }
 }
 
-/// Whether the heap of this seed is compacted by two numbers of workers, whose sum is 9.
+/// Whether collections of the first text by two numbers of workers, whose sum is 9, give the second.
+pub(super) fn gives_by_two<R: Threads + Wait + Sync>(
+    alloc: Global,
+    rt: &R,
+    seed: u64,
+    texts: (&[u8], &[u8]),
+) -> Result<bool, Fault> {
+    let few = (seed % 4) as u32 + 1;
+    Ok(gives(alloc, rt, few, texts)? && gives(alloc, rt, 9 - few, texts)?)
+}
+
+/// Whether the heap of this seed is compacted by two numbers of workers.
 fn is_compacted<R: Threads + Wait + Sync>(
     alloc: Global,
     rt: &R,
@@ -182,9 +193,7 @@ fn is_compacted<R: Threads + Wait + Sync>(
     let before = seeded_text(alloc, seed, shape)?;
     let image = decode_by_threads(alloc, before.as_slice(), rt)?;
     let after = encode(alloc, &compact_plainly(alloc, &image)?)?;
-    let texts = (before.as_slice(), after.as_slice());
-    let few = (seed % 4) as u32 + 1;
-    Ok(gives(alloc, rt, few, texts)? && gives(alloc, rt, 9 - few, texts)?)
+    gives_by_two(alloc, rt, seed, (&before, &after))
 }
 
 #[test]

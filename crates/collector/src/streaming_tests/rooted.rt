@@ -3,8 +3,8 @@ use super::{
     Checked, Texts, Trickle, is_begun, is_too_short, is_unwritten, refused, slowly, streamed, whole,
 };
 use crate::OpenGate;
-use crate::tests::{BASE_ROOTS, BASE_WORDS, MOVED_ROOTS, MOVED_WORDS, rooted_text};
-use heap_image::Fault;
+use crate::tests::{BASE_ROOTS, BASE_WORDS, Base, MOVED_ROOTS, MOVED_WORDS, rooted_text};
+use heap_image::{Fault, FromRead, ToWrite, upgrade_stream};
 use std::alloc::{AllocError, Global};
 use std::sync::Wait;
 use std::test::Fail;
@@ -56,6 +56,24 @@ fn what_the_roots_reach_goes_from_bytes_to_bytes(rt: HostRuntime) -> Result<(), 
         let stream = slowly(rt.alloc(), &rt, &without_the_last(rt.alloc())?, step);
         assert_eq!(rt; whole(&stream), Some((0, 9, 2)));
     }
+    Ok(())
+}
+
+/// Of the base heap, upgraded.
+fn upgraded(alloc: Global) -> Result<Texts, Fault> {
+    let old = Base::WithLiveList.text(alloc, 0)?;
+    let mut writer = ToWrite::new(Vec::new(alloc));
+    upgrade_stream(alloc, &mut FromRead::new(old.as_slice()), &mut writer)?;
+    Ok(Texts {
+        before: writer.into_inner(),
+        after: rooted_text(alloc, (3, 0), &MOVED_WORDS, &[1, 4, 8, 10])?,
+    })
+}
+
+#[test]
+fn the_upgraded_base_goes_from_bytes_to_bytes(rt: HostRuntime) -> Result<(), Fail> {
+    let stream = slowly(rt.alloc(), &rt, &upgraded(rt.alloc())?, 7);
+    assert_eq!(rt; whole(&stream), Some((0, 19, 3)));
     Ok(())
 }
 
