@@ -6,7 +6,7 @@ ghost use Rattle.claim_board.specs.Tickets.{IsUnused};
 
 use crate::fill_region;
 use crate::tests::{BASE, BASE_LIVE, image_of};
-use claim_board::{Desk, Recorder, Ticket};
+use claim_board::{Desk, Done, Recorder, Ticket};
 use heap_image::{Fault, Image};
 use history::{GivenMoves, Moves, moves_of_images, write_schedule};
 use mark_bitmap::Marks;
@@ -94,6 +94,30 @@ fn heap_of<T: Threads + Sync>(
     })
 }
 
+/// Fills the region of a ticket. Nobody is told of last drains.
+fn fill_of<W: Wait>(
+    heap: &RecordedHeap,
+    seat: &mut u32,
+    ticket: Ticket,
+    wait: &W,
+) -> Result<Done, Fault>
+    requires seat { seat.old < 1 }
+    requires ticket { IsUnused ticket }
+    ensures seat { seat.new < 1 }
+{
+    let (done, _placed) = fill_region(
+        &heap.recorder,
+        &heap.cells,
+        &heap.plan,
+        &heap.marks,
+        seat,
+        ticket,
+        &mut |_source: u32| {},
+        wait,
+    )?;
+    Ok(done)
+}
+
 /// Claims, fills and settles a region. False where it is not to be filled, or cannot be claimed.
 fn fill_recorded<W: Wait>(heap: &RecordedHeap, region: u32, wait: &W) -> Result<bool, Fault> {
     moves_of_images();
@@ -106,16 +130,7 @@ fn fill_recorded<W: Wait>(heap: &RecordedHeap, region: u32, wait: &W) -> Result<
     let Some(ticket) = heap.recorder.claim(&mut seat, region, wait)? else {
         return Ok(false);
     };
-    let (done, _placed) = fill_region(
-        &heap.recorder,
-        &heap.cells,
-        &heap.plan,
-        &heap.marks,
-        &mut seat,
-        ticket,
-        &mut |_source: u32| {},
-        wait,
-    )?;
+    let done = fill_of(heap, &mut seat, ticket, wait)?;
     let _all = heap.recorder.settle(&mut seat, done, wait)?;
     Ok(true)
 }
@@ -164,18 +179,8 @@ fn foreign_fault<W: Wait>(
 {
     let ticket = other_ticket(alloc, region, wait)?;
     let mut seat = 0;
-    let filled = fill_region(
-        &heap.recorder,
-        &heap.cells,
-        &heap.plan,
-        &heap.marks,
-        &mut seat,
-        ticket,
-        &mut |_source: u32| {},
-        wait,
-    );
-    match filled {
-        Ok((done, _placed)) => {
+    match fill_of(heap, &mut seat, ticket, wait) {
+        Ok(done) => {
             done.give_up();
             Ok(None)
         }
