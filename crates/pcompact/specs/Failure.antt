@@ -1,5 +1,5 @@
 use Rattle.std.specs.Prelude.{ℕ}
-use Rattle.heap_image.specs.declared.fault.Fault.TheVariants.{Memory}
+use Rattle.heap_image.specs.declared.fault.Fault.TheVariants.{Memory, Io}
 use Rattle.pcompact.specs.declared.failure.Failure.{Failure}
 use Rattle.pcompact.specs.declared.failure.Failure.TheVariants.{Usage, Fault, Differs}
 
@@ -12,3 +12,7 @@ status_of (Differs verdict) = 1
 -- the failure for want of memory
 abbrev pub out_of_memory : Failure
 out_of_memory = Fault Memory
+
+-- the failure of a device
+abbrev pub failed_device : Failure
+failed_device = Fault Io

@@ -1,5 +1,6 @@
 //! `Done`.
-ghost use Rattle.std.specs.Prelude.{◌≡◌};
+ghost use Rattle.std.specs.Prelude.{◌≡◌, IfErr};
+ghost use Rattle.pcompact.specs.Failure.{failed_device};
 
 use crate::replacement::Replacement;
 use crate::trouble::Trouble;
@@ -31,7 +32,9 @@ impl<'a> Done<'a> {
     /// The new files take their places, OUT's first.
     ///
     /// After fault 13 no new file is left beside a place. OUT's may have taken its place.
-    pub fn take_places<H: Files>(self, host: &H) -> Result<(), Trouble<'a>> {
+    pub fn take_places<H: Files>(self, host: &H) -> Result<(), Trouble<'a>>
+        ensures { IfErr result (λ trouble. trouble.failure ≡ failed_device) }
+    {
         if let Err(trouble) = taken(host, self.out) {
             removed(host, self.schedule);
             return Err(trouble);
@@ -46,7 +49,9 @@ impl<'a> Done<'a> {
     }
 }
 
-fn taken<'a, H: Files>(host: &H, replacement: Option<Replacement<'a>>) -> Result<(), Trouble<'a>> {
+fn taken<'a, H: Files>(host: &H, replacement: Option<Replacement<'a>>) -> Result<(), Trouble<'a>>
+    ensures { IfErr result (λ trouble. trouble.failure ≡ failed_device) }
+{
     match replacement {
         Some(replacement) => replacement.take_place(host),
         None => Ok(()),

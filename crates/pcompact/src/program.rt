@@ -1,11 +1,11 @@
 //! The whole program, over the writers that it is handed.
-ghost use Rattle.std.specs.Prelude.{◌≡◌, ◌≤◌, ◌∷◌, [], true, ℕ, List, MatchResult, IfOk, OnOk};
+ghost use Rattle.std.specs.Prelude.{◌≡◌, ◌≤◌, ◌∷◌, [], true, ℕ, List, MatchResult, IfOk, OnOk, IfErr};
 ghost use Rattle.std.specs.Prelude.{codes, string_bytes};
 ghost use Rattle.std.specs.Io.KnownBytes.{Appends};
 ghost use Rattle.pcompact.specs.Board.{IsBoardText};
 ghost use Rattle.pcompact.specs.Collection.{IsFigures};
 ghost use Rattle.pcompact.specs.CommandLine.{AreWords, AreCallOf};
-ghost use Rattle.pcompact.specs.Failure.{out_of_memory, status_of};
+ghost use Rattle.pcompact.specs.Failure.{failed_device, out_of_memory, status_of};
 ghost use Rattle.pcompact.specs.Replaying.{IsReplay};
 ghost use Rattle.pcompact.specs.Request.{is_summary, is_collect, is_verify, is_record, is_replay, is_upgrade};
 ghost use Rattle.pcompact.specs.Summary.{IsSummary};
@@ -89,7 +89,8 @@ pub fn run<H: Files + AllocGlobal, T: Threads + Sync, L: Wait + Sync, A: Write, 
 
 /// Shows what a command prints. Then the files take their places that are to replace others.
 fn end<'a, H: Files, A: Write>(host: &H, done: Done<'a>, out: &mut A) -> Result<(), Trouble<'a>>
-    ensures { OnOk result (Appends (A.contents out.old) (A.contents out.new) done.entry.text.items) }
+    ensures shown { OnOk result (Appends (A.contents out.old) (A.contents out.new) done.entry.text.items) }
+    ensures fault { IfErr result (λ trouble. trouble.failure ≡ failed_device) }
 {
     match show(done.text.as_slice(), out) {
         Ok(()) => done.take_places(host),

@@ -1,4 +1,7 @@
 //! `Replacement`: a new file that takes the place of another.
+ghost use Rattle.std.specs.Prelude.{◌≡◌, IfErr};
+ghost use Rattle.pcompact.specs.Failure.{failed_device};
+
 use crate::failed_call::{Call, FailedCall};
 use crate::file_word::FileWord;
 use crate::trouble::{Trouble, called};
@@ -58,7 +61,9 @@ impl<'a> Replacement<'a> {
     /// The new file takes the place, and what stood there is gone.
     ///
     /// After fault 13 what stood there stands there still, and the new file is removed.
-    pub fn take_place<H: Files>(self, host: &H) -> Result<(), Trouble<'a>> {
+    pub fn take_place<H: Files>(self, host: &H) -> Result<(), Trouble<'a>>
+        ensures { IfErr result (λ trouble. trouble.failure ≡ failed_device) }
+    {
         let renamed = fs::rename(host, &self.new, &self.place);
         match called(self.word, Call::Rename, renamed) {
             Ok(()) => Ok(()),

@@ -1,5 +1,6 @@
 //! `Trouble`.
-ghost use Rattle.std.specs.Prelude.{◌≡◌, None};
+ghost use Rattle.std.specs.Prelude.{◌≡◌, None, IfErr};
+ghost use Rattle.pcompact.specs.Failure.{failed_device};
 ghost use Rattle.heap_image.specs.declared.fault.Fault.TheVariants.{Memory};
 ghost use Rattle.pcompact.specs.declared.failure.Failure.TheVariants.{Fault};
 
@@ -39,7 +40,9 @@ impl<'a> Trouble<'a> {
     }
 
     /// A call on this file failed: fault 13.
-    pub fn of_call(file: FileWord<'a>, call: FailedCall) -> Trouble<'a> {
+    pub fn of_call(file: FileWord<'a>, call: FailedCall) -> Trouble<'a>
+        ensures { result.failure ≡ failed_device }
+    {
         Trouble::new(Failure::Fault(Fault::Io))
             .because(Reason::Call(call))
             .about(file)
@@ -149,7 +152,9 @@ pub fn called<'a, T>(
     file: FileWord<'a>,
     call: Call,
     outcome: io::Result<T>,
-) -> Result<T, Trouble<'a>> {
+) -> Result<T, Trouble<'a>>
+    ensures { IfErr result (λ trouble. trouble.failure ≡ failed_device) }
+{
     match outcome {
         Ok(value) => Ok(value),
         Err(error) => Err(Trouble::of_call(file, FailedCall::of(call, &error))),
