@@ -5,10 +5,9 @@ import random
 from makers import ImageMaker, LimitMaker, ScheduleMaker, as_version_1, chance_of
 from model import Collection, Fault, Image, decode, encode, upgraded, verdict
 from mutations import ImageSpoiler, ScheduleSpoiler
-from program import TOP, Answer, Tried, differs, fault
+from program import Answer, Tried, differs, fault
 from schedule_model import ANY, MOST_WORKERS, Schedule, is_recorded, read, recorded_by_one, replayed
 
-BASE = (TOP / "examples" / "base.pcheap").read_bytes()
 # Words of an image for which the model takes long.
 MANY_WORDS = 1 << 14
 

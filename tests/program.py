@@ -58,14 +58,17 @@ class Tried:
         for name in answer.made:
             (self.folder / name).unlink(missing_ok=True)
         streams = {"stdin": subprocess.DEVNULL, "stdout": subprocess.PIPE, "stderr": subprocess.PIPE, **how}
-        if "input" in how:
-            del streams["stdin"]
+        given = streams.pop("input", None)
+        if given is not None:
+            streams["stdin"] = subprocess.PIPE
         self.count += 1
-        try:
-            done = subprocess.run([self.program, *words], cwd=self.folder, timeout=SECONDS, **streams)
-            found = self.differences(answer, done)
-        except subprocess.TimeoutExpired:
-            found = [f"doesn't end within {SECONDS} seconds"]
+        with subprocess.Popen([self.program, *words], cwd=self.folder, **streams) as process:
+            try:
+                texts = process.communicate(given, SECONDS)
+                found = self.differences(answer, subprocess.CompletedProcess(words, process.returncode, *texts))
+            except subprocess.TimeoutExpired:
+                found = [f"doesn't end within {SECONDS} seconds; its threads: {states_of(process.pid)}"]
+                process.kill()
         for what in found:
             self.is_wrong(f"pcompact {' '.join(map(str, words))}: {what}")
         return not found
@@ -87,6 +90,12 @@ class Tried:
             if (file.read_bytes() if file.exists() else None) != content:
                 found.append(f"{name} has another content")
         return found
+
+
+def states_of(process: int) -> str:
+    """What each thread of a process is at, as Linux tells it: R runs, S sleeps, D waits for a device."""
+    stats = pathlib.Path(f"/proc/{process}/task").glob("*/stat")
+    return " ".join(stat.read_text().rpartition(")")[2].split()[0] for stat in stats)
 
 
 def is_told(err: str, answer: Answer) -> bool:
