@@ -12,16 +12,25 @@ from schedule_model import ANY, MOST_WORKERS, Schedule, is_recorded, read, recor
 MANY_WORDS = 1 << 14
 
 
+def atomic_or_not(chance: random.Random) -> str:
+    return chance.choice(["", "", " --atomic"])
+
+
+def left(flag: str, *names: str) -> dict[str, bytes | None]:
+    """What a refusal leaves of files to write that weren't there."""
+    return {name: None if flag else b"" for name in names}
+
+
 def try_refused(tried: Tried, said: str, chance: random.Random) -> None:
     """An image that is none, under `summary` and other commands."""
     tried.run("summary image", fault(said))
-    workers = chance.choice([0, 65, *range(1, 9)])
+    workers, flag = chance.choice([0, 65, *range(1, 9)]), atomic_or_not(chance)
     # The image is read before the schedule, and before workers are counted.
     tried.write("schedule", chance.choice(["", "schedule 1 1\n", "schedule 1 1\n0 claim 0 ?"]))
     commands = [("replay image schedule", {}), ("verify image base", {}), ("verify base image", {}),
-                (f"collect image out --workers {workers}", {"out": b""}),
-                (f"record image out schedule --workers {workers}", {"out": b"", "schedule": b""}),
-                ("upgrade image out", {"out": b""})]
+                (f"collect image out --workers {workers}{flag}", left(flag, "out")),
+                (f"record image out recorded --workers {workers}{flag}", left(flag, "out", "recorded")),
+                (f"upgrade image out{flag}", left(flag, "out"))]
     for words, made in chance.sample(commands, 2):
         tried.run(words, fault(said, made))
 
@@ -32,17 +41,17 @@ def try_collected(tried: Tried, collection: Collection, chance: random.Random) -
     collected = Answer(0, collection.figures(), made={"out": encode(collection.compaction())})
     tried.run("summary image", Answer(0, collection.report()))
     for workers in (1, chance.choice([2, 3, 4, 8, MOST_WORKERS, chance.randint(2, MOST_WORKERS)])):
-        tried.run(f"collect image out --workers {workers}", collected)
+        tried.run(f"collect image out --workers {workers}{atomic_or_not(chance)}", collected)
     tried.run("verify image out", Answer(0, "same\n"))
     try_recorded(tried, collection, collected, chance.choice([*range(2, 9), MOST_WORKERS]))
     alone = recorded_by_one(collection).text()
-    tried.run("record image out schedule --workers 1",
+    tried.run(f"record image out schedule --workers 1{atomic_or_not(chance)}",
               dataclasses.replace(collected, made=collected.made | {"schedule": alone.encode()}))
     if chance.randrange(8) == 0:
-        workers = chance.choice([0, 65, 2 ** 32 - 1])
-        tried.run(f"collect image out --workers {workers}", fault("12 workers", {"out": b""}))
-        tried.run(f"record image out schedule --workers {workers}",
-                  fault("12 workers", {"out": b"", "schedule": b""}))
+        workers, flag = chance.choice([0, 65, 2 ** 32 - 1]), atomic_or_not(chance)
+        tried.run(f"collect image out --workers {workers}{flag}", fault("12 workers", left(flag, "out")))
+        tried.run(f"record image out schedule --workers {workers}{flag}",
+                  fault("12 workers", left(flag, "out", "schedule")))
     if image.version == 2:
         try_twin(tried, as_version_1(image), alone)
     try_upgraded(tried, image)
@@ -80,6 +89,8 @@ def try_upgraded(tried: Tried, image: Image) -> None:
     collection = Collection(new)
     tried.run("upgrade image new", Answer(0, f"roots {len(new.tail)}\n", made={"new": encode(new)}))
     tried.run("upgrade new newer", Answer(0, f"roots {len(new.tail)}\n", made={"newer": encode(new)}))
+    # In place. The next command reads what came of it.
+    tried.run("upgrade new new --atomic", Answer(0, f"roots {len(new.tail)}\n"))
     made = {"out": encode(collection.compaction())}
     tried.run("collect new out --workers 2", Answer(0, collection.figures(), made=made))
 
