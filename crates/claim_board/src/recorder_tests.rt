@@ -4,6 +4,7 @@ ghost use Rattle.history.specs.MoveTable.{region_count};
 ghost use Rattle.claim_board.specs.Recorders.{moves as moves_of, worker_count};
 
 use crate::desk::Desk;
+use crate::drained::Drained;
 use crate::recorder::Recorder;
 use crate::ticket::Ticket;
 use heap_image::Fault;
@@ -35,15 +36,18 @@ const BASE: &str = "schedule 1 1
 0 settle 2 all
 ";
 
-/// A recorder and the moves of the base heap.
+/// A recorder, the moves of the base heap, and the worker that fills.
 #[derive(Drop)]
 struct Setting {
     moves: GivenMoves,
     recorder: Recorder,
+    worker: u32,
     ghost same: { moves_of recorder ≡ moves },
     ghost four: { region_count moves ≡ 4 },
+    ghost one_of_them: { worker < worker_count recorder },
 }
 
+/// A recorder of so many workers, of which the last fills.
 fn start(alloc: Global, workers: u32) -> Result<Setting, Fault>
     requires { (1 ≤ workers) × (workers ≤ 64) }
     ensures { IfOk result (λ s. worker_count s.recorder ≡ workers) }
@@ -52,64 +56,76 @@ fn start(alloc: Global, workers: u32) -> Result<Setting, Fault>
     let pairs = Vec::from_slice(alloc, &[(0, 1), (1, 2), (1, 3), (2, 3)])?;
     let moves = GivenMoves::new(fill, pairs).ok_or(Fault::Gate)?;
     let recorder = Recorder::new(alloc, &moves, workers)?;
-    Ok(Setting { moves, recorder })
+    Ok(Setting {
+        moves,
+        recorder,
+        worker: workers - 1,
+    })
 }
 
 /// Notes the words that come from the region itself, and then of each other source its words and
-/// its drain.
+/// its drain. Whether each drain was the last of its source.
 fn copy_all<W: Wait>(
     setting: &Setting,
     ticket: &mut Ticket,
     own: u32,
     others: &[u32],
     wait: &W,
-) -> Result<(), Fault>
-    requires worker { 0 < worker_count setting.now.recorder }
-    requires region { ticket.old.region < 4 }
+) -> Result<bool, Fault>
+    requires { ticket.old.region < 4 }
 {
     let recorder = &setting.recorder;
-    let mut seat = 0;
+    let mut seat = setting.worker;
+    let mut are_last = true;
     recorder.copied(&mut seat, ticket, own, wait)?;
     for &words in others {
         recorder.copied(&mut seat, ticket, words, wait)?;
         if let Some(opening) = ticket.open(&setting.moves) {
-            recorder.drain(&mut seat, ticket, opening.close(), wait)?;
+            let answer = recorder.drain(&mut seat, ticket, opening.close(), wait)?;
+            are_last &= answer == Drained::Last;
         }
     }
-    Ok(())
+    Ok(are_last)
 }
 
-/// Worker 0 claims the region, copies, completes and settles. True if all regions are settled then.
+/// The worker claims the region, copies, completes and settles. Whether each drain was the last of its source, and
+/// whether all regions are settled then.
 fn fill<W: Wait>(
     setting: &Setting,
     region: u32,
     own: u32,
     others: &[u32],
     wait: &W,
-) -> Result<bool, Fault>
-    requires worker { 0 < worker_count setting.now.recorder }
-    requires region { region < 4 }
+) -> Result<(bool, bool), Fault>
+    requires { region < 4 }
 {
     let recorder = &setting.recorder;
-    let mut seat = 0;
+    let mut seat = setting.worker;
     let Some(mut ticket) = recorder.claim(&mut seat, region, wait)? else {
         return Err(Fault::Gate);
     };
-    if let Err(fault) = copy_all(setting, &mut ticket, own, others, wait) {
-        ticket.give_up();
-        return Err(fault);
-    }
+    let are_last = match copy_all(setting, &mut ticket, own, others, wait) {
+        Ok(are_last) => are_last,
+        Err(fault) => {
+            ticket.give_up();
+            return Err(fault);
+        }
+    };
     let Some(right) = ticket.right() else {
         ticket.give_up();
         return Err(Fault::Gate);
     };
     let done = recorder.complete(&mut seat, ticket, right.written(), wait)?;
-    recorder.settle(&mut seat, done, wait)
+    Ok((are_last, recorder.settle(&mut seat, done, wait)?))
 }
 
 /// The schedule's text.
 fn text_of(alloc: Global, setting: Setting) -> Result<Vec<u8>, AllocError> {
-    let Setting { moves: _, recorder } = setting;
+    let Setting {
+        moves: _,
+        recorder,
+        worker: _,
+    } = setting;
     write_schedule(alloc, &recorder.into_schedule())
 }
 
@@ -120,7 +136,8 @@ fn base_text<W: Wait>(alloc: Global, wait: &W) -> Result<Vec<u8>, Fault> {
     let second = fill(&setting, 1, 1, &[4, 3], wait)?;
     let third = fill(&setting, 2, 0, &[3], wait)?;
     let all = setting.recorder.poll(&mut 0, wait)?;
-    if (first, second, third, all) != (false, false, true, true) {
+    let answers = [first, second, third];
+    if answers != [(true, false), (false, false), (true, true)] || !all {
         return Err(Fault::Gate);
     }
     Ok(text_of(alloc, setting)?)
@@ -130,6 +147,18 @@ fn base_text<W: Wait>(alloc: Global, wait: &W) -> Result<Vec<u8>, Fault> {
 fn one_worker_records_the_base_heap(rt: HostRuntime) -> Result<(), Fail> {
     let text = base_text(rt.alloc(), &rt)?;
     assert_eq!(rt; text.as_slice(), BASE.as_bytes());
+    Ok(())
+}
+
+#[test]
+fn each_call_is_recorded_for_the_worker_of_its_seat(rt: HostRuntime) -> Result<(), Fail> {
+    let setting = start(rt.alloc(), 2)?;
+    assert_eq!(rt; fill(&setting, 0, 6, &[2], &rt)?, (true, false));
+    assert_eq!(rt; setting.recorder.look(&mut 1, 0, &rt)?, Reply::Filled);
+    let text = text_of(rt.alloc(), setting)?;
+    let lines = "schedule 1 2\n1 claim 0 yes\n1 copy 0 6 ok\n1 copy 0 2 ok\n1 drain 0 1 last\n\
+                 1 complete 0 ok\n1 settle 0 more\n1 look 0 filled\n";
+    assert_eq!(rt; text.as_slice(), lines.as_bytes());
     Ok(())
 }
 
