@@ -170,13 +170,7 @@ impl Comparison<'_> {
         requires { IsTrue (is_null_or_live self.now.before.now word) }
         ensures { result ≡ redirected self.now.before.now word }
     {
-        let _words = self.before.len();
-        objects_keep_their_order();
-        if word == 0 {
-            0
-        } else {
-            self.plan.new_address(self.marks, word - 1) + 1
-        }
+        self.plan.redirected(self.marks, word)
     }
 
     /// The least index at which the live list is not the compaction's.

@@ -1,9 +1,9 @@
 use Rattle.std.proofs.Common.{◌≡◌, ◌++◌, ℕ, List, length, drop, take, ap, sym, ◌∙◌, subst, arith}
 use Rattle.std.proofs.Math.Seq.{take-append_seam}
-use Rattle.std.specs.Prelude.{Option, map, option_map}
+use Rattle.std.specs.Prelude.{map, option_map}
 use Rattle.std.specs.List.{concat}
 use Rattle.heap_image.specs.HeapImage.{HeapImage, IsValid, AreBlocks, rooted_image_of}
-use Rattle.summary.specs.NewAddresses.{new_address, new_top}
+use Rattle.summary.specs.NewAddresses.{new_address}
 use Rattle.summary.specs.Compaction.{compact}
 use Rattle.fill.specs.Heap.{cleared}
 use Rattle.collector.proofs.Telling.{same_image}

@@ -1,4 +1,4 @@
-use Rattle.std.proofs.Common.{◌≡◌, List, [], ap, sym, ◌∙◌, subst}
+use Rattle.std.proofs.Common.{◌≡◌, [], ap, sym, ◌∙◌, subst}
 use Rattle.std.specs.Prelude.{All, IsTrue, Some, option_map}
 use Rattle.heap_image.specs.HeapImage.{HeapImage, roots_or, roots_of, is_null_or_live}
 use Rattle.collector.proofs.clean_up.redirected_roots.Goals as goal

@@ -1,4 +1,4 @@
-use Rattle.std.proofs.Common.{◌≡◌, ℕ, Err, ap, subst, inr}
+use Rattle.std.proofs.Common.{◌≡◌, Err, ap, subst, inr}
 use Rattle.std.specs.Io.KnownBytes.{Appends}
 use Rattle.std.proofs.lemmas.Result.{err_from_is_err_and}
 use Rattle.heap_image.specs.HeapImage.{HeapImage}

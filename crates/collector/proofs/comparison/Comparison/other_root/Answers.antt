@@ -1,4 +1,3 @@
-use Rattle.heap_image.specs.HeapImage.{is_null_or_live}
 use Rattle.collector.proofs.comparison.Comparison.other_root.Goals as goal
 
 pub redirected-requires : goal.redirected-requires
