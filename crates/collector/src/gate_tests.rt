@@ -89,8 +89,15 @@ impl Gate for Awaits {
     }
 }
 
-/// How long a worker is held that must see meanwhile that another one met a fault.
+/// How long a worker is held while another one must find something out.
 const LONG: u32 = 100_000;
+
+/// Lets other threads run for long.
+pub(crate) fn linger() {
+    for _ in 0..LONG {
+        thread::yield_now();
+    }
+}
 
 /// Refuses region 0 once another worker has come to fill a region, which it lets go on only long after that.
 #[derive(Drop)]
@@ -126,9 +133,7 @@ impl Gate for RefusesTheFirst {
         }
         self.other_came.store(true, Ordering::SeqCst);
         let is_refused = comes(&self.refused);
-        for _ in 0..LONG {
-            thread::yield_now();
-        }
+        linger();
         is_refused
     }
 

@@ -4,6 +4,8 @@ ghost use Rattle.std.specs.Prelude.{◌≤◌, length};
 
 mod rooted;
 
+use crate::gate_tests::Awaits;
+use crate::gate_tests::Call::Before;
 use crate::tests::{BASE_LIVE, BASE_WORDS, MOVED_LIVE, MOVED_WORDS, image_of, image_text};
 use crate::{Figures, Gate, OpenGate, collect_stream};
 use heap_image::{Fault, FromRead, Image, Intake, Outlet, ToWrite, encode, header};
@@ -178,6 +180,23 @@ fn the_base_heap_goes_from_bytes_to_bytes(rt: HostRuntime) -> Result<(), Fail> {
         let stream = slowly(rt.alloc(), &rt, &with_prefix, step);
         assert_eq!(rt; whole(&stream), Some((8, 21, 3)));
     }
+    Ok(())
+}
+
+/// A `collect_stream` that collects by one worker meets its contract. It fails here.
+#[test]
+fn two_workers_fill_at_the_same_time(rt: HostRuntime) -> Result<(), Fail> {
+    let texts = with_prefix(rt.alloc(), &rt)?;
+    let gate = Awaits::new([(Before(0), Before(1)), (Before(1), Before(0))]);
+    let reader = Trickle {
+        bytes: texts.before.as_slice(),
+        step: usize::MAX,
+        limit: usize::MAX,
+    };
+    let writer = Checked::against(texts.after.as_slice());
+    let stream = streamed(rt.alloc(), &rt, (2, &gate), reader, writer);
+    assert_eq!(rt; whole(&stream), Some((8, 21, 3)));
+    assert!(rt; gate.is_kept());
     Ok(())
 }
 
