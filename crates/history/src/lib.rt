@@ -6,7 +6,8 @@
 //! are; `Scheduler` answers each event of each worker, one at a time.
 //!
 //! - `Moves` is a trait, so that a plan of a real heap can implement it. Its whole meaning is one
-//!   table of plain data. `GivenMoves` is a table that is handed in.
+//!   table of plain data. `GivenMoves` is a table that is handed in, and `IndexedMoves` is one with an
+//!   index, by which look-ups take constant time.
 //! - `Scheduler::step` answers `Ok` exactly where the step relation allows the event, with its reply
 //!   and its state; `Illegal` leaves the scheduler as it was.
 //! - `legal_histories_are_orderly`, `what_legal_histories_keep`, `what_own_calls_tell`,

@@ -168,6 +168,7 @@ fn an_index_finds_each_source_from_anywhere(rt: HostRuntime) -> Result<(), Fail>
 fn a_locked_board_keeps_its_calls(rt: HostRuntime) -> Result<(), Fail> {
     let moves = given(rt.alloc(), &[true, true], &[(0, 1)])?.ok_or("a table")?;
     let board = LockedBoard::new(rt.alloc(), &moves, 2)?;
+    assert!(rt; !board.done(&rt));
     let rows = [
         (0, Event::Claim(1), Ok(Reply::No)),
         (0, Event::Claim(0), Ok(Reply::Yes)),
@@ -178,14 +179,21 @@ fn a_locked_board_keeps_its_calls(rt: HostRuntime) -> Result<(), Fail> {
         (2, Event::Poll, Err(CallFault::Illegal)),
         (0, Event::Complete(0), Ok(Reply::Done)),
         (0, Event::Settle(0), Ok(Reply::More)),
+        (1, Event::Poll, Ok(Reply::More)),
+        (1, Event::Claim(1), Ok(Reply::Yes)),
+        (1, Event::Copy(1, 8), Ok(Reply::Done)),
+        (1, Event::Complete(1), Ok(Reply::Done)),
+        (1, Event::Settle(1), Ok(Reply::All)),
+        (0, Event::Poll, Ok(Reply::All)),
     ];
     for (worker, event, answer) in rows {
         assert_eq!(rt; board.call(worker, event, &rt), answer);
     }
-    assert!(rt; !board.done(&rt));
+    assert!(rt; board.done(&rt));
     let text = write_schedule(rt.alloc(), &board.into_schedule())?;
     let lines = "schedule 1 2\n0 claim 1 no\n0 claim 0 yes\n0 copy 0 8 ok\n0 drain 0 1 last\n\
-                 1 look 1 open0\n0 complete 0 ok\n0 settle 0 more\n";
+                 1 look 1 open0\n0 complete 0 ok\n0 settle 0 more\n1 poll more\n1 claim 1 yes\n\
+                 1 copy 1 8 ok\n1 complete 1 ok\n1 settle 1 all\n0 poll all\n";
     assert_eq!(rt; text.as_slice(), lines.as_bytes());
     Ok(())
 }
