@@ -19,6 +19,8 @@ use std::thread::Threads;
 use summary::Plan;
 use summary::laws::compaction::blocks_of_regions;
 
+mod memory;
+
 /// A word of no live object.
 const DEAD: u64 = 999;
 
@@ -54,19 +56,25 @@ const BASE: [[u64; 8]; 4] = [
 /// Where its live objects begin.
 const LIVE: [u64; 4] = [0, 5, 12, 20];
 
-/// The base heap, which begins with these eight bytes, and has these live objects or these roots.
+/// The text of the base heap, which begins with these eight bytes, and has these live objects or these roots.
+fn text_of(alloc: Global, magic: u64, numbers: &[u64]) -> Result<Vec<u8>, AllocError> {
+    let front = [magic, 3 | (numbers.len() as u64) << 32, 32, 0];
+    let mut bytes = Vec::new(alloc);
+    for part in [front.as_slice(), BASE.as_flattened(), numbers] {
+        put_words(&mut bytes, part)?;
+    }
+    Ok(bytes)
+}
+
+/// The image of that text.
 fn image_of(
     alloc: Global,
     magic: u64,
     numbers: &[u64],
     threads: &(impl Threads + Sync),
 ) -> Result<Image, Fail> {
-    let front = [magic, 3 | (numbers.len() as u64) << 32, 32, 0];
-    let mut bytes = Vec::new(alloc);
-    for part in [front.as_slice(), BASE.as_flattened(), numbers] {
-        put_words(&mut bytes, part)?;
-    }
-    Ok(decode_by_threads(alloc, bytes.as_slice(), threads)?)
+    let text = text_of(alloc, magic, numbers)?;
+    Ok(decode_by_threads(alloc, text.as_slice(), threads)?)
 }
 
 fn put_words(bytes: &mut Vec<u8>, words: &[u64]) -> Result<(), AllocError> {
@@ -106,18 +114,8 @@ fn cells_of<T: Threads + Sync>(
     let plan = Plan::of(alloc, &image, &marks, threads)?;
     match Cells::of(alloc, image, &plan) {
         Ok(cells) => Ok((cells, plan)),
-        Err(image) => Err(returned(&image)),
+        Err(_) => Err(Fail::from(AllocError)),
     }
-}
-
-/// What to report where memory was refused: whether the image came back as it was.
-fn returned(image: &Image) -> Fail {
-    for (a, word) in BASE.as_flattened().iter().enumerate() {
-        if a as u64 >= image.len() || image.word(a as u64) != *word {
-            return Fail::from("another image came back");
-        }
-    }
-    Fail::from(AllocError)
 }
 
 /// A board over these moves of four regions, with the pass of its one worker.
