@@ -1,6 +1,7 @@
 //! The compaction in place: LISP2 with mark bits and block counts, by one thread.
 use crate::header::Header;
 use crate::image::{self, Fault, Image};
+use crate::laps::Laps;
 use crate::marking::Heap;
 use crate::marks::{Bits, Ranks};
 use std::fs::File;
@@ -8,32 +9,38 @@ use std::fs::File;
 /// Shorter rows of words are moved word by word.
 const LONG: usize = 16;
 
-pub fn run(from: &str, to: &str) -> Result<(), Fault> {
-    let (from, to) = (File::open(from)?, File::create(to)?);
-    let mut image = image::read(from)?;
-    let (prefix, top) = collect(&mut image);
-    image::write(&image, to)?;
+/// Collects an image, and tells the time of each phase.
+pub fn run(from: &str, to: &str) -> Result<Laps, Fault> {
+    let mut laps = Laps::new();
+    let mut image = image::read(File::open(from)?, &mut laps)?;
+    let (prefix, top) = collect(&mut image, &mut laps);
+    image::write(&image, File::create(to)?)?;
+    laps.end("write");
     println!("prefix {prefix} top {top} filled {}", top.div_ceil(image.region_words()));
-    Ok(())
+    Ok(laps)
 }
 
 /// Collects in place, and tells the prefix end and the new top.
-fn collect(image: &mut Image) -> (usize, usize) {
+fn collect(image: &mut Image, laps: &mut Laps) -> (usize, usize) {
     let mut bits = Bits::new(image.words.len());
     for &a in &image.live {
         bits.insert_run(a as usize, a as usize + image.header(a as usize).size());
     }
+    laps.end("marks");
     let prefix = prefix_end(image, &bits);
     if prefix > 0 {
         // With all words below it marked, the rank of an address below the prefix end is the address.
         bits.insert_run(0, prefix);
     }
     let ranks = Ranks::of(bits);
+    laps.end("plan");
     let top = slide(image, &ranks, prefix);
+    laps.end("fills");
     for root in image.roots.iter_mut().flatten() {
         *root = redirected(*root, &ranks);
     }
     image.words[top..].fill(0);
+    laps.end("clean-up");
     (prefix, top)
 }
 

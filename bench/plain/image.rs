@@ -1,4 +1,5 @@
 //! An image in one block of words, its text, and its checks.
+use crate::laps::Laps;
 use crate::marking::{mark, Heap};
 use crate::marks::Bits;
 use std::io::{self, Read, Write};
@@ -151,7 +152,7 @@ fn read_numbers(reader: &mut impl Read, buffer: &mut [u8], count: usize) -> Resu
     Ok(numbers)
 }
 
-pub fn read(mut reader: impl Read) -> Result<Image, Fault> {
+pub fn read(mut reader: impl Read, laps: &mut Laps) -> Result<Image, Fault> {
     let mut front = [0; FRONT_BYTES];
     reader.read_exact(&mut front).map_err(|_| Fault::TruncatedHeader)?;
     let is_rooted = match &front[..8] {
@@ -174,7 +175,9 @@ pub fn read(mut reader: impl Read) -> Result<Image, Fault> {
     let tail = read_numbers(&mut reader, &mut buffer, count as usize)?;
     let (live, roots) = if is_rooted { (Vec::new(), Some(tail)) } else { (tail, None) };
     let mut image = Image { region_log, allowance: number(&front[24..]), words, live, roots };
+    laps.end("read");
     image.check()?;
+    laps.end("check");
     match reader.read(&mut buffer[..1])? {
         0 => Ok(image),
         _ => Err(Fault::Trailing),

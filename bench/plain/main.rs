@@ -4,6 +4,7 @@ mod collection;
 mod generator;
 mod header;
 mod image;
+mod laps;
 mod marking;
 mod marks;
 mod process;
@@ -19,6 +20,7 @@ const USAGE: &str = "usage:
   plain generate OUT --mib n --live percent --log n --references percent
                      [--shape graph|list|array|object|last] [--version 1|2]
   plain collect IMAGE OUT
+  plain phases IMAGE OUT
   plain copy IMAGE OUT
   plain move WORDS
   plain measure PROGRAM WORD ..";
@@ -74,7 +76,8 @@ fn generate(out: &str, words: &[String]) -> Option<Result<(), image::Fault>> {
 fn run(words: &[String]) -> Option<Result<(), image::Fault>> {
     match words {
         [command, out, rest @ ..] if command == "generate" => generate(out, rest),
-        [command, from, to] if command == "collect" => Some(collection::run(from, to)),
+        [command, from, to] if command == "collect" => Some(collection::run(from, to).map(drop)),
+        [command, from, to] if command == "phases" => Some(collection::run(from, to).map(|laps| laps.tell())),
         [command, from, to] if command == "copy" => Some(copy(from, to).map_err(image::Fault::from)),
         [command, count] if command == "move" => Some(Ok(move_words(count.parse().ok()?))),
         [command, program, rest @ ..] if command == "measure" => Some(process::measure(program, rest)),

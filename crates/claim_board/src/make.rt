@@ -37,7 +37,7 @@ fn opening_words(alloc: Global, moves: &GivenMoves) -> Result<Vec<u64>, AllocErr
     how_counts_go_down();
     let readers = count_readers(alloc, moves)?;
     let regions = moves.regions();
-    let mut words = Vec::new(alloc);
+    let mut words = Vec::with_capacity(alloc, regions as usize + 1)?;
     for region in 0..regions {
         words.push(opening_word(readers[region as usize], moves.to_fill(region)))?;
     }
@@ -55,7 +55,7 @@ fn deal(
     requires place { (place.table_id ≡ words.now.table_id) × (0 < words.now.table_id.words) × (0 < workers) × (place.me ≡ (record { told = []; holds = fresh 0 workers }, [])) }
     ensures { IfOk result (λ v. (vec_len v ≡ workers) × ArePasses words.now.table_id v.items) }
 {
-    let mut passes = Vec::new(alloc);
+    let mut passes = Vec::with_capacity(alloc, workers as usize)?;
     for _ in 1..workers {
         let one = words.split_seat::<Deal>(&mut place);
         passes.push(Pass { place: one })?;

@@ -1,11 +1,10 @@
 -- Lists of workers and of passes, one more or one less.
-use Rattle.std.proofs.Common.{◌≡◌, ℕ, zero, suc, ◌+◌, ◌<◌, List, [], ◌∷◌, ◌++◌, length, map, get_or, sym, ap, ◌∙◌, subst, arith}
+use Rattle.std.proofs.Common.{◌≡◌, ℕ, zero, suc, ◌+◌, ◌<◌, List, [], ◌∷◌, ◌++◌, length, get_or, sym, ap, ◌∙◌, subst, arith}
 use Rattle.std.specs.Prelude.{All}
 use Rattle.std.proofs.lemmas.List.{get_or_append_left, length_push}
 use Rattle.std.proofs.Math.Seq.{get_or-append_seam}
 use Rattle.claim_board.specs.declared.pass.Pass.{Pass}
 use Rattle.claim_board.specs.Boards.{board_of, AllOf, ArePassesFrom, ArePasses}
-use Rattle.collector.specs.declared.worker.Worker.{Worker}
 
 -- what holds of each element holds of the front and of the last
 pub front_and_last : {X : Type 0} (P : X → Type 0) (all front : List X) (last : X) → all ≡ front ++ last ∷ [] → All P all → All P front × P last
@@ -23,13 +22,11 @@ all_of_more board passes more p is all one = subst (AllOf board) (sym is) (go pa
     go [] rest = (one, tt)
     go (q ∷ qs) rest = (rest.0, go qs rest.1)
 
--- each worker has a seat of the board, where the seats are its new passes
-seated : (board : _) (k : ℕ) (workers : List (Worker Pass)) → ArePassesFrom board k (map (λ w. w.seat) workers)
-    → (i : ℕ) (d : Worker Pass) → i < length workers → board_of (get_or workers i d).seat ≡ board
+-- each of the new passes is of the board
+seated : (board : _) (k : ℕ) (passes : List Pass) → ArePassesFrom board k passes → (i : ℕ) (d : Pass) → i < length passes → board_of (get_or passes i d) ≡ board
 seated board k [] all i d inside = absurd (omega arith)
-seated board k (w ∷ ws) all zero d inside = all.0.0
-seated board k (w ∷ ws) all (suc i) d inside = seated board (suc k) ws all.1 i d (omega arith)
+seated board k (p ∷ ps) all zero d inside = all.0.0
+seated board k (p ∷ ps) all (suc i) d inside = seated board (suc k) ps all.1 i d (omega arith)
 
-pub all_seated : (board : _) (passes : List Pass) (workers : List (Worker Pass)) → map (λ w. w.seat) workers ≡ passes
-    → ArePasses board passes → All (λ w. board_of w.seat ≡ board) workers
-all_seated board passes workers seats all = seated board 0 workers (subst (ArePasses board) (sym seats) all)
+pub all_seated : (board : _) (passes : List Pass) → ArePasses board passes → All (λ p. board_of p ≡ board) passes
+all_seated board passes all = seated board 0 passes all

@@ -4,7 +4,5 @@ pub mod Compared
 pub mod Ready
 pub mod Halts
 pub mod Collections
-pub mod Preparations
 pub mod Streams
 pub mod Records
-pub mod Recordings

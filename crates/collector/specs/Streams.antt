@@ -1,5 +1,6 @@
 -- A collection from bytes to bytes.
-use Rattle.std.specs.Prelude.{ℕ, List, Option}
+use Rattle.std.specs.Prelude.{◌≡◌, ℕ, List, Option}
+use Rattle.std.specs.Io.KnownBytes.{Appends}
 use Rattle.heap_image.specs.HeapImage.{HeapImage}
 use Rattle.heap_image.specs.ImageText.{text}
 use Rattle.heap_image.specs.Reading.{IsRead}
@@ -7,6 +8,11 @@ use Rattle.heap_image.specs.Outgoing.{TakesBeginning}
 use Rattle.heap_image.specs.declared.fault.Fault.{Fault}
 use Rattle.heap_image.specs.declared.fault.Fault.TheVariants.{TruncatedHeader, Magic, RegionLog, Length, TruncatedBody, Root, LiveOrder, Header, Overlap, Reference, Trailing}
 use Rattle.summary.specs.Compaction.{compact}
+use Rattle.history.specs.Schedule.{ScheduleView}
+use Rattle.history.specs.ScheduleText.{schedule_text}
+use Rattle.history.specs.Record.{IsRecord}
+use Rattle.collector.specs.Collections.{figures_of}
+use Rattle.collector.specs.declared.outcome.Figures.{Figures}
 
 -- a fault of an image's bytes, one of 1 to 10, or 17
 abbrev pub IsOfBytes : Fault → Type 0
@@ -28,3 +34,18 @@ pub record IsBegun (left left' took took' : Option (List ℕ)) : Type 0 where
   pub image : HeapImage
   pub read : IsRead image left left'
   pub written : TakesBeginning took took' (text (compact image))
+
+-- all of the input was read, which is the text of some image, and the text of its compaction was written
+abbrev pub IsWritten : Option (List ℕ) → Option (List ℕ) → Option (List ℕ) → Option (List ℕ) → Type 0
+IsWritten left left' took took' = (image : HeapImage) × IsRead image left left' × Appends took took' (text (compact image))
+
+-- All of the input was read, which is the text of some image. The text of its compaction was written, and that of a
+-- schedule by which the word machine makes it. These are the figures.
+pub record AreRecorded (workers : ℕ) (left left' took took' told told' : Option (List ℕ)) (figures : Figures) : Type 0 where
+  pub image : HeapImage
+  pub read : IsRead image left left'
+  pub collected : Appends took took' (text (compact image))
+  pub schedule : ScheduleView
+  pub recorded : IsRecord image workers schedule
+  pub lines : Appends told told' (schedule_text schedule)
+  pub counted : figures ≡ figures_of image

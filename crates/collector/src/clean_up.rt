@@ -7,12 +7,11 @@ ghost use Rattle.fill.specs.Drains.{IsOverwritten};
 
 use fill::{clear_above, update_deferred};
 use heap_image::{Fault, Image, ImageParts, roots_are_null_or_live};
-use mark_bitmap::Marks;
 use rayon::prelude::*;
 use region_cells::Cells;
 use std::thread::Threads;
-use summary::Plan;
 use summary::laws::compaction::compaction_is_valid;
+use summary::{Plan, Survey};
 
 /// The compaction of the image of which the cells are.
 ///
@@ -20,23 +19,22 @@ use summary::laws::compaction::compaction_is_valid;
 /// memory.
 pub(crate) fn clean_up(
     cells: Cells,
-    plan: &Plan,
-    marks: &Marks,
+    survey: &Survey,
     threads: &(impl Threads + Sync),
 ) -> Result<Image, Fault>
-    requires cells { cells ≡ plan.now }
-    requires marks { marks.now ≡ plan.now }
-    ensures image { IfOk result (λ image. image ≡ compact plan.now) }
+    requires cells { cells ≡ survey.now }
+    ensures image { IfOk result (λ image. image ≡ compact survey.now) }
     ensures fault { IfErr result IsOverwritten }
 {
     compaction_is_valid();
+    let plan = survey.plan();
     let _regions = plan.regions();
     let mut parts = cells.into_regions()?;
-    update_deferred(parts.regions.as_mut_slice(), plan, marks);
+    update_deferred(parts.regions.as_mut_slice(), survey);
     clear_above(parts.regions.as_mut_slice(), plan.new_top());
-    redirect_live(parts.live.as_mut_slice(), plan, marks, threads);
+    redirect_live(parts.live.as_mut_slice(), survey, threads);
     let parts = ImageParts {
-        roots: redirected_roots(parts.roots, plan, marks, threads),
+        roots: redirected_roots(parts.roots, plan, threads),
         ..parts
     };
     Ok(parts.into_image())
@@ -46,10 +44,8 @@ pub(crate) fn clean_up(
 fn redirected_roots(
     roots: Option<Vec<u64>>,
     plan: &Plan,
-    marks: &Marks,
     threads: &(impl Threads + Sync),
 ) -> Option<Vec<u64>>
-    requires marks { marks.now ≡ plan.now }
     requires valid { IsValid plan.now }
     requires roots { option_map (λ v. v.items) roots ≡ plan.now.roots }
     ensures { option_map (λ v. v.items) result ≡ option_map (map (redirected plan.now)) plan.now.roots }
@@ -57,7 +53,7 @@ fn redirected_roots(
     roots_are_null_or_live();
     match roots {
         Some(mut roots) => {
-            redirect_all(roots.as_mut_slice(), plan, marks, threads);
+            redirect_all(roots.as_mut_slice(), plan, threads);
             Some(roots)
         }
         None => None,
@@ -65,8 +61,7 @@ fn redirected_roots(
 }
 
 /// Redirects each of these references, by as many threads as there are processors.
-fn redirect_all(words: &mut [u64], plan: &Plan, marks: &Marks, threads: &(impl Threads + Sync))
-    requires marks { marks.now ≡ plan.now }
+fn redirect_all(words: &mut [u64], plan: &Plan, threads: &(impl Threads + Sync))
     requires words { All (λ w. IsTrue (is_null_or_live plan.now w)) words.old }
     ensures { words.new ≡ map (redirected plan.now) words.old }
 {
@@ -74,25 +69,25 @@ fn redirect_all(words: &mut [u64], plan: &Plan, marks: &Marks, threads: &(impl T
         threads,
         words,
         |_, w: &mut u64|
-            requires { (marks.now ≡ plan.now) × IsTrue (is_null_or_live plan.now w.old) }
+            requires { IsTrue (is_null_or_live plan.now w.old) }
             ensures { w.new ≡ redirected plan.entry.now w.old }
         {
-            *w = plan.redirected(marks, *w);
+            *w = plan.redirected(*w);
         },
     );
 }
 
 /// Puts the new address of each live object in the place of the old one, by as many threads as there are processors.
-fn redirect_live(live: &mut [u64], plan: &Plan, marks: &Marks, threads: &(impl Threads + Sync))
-    requires marks { marks.now ≡ plan.now }
-    requires live { live.old ≡ plan.now.live }
-    ensures { live.new ≡ map (new_address plan.now) live.old }
+fn redirect_live(live: &mut [u64], survey: &Survey, threads: &(impl Threads + Sync))
+    requires { live.old ≡ survey.now.live }
+    ensures { live.new ≡ map (new_address survey.now) live.old }
 {
+    let (plan, marks) = (survey.plan(), survey.marks());
     par_for_each_mut(
         threads,
         live,
         |_, a: &mut u64|
-            requires { (marks.now ≡ plan.now) × Contains plan.now.live a.old }
+            requires { Contains plan.now.live a.old }
             ensures { a.new ≡ new_address plan.entry.now a.old }
         {
             *a = plan.new_address(marks, *a);

@@ -12,8 +12,7 @@ ghost use Rattle.collector.specs.Verdict.{IsVerdict, HaveSameShape, root_count, 
 use crate::difference::{first_nonzero, first_unlike};
 use crate::verdict::Verdict;
 use heap_image::{Image, header};
-use mark_bitmap::Marks;
-use summary::Plan;
+use summary::Survey;
 use summary::laws::compaction::{blocks_of_regions, compaction_by_objects};
 use summary::laws::dense_prefix::{fillers_by_runs, prefix_end_is_greatest};
 use summary::laws::live_words::words_of_objects;
@@ -27,18 +26,15 @@ use summary::laws::region_data::regions_to_fill;
 pub(crate) struct Comparison<'a> {
     before: &'a Image,
     after: &'a Image,
-    marks: &'a Marks,
-    plan: &'a Plan,
-    ghost marks_of: { marks.now ≡ before.now },
-    ghost plan_of: { plan.now ≡ before.now },
+    survey: &'a Survey,
+    ghost survey_of: { survey.now ≡ before.now },
     ghost room: { heap_words after.now ≡ heap_words before.now },
 }
 
 impl Comparison<'_> {
-    /// The first difference between `after` and the compaction of `before`, whose marks and plan these are.
-    pub(crate) fn verdict(before: &Image, after: &Image, marks: &Marks, plan: &Plan) -> Verdict
-        requires marks { marks.now ≡ before.now }
-        requires plan { plan.now ≡ before.now }
+    /// The first difference between `after` and the compaction of `before`, which was surveyed.
+    pub(crate) fn verdict(before: &Image, after: &Image, survey: &Survey) -> Verdict
+        requires survey { survey.now ≡ before.now }
         ensures { IsVerdict (compact before.now) after.now result }
     {
         blocks_of_regions();
@@ -48,8 +44,7 @@ impl Comparison<'_> {
         let comparison = Comparison {
             before,
             after,
-            marks,
-            plan,
+            survey,
         };
         if let Some(a) = comparison.other_word() {
             return Verdict::Word(a);
@@ -72,7 +67,7 @@ impl Comparison<'_> {
         objects_are_placed(self.before);
         let mut next = 0;
         for &a in self.before.live() {
-            let place = self.plan.new_address(self.marks, a);
+            let place = self.survey.plan().new_address(self.survey.marks(), a);
             if let Some(p) = self.other_in_gap(next, place) {
                 return Some(p);
             }
@@ -130,7 +125,8 @@ impl Comparison<'_> {
             (place + 1) (place + 1 + references_at self.now.before.now a)) }
     {
         for f in 0..object_references(self.before, a) {
-            if self.after.word(place + 1 + f) != self.redirected(self.before.word(a + 1 + f)) {
+            let reference = self.before.word(a + 1 + f);
+            if self.after.word(place + 1 + f) != self.survey.plan().redirected(reference) {
                 return Some(place + 1 + f);
             }
         }
@@ -165,14 +161,6 @@ impl Comparison<'_> {
         Some(top + j)
     }
 
-    /// A reference after the compaction.
-    fn redirected(&self, word: u64) -> u64
-        requires { IsTrue (is_null_or_live self.now.before.now word) }
-        ensures { result ≡ redirected self.now.before.now word }
-    {
-        self.plan.redirected(self.marks, word)
-    }
-
     /// The least index at which the live list is not the compaction's.
     fn other_live(&self) -> Option<u64>
         requires { object_count self.now.after.now ≡ object_count self.now.before.now }
@@ -184,7 +172,7 @@ impl Comparison<'_> {
     {
         let found = self.after.live();
         for (i, &a) in self.before.live().iter().enumerate() {
-            if found[i] != self.plan.new_address(self.marks, a) {
+            if found[i] != self.survey.plan().new_address(self.survey.marks(), a) {
                 return Some(i as u64);
             }
         }
@@ -202,7 +190,7 @@ impl Comparison<'_> {
     {
         let found = self.after.roots();
         for (i, &w) in self.before.roots().iter().enumerate() {
-            if found[i] != self.redirected(w) {
+            if found[i] != self.survey.plan().redirected(w) {
                 return Some(i as u64);
             }
         }

@@ -15,13 +15,12 @@ use crossbeam_utils::Backoff;
 use fill::fill_region;
 use heap_image::Fault;
 use history::moves_of_images;
-use mark_bitmap::Marks;
 use region_cells::Cells;
 use std::sync::Wait;
 use std::sync::atomic::{AtomicBool, Ordering};
 use std::thread;
 use std::thread::Threads;
-use summary::Plan;
+use summary::Survey;
 use summary::laws::region_data::regions_to_fill;
 
 /// What the workers of one collection share.
@@ -29,17 +28,15 @@ use summary::laws::region_data::regions_to_fill;
 pub(crate) struct Crew<'a, D: Desk, G: Gate, W: Wait> {
     pub(crate) desk: &'a D,
     pub(crate) cells: &'a Cells,
-    pub(crate) plan: &'a Plan,
-    pub(crate) marks: &'a Marks,
+    pub(crate) survey: &'a Survey,
     pub(crate) gate: &'a G,
     pub(crate) wait: &'a W,
     /// Takes numbers of each worker's queue, by the workers' numbers.
     pub(crate) thieves: &'a [Thief],
     /// Whether some worker has met a fault.
     pub(crate) stop: &'a AtomicBool,
-    pub(crate) ghost moves: { D.moves desk.now ≡ image_table plan.now },
-    pub(crate) ghost same_cells: { cells.now ≡ plan.now },
-    pub(crate) ghost same_marks: { marks.now ≡ plan.now },
+    pub(crate) ghost moves: { D.moves desk.now ≡ image_table survey.now },
+    pub(crate) ghost same_cells: { cells.now ≡ survey.now },
 }
 
 impl<'a, D: Desk, G: Gate, W: Wait> Crew<'a, D, G, W> {
@@ -48,7 +45,7 @@ impl<'a, D: Desk, G: Gate, W: Wait> Crew<'a, D, G, W> {
         requires number { number < length self.now.thieves.now }
         requires seat { D.serves self.now.desk.now worker.old.seat }
         ensures seat { D.serves self.now.desk.now worker.new.seat }
-        ensures end { IfErr worker.new.end (HasCause D.may_fail (G.may_refuse self.now.gate.now number) (fill_count self.now.plan.now)) }
+        ensures end { IfErr worker.new.end (HasCause D.may_fail (G.may_refuse self.now.gate.now number) (fill_count self.now.survey.now)) }
     {
         worker.end = self.fill_regions(number, worker);
         if let Err(Halt::Failed(_)) = worker.end {
@@ -61,7 +58,7 @@ impl<'a, D: Desk, G: Gate, W: Wait> Crew<'a, D, G, W> {
         requires number { number < length self.now.thieves.now }
         requires seat { D.serves self.now.desk.now worker.old.seat }
         ensures seat { D.serves self.now.desk.now worker.new.seat }
-        ensures halt { IfErr result (HasCause D.may_fail (G.may_refuse self.now.gate.now number) (fill_count self.now.plan.now)) }
+        ensures halt { IfErr result (HasCause D.may_fail (G.may_refuse self.now.gate.now number) (fill_count self.now.survey.now)) }
     {
         let backoff = Backoff::new();
         for _ in self.wait.forever() {
@@ -82,7 +79,7 @@ impl<'a, D: Desk, G: Gate, W: Wait> Crew<'a, D, G, W> {
         requires number { number < length self.now.thieves.now }
         requires seat { D.serves self.now.desk.now worker.old.seat }
         ensures seat { D.serves self.now.desk.now worker.new.seat }
-        ensures halt { IfErr result (HasCause D.may_fail (G.may_refuse self.now.gate.now number) (fill_count self.now.plan.now)) }
+        ensures halt { IfErr result (HasCause D.may_fail (G.may_refuse self.now.gate.now number) (fill_count self.now.survey.now)) }
     {
         self.go_on()?;
         if let Some(region) = self.next_region(number, worker) {
@@ -100,10 +97,10 @@ impl<'a, D: Desk, G: Gate, W: Wait> Crew<'a, D, G, W> {
     fn next_region(&self, number: u32, worker: &mut Worker<D::Seat>) -> Option<u32>
         requires { number < length self.now.thieves.now }
         ensures seat { worker.new.seat ≡ worker.old.seat }
-        ensures region { IfSome result (λ r. r < fill_count self.now.plan.now) }
+        ensures region { IfSome result (λ r. r < fill_count self.now.survey.now) }
     {
         let region = worker.ready.take(self.thieves, number as usize)?;
-        if region < self.plan.fill_regions() {
+        if region < self.survey.plan().fill_regions() {
             Some(region)
         } else {
             None
@@ -113,13 +110,13 @@ impl<'a, D: Desk, G: Gate, W: Wait> Crew<'a, D, G, W> {
     /// Claims a region, and fills it if it is granted. Whether all regions to fill are settled.
     fn visit(&self, number: u32, worker: &mut Worker<D::Seat>, region: u32) -> Result<bool, Halt>
         requires seat { D.serves self.now.desk.now worker.old.seat }
-        requires region { region < fill_count self.now.plan.now }
+        requires region { region < fill_count self.now.survey.now }
         ensures seat { D.serves self.now.desk.now worker.new.seat }
-        ensures halt { IfErr result (HasCause D.may_fail (G.may_refuse self.now.gate.now number) (fill_count self.now.plan.now)) }
+        ensures halt { IfErr result (HasCause D.may_fail (G.may_refuse self.now.gate.now number) (fill_count self.now.survey.now)) }
     {
         moves_of_images();
         regions_to_fill();
-        let _regions = self.plan.regions();
+        let _regions = self.survey.plan().regions();
         match self.desk.claim(&mut worker.seat, region, self.wait)? {
             Some(ticket) => self.settle(number, worker, ticket),
             None => Ok(false),
@@ -134,11 +131,11 @@ impl<'a, D: Desk, G: Gate, W: Wait> Crew<'a, D, G, W> {
         ticket: Ticket,
     ) -> Result<bool, Halt>
         requires seat { D.serves self.now.desk.now worker.old.seat }
-        requires region { ticket.region < fill_count self.now.plan.now }
+        requires region { ticket.region < fill_count self.now.survey.now }
         requires unused { IsUnused ticket }
         requires ticket { D.tells → IsTicketOf (D.moves self.now.desk.now) (D.caller worker.old.seat) ticket }
         ensures seat { D.serves self.now.desk.now worker.new.seat }
-        ensures halt { IfErr result (HasCause D.may_fail (G.may_refuse self.now.gate.now number) (fill_count self.now.plan.now)) }
+        ensures halt { IfErr result (HasCause D.may_fail (G.may_refuse self.now.gate.now number) (fill_count self.now.survey.now)) }
     {
         let region = ticket.region();
         if let Err(halt) = self.admit(number, region) {
@@ -152,8 +149,8 @@ impl<'a, D: Desk, G: Gate, W: Wait> Crew<'a, D, G, W> {
 
     /// Asks the gate, which may have held the worker until another one met a fault.
     fn admit(&self, number: u32, region: u32) -> Result<(), Halt>
-        requires { region < fill_count self.now.plan.now }
-        ensures { IfErr result (HasCause D.may_fail (G.may_refuse self.now.gate.now number) (fill_count self.now.plan.now)) }
+        requires { region < fill_count self.now.survey.now }
+        ensures { IfErr result (HasCause D.may_fail (G.may_refuse self.now.gate.now number) (fill_count self.now.survey.now)) }
     {
         if !self.gate.before_fill(number, region) {
             return Err(Halt::Failed(Fault::Gate));
@@ -181,7 +178,7 @@ impl<'a, D: Desk, G: Gate, W: Wait> Crew<'a, D, G, W> {
         ensures done { IfOk result (λ done. D.tells → IsDoneOf (D.caller worker.new.seat) done) }
         ensures fault { IfErr result (IsFaultOf D.may_fail) }
     {
-        let fill_regions = self.plan.fill_regions();
+        let fill_regions = self.survey.plan().fill_regions();
         let ready = &mut worker.ready;
         let mut refused = None;
         let queue = |source: u32| {
@@ -217,8 +214,7 @@ impl<'a, D: Desk, G: Gate, W: Wait> Crew<'a, D, G, W> {
         let (done, _placed) = fill_region(
             self.desk,
             self.cells,
-            self.plan,
-            self.marks,
+            self.survey,
             seat,
             ticket,
             &mut on_last,
@@ -243,20 +239,19 @@ where
     ensures seats { All (λ w. D.serves crew.now.desk.now w.seat) workers.new }
     ensures halts { All (λ w. IfErr w.end (HasCause D.may_fail
         (λ r. MayBeRefused (λ n. G.may_refuse crew.now.gate.now n r) (length workers.old))
-        (fill_count crew.now.plan.now))) workers.new }
+        (fill_count crew.now.survey.now))) workers.new }
 {
     let count = workers.len();
-    let (desk, cells, plan, marks) = (crew.desk, crew.cells, crew.plan, crew.marks);
+    let (desk, cells, survey) = (crew.desk, crew.cells, crew.survey);
     let (gate, wait, thieves, stop) = (crew.gate, crew.wait, crew.thieves, crew.stop);
     let work = |number: usize, worker: &mut Worker<D::Seat>|
-        requires { (D.moves desk.now ≡ image_table plan.now) × (cells.now ≡ plan.now) × (marks.now ≡ plan.now)
+        requires { (D.moves desk.now ≡ image_table survey.now) × (cells.now ≡ survey.now)
             × (number < length thieves.now) × (number < 2 ^ 32) × D.serves desk.now worker.old.seat }
     {
         let own = Crew {
             desk,
             cells,
-            plan,
-            marks,
+            survey,
             gate,
             wait,
             thieves,

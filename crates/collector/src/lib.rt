@@ -2,7 +2,8 @@
 //!
 //! - [`collect`] compacts an image by 1 to 64 workers, each in a thread of its own where one can be started.
 //!   [`collect_stream`] does so from bytes to bytes.
-//! - [`record`] collects as `collect` does, and gives the schedule of all that the workers did.
+//! - [`record`] collects as `collect` does, and gives the schedule of all that the workers did. [`record_stream`] does so
+//!   from bytes to bytes.
 //! - [`verify`] says whether an image is the compaction of another, and if not, where it first differs: in its shape,
 //!   its words or its live list.
 //! - [`Ready`] holds the regions that one worker has found ready to be filled, first in first out. Its room is reserved
@@ -18,7 +19,8 @@
 //! pair, for every number of workers and however their steps fall. Each refusal has its cause in its clause, and `Kept`
 //! hands the image back unchanged. `collect_stream` at Ok has read all of its input, the text of an image, and written
 //! the text of its compaction; before a collection has ended well it has written nothing. `record` at Ok gives the
-//! compaction too, and a schedule that the word machine allows and that settles all regions to fill.
+//! compaction too, and a schedule that the word machine allows and that settles all regions to fill; `record_stream` has
+//! written the texts of both, and nothing before `record` has ended well.
 //!
 //! `verify` answers `Same` exactly where the second image is the compaction of the first by the definitions of
 //! `summary`, and else the first difference; its only error is want of memory. `push` answers true exactly while fewer
@@ -49,9 +51,9 @@ mod memory_tests;
 mod outcome;
 mod prepared;
 mod ready;
+mod record_streaming;
 #[cfg(test)]
 mod record_tests;
-mod recorded;
 mod recording;
 mod staff;
 mod streaming;
@@ -68,7 +70,8 @@ pub use gate::{Gate, OpenGate};
 pub use laws::an_upgrade_is_collected_alike;
 pub use outcome::{Figures, Outcome, Refusal};
 pub use ready::{Ready, Thief};
-pub use recorded::record;
+pub use record_streaming::record_stream;
+pub use recording::record;
 pub use streaming::collect_stream;
 pub use verdict::Verdict;
 pub use verification::verify;

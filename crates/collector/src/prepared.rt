@@ -1,19 +1,10 @@
-//! `Prepared`: what a collection needs beside the regions.
-ghost use Rattle.std.specs.Prelude.{◌≡◌, ◌<◌, ◌≤◌, ◌⊎◌, ℕ, [], All, vec_len, IfOk, IfErr, IfSome, slice_index_or, length, Err};
-ghost use Rattle.std.specs.Vec.{vec_capacity};
-ghost use Rattle.heap_image.specs.declared.fault.Fault.TheVariants.{Memory};
+//! `Prepared`: what a collection needs beside the regions, over any desk.
+ghost use Rattle.std.specs.Prelude.{◌≡◌, ◌<◌, ◌≤◌, ℕ, All, vec_len, IfOk, IfErr, IfSome, slice_index_or, length, Err};
 ghost use Rattle.summary.specs.Compaction.{compact};
 ghost use Rattle.summary.specs.RegionData.{fill_count};
 ghost use Rattle.history.specs.ImageMoves.{image_table};
-ghost use Rattle.history.specs.State.{AllAreSettled};
-ghost use Rattle.history.specs.History.{IsLegal, state_of};
-ghost use Rattle.history.specs.Whole.{HasEachOnce};
-ghost use Rattle.claim_board.specs.Boards.{moves as moves_of, worker_count, identity, board_of, AllOf};
-ghost use Rattle.claim_board.specs.Finishes.{history};
-ghost use Rattle.fill.specs.Drains.{IsOverwritten};
-ghost use Rattle.collector.specs.Halts.{MayBeRefused};
+ghost use Rattle.collector.specs.Halts.{HasCause, MayBeRefused};
 ghost use Rattle.collector.specs.Collections.{figures_of};
-ghost use Rattle.collector.specs.Preparations.{IsPrepared};
 ghost use Rattle.collector.specs.declared.worker.Halt.TheVariants.{Failed};
 
 use crate::clean_up::clean_up;
@@ -22,82 +13,98 @@ use crate::gate::Gate;
 use crate::outcome::{Figures, Outcome};
 use crate::staff::Staff;
 use crate::worker::{Halt, Worker};
-use claim_board::{Board, Finished, Pass};
-use heap_image::{Fault, Image};
-use history::{Moves, settled_histories_have_each_once};
-use mark_bitmap::Marks;
+use claim_board::Desk;
+use heap_image::Fault;
 use region_cells::Cells;
-use std::alloc::Global;
+use std::alloc::{AllocError, Global};
 use std::sync::Wait;
 use std::sync::atomic::AtomicBool;
 use std::thread::Threads;
-use summary::Plan;
+use summary::Survey;
 
-/// What a collection needs beside the regions, made before any worker begins.
+/// What a collection needs beside the regions, made before any worker begins: the survey of an image, a desk of its moves, and 1 to 64 workers, each with a seat of the desk and a queue.
 #[derive(Drop)]
-pub(crate) struct Prepared {
-    pub(crate) plan: Plan,
-    marks: Marks,
-    board: Board,
-    staff: Staff<Pass>,
-    /// Empty, with room for the pass of each worker.
-    passes: Vec<Pass>,
+pub(crate) struct Prepared<D: Desk + Drop>
+where
+    D::Seat: Drop,
+{
+    pub(crate) survey: Survey,
+    pub(crate) desk: D,
+    pub(crate) staff: Staff<D::Seat>,
+    ghost moves: { D.moves desk ≡ image_table survey },
+    ghost some: { 0 < vec_len staff.workers },
+    ghost few: { vec_len staff.workers ≤ 64 },
+    ghost thieves: { vec_len staff.thieves ≡ vec_len staff.workers },
 }
 
-impl Prepared {
-    /// Of this image, for 1 to 64 workers. The only error is want of memory.
-    pub(crate) fn of(
+/// What a collection leaves whose regions have all moved.
+#[derive(Drop)]
+pub(crate) struct Worked<D: Desk + Drop>
+where
+    D::Seat: Drop,
+{
+    pub(crate) outcome: Outcome,
+    pub(crate) survey: Survey,
+    pub(crate) desk: D,
+    pub(crate) workers: Vec<Worker<D::Seat>>,
+}
+
+impl<D: Desk + Drop> Prepared<D>
+where
+    D::Seat: Drop,
+{
+    /// With a worker in each seat. The error is that memory is refused.
+    pub(crate) fn over(
         alloc: Global,
-        image: &Image,
-        workers: u32,
-        threads: &(impl Threads + Sync),
-    ) -> Result<Prepared, Fault>
-        requires some { 0 < workers }
-        requires few { workers ≤ 64 }
-        ensures prepared { IfOk result IsPrepared }
-        ensures plan { IfOk result (λ prepared. prepared.plan ≡ image.now) }
-        ensures workers { IfOk result (λ prepared. worker_count prepared.board ≡ workers) }
-        ensures fault { IfErr result (λ fault. fault ≡ Memory) }
+        survey: Survey,
+        desk: D,
+        seats: Vec<D::Seat>,
+    ) -> Result<Prepared<D>, AllocError>
+        requires moves { D.moves desk ≡ image_table survey }
+        requires some { 0 < vec_len seats }
+        requires few { vec_len seats ≤ 64 }
+        requires seats { All (D.serves desk) seats.items }
+        ensures survey { IfOk result (λ prepared. prepared.survey ≡ survey) }
+        ensures desk { IfOk result (λ prepared. prepared.desk ≡ desk) }
+        ensures seats { IfOk result (λ prepared. All (λ w. D.serves prepared.desk w.seat) prepared.staff.workers.items) }
+        ensures workers { IfOk result (λ prepared. vec_len prepared.staff.workers ≡ vec_len seats) }
     {
-        let marks = Marks::of(alloc, image)?;
-        let plan = Plan::of(alloc, image, &marks, threads)?;
-        let (board, seats) = Board::new(alloc, &plan, workers)?;
-        let passes = Vec::with_capacity(alloc, seats.len())?;
-        let staff = Staff::new(alloc, &plan, seats)?;
+        let staff = Staff::new(alloc, survey.plan(), seats)?;
         Ok(Prepared {
-            plan,
-            marks,
-            board,
+            survey,
+            desk,
             staff,
-            passes,
         })
     }
 
-    /// Lets all workers work on the cells, and makes the image of what they leave.
-    pub(crate) fn collect<G: Gate + Sync, T: Threads + Sync, W: Wait + Sync>(
+    /// Lets all workers work on the cells, and makes the image of what they leave. The fault is that of the lowest worker
+    /// that met one, or 15 where a region has not moved.
+    pub(crate) fn work<G: Gate + Sync, T: Threads + Sync, W: Wait + Sync>(
         self,
         cells: Cells,
         gate: &G,
         threads: &T,
         wait: &W,
-    ) -> Result<(Outcome, Finished), Fault>
-        requires prepared { IsPrepared self }
-        requires cells { cells ≡ self.plan }
-        ensures image { IfOk result (λ done. done.0.image ≡ compact self.plan) }
-        ensures figures { IfOk result (λ done. done.0.figures ≡ figures_of self.plan) }
-        ensures legal { IfOk result (λ done. IsLegal (image_table self.plan) (worker_count self.board) (history done.1)) }
-        ensures once { IfOk result (λ done. HasEachOnce (image_table self.plan) (history done.1)) }
-        ensures fault { IfErr result (λ fault. IsOverwritten fault ⊎ ((fault ≡ Fault.Gate) × MayBeRefused
-            (λ r. MayBeRefused (λ n. G.may_refuse gate.now n r) (worker_count self.board)) (fill_count self.plan))) }
+    ) -> Result<Worked<D>, Fault>
+    where
+        D: Sync,
+        D::Seat: Send,
+        requires cells { cells ≡ self.survey }
+        requires seats { All (λ w. D.serves self.desk w.seat) self.staff.workers.items }
+        ensures image { IfOk result (λ worked. worked.outcome.image ≡ compact self.survey) }
+        ensures figures { IfOk result (λ worked. worked.outcome.figures ≡ figures_of self.survey) }
+        ensures survey { IfOk result (λ worked. worked.survey ≡ self.survey) }
+        ensures desk { IfOk result (λ worked. worked.desk ≡ self.desk) }
+        ensures seats { IfOk result (λ worked. All (λ w. D.serves worked.desk w.seat) worked.workers.items) }
+        ensures workers { IfOk result (λ worked. vec_len worked.workers ≡ vec_len self.staff.workers) }
+        ensures fault { IfErr result (λ fault. HasCause D.may_fail
+            (λ r. MayBeRefused (λ n. G.may_refuse gate.now n r) (vec_len self.staff.workers))
+            (fill_count self.survey) (Failed fault)) }
     {
-        settled_histories_have_each_once();
-        let _moves = Moves::regions(&self.plan);
         let Prepared {
-            plan,
-            marks,
-            board,
+            survey,
+            desk,
             staff,
-            passes,
         } = self;
         let Staff {
             mut workers,
@@ -105,43 +112,26 @@ impl Prepared {
         } = staff;
         let stop = AtomicBool::new(false);
         let crew = Crew {
-            desk: &board,
+            desk: &desk,
             cells: &cells,
-            plan: &plan,
-            marks: &marks,
+            survey: &survey,
             gate,
             wait,
             thieves: thieves.as_slice(),
             stop: &stop,
         };
         work_all(&crew, workers.as_mut_slice(), threads);
-        let finished = finish(board, workers, passes)?;
-        let image = clean_up(cells, &plan, &marks, threads)?;
-        let figures = Figures::of(&plan);
-        Ok((Outcome { image, figures }, finished))
-    }
-}
-
-/// Ends the board, or answers the fault of the lowest worker that met one.
-fn finish(board: Board, workers: Vec<Worker<Pass>>, passes: Vec<Pass>) -> Result<Finished, Fault>
-    requires workers { All (λ w. board_of w.seat ≡ identity board) workers.items }
-    requires empty { passes.items ≡ [] }
-    requires room { vec_len workers ≤ vec_capacity passes }
-    ensures legal { IfOk result (λ finished. IsLegal (moves_of board) (worker_count board) (history finished)) }
-    ensures settled { IfOk result (λ finished. AllAreSettled (moves_of board) (state_of (history finished))) }
-    ensures fault { IfErr result (λ fault. IsOverwritten fault
-        ⊎ ((k : ℕ) × (w : _) × (k < length workers.items)
-        × (slice_index_or workers.items k w ≡ w) × (w.end ≡ Err (Failed fault)))) }
-{
-    if let Some(fault) = first_fault(workers.as_slice()) {
-        return Err(fault);
-    }
-    // A worker stops early only where another met a fault. No contract sees the flag that tells it, so none says that
-    // the board is finished here.
-    let passes = passes_of(&board, workers, passes);
-    match board.finish(passes) {
-        Some(finished) => Ok(finished),
-        None => Err(Fault::Overwritten(0)),
+        if let Some(fault) = first_fault(workers.as_slice()) {
+            return Err(fault);
+        }
+        let image = clean_up(cells, &survey, threads)?;
+        let figures = Figures::of(survey.plan());
+        Ok(Worked {
+            outcome: Outcome { image, figures },
+            survey,
+            desk,
+            workers,
+        })
     }
 }
 
@@ -156,23 +146,4 @@ pub(crate) fn first_fault<S>(workers: &[Worker<S>]) -> Option<Fault>
         }
     }
     None
-}
-
-/// The workers' passes, put into a list that has room for them.
-fn passes_of(board: &Board, mut workers: Vec<Worker<Pass>>, mut passes: Vec<Pass>) -> Vec<Pass>
-    requires workers { All (λ w. board_of w.seat ≡ identity board.now) workers.items }
-    requires empty { passes.items ≡ [] }
-    requires room { vec_len workers ≤ vec_capacity passes }
-    ensures { AllOf (identity board.now) result.items }
-{
-    let _board = board;
-    while let Some(worker) = workers.pop() {
-        let Worker {
-            seat,
-            ready: _,
-            end: _,
-        } = worker;
-        passes.push_reserved(seat);
-    }
-    passes
 }

@@ -3,14 +3,13 @@ use crate::tests::{BASE_LIVE, BASE_WORDS, image_of};
 use crate::{Gate, OpenGate, Refusal, Verdict, record, verify};
 use heap_image::{Fault, Image, encode};
 use history::{End, Event, Reply, Schedule, replay, write_schedule};
-use mark_bitmap::Marks;
 use std::alloc::Global;
 use std::sync::Wait;
 use std::sync::atomic::{AtomicBool, AtomicU32, Ordering};
 use std::test::Fail;
 use std::thread;
 use std::thread::Threads;
-use summary::Plan;
+use summary::Survey;
 
 mod forced;
 mod held;
@@ -19,7 +18,7 @@ mod memory;
 mod rooted;
 
 /// What one worker does with the base heap.
-const BASE_SCHEDULE: &str = "schedule 1 1
+pub(crate) const BASE_SCHEDULE: &str = "schedule 1 1
 0 claim 0 yes
 0 copy 0 6 ok
 0 copy 0 2 ok
@@ -85,9 +84,8 @@ fn replays(
     image: &Image,
     schedule: &Schedule,
 ) -> Result<bool, Fault> {
-    let marks = Marks::of(alloc, image)?;
-    let plan = Plan::of(alloc, image, &marks, threads)?;
-    let replayed = replay(alloc, image, &marks, &plan, schedule)?;
+    let survey = Survey::of(alloc, image, threads)?;
+    let replayed = replay(alloc, image, &survey, schedule)?;
     match &replayed.ended {
         End::Finished(after) => Ok(verify(alloc, image, after, threads)? == Verdict::Same),
         End::Open => Ok(false),

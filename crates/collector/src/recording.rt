@@ -1,46 +1,83 @@
-//! `Recording`: what a recorded collection needs beside the regions.
-ghost use Rattle.std.specs.Prelude.{◌≡◌, ◌<◌, ◌≤◌, ◌⊎◌, ℕ, All, vec_len, IfOk, IfErr};
+//! `record`: a collection whose calls are kept for a schedule.
+ghost use Rattle.std.specs.Prelude.{◌≡◌, ◌<◌, ◌≤◌, ◌↔◌, ◌⊎◌, ℕ, All, vec_len, IfOk, IfErr, Err};
 ghost use Rattle.heap_image.specs.declared.fault.Fault.TheVariants.{Memory};
 ghost use Rattle.summary.specs.Compaction.{compact};
 ghost use Rattle.summary.specs.RegionData.{fill_count};
 ghost use Rattle.history.specs.Record.{IsRecord};
-ghost use Rattle.history.specs.ImageMoves.{image_table};
-ghost use Rattle.claim_board.specs.Recorders.{moves as moves_of, worker_count};
+ghost use Rattle.claim_board.specs.Recorders.{worker_count};
 ghost use Rattle.collector.specs.Halts.{MayBeRefused};
-ghost use Rattle.collector.specs.Collections.{figures_of};
-ghost use Rattle.collector.specs.Records.{IsLossBy, IsOfSchedule};
-ghost use Rattle.collector.specs.Recordings.{IsReady};
+ghost use Rattle.collector.specs.Collections.{figures_of, AreNoneOrTooMany, IfKept, IfLost};
+ghost use Rattle.collector.specs.Records.{IsLoss, IsLossBy, IsOfSchedule};
+ghost use Rattle.collector.specs.declared.outcome.Refusal.TheVariants.{Kept, Lost};
 
-use crate::clean_up::clean_up;
-use crate::crew::{Crew, work_all};
+use crate::collection::MAX_WORKERS;
 use crate::gate::Gate;
-use crate::outcome::{Figures, Outcome};
-use crate::prepared::first_fault;
-use crate::staff::Staff;
+use crate::outcome::{Outcome, Refusal};
+use crate::prepared::Prepared;
 use claim_board::Recorder;
 use heap_image::{Fault, Image};
 use history::{Schedule, check, checked_histories_are_records};
-use mark_bitmap::Marks;
 use region_cells::Cells;
 use std::alloc::{AllocError, Global};
 use std::sync::Wait;
-use std::sync::atomic::AtomicBool;
 use std::thread::Threads;
-use summary::Plan;
+use summary::{Plan, Survey};
 
-/// What a recorded collection needs beside the regions, made before any worker begins.
-#[derive(Drop)]
-pub(crate) struct Recording {
-    pub(crate) plan: Plan,
-    marks: Marks,
-    recorder: Recorder,
-    staff: Staff<u32>,
+/// Compacts an image as [`collect`](crate::collect) does, by workers that agree under one lock, and gives the schedule
+/// of all their calls and copies. Each call and copy takes memory for its line.
+///
+/// `Kept` comes as from `collect`. `Lost` comes after a worker has begun: with the faults of `collect`, with fault 11
+/// where memory for a line was refused, and with fault 14 where the schedule is not one by which all regions are moved:
+/// it names the first line at fault, or the line after the last where some region isn't settled.
+pub fn record<G: Gate + Sync, T: Threads + Sync, W: Wait + Sync>(
+    alloc: Global,
+    image: Image,
     workers: u32,
+    gate: &G,
+    threads: &T,
+    wait: &W,
+) -> Result<(Outcome, Schedule), Refusal>
+    ensures image { IfOk result (λ done. done.0.image ≡ compact image) }
+    ensures figures { IfOk result (λ done. done.0.figures ≡ figures_of image) }
+    ensures schedule { IfOk result (λ done. IsRecord image workers done.1) }
+    ensures kept { IfErr result (λ refusal. IfKept refusal
+        (λ back fault. (back ≡ image) × ((fault ≡ Fault.Memory) ⊎ (fault ≡ Fault.Workers)))) }
+    ensures workers { result ≡ Err (Kept image Fault.Workers) ↔ AreNoneOrTooMany workers }
+    ensures lost { IfErr result (λ refusal. IfLost refusal IsLoss) }
+    ensures gate { result ≡ Err (Lost Fault.Gate) → MayBeRefused
+        (λ r. MayBeRefused (λ n. G.may_refuse gate.now n r) workers) (fill_count image) }
+{
+    if workers == 0 || workers > MAX_WORKERS {
+        return Err(Refusal::Kept(image, Fault::Workers));
+    }
+    let recording = match Recording::of(alloc, &image, workers, threads) {
+        Ok(recording) => recording,
+        Err(fault) => return Err(Refusal::Kept(image, fault)),
+    };
+    let cells = match Cells::of(alloc, image, recording.prepared.survey.plan()) {
+        Ok(cells) => cells,
+        Err(image) => return Err(Refusal::Kept(image, Fault::Memory)),
+    };
+    match recording.record(cells, gate, threads, wait) {
+        Ok(done) => Ok(done),
+        Err(fault) => Err(Refusal::Lost(fault)),
+    }
+}
+
+/// A collection over a recorder, before any worker begins.
+#[derive(Drop)]
+struct Recording {
+    prepared: Prepared<Recorder>,
+    workers: u32,
+    alloc: Global,
+    ghost counted: { worker_count prepared.desk ≡ workers },
+    ghost hands: { vec_len prepared.staff.workers ≡ workers },
+    ghost seats: { All (λ w. w.seat < workers) prepared.staff.workers.items },
 }
 
 impl Recording {
     /// Of this image, for 1 to 64 workers. The only error is want of memory.
-    pub(crate) fn of(
+    fn of(
         alloc: Global,
         image: &Image,
         workers: u32,
@@ -48,53 +85,39 @@ impl Recording {
     ) -> Result<Recording, Fault>
         requires some { 0 < workers }
         requires few { workers ≤ 64 }
-        ensures ready { IfOk result IsReady }
-        ensures plan { IfOk result (λ recording. recording.plan ≡ image.now) }
-        ensures workers { IfOk result (λ recording. recording.workers ≡ workers) }
+        ensures survey { IfOk result (λ made. made.prepared.survey ≡ image.now) }
+        ensures workers { IfOk result (λ made. made.workers ≡ workers) }
         ensures fault { IfErr result (λ fault. fault ≡ Memory) }
     {
-        let marks = Marks::of(alloc, image)?;
-        let plan = Plan::of(alloc, image, &marks, threads)?;
-        let recorder = Recorder::new(alloc, &plan, workers)?;
-        let staff = Staff::new(alloc, &plan, numbers(alloc, workers)?)?;
+        let survey = Survey::of(alloc, image, threads)?;
+        let recorder = Recorder::new(alloc, survey.plan(), workers)?;
+        let seats = numbers(alloc, workers)?;
+        let prepared = Prepared::over(alloc, survey, recorder, seats)?;
         Ok(Recording {
-            plan,
-            marks,
-            recorder,
-            staff,
+            prepared,
             workers,
+            alloc,
         })
     }
 
     /// Lets all workers work on the cells, and makes the image of what they leave and the schedule of what they called.
-    pub(crate) fn record<G: Gate + Sync, T: Threads + Sync, W: Wait + Sync>(
+    fn record<G: Gate + Sync, T: Threads + Sync, W: Wait + Sync>(
         self,
-        alloc: Global,
         cells: Cells,
         gate: &G,
         threads: &T,
         wait: &W,
     ) -> Result<(Outcome, Schedule), Fault>
-        requires ready { IsReady self }
-        requires cells { cells ≡ self.plan }
-        ensures image { IfOk result (λ done. done.0.image ≡ compact self.plan) }
-        ensures figures { IfOk result (λ done. done.0.figures ≡ figures_of self.plan) }
-        ensures schedule { IfOk result (λ done. IsRecord self.plan self.workers done.1) }
+        requires cells { cells ≡ self.prepared.survey }
+        ensures image { IfOk result (λ done. done.0.image ≡ compact self.prepared.survey) }
+        ensures figures { IfOk result (λ done. done.0.figures ≡ figures_of self.prepared.survey) }
+        ensures schedule { IfOk result (λ done. IsRecord self.prepared.survey self.workers done.1) }
         ensures loss { IfErr result (IsLossBy (MayBeRefused
-            (λ r. MayBeRefused (λ n. G.may_refuse gate.now n r) self.workers) (fill_count self.plan))) }
+            (λ r. MayBeRefused (λ n. G.may_refuse gate.now n r) self.workers) (fill_count self.prepared.survey))) }
     {
-        let Recording {
-            plan,
-            marks,
-            recorder,
-            staff,
-            workers,
-        } = self;
-        work(&recorder, &cells, &plan, &marks, staff, gate, threads, wait)?;
-        let image = clean_up(cells, &plan, &marks, threads)?;
-        let schedule = whole_schedule(alloc, recorder, &plan, workers)?;
-        let figures = Figures::of(&plan);
-        Ok((Outcome { image, figures }, schedule))
+        let worked = self.prepared.work(cells, gate, threads, wait)?;
+        let schedule = whole_schedule(self.alloc, worked.desk, worked.survey.plan(), self.workers)?;
+        Ok((worked.outcome, schedule))
     }
 }
 
@@ -104,50 +127,6 @@ fn numbers(alloc: Global, workers: u32) -> Result<Vec<u32>, AllocError>
     ensures below { IfOk result (λ numbers. All (λ number. number < workers) numbers.items) }
 {
     (0..workers).collect(alloc)
-}
-
-/// All workers work. The error is the fault of the lowest worker that met one.
-fn work<G: Gate + Sync, T: Threads + Sync, W: Wait + Sync>(
-    recorder: &Recorder,
-    cells: &Cells,
-    plan: &Plan,
-    marks: &Marks,
-    staff: Staff<u32>,
-    gate: &G,
-    threads: &T,
-    wait: &W,
-) -> Result<(), Fault>
-    requires marks { marks.now ≡ plan.now }
-    requires cells { cells.now ≡ plan.now }
-    requires moves { moves_of recorder.now ≡ image_table plan.now }
-    requires some { 0 < worker_count recorder.now }
-    requires few { worker_count recorder.now ≤ 64 }
-    requires hands { vec_len staff.workers ≡ worker_count recorder.now }
-    requires thieves { vec_len staff.thieves ≡ worker_count recorder.now }
-    requires seats { All (λ w. w.seat < worker_count recorder.now) staff.workers.items }
-    ensures { IfErr result (IsLossBy (MayBeRefused
-        (λ r. MayBeRefused (λ n. G.may_refuse gate.now n r) (worker_count recorder.now)) (fill_count plan.now))) }
-{
-    let Staff {
-        mut workers,
-        thieves,
-    } = staff;
-    let stop = AtomicBool::new(false);
-    let crew = Crew {
-        desk: recorder,
-        cells,
-        plan,
-        marks,
-        gate,
-        wait,
-        thieves: thieves.as_slice(),
-        stop: &stop,
-    };
-    work_all(&crew, workers.as_mut_slice(), threads);
-    match first_fault(workers.as_slice()) {
-        Some(fault) => Err(fault),
-        None => Ok(()),
-    }
 }
 
 /// The recorder's schedule, if it is the record of a whole collection of the plan's image. Fault 14 names the first line

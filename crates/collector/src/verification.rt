@@ -8,10 +8,9 @@ ghost use Rattle.collector.specs.declared.verdict.Verdict.TheVariants.{Same};
 use crate::comparison::Comparison;
 use crate::verdict::Verdict;
 use heap_image::{Fault, Image};
-use mark_bitmap::Marks;
 use std::alloc::Global;
 use std::thread::Threads;
-use summary::Plan;
+use summary::Survey;
 
 /// Whether `after` is the compaction of `before`, and if not, the first difference: that of the shapes, or else of the
 /// words, or else of the live addresses.
@@ -28,7 +27,6 @@ pub fn verify(
     ensures same { IfOk result (λ verdict. verdict ≡ Same ↔ after.now ≡ compact before.now) }
     ensures fault { IfErr result (λ fault. fault ≡ Memory) }
 {
-    let marks = Marks::of(alloc, before)?;
-    let plan = Plan::of(alloc, before, &marks, threads)?;
-    Ok(Comparison::verdict(before, after, &marks, &plan))
+    let survey = Survey::of(alloc, before, threads)?;
+    Ok(Comparison::verdict(before, after, &survey))
 }

@@ -138,11 +138,6 @@ module _ {F : Type 0} (step : F → ℕ → F → Type 0) (tells : Type 0) (m : 
   drained_all next all old new f g before l unread =
       record { drains = before.drains; each = before.each ∙ sym (sources_skip m d next all l (λ t a b. unread t a)); told = before.told; gains = before.gains }
 
-  -- from a caller that is the same
-  pub drained_from : (next : ℕ) (old mid new : Caller) (f g : F) → (tells → mid ≡ old) → HasDrained step tells m d next mid new f g → HasDrained step tells m d next old new f g
-  drained_from next old mid new f g same h =
-      record { drains = h.drains; each = h.each; told = h.told; gains = λ t. subst (λ (c : Caller). GainsAll c new (drain_calls c.worker d h.drains)) (same t) (h.gains t) }
-
   pub filled_all : (old mid new : Caller) (f g : F) → HasDrained step tells m d (region_count m) old mid f g → (tells → Gains mid new (Complete d) Done) → HasFilled step tells m d old new f g
   filled_all old mid new f g h last =
       let call : ℕ → List Entry = λ w. entry w (Complete d) Done ∷ [] in

@@ -71,9 +71,6 @@ module _ (image : HeapImage) where
   abbrev late_in : ℕ → ℕ → Bool
   late_in p e = is_late_behind image (deferred image e) p
 
-  pub late-none : (p : ℕ) → is_late_before image 0 p ≡ false
-  late-none p = refl
-
   pub late-next : (d p : ℕ) (o : Option ℕ) → deferred image d ≡ o → is_late_before image (d + 1) p ≡ (is_late_before image d p || is_late_behind image o p)
   late-next d p o e =
       ap (list_any (late_in p)) (range_with_len-add 0 d 1)

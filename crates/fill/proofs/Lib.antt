@@ -9,3 +9,4 @@ pub mod Steps
 pub mod Gaps
 pub mod Draining
 pub mod Reaching
+pub mod Hands

@@ -1,11 +1,9 @@
 -- Which words are redirected as a region is filled.
 use Rattle.std.proofs.Common.{◌≡◌, ℕ, ◌+◌, ◌-◌, ◌*◌, ◌/◌, ◌≤◌, ◌<◌, inl, inr, Bool, true, false, cond, ◌&&◌, length, get_or, refl, sym, ◌∙◌, ap, subst, arith, ltb, leb, eqb}
-use Rattle.std.proofs.lemmas.Bool.{cases_lt, cases_order, cond-true, cond-false, and_from, and_left, and_right, or_cases, lt-ltb, le-ltb, le-leb, lt-leb, eq-eqb, ne_eqb, eqb-true, not_from_true, not_from_false}
-use Rattle.std.proofs.lemmas.List.{get_or_default}
-use Rattle.std.proofs.lemmas.List.Folds.{Any-from_list_any}
+use Rattle.std.proofs.lemmas.Bool.{cases_lt, cases_order, cond-true, cond-false, and_from, and_left, and_right, lt-ltb, le-ltb, le-leb, lt-leb, eq-eqb, ne_eqb, not_from_true, not_from_false}
 use Rattle.std.specs.Prelude.{not, Some, None, Option}
 use Rattle.std.specs.List.{list_any}
-use Rattle.heap_image.specs.HeapImage.{HeapImage, HasLiveList, heap_words, region_words, word_at, size_at, references_at, end_of, is_live_word, live_words, is_null_or_live, reference_at}
+use Rattle.heap_image.specs.HeapImage.{HeapImage, HasLiveList, heap_words, region_words, word_at, size_at, references_at, end_of, is_live_word, live_words, reference_at}
 use Rattle.summary.specs.NewAddresses.{prefix_end, new_address, new_top}
 use Rattle.summary.specs.WordMoves.{slid, origin}
 use Rattle.summary.specs.Compaction.{moved_word, redirected, is_reference_of, is_deferred}
@@ -309,15 +307,3 @@ module _ (image : HeapImage) (sound : HasLiveList image) where
       let up = region_high R (new_address image a + size_at image a - 1) some in
       let e : (new_address image a + size_at image a - 1) / R * R ≡ d * R = ap (λ n. n * R) last in
       omega arith))
-
-  pub null_or_object : (w : ℕ) → is_null_or_live image w ≡ true → 0 < w → IsObject image (w - 1)
-  null_or_object w h some = elim (or_cases (eqb w 0) (list_any (λ a. eqb w (a + 1)) image.live) h) [
-    | inl null ↦ let e = eqb-true w 0 null in let no : ⊥ = omega arith in absurd no
-    | inr any ↦
-        let at = Any-from_list_any (λ a. eqb w (a + 1)) image.live any in
-        let e = eqb-true w (at.1 + 1) at.4 in
-        let l : at.0 < length image.live = at.2 in
-        let is : get_or image.live at.0 at.1 ≡ at.1 = at.3 in
-        let same : get_or image.live at.0 0 ≡ get_or image.live at.0 at.1 = get_or_default image.live at.0 0 at.1 l in
-        record { index = at.0; inside = l; is = omega arith }
-  ]

@@ -1,11 +1,12 @@
 -- A region as its objects are redirected, one after another.
-use Rattle.std.proofs.Common.{◌≡◌, ℕ, ◌+◌, ◌-◌, ◌≤◌, ◌<◌, inl, inr, true, false, List, length, get_or, set, sym, ◌∙◌, ap, subst, arith, max, eqb}
+use Rattle.std.proofs.Common.{◌≡◌, ℕ, ◌+◌, ◌-◌, ◌≤◌, ◌<◌, inl, inr, true, false, List, length, get_or, sym, ◌∙◌, ap, subst, arith, max, eqb}
 use Rattle.std.proofs.lemmas.Bool.{cases_lt, true≢false, eqb-true, eq-eqb}
-use Rattle.std.proofs.lemmas.List.{get_or_default}
+use Rattle.std.proofs.lemmas.List.{get_or_default, get_or-map, length-map}
 use Rattle.std.proofs.lemmas.List.Folds.{list_any_at, Any-from_list_any}
-use Rattle.std.specs.Prelude.{MatchOption, Option, Some, None}
-use Rattle.mark_bitmap.specs.Bits.{NoneBetween, IsFirstBetween}
+use Rattle.std.specs.Prelude.{MatchOption, Option, Some, None, map}
+use Rattle.heap_image.specs.Bits.{NoneBetween, IsFirstBetween}
 use Rattle.mark_bitmap.specs.Marks.{is_begin}
+use Rattle.raw_region.specs.Region.{with_words, part}
 use Rattle.heap_image.specs.Header.{size_of}
 use Rattle.heap_image.specs.HeapImage.{HeapImage, HasLiveList, start_of, word_at, size_at, references_at, reference_at, is_null_or_live}
 use Rattle.summary.specs.NewAddresses.{new_address, new_top}
@@ -14,7 +15,7 @@ use Rattle.summary.specs.Compaction.{moved_word, redirected, is_deferred}
 use Rattle.fill.specs.Splits.{IsSplit, Shows}
 use Rattle.fill.specs.Filling.{copied_word}
 use Rattle.fill.specs.Objects.{IsObject, IsNextObject, HasNoObject, IsPassed, IsMovedTo}
-use Rattle.fill.proofs.Writing.{split_none, split_skip, split_set, split_all}
+use Rattle.fill.proofs.Writing.{split_none, split_skip, split_more, split_all, length-part, get_or-part}
 use Rattle.fill.proofs.Redirects.{slid-ordered, moved-object, moved-header, moved-rest, moved-reference, moved-deferred, moved-between, moved-top, passed-start, new_address-is, object_size}
 
 module _ (image : HeapImage) (sound : HasLiveList image) where
@@ -61,25 +62,36 @@ module _ (image : HeapImage) (sound : HasLiveList image) where
       let same : p ≡ new_address image a = omega arith in
       ap c same ∙ header-same a o ∙ ap m (sym same))
 
+  -- a reference of an object that is not redirected yet
   pub reference-read : (a f start at : ℕ) (xs : List ℕ) → IsObject image a → is_deferred image a ≡ false → at ≡ new_address image a → start ≤ at → at + size_at image a ≤ start + length xs → f < references_at image a
-      → IsSplit m c start xs (at + 1 + f) → get_or xs (at - start + 1 + f) 0 ≡ reference_at image a f
+      → IsSplit m c start xs at → get_or xs (at - start + 1 + f) 0 ≡ reference_at image a f
   reference-read a f start at xs o early e low high few h =
       let size = object_size image sound a o in
       let less : references_at image a < size_at image a = size.2 in
       let k : start + (at - start + 1 + f) ≡ new_address image a + 1 + f = omega arith in
       h.above (at - start + 1 + f) (omega arith) (omega arith) ∙ ap c k ∙ (reference-moves a f o early few).0
 
-  pub object-step : (a f start at w : ℕ) (xs : List ℕ) → IsObject image a → is_deferred image a ≡ false → at ≡ new_address image a → start ≤ at → at + size_at image a ≤ start + length xs → f < references_at image a
-      → w ≡ redirected image (reference_at image a f) → IsSplit m c start xs (at + 1 + f) → IsSplit m c start (set xs (at - start + 1 + f) w) (at + 1 + (f + 1))
-  object-step a f start at w xs o early e low high few is h =
+  -- all references of an object, redirected at once
+  pub object-row : (a start at : ℕ) (xs : List ℕ) → IsObject image a → is_deferred image a ≡ false → at ≡ new_address image a → start ≤ at → at + size_at image a ≤ start + length xs
+      → IsSplit m c start xs at → IsSplit m c start (with_words xs (at - start + 1) (map (redirected image) (part xs (at - start + 1) (references_at image a)))) (at + 1 + references_at image a)
+  object-row a start at xs o early e low high h =
+      let n : ℕ = references_at image a in
+      let from : ℕ = at - start + 1 in
+      let zs : List ℕ = map (redirected image) (part xs from n) in
       let size = object_size image sound a o in
-      let less : references_at image a < size_at image a = size.2 in
-      let p : ℕ = at + 1 + f in
-      let k : p ≡ new_address image a + 1 + f = omega arith in
-      let i : p - start ≡ at - start + 1 + f = omega arith in
-      let q : p + 1 ≡ at + 1 + (f + 1) = omega arith in
-      let step = split_set m c start xs p w h (omega arith) (omega arith) (is ∙ sym ((reference-moves a f o early few).1) ∙ ap m (sym k)) in
-      subst (IsSplit m c start (set xs (at - start + 1 + f) w)) q (subst (λ (j : ℕ). IsSplit m c start (set xs j w) (p + 1)) i step)
+      let less : n < size_at image a = size.2 in
+      let long : length zs ≡ n = length-map (part xs from n) (redirected image) ∙ length-part xs from n (omega arith) in
+      let i : at + 1 - start ≡ from = omega arith in
+      let end : at + 1 + length zs ≡ at + 1 + n = ap (λ k. at + 1 + k) long in
+      let each : (f : ℕ) → f < length zs → get_or zs f 0 ≡ m (at + 1 + f) = λ f l. (
+      let few : f < n = omega arith in
+      let inside : f < length (part xs from n) = omega (arith, length-part xs from n (omega arith)) in
+      let k : new_address image a + 1 + f ≡ at + 1 + f = omega arith in
+      get_or-map (redirected image) (part xs from n) f 0 0 inside
+      ∙ ap (redirected image) (get_or-part xs from n f few ∙ reference-read a f start at xs o early e low high few h)
+      ∙ sym ((reference-moves a f o early few).1) ∙ ap m k) in
+      let row = split_more m c start xs zs (at + 1) (object-begin a start at xs o e h) (omega arith) (omega arith) each in
+      subst (IsSplit m c start (with_words xs from zs)) end (subst (λ (j : ℕ). IsSplit m c start (with_words xs j zs) (at + 1 + length zs)) i row)
 
   pub object-done : (a start at : ℕ) (xs : List ℕ) → IsObject image a → at ≡ new_address image a → IsSplit m c start xs (at + 1 + references_at image a) → IsSplit m c start xs (at + size_at image a)
   object-done a start at xs o e h =

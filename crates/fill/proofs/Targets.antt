@@ -12,7 +12,6 @@ use Rattle.std.proofs.lemmas.Bool.{false_from_ne_true}
 use Rattle.summary.specs.RegionData.{source, destination}
 use Rattle.summary.proofs.Destinations.{destination-live_words}
 use Rattle.summary.proofs.Readers.{source-Some, reads-below, reads-in_range, reads-word, word_reads, same_Bool}
-use Rattle.summary.proofs.Fillers.{top-above}
 use Rattle.fill.specs.Splits.{IsSplit, Shows}
 use Rattle.std.proofs.lemmas.List.{ext_get_or}
 use Rattle.std.specs.Prelude.{map}
@@ -165,9 +164,6 @@ module _ (image : HeapImage) (valid : IsValid image) where
         let down = slid-le image N in
         let no : ⊥ = omega arith in absurd no
   ]
-
-  pub prefix-inside : (d : ℕ) → start_of image d < prefix_end image → d < region_count image
-  prefix-inside d l = let top = top-above image valid.live_list in to_fill-inside d (omega arith)
 
   -- nor do several in a row
   pub written_to-gap : (d s n : ℕ) → prefix_end image ≤ start_of image d → d ≤ s → s + n ≤ region_count image → ((t : ℕ) → s ≤ t → t < s + n → reads image d t ≡ false)

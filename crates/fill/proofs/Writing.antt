@@ -1,12 +1,7 @@
 -- A block as words are with_words into it.
-use Rattle.std.proofs.Common.{◌≡◌, ℕ, ◌+◌, ◌-◌, ◌≤◌, ◌<◌, inl, inr, List, ◌++◌, length, get_or, take, drop, set, refl, sym, ◌∙◌, ap, arith, length-append, length-take, length-drop}
+use Rattle.std.proofs.Common.{◌≡◌, ℕ, ◌+◌, ◌-◌, ◌≤◌, ◌<◌, inl, inr, List, ◌++◌, length, get_or, take, drop, set, refl, ◌∙◌, ap, arith, length-append, length-take, length-drop}
 use Rattle.std.proofs.lemmas.Bool.{cases_lt, cases_eq}
 use Rattle.std.proofs.lemmas.List.{length-set, get_or-set_same, get_or-set_other, get_or-drop, get_or-take, get_or-append_right, get_or_append_left}
-use Rattle.std.proofs.lemmas.Slice.{put_mid-paste}
-use Rattle.std.proofs.lemmas.List.{append_assoc}
-use Rattle.std.proofs.lemmas.List.Edits.{paste_all}
-use borrow.Rule.Slice.PartMut.{put_mid}
-use lib.Seq.{paste}
 use Rattle.raw_region.specs.Region.{with_words, part}
 use Rattle.fill.specs.Splits.{IsSplit, Shows}
 
@@ -15,15 +10,6 @@ length-part xs from n h = omega (arith, length-take n (drop from xs), length-dro
 
 pub length-with_words : (xs ys : List ℕ) (at : ℕ) → at + length ys ≤ length xs → length (with_words xs at ys) ≡ length xs
 length-with_words xs ys at h = let rest = drop (at + length ys) xs in omega (arith, length-append (take at xs) (ys ++ rest), length-append ys rest, length-take at xs, length-drop (at + length ys) xs)
-
-pub put_mid-with_words : (xs ys zs : List ℕ) (at n : ℕ) → ys ≡ zs → length zs ≡ n → put_mid at (at + n - at) xs ys ≡ with_words xs at zs
-put_mid-with_words xs ys zs at n e long =
-    put_mid-paste at (at + n - at) xs ys zs n e (omega arith) (sym long) ∙ paste_all xs at zs n (sym long) ∙ ap (λ j. take at xs ++ (zs ++ drop (at + j) xs)) (sym long)
-
--- what `copy_within` leaves
-pub pasted : (xs : List ℕ) (from to n k : ℕ) → k ≡ n → from + n ≤ length xs → paste xs to (drop from xs) k ≡ with_words xs to (part xs from n)
-pasted xs from to n k e h =
-    ap (λ j. paste xs to (drop from xs) j) e ∙ append_assoc (take to xs) (part xs from n) (drop (to + n) xs) ∙ ap (λ j. take to xs ++ (part xs from n ++ drop (to + j) xs)) (sym (length-part xs from n h))
 
 pub get_or-part : (xs : List ℕ) (from n k : ℕ) → k < n → get_or (part xs from n) k 0 ≡ get_or xs (from + k) 0
 get_or-part xs from n k l = get_or-take n (drop from xs) k 0 l ∙ get_or-drop from xs k 0

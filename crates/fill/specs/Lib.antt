@@ -4,4 +4,6 @@ pub mod Filling
 pub mod Runs
 pub mod Objects
 pub mod Hands
+pub mod Sources
+pub mod Tickets
 pub mod Drains

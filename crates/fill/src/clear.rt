@@ -22,6 +22,10 @@ fn clear_region(region: &mut Region, kept: u64) -> u64
     ensures words { region.new ≡ cleared kept region.old }
     ensures kept { result ≡ min kept (length region.old) }
 {
+    if kept == 0 {
+        region.clear();
+        return 0;
+    }
     let words = region.len();
     let kept = kept.min(words as u64);
     region.fill(kept as usize, words - kept as usize, 0);

@@ -10,22 +10,30 @@ ghost use Rattle.fill.specs.Heap.{moved_regions, cleared, words_where, updated_w
 
 use crate::heap::{set_word, word};
 use heap_image::header::references;
-use mark_bitmap::Marks;
 use raw_region::Region;
-use summary::Plan;
 use summary::laws::compaction::blocks_of_regions;
 use summary::laws::deferred_objects::{moved_objects, one_deferred_object, update_then_clear};
 use summary::laws::new_addresses::objects_keep_their_order;
 use summary::laws::region_data::regions_to_fill;
+use summary::{Plan, Survey};
 
 /// Redirects the references of the deferred objects, once all regions are filled. The regions are those of the heap
 /// from address 0 up, and hold the moved words.
 ///
 /// Afterwards they hold the compacted words, but for the words from the new top up: [`clear_above`](crate::clear_above)
 /// is the rest. Takes no memory.
-pub fn update_deferred(regions: &mut [Region], plan: &Plan, marks: &Marks)
-    requires same { marks.now ≡ plan.now }
-    requires moved { regions.old ≡ moved_regions plan.now }
+pub fn update_deferred(regions: &mut [Region], survey: &Survey)
+    requires { regions.old ≡ moved_regions survey.now }
+    ensures blocks { AreBlocks survey.now.region_log regions.new }
+    ensures updated { concat regions.new ≡ updated_words survey.now }
+    ensures compacted { cleared (new_top survey.now) (concat regions.new) ≡ (compact survey.now).words }
+{
+    update_regions(regions, survey.plan());
+}
+
+/// Redirects the references of the deferred objects that begin in each region in turn.
+fn update_regions(regions: &mut [Region], plan: &Plan)
+    requires { regions.old ≡ moved_regions plan.now }
     ensures blocks { AreBlocks plan.now.region_log regions.new }
     ensures updated { concat regions.new ≡ updated_words plan.now }
     ensures compacted { cleared (new_top plan.now) (concat regions.new) ≡ (compact plan.now).words }
@@ -37,13 +45,12 @@ pub fn update_deferred(regions: &mut [Region], plan: &Plan, marks: &Marks)
     objects_keep_their_order();
     update_then_clear();
     for d in 0..plan.fill_regions() {
-        update_region(regions, plan, marks, d);
+        update_region(regions, plan, d);
     }
 }
 
 /// Redirects the references of the deferred object that begins in region `d`, if one does.
-fn update_region(regions: &mut [Region], plan: &Plan, marks: &Marks, d: u32)
-    requires same { marks.now ≡ plan.now }
+fn update_region(regions: &mut [Region], plan: &Plan, d: u32)
     requires inside { d < region_count plan.now }
     requires heap { FormHeap plan.now.region_log regions.old }
     requires words { concat regions.old ≡ words_where plan.now (is_late_before plan.now d) }
@@ -57,7 +64,7 @@ fn update_region(regions: &mut [Region], plan: &Plan, marks: &Marks, d: u32)
         let first = begin + 1;
         for p in first..first + u64::from(references(word(regions, log, begin))) {
             let reference = word(regions, log, p);
-            set_word(regions, log, p, plan.redirected(marks, reference));
+            set_word(regions, log, p, plan.redirected(reference));
         }
     }
 }

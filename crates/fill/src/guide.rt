@@ -1,20 +1,21 @@
 //! What tells a fill where words go.
-ghost use Rattle.std.specs.Prelude.{◌≡◌, ℕ, ◌+◌, ◌-◌, ◌<◌, ◌≤◌, ◌==◌, ◌||◌, true, false, IsTrue, IfSome, MatchOption, Some};
-ghost use Rattle.heap_image.specs.HeapImage.{IsValid, heap_words, region_words, region_count, start_of, is_live_word, is_null_or_live};
+ghost use Rattle.std.specs.Prelude.{◌≡◌, ℕ, ◌+◌, ◌-◌, ◌<◌, ◌≤◌, ◌==◌, ◌||◌, true, false, IfSome, MatchOption, Some};
+ghost use Rattle.heap_image.specs.HeapImage.{IsValid, heap_words, region_words, region_count, start_of, is_live_word};
 ghost use Rattle.summary.specs.NewAddresses.{prefix_end, new_address, new_top};
 ghost use Rattle.summary.specs.WordMoves.{slid};
 ghost use Rattle.summary.specs.RegionData.{source};
-ghost use Rattle.summary.specs.Compaction.{redirected};
+ghost use Rattle.fill.specs.Sources.{IsBehindPrefix};
 ghost use Rattle.fill.specs.Runs.{IsNextRun};
 ghost use Rattle.fill.specs.Objects.{IsObject, IsNextObject, HasNoObject};
 
-use crate::runs::{Run, Span};
+use crate::runs::Run;
+use crate::span::Span;
 use mark_bitmap::Marks;
 use std::marker::Model;
-use summary::Plan;
 use summary::laws::new_addresses::objects_keep_their_order;
 use summary::laws::readers::sources_in_a_row;
 use summary::laws::region_data::region_data_by_words;
+use summary::{Plan, Survey};
 
 /// The plan and the marks of one image.
 ///
@@ -37,11 +38,13 @@ impl<'a> Model for Guide<'a> {
 }
 
 impl<'a> Guide<'a> {
-    pub(crate) fn new(plan: &'a Plan, marks: &'a Marks) -> Guide<'a>
-        requires { marks.now ≡ plan.now }
-        ensures { result ≡ plan.now }
+    pub(crate) fn new(survey: &'a Survey) -> Guide<'a>
+        ensures { result ≡ survey.now }
     {
-        Guide { plan, marks }
+        Guide {
+            plan: survey.plan(),
+            marks: survey.marks(),
+        }
     }
 
     /// The plan.
@@ -78,8 +81,7 @@ impl<'a> Guide<'a> {
 
     /// Where the first live word at or above the start of region `r` goes, which is not a region of the prefix.
     pub(crate) fn destination(&self, r: u32) -> u64
-        requires inside { r < region_count self.now }
-        requires behind_prefix { prefix_end self.now ≤ start_of self.now r }
+        requires { IsBehindPrefix self.now r }
         ensures { result ≡ slid self.now (start_of self.now r) }
     {
         let _prefix_end = self.plan.prefix_end();
@@ -88,8 +90,7 @@ impl<'a> Guide<'a> {
 
     /// Where the first live word behind region `r` goes, which is not a region of the prefix.
     pub(crate) fn behind(&self, r: u32) -> u64
-        requires inside { r < region_count self.now }
-        requires behind_prefix { prefix_end self.now ≤ start_of self.now r }
+        requires { IsBehindPrefix self.now r }
         ensures { result ≡ slid self.now (start_of self.now r + region_words self.now) }
     {
         let _prefix_end = self.plan.prefix_end();
@@ -100,8 +101,7 @@ impl<'a> Guide<'a> {
 
     /// The region from which the first word of region `d` comes.
     pub(crate) fn source(&self, d: u32) -> u32
-        requires inside { d < region_count self.now }
-        requires behind_prefix { prefix_end self.now ≤ start_of self.now d }
+        requires region { IsBehindPrefix self.now d }
         requires to_fill { start_of self.now d < new_top self.now }
         ensures { source self.now d ≡ Some result }
     {
@@ -111,6 +111,27 @@ impl<'a> Guide<'a> {
             Some(s) => s,
             None => unreachable!(),
         }
+    }
+
+    /// The address in region `r`, which is not one of the prefix, from which on its live words go to `to` and on.
+    pub(crate) fn first_from(&self, r: u32, to: u64) -> u64
+        requires region { IsBehindPrefix self.now r }
+        requires low { slid self.now (start_of self.now r) ≤ to }
+        requires high { to ≤ slid self.now (start_of self.now r + region_words self.now) }
+        ensures after { start_of self.now r ≤ result }
+        ensures inside { result ≤ start_of self.now r + region_words self.now }
+        ensures place { slid self.now result ≡ to }
+    {
+        let span = self.span(r);
+        let mut at = span.start;
+        let mut place = self.destination(r);
+        while place < to {
+            let run = self.next_run(at, span.end);
+            let n = (run.end - run.begin).min(to - place);
+            place += n;
+            at = run.begin + n;
+        }
+        at
     }
 
     /// The first run of live words at or after `from`, cut at `to`.
@@ -163,14 +184,5 @@ impl<'a> Guide<'a> {
         let _prefix_end = self.plan.prefix_end();
         objects_keep_their_order();
         self.plan.new_address(self.marks, a)
-    }
-
-    /// A reference, as it is once its object has moved: null stays null.
-    #[inline]
-    pub(crate) fn redirected(&self, reference: u64) -> u64
-        requires { IsTrue (is_null_or_live self.now reference) }
-        ensures { result ≡ redirected self.now reference }
-    {
-        self.plan.redirected(self.marks, reference)
     }
 }

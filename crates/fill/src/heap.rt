@@ -3,6 +3,7 @@ ghost use Rattle.std.specs.Prelude.{◌≡◌, ◌<◌, length, slice_index, sli
 ghost use Rattle.std.specs.List.{concat};
 ghost use Rattle.heap_image.specs.HeapImage.{FormHeap};
 
+use heap_image::Heap;
 use raw_region::Region;
 
 /// The word at address `a` of a heap that lies in regions of `2 ^ region_log` words.
@@ -12,9 +13,7 @@ pub(crate) fn word(regions: &[Region], region_log: u32, a: u64) -> u64
     requires inside { a < length (concat regions.now) }
     ensures { result ≡ slice_index (concat regions.now) a }
 {
-    let region = &regions[(a >> region_log) as usize];
-    let place = a & ((1 << region_log) - 1);
-    region.get(place as usize)
+    Heap::new(regions, region_log).word(a)
 }
 
 /// Makes `word` the one at address `a` of a heap that lies in regions of `2 ^ region_log` words.

@@ -17,19 +17,17 @@
 //! fill succeeds, and how many words are noted before each drain. **Not said**: how fast a call is.
 #![tactic(auto)]
 
-mod calls;
+mod behind_prefix;
 mod clear;
 mod deferred;
 mod fill;
+mod filling;
 mod guide;
 mod heap;
-mod moves;
-mod opened;
-mod prefix;
-mod redirect;
+mod in_prefix;
 mod runs;
-mod sources;
-mod take;
+mod site;
+mod span;
 #[cfg(test)]
 mod tests;
 

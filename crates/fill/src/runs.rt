@@ -4,13 +4,6 @@ ghost use Rattle.fill.specs.Runs.{IsNextRun};
 
 use mark_bitmap::Marks;
 
-/// The addresses from `start` up to `end`, itself not included.
-#[derive(Debug, Clone, Copy)]
-pub(crate) struct Span {
-    pub(crate) start: u64,
-    pub(crate) end: u64,
-}
-
 /// Addresses of live words that stand together, from `begin` up to `end`, itself not included.
 #[derive(Debug, Clone, Copy)]
 pub(crate) struct Run {

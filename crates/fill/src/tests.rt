@@ -11,14 +11,13 @@ use crate::{clear_above, fill_region, update_deferred};
 use claim_board::{Board, Pass};
 use heap_image::{Fault, Image, decode_by_threads};
 use history::moves_of_images;
-use mark_bitmap::Marks;
 use raw_region::Region;
 use region_cells::Cells;
 use std::alloc::{AllocError, Global};
 use std::sync::Wait;
 use std::test::Fail;
 use std::thread::Threads;
-use summary::Plan;
+use summary::Survey;
 use summary::laws::region_data::regions_to_fill;
 
 /// A word of no live object.
@@ -98,13 +97,11 @@ fn put_words(bytes: &mut Vec<u8>, words: &[u64]) -> Result<(), AllocError> {
 /// A heap whose regions are to be filled.
 #[derive(Drop)]
 struct Heap {
-    plan: Plan,
-    marks: Marks,
+    survey: Survey,
     cells: Cells,
     board: Board,
-    ghost marks_are: { marks ≡ plan },
-    ghost cells_are: { cells ≡ plan },
-    ghost moves_are: { moves_of board ≡ image_table plan },
+    ghost cells_are: { cells ≡ survey },
+    ghost moves_are: { moves_of board ≡ image_table survey },
 }
 
 /// A heap, and the pass of its one worker.
@@ -115,16 +112,14 @@ fn heap_of<T: Threads + Sync>(
 ) -> Result<(Heap, Pass), Fail>
     ensures { IfOk result (λ made. board_of made.1 ≡ identity made.0.board) }
 {
-    let marks = Marks::of(alloc, &image)?;
-    let plan = Plan::of(alloc, &image, &marks, threads)?;
-    let (board, mut passes) = Board::new(alloc, &plan, 1)?;
+    let survey = Survey::of(alloc, &image, threads)?;
+    let (board, mut passes) = Board::new(alloc, survey.plan(), 1)?;
     let pass = passes.pop().ok_or("no pass")?;
-    let Ok(cells) = Cells::of(alloc, image, &plan) else {
+    let Ok(cells) = Cells::of(alloc, image, survey.plan()) else {
         return Err(Fail::from(AllocError));
     };
     let heap = Heap {
-        plan,
-        marks,
+        survey,
         cells,
         board,
     };
@@ -145,8 +140,8 @@ fn fill<W: Wait>(
 {
     moves_of_images();
     regions_to_fill();
-    let _regions = heap.plan.regions();
-    if region >= heap.plan.fill_regions() {
+    let _regions = heap.survey.plan().regions();
+    if region >= heap.survey.plan().fill_regions() {
         return Ok(false);
     }
     let Some(ticket) = heap.board.claim(pass, region) else {
@@ -158,8 +153,7 @@ fn fill<W: Wait>(
     let (done, placed) = fill_region(
         &heap.board,
         &heap.cells,
-        &heap.plan,
-        &heap.marks,
+        &heap.survey,
         pass,
         ticket,
         &mut on_last,
@@ -185,7 +179,7 @@ fn fill_all<R: Threads + Wait + Sync>(
     rt: &R,
 ) -> Result<Outcome, Fail> {
     let (heap, mut pass) = heap_of(alloc, image, rt)?;
-    let mut told = Vec::with_capacity(alloc, heap.plan.regions() as usize)?;
+    let mut told = Vec::with_capacity(alloc, heap.survey.plan().regions() as usize)?;
     for region in order {
         fill(&heap, &mut pass, &mut told, *region, rt)?;
     }
@@ -193,16 +187,11 @@ fn fill_all<R: Threads + Wait + Sync>(
 }
 
 fn ended(alloc: Global, heap: Heap, told: Vec<u32>) -> Result<Outcome, Fail> {
-    let Heap {
-        plan,
-        marks,
-        cells,
-        ..
-    } = heap;
+    let Heap { survey, cells, .. } = heap;
     let mut parts = cells.into_regions()?;
     let moved = joined(alloc, parts.regions.as_slice())?;
-    update_deferred(parts.regions.as_mut_slice(), &plan, &marks);
-    clear_above(parts.regions.as_mut_slice(), plan.new_top());
+    update_deferred(parts.regions.as_mut_slice(), &survey);
+    clear_above(parts.regions.as_mut_slice(), survey.plan().new_top());
     Ok(Outcome {
         told,
         moved,

@@ -1,9 +1,9 @@
 -- The first item of a list that passes a test.
-use Rattle.std.proofs.Common.{◌≡◌, ℕ, zero, suc, ◌+◌, ◌<◌, inl, inr, Bool, true, false, List, [], ◌∷◌, length, get_or, take, refl, sym, ◌∙◌, ap, arith, Some, None}
+use Rattle.std.proofs.Common.{◌≡◌, ℕ, zero, suc, ◌+◌, ◌<◌, inl, inr, Bool, true, false, List, [], ◌∷◌, length, get_or, take, refl, sym, ◌∙◌, ap, arith, cond, Option, Some, None}
 use Rattle.std.proofs.lemmas.Bool.{cases_Bool, cond-true, cond-false}
 use Rattle.std.proofs.lemmas.List.{take_more}
 use Rattle.std.proofs.lemmas.List.Folds.{find-append}
-use Rattle.std.specs.Prelude.{find, map}
+use Rattle.std.specs.Prelude.{find, map, option_map}
 use Rattle.std.specs.Option.{option_or}
 use Rattle.std.specs.List.{range_with_len}
 
@@ -40,22 +40,11 @@ find_least_from_zero t n i l h passes =
     let e : 0 + i ≡ i = omega arith in
     find_least t 0 n i l (λ k m. h k (omega arith)) (ap t e ∙ passes) ∙ ap Some e
 
--- the least of the fields of an object that passes
-find_pair : (t : ℕ × ℕ → Bool) (a b n i : ℕ) → i < n → ((k : ℕ) → k < b + i → t (a, k) ≡ false) → t (a, b + i) ≡ true → find t (map (λ f. (a, f)) (range_with_len b n)) ≡ Some (a, b + i)
-find_pair t a b zero i l h passes = let no : ⊥ = omega arith in absurd no
-find_pair t a b (suc n) zero l h passes = let e : b + 0 ≡ b = omega arith in cond-true (t (a, b)) (Some (a, b)) (find t (map (λ f. (a, f)) (range_with_len (b + 1) n))) (ap (λ f. t (a, f)) (sym e) ∙ passes) ∙ ap (λ f. Some (a, f)) (sym e)
-find_pair t a b (suc n) (suc i) l h passes =
-    let e : b + suc i ≡ b + 1 + i = omega arith in
-    cond-false (t (a, b)) (Some (a, b)) (find t (map (λ f. (a, f)) (range_with_len (b + 1) n))) (h b (omega arith)) ∙ find_pair t a (b + 1) n i (omega arith) (λ k m. h k (omega arith)) (ap (λ f. t (a, f)) (sym e) ∙ passes) ∙ ap (λ f. Some (a, f)) (sym e)
-
-pub find_field : (t : ℕ × ℕ → Bool) (a n i : ℕ) → i < n → ((k : ℕ) → k < i → t (a, k) ≡ false) → t (a, i) ≡ true → find t (map (λ f. (a, f)) (range_with_len 0 n)) ≡ Some (a, i)
-find_field t a n i l h passes =
-    let e : 0 + i ≡ i = omega arith in
-    find_pair t a 0 n i l (λ k m. h k (omega arith)) (ap (λ f. t (a, f)) e ∙ passes) ∙ ap (λ f. Some (a, f)) e
-
-no_pair : (t : ℕ × ℕ → Bool) (a b n : ℕ) → ((k : ℕ) → k < b + n → t (a, k) ≡ false) → find t (map (λ f. (a, f)) (range_with_len b n)) ≡ None
-no_pair t a b zero h = refl
-no_pair t a b (suc n) h = cond-false (t (a, b)) (Some (a, b)) (find t (map (λ f. (a, f)) (range_with_len (b + 1) n))) (h b (omega arith)) ∙ no_pair t a (b + 1) n (λ f l. h f (omega arith))
-
-pub find_no_field : (t : ℕ × ℕ → Bool) (a n : ℕ) → ((k : ℕ) → k < n → t (a, k) ≡ false) → find t (map (λ f. (a, f)) (range_with_len 0 n)) ≡ None
-find_no_field t a n h = no_pair t a 0 n (λ k l. h k (omega arith))
+-- a field is found as its pair is
+pub find-pairs : (t : ℕ × ℕ → Bool) (a : ℕ) (xs : List ℕ) → find t (map (λ f. (a, f)) xs) ≡ option_map (λ f. (a, f)) (find (λ f. t (a, f)) xs)
+find-pairs t a [] = refl
+find-pairs t a (f ∷ xs) = either (t (a, f)) (find t (map (λ g. (a, g)) xs)) (find (λ g. t (a, g)) xs) (find-pairs t a xs)
+  where
+    either : (b : Bool) (p : Option (ℕ × ℕ)) (o : Option ℕ) → p ≡ option_map (λ g. (a, g)) o → cond b (Some (a, f)) p ≡ option_map (λ g. (a, g)) (cond b (Some f) o)
+    either true p o e = refl
+    either false p o e = e

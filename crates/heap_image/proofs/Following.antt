@@ -3,21 +3,18 @@ use Rattle.std.proofs.Common.{◌≡◌, ℕ, suc, ◌+◌, ◌-◌, ◌≤◌, 
 use Rattle.std.proofs.lemmas.Bool.{true≢false, cases_Bool, ltb-true, ltb-false}
 use Rattle.std.proofs.lemmas.List.Folds.{list_any-append}
 use Rattle.std.specs.Prelude.{All}
-use Rattle.std.specs.List.{list_any, range_with_len, concat}
+use Rattle.std.specs.List.{list_any, range_with_len}
 use Rattle.heap_image.specs.Header.{size_of, references_of, kind_of}
-use Rattle.heap_image.specs.HeapImage.{HeapImage, image_of, references_at, reference_at, is_unsound, leads_to, refers_to}
+use Rattle.heap_image.specs.HeapImage.{HeapImage, heap_words, references_at, reference_at, is_unsound, leads_to, refers_to}
 use Rattle.heap_image.specs.Marking.{IsGrown, IsWellFormed}
 use Rattle.heap_image.proofs.Listed.{range_suc}
 use Rattle.heap_image.proofs.Growth.{grown_same, grown_more, grown_as}
 
-module _ (log : ℕ) (regions : List (List ℕ)) (words a : ℕ) (are : words ≡ length (concat regions)) where
-  abbrev image : HeapImage
-  image = image_of log 0 regions []
-
-  pub unsound_is : (word : ℕ) (bad : Bool) → word ≡ get_or (concat regions) a 0
+module _ (image : HeapImage) (words a : ℕ) (are : words ≡ heap_words image) where
+  pub unsound_is : (word : ℕ) (bad : Bool) → word ≡ get_or image.words a 0
       → bad ≡ (not (eqb (kind_of word) 1) || eqb (size_of word) 0 || leb (size_of word) (references_of word) || ltb words (a + size_of word)) → is_unsound image a ≡ bad
   unsound_is word bad is tested =
-      ap (λ w. not (eqb (kind_of w) 1) || eqb (size_of w) 0 || leb (size_of w) (references_of w) || ltb (length (concat regions)) (a + size_of w)) (sym is)
+      ap (λ w. not (eqb (kind_of w) 1) || eqb (size_of w) 0 || leb (size_of w) (references_of w) || ltb (heap_words image) (a + size_of w)) (sym is)
       ∙ ap (λ n. not (eqb (kind_of word) 1) || eqb (size_of word) 0 || leb (size_of word) (references_of word) || ltb n (a + size_of word)) (sym are)
       ∙ sym tested
 
@@ -117,10 +114,10 @@ module _ (log : ℕ) (regions : List (List ℕ)) (words a : ℕ) (are : words �
 
   -- a row that begins at an address behind the header
   abbrev pub IsRowAt : ℕ → List ℕ → Type 0
-  IsRowAt next row = (i : ℕ) → i < length row → get_or row i 0 ≡ get_or (concat regions) (next + i) 0
+  IsRowAt next row = (i : ℕ) → i < length row → get_or row i 0 ≡ get_or image.words (next + i) 0
 
   row_at : (next : ℕ) (row : List ℕ) → a + 1 ≤ next → IsRowAt next row → IsRow (next - (a + 1)) row
-  row_at next row low are i l = are i l ∙ ap (λ k. get_or (concat regions) k 0) (same i)
+  row_at next row low are i l = are i l ∙ ap (λ k. get_or image.words k 0) (same i)
     where
       same : (i : ℕ) → next + i ≡ a + 1 + (next - (a + 1) + i)
       same i = omega (arith, low)

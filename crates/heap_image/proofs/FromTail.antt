@@ -8,7 +8,7 @@ use Rattle.std.specs.Option.{is_some}
 use Rattle.std.specs.List.{range_with_len}
 use Rattle.heap_image.specs.Reading.{HasFittingNumbers}
 use Rattle.heap_image.specs.declared.fault.Fault.TheVariants.{Root}
-use Rattle.heap_image.specs.HeapImage.{HeapImage, IsValid, AreRoots, heap_words, image_of, reachable, roots_or}
+use Rattle.heap_image.specs.HeapImage.{HeapImage, IsValid, AreRoots, heap_words, with_live, reachable, roots_or}
 use Rattle.heap_image.specs.ImageText.{text, listed_text, from_tail, live_list_faults, first_some, misplaced_root}
 use Rattle.heap_image.proofs.TextLaws.{reachable-words}
 use Rattle.heap_image.proofs.Faultless.{AllNone}
@@ -61,6 +61,6 @@ from_tail-IsValid true image fits none =
     }
 
 -- what is reached from the roots is the live list
-pub rooted_live : (rooted : Bool) (log : ℕ) (blocks : List (List ℕ)) (tail live : List ℕ) → rooted ≡ true → live ≡ reachable (image_of log 0 blocks []) tail → live ≡ (from_tail rooted (image_of log 0 blocks tail)).live
-rooted_live rooted log blocks tail live e is =
-    is ∙ sym (reachable-words (image_of log 0 blocks []) tail None tail) ∙ ap (λ b. (from_tail b (image_of log 0 blocks tail)).live) (sym e)
+pub rooted_live : (rooted : Bool) (heap : HeapImage) (tail live : List ℕ) → rooted ≡ true → live ≡ reachable heap tail → live ≡ (from_tail rooted (with_live heap tail)).live
+rooted_live rooted heap tail live e is =
+    is ∙ sym (reachable-words heap tail None tail) ∙ ap (λ b. (from_tail b (with_live heap tail)).live) (sym e)

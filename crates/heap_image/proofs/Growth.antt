@@ -6,7 +6,7 @@ use Rattle.std.proofs.lemmas.List.Elements.{All-push, All-append, Contains-push,
 use Rattle.std.specs.Prelude.{All, Contains, count_by}
 use Rattle.std.specs.List.{range_with_len}
 use Rattle.heap_image.specs.HeapImage.{leads_to}
-use Rattle.heap_image.specs.Begins.{is_marked}
+use Rattle.heap_image.specs.Bits.{has}
 use Rattle.heap_image.specs.Marking.{unmarked, AreStacked, IsGrown}
 use Rattle.heap_image.proofs.Spans.{count_by-cons}
 
@@ -43,23 +43,23 @@ count_less p q from (suc n) b l h one none same =
 not-same : (x y : Bool) → x ≡ y → not x ≡ not y
 not-same x y e = ap not e
 
+or_false : (x y : Bool) → y ≡ false → (x || y) ≡ x
+or_false true y h = refl
+or_false false y h = h
+
 -- one more address is marked
-pub unmarked_less : (words a : ℕ) (bits new_bits : List ℕ) → a < words → is_marked bits a ≡ false → ((k : ℕ) → is_marked new_bits k ≡ (is_marked bits k || eqb k a))
+pub unmarked_less : (words a : ℕ) (bits new_bits : List ℕ) → a < words → has bits a ≡ false → ((k : ℕ) → has new_bits k ≡ (has bits k || eqb a k))
     → unmarked words new_bits + 1 ≡ unmarked words bits
 unmarked_less words a bits new_bits l clear set =
-    count_less (λ k. not (is_marked bits k)) (λ k. not (is_marked new_bits k)) 0 words a (omega arith) (omega arith)
+    count_less (λ k. not (has bits k)) (λ k. not (has new_bits k)) 0 words a (omega arith) (omega arith)
     (ap not clear)
-    (ap not (set a ∙ or_right (is_marked bits a) (eqb a a) (eq-eqb a a refl)))
-    (λ k other. ap not (sym (set k ∙ or_false (is_marked bits k) (eqb k a) (ne_eqb k a other))))
-  where
-    or_false : (x y : Bool) → y ≡ false → (x || y) ≡ x
-    or_false true y h = refl
-    or_false false y h = h
+    (ap not (set a ∙ or_right (has bits a) (eqb a a) (eq-eqb a a refl)))
+    (λ k other. ap not (sym (set k ∙ or_false (has bits k) (eqb a k) (ne_eqb a k (λ e. other (sym e))))))
 
 -- ---- growth
 
 -- all targets are marked already
-pub grown_same : (words : ℕ) (targets : ℕ → Bool) (bits stack : List ℕ) → ((a : ℕ) → a < words → targets a ≡ true → is_marked bits a ≡ true) → IsGrown words targets bits bits stack stack
+pub grown_same : (words : ℕ) (targets : ℕ → Bool) (bits stack : List ℕ) → ((a : ℕ) → a < words → targets a ≡ true → has bits a ≡ true) → IsGrown words targets bits bits stack stack
 grown_same words targets bits stack all = record {
   room = refl;
   kept = λ a l h. h;
@@ -67,34 +67,36 @@ grown_same words targets bits stack all = record {
   none_else = λ a l h. inl h;
   pending = λ a l h. inl h;
   stacked = λ a h. h;
+  outside = λ a l. refl;
   total = refl;
   inside = λ h. h;
 }
 
 -- the one target is marked and put on the stack
-pub grown_push : (words w a : ℕ) (bits new_bits stack new_stack : List ℕ) → w ≡ a + 1 → a < words → is_marked bits a ≡ false → length new_bits ≡ length bits
-    → ((k : ℕ) → is_marked new_bits k ≡ (is_marked bits k || eqb k a)) → new_stack ≡ stack ++ a ∷ [] → IsGrown words (leads_to w) bits new_bits stack new_stack
+pub grown_push : (words w a : ℕ) (bits new_bits stack new_stack : List ℕ) → w ≡ a + 1 → a < words → has bits a ≡ false → length new_bits ≡ length bits
+    → ((k : ℕ) → has new_bits k ≡ (has bits k || eqb a k)) → new_stack ≡ stack ++ a ∷ [] → IsGrown words (leads_to w) bits new_bits stack new_stack
 grown_push words w a bits new_bits stack new_stack e l clear room set pushed =
-    let here : is_marked new_bits a ≡ true = set a ∙ or_right (is_marked bits a) (eqb a a) (eq-eqb a a refl) in
-    let kept : (k : ℕ) → is_marked bits k ≡ true → is_marked new_bits k ≡ true = λ k h. set k ∙ or_left (is_marked bits k) (eqb k a) h in
+    let here : has new_bits a ≡ true = set a ∙ or_right (has bits a) (eqb a a) (eq-eqb a a refl) in
+    let kept : (k : ℕ) → has bits k ≡ true → has new_bits k ≡ true = λ k h. set k ∙ or_left (has bits k) (eqb a k) h in
     record {
       room = room;
       kept = λ k m h. kept k h;
-      all = λ k m h. let same : a ≡ k = (let is = eqb-true w (k + 1) h in omega arith) in subst (λ c. is_marked new_bits c ≡ true) same here;
-      none_else = λ k m h. elim (or_cases (is_marked bits k) (eqb k a) (sym (set k) ∙ h)) [
+      all = λ k m h. let same : a ≡ k = (let is = eqb-true w (k + 1) h in omega arith) in subst (λ c. has new_bits c ≡ true) same here;
+      none_else = λ k m h. elim (or_cases (has bits k) (eqb a k) (sym (set k) ∙ h)) [
         | inl old ↦ inl old
-        | inr new ↦ inr (let is = eqb-true k a new in eq-eqb w (k + 1) (omega arith))
+        | inr new ↦ inr (let is = eqb-true a k new in eq-eqb w (k + 1) (omega arith))
       ];
-      pending = λ k m h. elim (or_cases (is_marked bits k) (eqb k a) (sym (set k) ∙ h)) [
+      pending = λ k m h. elim (or_cases (has bits k) (eqb a k) (sym (set k) ∙ h)) [
         | inl old ↦ inl old
-        | inr new ↦ inr (subst (λ xs. Contains xs k) (sym pushed) (subst (λ c. Contains (stack ++ a ∷ []) c) (sym (eqb-true k a new)) (Contains-push stack a)))
+        | inr new ↦ inr (subst (λ xs. Contains xs k) (sym pushed) (subst (λ c. Contains (stack ++ a ∷ []) c) (eqb-true a k new) (Contains-push stack a)))
       ];
       stacked = λ k h. subst (λ xs. Contains xs k) (sym pushed) (Contains-append_left stack (a ∷ []) k h);
+      outside = λ k m. set k ∙ or_false (has bits k) (eqb a k) (ne_eqb a k (λ e. let never : ⊥ = omega arith in never));
       total =
           let less = unmarked_less words a bits new_bits l clear set in
           let more : length new_stack ≡ length stack + 1 = ap length pushed ∙ length_push stack a in
           omega arith;
-      inside = λ h. subst (AreStacked words new_bits) (sym pushed) (All-push (λ c. (c < words) × (is_marked new_bits c ≡ true)) stack a (λ k d m. let old = h k d m in (old.0, kept (get_or stack k d) old.1)) (l, here));
+      inside = λ h. subst (AreStacked words new_bits) (sym pushed) (All-push (λ c. (c < words) × (has new_bits c ≡ true)) stack a (λ k d m. let old = h k d m in (old.0, kept (get_or stack k d) old.1)) (l, here));
     }
 
 -- one growth after another
@@ -122,6 +124,7 @@ grown_more words first second both b0 b1 b2 s0 s1 s2 e one two = record {
     ]
   ];
   stacked = λ a h. two.stacked a (one.stacked a h);
+  outside = λ a l. two.outside a l ∙ one.outside a l;
   total = two.total ∙ one.total;
   inside = λ h. two.inside (one.inside h);
 }
@@ -135,6 +138,7 @@ grown_as words first second b0 b1 s0 s1 e one = record {
   none_else = λ a l h. elim (one.none_else a l h) [ inl old ↦ inl old | inr new ↦ inr (e a ∙ new) ];
   pending = one.pending;
   stacked = one.stacked;
+  outside = one.outside;
   total = one.total;
   inside = one.inside;
 }
@@ -166,7 +170,8 @@ grown_beside words targets b0 b1 s0 s1 rest one = record {
     | inl here ↦ Contains-append_left s1 rest a (one.stacked a here)
     | inr there ↦ Contains-append_right s1 rest a there
   ];
+  outside = one.outside;
   total = let sum = one.total in let first = length-append s0 rest in let second = length-append s1 rest in omega arith;
-  inside = λ h. All-append (λ c. (c < words) × (is_marked b1 c ≡ true)) s1 rest (one.inside (all_left (λ c. (c < words) × (is_marked b0 c ≡ true)) s0 rest h))
-      (λ k d l. let old = all_right (λ c. (c < words) × (is_marked b0 c ≡ true)) s0 rest h k d l in (old.0, one.kept (get_or rest k d) old.0 old.1));
+  inside = λ h. All-append (λ c. (c < words) × (has b1 c ≡ true)) s1 rest (one.inside (all_left (λ c. (c < words) × (has b0 c ≡ true)) s0 rest h))
+      (λ k d l. let old = all_right (λ c. (c < words) × (has b0 c ≡ true)) s0 rest h k d l in (old.0, one.kept (get_or rest k d) old.0 old.1));
 }

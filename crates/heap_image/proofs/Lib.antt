@@ -1,4 +1,10 @@
 pub mod Known
+pub mod Places
+pub mod Masks
+pub mod Words
+pub mod Counts
+pub mod Firsts
+pub mod Absent
 pub mod Pieces
 pub mod Reading
 pub mod Finds
@@ -11,9 +17,10 @@ pub mod Faultless
 pub mod LiveListFaults
 pub mod ReadBack
 pub mod LiveOrder
-pub mod Marks
 pub mod Overlaps
 pub mod References
+pub mod Raised
+pub mod Targets
 pub mod Objects
 pub mod Fields
 pub mod Refusing

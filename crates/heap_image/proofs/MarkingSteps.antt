@@ -10,7 +10,7 @@ use Rattle.std.specs.Int.{bit_at}
 use Rattle.std.specs.Prelude.{All, Contains, replicate}
 use Rattle.std.specs.List.{list_any, range_with_len}
 use Rattle.heap_image.specs.HeapImage.{HeapImage, heap_words, leads_to, refers_to, reachable}
-use Rattle.heap_image.specs.Begins.{is_marked}
+use Rattle.heap_image.specs.Bits.{has}
 use Rattle.heap_image.specs.Reachable.{is_listed, IsClosed}
 use Rattle.heap_image.specs.Marking.{unmarked, addresses, AreStacked, IsWellFormed, IsGrown, IsMarking, AreReached, AreReachedWell}
 use Rattle.heap_image.specs.declared.marking.Waiting.{Waiting}
@@ -19,7 +19,7 @@ use Rattle.heap_image.proofs.Reaches.{reachable-IsClosed, reachable-least}
 
 module _ (image : HeapImage) (roots : List ℕ) where
   -- with the roots marked and put on the stack
-  pub marking_first : (bits new_bits stack : List ℕ) (well_formed : Bool) → length bits ≡ heap_words image / 64 + 1 → ((a : ℕ) → a < heap_words image → is_marked bits a ≡ false)
+  pub marking_first : (bits new_bits stack : List ℕ) (well_formed : Bool) → length bits ≡ heap_words image / 64 + 1 → ((a : ℕ) → has bits a ≡ false)
       → IsGrown (heap_words image) (λ b. list_any (λ w. leads_to w b) roots) bits new_bits [] stack → IsMarking image roots new_bits stack well_formed
   marking_first bits new_bits stack well_formed room clear grown =
       let closed = reachable-IsClosed image roots in
@@ -27,16 +27,17 @@ module _ (image : HeapImage) (roots : List ℕ) where
         room = grown.room ∙ room;
         inside = grown.inside (λ k d l. let no : ⊥ = omega arith in absurd no);
         reached = λ a l h. elim (grown.none_else a l h) [
-          | inl old ↦ absurd (false≢true (sym (clear a l) ∙ old))
+          | inl old ↦ absurd (false≢true (sym (clear a) ∙ old))
           | inr root ↦ closed.from_roots a l root
         ];
+        outside = λ a l. grown.outside a l ∙ clear a;
         started = grown.all;
         followed = λ a l h. elim (grown.pending a l h) [
-          | inl old ↦ absurd (false≢true (sym (clear a l) ∙ old))
+          | inl old ↦ absurd (false≢true (sym (clear a) ∙ old))
           | inr waits ↦ inl waits
         ];
         formed = λ said a l h. elim (grown.pending a l h) [
-          | inl old ↦ absurd (false≢true (sym (clear a l) ∙ old))
+          | inl old ↦ absurd (false≢true (sym (clear a) ∙ old))
           | inr waits ↦ inl waits
         ];
       }
@@ -51,7 +52,7 @@ module _ (image : HeapImage) (roots : List ℕ) where
   marking_next a bits new_bits stack rest new_stack well_formed new_well_formed popped marking grown noted =
       let closed = reachable-IsClosed image roots in
       let all : AreStacked (heap_words image) bits (rest ++ a ∷ []) = subst (AreStacked (heap_words image) bits) popped marking.inside in
-      let last : (a < heap_words image) × (is_marked bits a ≡ true) = All-last rest a all in
+      let last : (a < heap_words image) × (has bits a ≡ true) = All-last rest a all in
       let before : AreStacked (heap_words image) bits rest = All-front rest a all in
       record {
         room = grown.room ∙ marking.room;
@@ -60,6 +61,7 @@ module _ (image : HeapImage) (roots : List ℕ) where
           | inl old ↦ marking.reached b l old
           | inr refers ↦ closed.from_objects a b (marking.reached a last.0 last.1) refers l
         ];
+        outside = λ b l. grown.outside b l ∙ marking.outside b l;
         started = λ b l h. grown.kept b l (marking.started b l h);
         followed = λ b l h. elim (grown.pending b l h) [
           | inr waits ↦ inl waits
@@ -83,15 +85,15 @@ module _ (image : HeapImage) (roots : List ℕ) where
         ];
       }
     where
-      All-last : (xs : List ℕ) (x : ℕ) → AreStacked (heap_words image) bits (xs ++ x ∷ []) → (x < heap_words image) × (is_marked bits x ≡ true)
+      All-last : (xs : List ℕ) (x : ℕ) → AreStacked (heap_words image) bits (xs ++ x ∷ []) → (x < heap_words image) × (has bits x ≡ true)
       All-last xs x h =
           let c = Contains-push xs x in
-          subst (λ y. (y < heap_words image) × (is_marked bits y ≡ true)) c.2 (h c.0 x c.1)
+          subst (λ y. (y < heap_words image) × (has bits y ≡ true)) c.2 (h c.0 x c.1)
 
       All-front : (xs : List ℕ) (x : ℕ) → AreStacked (heap_words image) bits (xs ++ x ∷ []) → AreStacked (heap_words image) bits xs
-      All-front xs x h = All-from_get_or (λ y. (y < heap_words image) × (is_marked bits y ≡ true)) xs 0 (λ i l.
+      All-front xs x h = All-from_get_or (λ y. (y < heap_words image) × (has bits y ≡ true)) xs 0 (λ i l.
           let c = Contains-append_left xs (x ∷ []) (get_or xs i 0) (i, l, default_at xs i l) in
-          subst (λ y. (y < heap_words image) × (is_marked bits y ≡ true)) c.2 (h c.0 (get_or xs i 0) c.1))
+          subst (λ y. (y < heap_words image) × (has bits y ≡ true)) c.2 (h c.0 (get_or xs i 0) c.1))
         where
           default_at : (ys : List ℕ) (i : ℕ) → i < length ys → get_or ys i (get_or ys i 0) ≡ get_or ys i 0
           default_at [] i l = let no : ⊥ = omega arith in absurd no
@@ -100,15 +102,15 @@ module _ (image : HeapImage) (roots : List ℕ) where
 
   -- whether an address is in the heap and marked
   passes : List ℕ → ℕ → Bool
-  passes bits a = ltb a (heap_words image) && is_marked bits a
+  passes bits a = ltb a (heap_words image) && has bits a
 
-  in_heap : (bits : List ℕ) (a : ℕ) → passes bits a ≡ true → (a < heap_words image) × (is_marked bits a ≡ true)
+  in_heap : (bits : List ℕ) (a : ℕ) → passes bits a ≡ true → (a < heap_words image) × (has bits a ≡ true)
   unfolding passes
-  in_heap bits a h = let p = and_parts (ltb a (heap_words image)) (is_marked bits a) h in (ltb-true a (heap_words image) p.0, p.1)
+  in_heap bits a h = let p = and_parts (ltb a (heap_words image)) (has bits a) h in (ltb-true a (heap_words image) p.0, p.1)
 
-  passing : (bits : List ℕ) (a : ℕ) → a < heap_words image → is_marked bits a ≡ true → passes bits a ≡ true
+  passing : (bits : List ℕ) (a : ℕ) → a < heap_words image → has bits a ≡ true → passes bits a ≡ true
   unfolding passes
-  passing bits a l h = and_from (ltb a (heap_words image)) (is_marked bits a) (lt-ltb a (heap_words image) l) h
+  passing bits a l h = and_from (ltb a (heap_words image)) (has bits a) (lt-ltb a (heap_words image) l) h
 
   waits_not : {A : Type 0} → (a : ℕ) → Contains [] a → A
   waits_not a c = let l = c.1 in let no : ⊥ = omega arith in absurd no
@@ -133,7 +135,8 @@ module _ (image : HeapImage) (roots : List ℕ) where
   pub marking_last : (bits : List ℕ) (well_formed : Bool) → IsMarking image roots bits [] well_formed → AreReached image roots bits
   marking_last bits well_formed marking = record {
     room = marking.room;
-    marked = λ a l. both_ways (is_marked bits a) (is_listed (reachable image roots) a) (marking.reached a l)
+    outside = marking.outside;
+    marked = λ a l. both_ways (has bits a) (is_listed (reachable image roots) a) (marking.reached a l)
         (λ h. (in_heap bits a (reachable-least image roots (passes bits) (closed bits well_formed marking) a h)).1);
   }
 
@@ -148,23 +151,23 @@ module _ (image : HeapImage) (roots : List ℕ) where
 -- ---- the same, as the code has it
 
 pub unmarked_few : (words : ℕ) (bits : List ℕ) → unmarked words bits ≤ words
-unmarked_few words bits = omega (arith, count_by-le-length (λ a. not (is_marked bits a)) (range_with_len 0 words), length-range_with_len 0 words)
+unmarked_few words bits = omega (arith, count_by-le-length (λ a. not (has bits a)) (range_with_len 0 words), length-range_with_len 0 words)
 
 -- the last of the stack
 pub stacked_last : (words : ℕ) (bits stack rest : List ℕ) (a : ℕ) → stack ≡ rest ++ a ∷ [] → AreStacked words bits stack → a < words
 stacked_last words bits stack rest a popped h =
     let c = Contains-push rest a in
-    (subst (λ y. (y < words) × (is_marked bits y ≡ true)) c.2 (subst (AreStacked words bits) popped h c.0 a c.1)).0
+    (subst (λ y. (y < words) × (has bits y ≡ true)) c.2 (subst (AreStacked words bits) popped h c.0 a c.1)).0
 
 pub none_left : {X : Type 0} (xs : List X) → length xs ≡ 0 → xs ≡ []
 none_left [] e = refl
 none_left (x ∷ xs) e = let no : ⊥ = omega arith in absurd no
 
 module _ (image : HeapImage) (roots : List ℕ) (words : ℕ) (are : words ≡ heap_words image) where
-  pub marking_begins : (bits new_bits start stack : List ℕ) (well_formed : Bool) → start ≡ [] → length bits ≡ words / 64 + 1 → ((a : ℕ) → is_marked bits a ≡ false)
+  pub marking_begins : (bits new_bits start stack : List ℕ) (well_formed : Bool) → start ≡ [] → length bits ≡ words / 64 + 1 → ((a : ℕ) → has bits a ≡ false)
       → IsGrown words (λ b. list_any (λ w. leads_to w b) roots) bits new_bits start stack → IsMarking image roots new_bits stack well_formed
   marking_begins bits new_bits start stack well_formed empty room clear grown =
-      marking_first image roots bits new_bits stack well_formed (room ∙ ap (λ n. n / 64 + 1) are) (λ a l. clear a)
+      marking_first image roots bits new_bits stack well_formed (room ∙ ap (λ n. n / 64 + 1) are) clear
       (subst (λ n. IsGrown n (λ b. list_any (λ w. leads_to w b) roots) bits new_bits [] stack) are (subst (λ xs. IsGrown words (λ b. list_any (λ w. leads_to w b) roots) bits new_bits xs stack) empty grown))
 
   pub marking_ends : (bits stack : List ℕ) (well_formed : Bool) → stack ≡ [] → IsMarking image roots bits stack well_formed → AreReached image roots bits
@@ -178,9 +181,9 @@ get_or-zeros zero i = refl
 get_or-zeros (suc n) zero = refl
 get_or-zeros (suc n) (suc i) = get_or-zeros n i
 
-pub clear_bits : (bits : List ℕ) (n : ℕ) → bits ≡ replicate n 0 → (a : ℕ) → is_marked bits a ≡ false
+pub clear_bits : (bits : List ℕ) (n : ℕ) → bits ≡ replicate n 0 → (a : ℕ) → has bits a ≡ false
 clear_bits bits n e a =
-    ap (λ xs. is_marked xs a) e ∙ ap (λ w. eqb (bit_at w (a % 64)) 1) (get_or-zeros n (a / 64)) ∙ ap (λ b. eqb b 1) (bit_at-zero (a % 64))
+    ap (λ xs. has xs a) e ∙ ap (λ w. eqb (bit_at w (a % 64)) 1) (get_or-zeros n (a / 64)) ∙ ap (λ b. eqb b 1) (bit_at-zero (a % 64))
 
 -- ---- a batch of the addresses that wait
 
@@ -192,6 +195,7 @@ module _ (image : HeapImage) (roots : List ℕ) where
     room = marking.room;
     inside = inside;
     reached = marking.reached;
+    outside = marking.outside;
     started = marking.started;
     followed = λ a l h. elim (marking.followed a l h) [
       | inl waits ↦ inl (moved a waits)
@@ -205,7 +209,7 @@ module _ (image : HeapImage) (roots : List ℕ) where
 
   -- an address that may stand on the stack
   abbrev stacked : List ℕ → ℕ → Type 0
-  stacked bits c = (c < heap_words image) × (is_marked bits c ≡ true)
+  stacked bits c = (c < heap_words image) × (has bits c ≡ true)
 
   -- an address goes from the end of the stack to the end of a batch
   pub batch_taken : (a : ℕ) (bits stack rest batch batch' : List ℕ) (well_formed : Bool) → stack ≡ rest ++ a ∷ [] → batch' ≡ batch ++ a ∷ []
@@ -241,5 +245,5 @@ addresses_push batch rest w e = ap addresses e ∙ map-append (λ (x : Waiting).
 -- the addresses of a batch are below the number of words
 pub batch_inside : (image : HeapImage) (roots : List ℕ) (words : ℕ) → words ≡ heap_words image → (bits stack batch : List ℕ) (well_formed : Bool) → IsMarking image roots bits (stack ++ batch) well_formed → All (λ a. a < words) batch
 batch_inside image roots words are bits stack batch well_formed marking = λ k d l.
-    let low = (all_right (λ a. (a < heap_words image) × (is_marked bits a ≡ true)) stack batch marking.inside k d l).0 in
+    let low = (all_right (λ a. (a < heap_words image) × (has bits a ≡ true)) stack batch marking.inside k d l).0 in
     omega arith

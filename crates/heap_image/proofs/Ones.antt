@@ -7,7 +7,7 @@ use Rattle.std.proofs.lemmas.Nat.Bits.{bit_at-zero, bit_at-lt, bit_at_clear_othe
 use Rattle.std.specs.Prelude.{filter, map}
 use Rattle.std.specs.Int.{bit_at, bit_not, w64}
 use Rattle.std.specs.List.{range_with_len}
-use Rattle.heap_image.specs.Begins.{is_marked, ones_of}
+use Rattle.heap_image.specs.Bits.{has, ones_of}
 use Rattle.heap_image.proofs.Listed.{filter_same}
 
 -- the least number that passes comes first
@@ -73,23 +73,23 @@ range_split a (suc m) n =
     ap (range_with_len a) e ∙ ap (λ l. a ∷ l) (range_split (a + 1) m n ∙ ap (λ b. range_with_len (a + 1) m ++ range_with_len b n) f)
 
 -- the addresses of one word of bits
-in_word : (bits : List ℕ) (i j : ℕ) → j < 64 → is_marked bits (64 * i + j) ≡ eqb (bit_at (get_or bits i 0) j) 1
+in_word : (bits : List ℕ) (i j : ℕ) → j < 64 → has bits (64 * i + j) ≡ eqb (bit_at (get_or bits i 0) j) 1
 in_word bits i j l =
     let row : (64 * i + j) / 64 ≡ i = omega arith in
     let place : (64 * i + j) % 64 ≡ j = omega arith in
     ap (λ r. eqb (bit_at (get_or bits r 0) ((64 * i + j) % 64)) 1) row ∙ ap (λ k. eqb (bit_at (get_or bits i 0) k) 1) place
 
 -- the marked addresses below 64 * i and those of word i
-pub marked-word : (bits : List ℕ) (i : ℕ) → filter (is_marked bits) (range_with_len 0 (64 * (i + 1))) ≡ filter (is_marked bits) (range_with_len 0 (64 * i)) ++ map (λ j. 64 * i + j) (ones_of (get_or bits i 0))
+pub marked-word : (bits : List ℕ) (i : ℕ) → filter (has bits) (range_with_len 0 (64 * (i + 1))) ≡ filter (has bits) (range_with_len 0 (64 * i)) ++ map (λ j. 64 * i + j) (ones_of (get_or bits i 0))
 marked-word bits i =
     let e : 64 * (i + 1) ≡ 64 * i + 64 = omega arith in
     let z : 0 + 64 * i ≡ 64 * i + 0 = omega arith in
-    ap (λ n. filter (is_marked bits) (range_with_len 0 n)) e
-    ∙ ap (filter (is_marked bits)) (range_split 0 (64 * i) 64)
-    ∙ filter-append (is_marked bits) (range_with_len 0 (64 * i)) (range_with_len (0 + 64 * i) 64)
-    ∙ ap (λ xs. filter (is_marked bits) (range_with_len 0 (64 * i)) ++ xs)
-    (ap (λ a. filter (is_marked bits) (range_with_len a 64)) z ∙ filter_shift (is_marked bits) (64 * i) 0 64
-    ∙ ap (map (λ j. 64 * i + j)) (filter_same (λ j. is_marked bits (64 * i + j)) (λ j. eqb (bit_at (get_or bits i 0) j) 1) 0 64 (λ j l m. in_word bits i j (omega arith))))
+    ap (λ n. filter (has bits) (range_with_len 0 n)) e
+    ∙ ap (filter (has bits)) (range_split 0 (64 * i) 64)
+    ∙ filter-append (has bits) (range_with_len 0 (64 * i)) (range_with_len (0 + 64 * i) 64)
+    ∙ ap (λ xs. filter (has bits) (range_with_len 0 (64 * i)) ++ xs)
+    (ap (λ a. filter (has bits) (range_with_len a 64)) z ∙ filter_shift (has bits) (64 * i) 0 64
+    ∙ ap (map (λ j. 64 * i + j)) (filter_same (λ j. has bits (64 * i + j)) (λ j. eqb (bit_at (get_or bits i 0) j) 1) 0 64 (λ j l m. in_word bits i j (omega arith))))
 
 -- of the first n bits of a word
 low_kept : (word n j : ℕ) → j < n → bit_at (bit_and word (2 ^ n - 1)) j ≡ bit_at word j
@@ -109,14 +109,14 @@ low_ones word n few =
     ∙ append-nil (filter set (range_with_len 0 n))
 
 -- and those of the first n bits of word i
-pub marked-part : (bits : List ℕ) (i n : ℕ) → n < 64 → filter (is_marked bits) (range_with_len 0 (64 * i + n)) ≡ filter (is_marked bits) (range_with_len 0 (64 * i)) ++ map (λ j. 64 * i + j) (ones_of (bit_and (get_or bits i 0) (2 ^ n - 1)))
+pub marked-part : (bits : List ℕ) (i n : ℕ) → n < 64 → filter (has bits) (range_with_len 0 (64 * i + n)) ≡ filter (has bits) (range_with_len 0 (64 * i)) ++ map (λ j. 64 * i + j) (ones_of (bit_and (get_or bits i 0) (2 ^ n - 1)))
 marked-part bits i n few =
     let word : ℕ = get_or bits i 0 in
     let z : 0 + 64 * i ≡ 64 * i + 0 = omega arith in
-    let low : filter (λ j. is_marked bits (64 * i + j)) (range_with_len 0 n) ≡ filter (λ j. eqb (bit_at (bit_and word (2 ^ n - 1)) j) 1) (range_with_len 0 n) =
-    filter_same (λ j. is_marked bits (64 * i + j)) (λ j. eqb (bit_at (bit_and word (2 ^ n - 1)) j) 1) 0 n (λ j l m. in_word bits i j (omega arith) ∙ ap (λ b. eqb b 1) (sym (low_kept word n j (omega arith)))) in
-    ap (filter (is_marked bits)) (range_split 0 (64 * i) n)
-    ∙ filter-append (is_marked bits) (range_with_len 0 (64 * i)) (range_with_len (0 + 64 * i) n)
-    ∙ ap (λ xs. filter (is_marked bits) (range_with_len 0 (64 * i)) ++ xs)
-    (ap (λ a. filter (is_marked bits) (range_with_len a n)) z ∙ filter_shift (is_marked bits) (64 * i) 0 n
+    let low : filter (λ j. has bits (64 * i + j)) (range_with_len 0 n) ≡ filter (λ j. eqb (bit_at (bit_and word (2 ^ n - 1)) j) 1) (range_with_len 0 n) =
+    filter_same (λ j. has bits (64 * i + j)) (λ j. eqb (bit_at (bit_and word (2 ^ n - 1)) j) 1) 0 n (λ j l m. in_word bits i j (omega arith) ∙ ap (λ b. eqb b 1) (sym (low_kept word n j (omega arith)))) in
+    ap (filter (has bits)) (range_split 0 (64 * i) n)
+    ∙ filter-append (has bits) (range_with_len 0 (64 * i)) (range_with_len (0 + 64 * i) n)
+    ∙ ap (λ xs. filter (has bits) (range_with_len 0 (64 * i)) ++ xs)
+    (ap (λ a. filter (has bits) (range_with_len a n)) z ∙ filter_shift (has bits) (64 * i) 0 n
     ∙ ap (map (λ j. 64 * i + j)) (low ∙ sym (low_ones word n few)))

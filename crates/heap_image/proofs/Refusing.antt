@@ -10,7 +10,7 @@ use Rattle.heap_image.specs.Reading.{HasFittingNumbers}
 use Rattle.heap_image.specs.declared.fault.Fault.{Fault}
 use Rattle.heap_image.specs.declared.fault.Fault.TheVariants.{TruncatedHeader, Magic, RegionLog, Length, TruncatedBody, LiveOrder, Header, Overlap, Reference, Trailing, Memory, Io, Workers, Schedule, Overwritten, Gate, Root}
 use Rattle.heap_image.specs.ImageText.{magic, fault_if, first_some, first_fault, front_faults, front, numbers, listed_text, from_tail, misplaced_root, told_length, live_list_faults, misplaced_index, unsound_header, overlapping, dangling, first_object_fault}
-use Rattle.heap_image.specs.HeapImage.{HeapImage, IsWithinLimits, heap_words, image_of, rooted_image_of, reachable, roots_or}
+use Rattle.heap_image.specs.HeapImage.{HeapImage, IsWithinLimits, heap_words, image_of, rooted_image_of, with_live, reachable, roots_or}
 use Rattle.heap_image.specs.Device.{is_io}
 use Rattle.heap_image.proofs.Known.{consumes_more}
 use Rattle.std.specs.List.{concat}
@@ -334,6 +334,6 @@ parts_are rooted log allowance blocks blocks' tail live roots b l r =
     whole false = refl
 
 -- the numbers behind the words are the roots, or else the live list
-pub tail_is : (rooted : Bool) (log : ℕ) (blocks : List (List ℕ)) (tail live : List ℕ) (roots : Option (List ℕ)) → live ≡ (from_tail rooted (image_of log 0 blocks tail)).live → roots ≡ (from_tail rooted (image_of log 0 blocks tail)).roots → roots_or live roots ≡ tail
-tail_is true log blocks tail live roots l r = ap (roots_or live) r
-tail_is false log blocks tail live roots l r = ap (roots_or live) r ∙ l
+pub tail_is : (rooted : Bool) (heap : HeapImage) (tail live : List ℕ) (roots : Option (List ℕ)) → live ≡ (from_tail rooted (with_live heap tail)).live → roots ≡ (from_tail rooted (with_live heap tail)).roots → roots_or live roots ≡ tail
+tail_is true heap tail live roots l r = ap (roots_or live) r
+tail_is false heap tail live roots l r = ap (roots_or live) r ∙ l

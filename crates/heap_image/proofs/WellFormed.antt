@@ -5,7 +5,7 @@ use Rattle.std.proofs.lemmas.List.Folds.{list_any_at}
 use Rattle.std.proofs.lemmas.List.FromFn.{get_or-range_with_len, length-range_with_len}
 use Rattle.std.specs.Prelude.{option_map}
 use Rattle.std.specs.List.{list_any, range_with_len}
-use Rattle.heap_image.specs.HeapImage.{HeapImage, heap_words, image_of, references_at, reference_at, is_null_or_live, is_unsound, leads_to, refers_to, reachable}
+use Rattle.heap_image.specs.HeapImage.{HeapImage, heap_words, with_live, references_at, reference_at, is_null_or_live, is_unsound, leads_to, refers_to, reachable}
 use Rattle.heap_image.specs.ImageText.{first_some, first_object_fault, is_dangling, fields_of, overlapping, dangling}
 use Rattle.heap_image.specs.declared.fault.Fault.TheVariants.{Header, Overlap, Reference}
 use Rattle.heap_image.specs.Marking.{IsWellFormed, AreReachedWell}
@@ -17,12 +17,9 @@ use Rattle.heap_image.proofs.Reaches.{reachable-IsClosed, reachable-below}
 use Rattle.heap_image.proofs.RootsToLive.{listed_at}
 
 -- what is reached, if nothing was found to be wrong on the way
-module _ (log : ℕ) (regions : List (List ℕ)) (roots live : List ℕ) (is : live ≡ reachable (image_of log 0 regions []) roots) (well : AreReachedWell (image_of log 0 regions []) roots) where
-  abbrev heap : HeapImage
-  heap = image_of log 0 regions []
-
+module _ (heap : HeapImage) (roots live : List ℕ) (is : live ≡ reachable heap roots) (well : AreReachedWell heap roots) where
   abbrev image : HeapImage
-  image = image_of log 0 regions live
+  image = with_live heap live
 
   listed : (i : ℕ) → i < length live → is_listed (reachable heap roots) (get_or live i 0) ≡ true
   listed i l = subst (λ xs. is_listed xs (get_or live i 0) ≡ true) is (listed_at live i l)

@@ -161,7 +161,15 @@ abbrev pub image_of : ℕ → ℕ → List (List ℕ) → List ℕ → HeapImage
 image_of region_log allowance blocks live =
     record { region_log = region_log; allowance = allowance; words = concat blocks; live = live; roots = None }
 
--- the same, with roots or without
+-- the same heap with these live objects, and without roots
+abbrev pub with_live : HeapImage → List ℕ → HeapImage
+with_live heap live = record heap { live = live; roots = None }
+
+-- the heap of an image, without what is told of its words
+abbrev pub words_alone : HeapImage → HeapImage
+words_alone image = record image { allowance = 0; live = []; roots = None }
+
+-- the image of the same blocks, with roots or without
 abbrev pub rooted_image_of : ℕ → ℕ → List (List ℕ) → List ℕ → Option (List ℕ) → HeapImage
 rooted_image_of region_log allowance blocks live roots =
     record { region_log = region_log; allowance = allowance; words = concat blocks; live = live; roots = roots }

@@ -5,7 +5,8 @@ pub mod LengthCause
 pub mod Device
 pub mod StdDevices
 pub mod Incoming
-pub mod Begins
+pub mod Bits
+pub mod Kept
 pub mod Refusals
 pub mod Reading
 pub mod Outgoing

@@ -4,7 +4,7 @@ use Rattle.std.specs.List.{concat}
 use Rattle.std.specs.Io.KnownBytes.{Consumes, IsAtEnd}
 use Rattle.heap_image.specs.HeapImage.{HeapImage, IsValid, IsWithinLimits, heap_words, image_of, roots_or}
 use Rattle.heap_image.specs.ImageText.{text, from_tail, first_some, first_object_fault, live_list_faults}
-use Rattle.heap_image.specs.Begins.{MarkBegins}
+use Rattle.heap_image.specs.Bits.{MarkBegins}
 use Rattle.heap_image.specs.Soundness.{AreWellFormed}
 use Rattle.heap_image.specs.declared.read.Unchecked.{Unchecked}
 
@@ -32,7 +32,7 @@ pub record IsFound (read : Unchecked) : Type 0 where
   pub live : read.found.live.items ≡ (from_tail read.front.rooted (numbers_of read)).live
   pub roots : option_map (λ v. v.items) read.found.roots ≡ (from_tail read.front.rooted (numbers_of read)).roots
   pub inside : All (λ a. a < length (concat read.regions.items)) read.found.live.items
-  pub begins : MarkBegins read.found.live.items (length (concat read.regions.items)) read.found.begins.items
+  pub begins : MarkBegins read.found.live.items (length (concat read.regions.items)) read.found.begins
   pub well_formed : IsTrue read.found.well_formed → AreWellFormed (image_of read.front.region_log 0 read.regions.items read.found.live.items)
   pub ordered : first_some (live_list_faults (from_tail read.front.rooted (numbers_of read)))
       ≡ first_object_fault (image_of read.front.region_log 0 read.regions.items read.found.live.items)

@@ -1,10 +1,12 @@
 //! `Image`: a heap with its live objects.
-ghost use Rattle.std.specs.Prelude.{◌≡◌, ◌<◌, ◌≤◌, All, IsTrue, Option, Some, None, length, map, option_map};
+ghost use Rattle.std.specs.Prelude.{◌≡◌, ◌<◌, ◌≤◌, All, IsTrue, Option, Some, None, length, map, option_map, IfSome};
 ghost use Rattle.std.specs.List.{concat, range_with_len};
-ghost use Rattle.heap_image.specs.HeapImage.{HeapImage, IsValid, AreBlocks, AreValidParts, image_of, rooted_image_of, is_null_or_live, roots_of, version_of, heap_words, region_count, word_at, block_of};
+ghost use Rattle.heap_image.specs.HeapImage.{HeapImage, IsValid, AreBlocks, AreValidParts, image_of, rooted_image_of, is_null_or_live, roots_of, version_of, heap_words, region_count, region_words, word_at, words_alone, block_of};
 ghost use Rattle.heap_image.specs.ImageText.{with_tail};
+ghost use Rattle.heap_image.specs.Bits.{MarkBegins};
 
-use crate::blocks::word_of;
+use crate::bits::Bits;
+use crate::heap::Heap;
 use raw_region::Region;
 use std::marker::Model;
 
@@ -20,6 +22,7 @@ pub struct Image {
     regions: Vec<Region>,
     live: Vec<u64>,
     roots: Option<Vec<u64>>,
+    begins: Option<Bits>,
 }
 
 /// What an [`Image`] is made of.
@@ -39,13 +42,14 @@ pub struct ImageParts {
 
 impl Model for Image {
     ghost use Rattle.std.specs.Prelude.{option_map};
-    ghost use Rattle.heap_image.specs.HeapImage.{HeapImage, AreValidParts, rooted_image_of};
+    ghost use Rattle.heap_image.specs.HeapImage.{HeapImage, rooted_image_of};
+    ghost use Rattle.heap_image.specs.Kept.{AreKept};
 
     ghost Value = { HeapImage };
 
     ghost view = { λ i. rooted_image_of i.region_log i.allowance i.regions.items i.live.items (option_map (λ v. v.items) i.roots) };
 
-    ghost invariant = { λ i. AreValidParts i.region_log i.allowance i.regions.items i.live.items (option_map (λ v. v.items) i.roots) };
+    ghost invariant = { λ i. AreKept i.region_log i.allowance i.regions.items i.live.items (option_map (λ v. v.items) i.roots) i.begins };
 }
 
 impl Image {
@@ -103,6 +107,7 @@ impl Image {
             regions,
             live,
             roots,
+            ..
         } = self;
         ImageParts {
             region_log,
@@ -119,6 +124,16 @@ impl Image {
         ensures valid { IsValid self.now }
     {
         self.region_log
+    }
+
+    /// The number of words of a region.
+    pub fn region_words(&self) -> u64
+        ensures value { result ≡ region_words self.now }
+        ensures some { 0 < result }
+        ensures few { result ≤ 65536 }
+        ensures valid { IsValid self.now }
+    {
+        1 << self.region_log
     }
 
     /// How many dead words the dense prefix may keep.
@@ -152,12 +167,20 @@ impl Image {
         &self.regions[r as usize]
     }
 
+    /// The words, without what is told of them.
+    #[inline]
+    pub fn heap(&self) -> Heap<'_>
+        ensures { result ≡ words_alone self.now }
+    {
+        Heap::new(self.regions.as_slice(), self.region_log)
+    }
+
     /// The word at address `a`.
     pub fn word(&self, a: u64) -> u64
         requires { a < heap_words self.now }
         ensures { result ≡ word_at self.now a }
     {
-        word_of(self.regions.as_slice(), self.region_log, a)
+        self.heap().word(a)
     }
 
     /// The addresses of the live objects, ascending.
@@ -166,6 +189,13 @@ impl Image {
         ensures valid { IsValid self.now }
     {
         self.live.as_slice()
+    }
+
+    /// The addresses at which live objects begin as bits, where these were seen when the image was read.
+    pub fn begins(&self) -> Option<&Bits>
+        ensures { IfSome result (λ bits. MarkBegins self.now.live (heap_words self.now) bits.now) }
+    {
+        self.begins.as_ref()
     }
 
     /// The roots, in any order; none in an image of version 1. Each is 0, which is null, or 1 plus the address of a live
@@ -208,6 +238,16 @@ impl ImageParts {
         requires valid { IsValid (rooted_image_of self.region_log self.allowance self.regions.items self.live.items (option_map (λ v. v.items) self.roots)) }
         ensures { result ≡ rooted_image_of self.region_log self.allowance self.regions.items self.live.items (option_map (λ v. v.items) self.roots) }
     {
+        self.with_begins(None)
+    }
+
+    /// The image of these parts, which keeps the addresses of its live objects as bits, where these were seen.
+    pub(crate) fn with_begins(self, begins: Option<Bits>) -> Image
+        requires regions { AreBlocks self.region_log self.regions.items }
+        requires valid { IsValid (rooted_image_of self.region_log self.allowance self.regions.items self.live.items (option_map (λ v. v.items) self.roots)) }
+        requires begins { IfSome begins (MarkBegins self.live.items (length (concat self.regions.items))) }
+        ensures { result ≡ rooted_image_of self.region_log self.allowance self.regions.items self.live.items (option_map (λ v. v.items) self.roots) }
+    {
         let ImageParts {
             region_log,
             allowance,
@@ -221,6 +261,7 @@ impl ImageParts {
             regions,
             live,
             roots,
+            begins,
         }
     }
 }

@@ -1,8 +1,9 @@
 //! Laws of the text. The functions do nothing: each promises its law.
-ghost use Rattle.std.specs.Prelude.{◌≡◌, ◌+◌, ℕ, List, Bool, true, None, All, IsTrue, filter, map};
+ghost use Rattle.std.specs.Prelude.{◌≡◌, ◌+◌, ℕ, List, Bool, true, [], Some, None, All, IsTrue, filter, map};
 ghost use Rattle.std.specs.List.{range_with_len};
-ghost use Rattle.heap_image.specs.HeapImage.{HeapImage, IsValid, HasLiveList, heap_words, is_null_or_live, reachable, roots_of};
-ghost use Rattle.heap_image.specs.ImageText.{text, from_tail, misplaced_index, unsound_header, dangling, FaultlessIsText, TextIsFaultless};
+ghost use Rattle.heap_image.specs.HeapImage.{HeapImage, IsValid, HasLiveList, heap_words, image_of, is_null_or_live, reachable, rooted_image_of, roots_of};
+ghost use Rattle.heap_image.specs.ImageText.{text, from_tail, first_some, live_list_faults, misplaced_index, unsound_header, dangling, FaultlessIsText, TextIsFaultless};
+ghost use Rattle.heap_image.specs.Reading.{HasFittingNumbers};
 ghost use Rattle.heap_image.specs.Reachable.{is_listed, beyond, IsClosed};
 
 /// Bytes without a fault are the text of the valid image that they tell.
@@ -46,4 +47,14 @@ pub fn live_objects_are_reached()
 /// Each root of an image is null or leads to a live object.
 pub fn roots_are_null_or_live()
     ensures { (image : HeapImage) → IsValid image → All (λ w. IsTrue (is_null_or_live image w)) (roots_of image) }
+{}
+
+/// Regions and roots that keep the limits of an image, and in which [`mark_from_roots`](crate::mark_from_roots) finds no
+/// fault, are with the live objects that it answers the parts of a valid image with roots, whatever the allowance.
+pub fn marked_parts_are_valid()
+    ensures { (log allowance : ℕ) (blocks : List (List ℕ)) (roots live : List ℕ)
+        → HasFittingNumbers (image_of log allowance blocks roots)
+        → first_some (live_list_faults (from_tail true (image_of log 0 blocks roots))) ≡ None
+        → live ≡ reachable (image_of log 0 blocks []) roots
+        → IsValid (rooted_image_of log allowance blocks live (Some roots)) }
 {}

@@ -13,6 +13,8 @@
 //! [`read_image_by_threads`] give the same answers, and check the live objects by as many threads as there are
 //! processors.
 //!
+//! A [`Heap`] is the words of a heap without what an image tells of them, and a [`Bits`] is a set of addresses.
+//!
 //! **Proved**, for all inputs: `decode` answers an image exactly where the bytes are its text, unless memory is refused,
 //! and else the first fault; `encode` and `write_image` give the text; `read_image` decides as `decode` does of the
 //! bytes that its device has left, and takes no byte that its answer does not need; two valid images with one text are
@@ -21,14 +23,14 @@
 //! tested**: the wording of the faults, and that memory is refused only where it is. See the README.
 #![tactic(auto)]
 
-mod begins;
-mod blocks;
+mod bits;
 mod check;
 mod decoding;
 mod encoding;
 mod fault;
 mod front;
 pub mod header;
+mod heap;
 mod image;
 mod incoming;
 mod intake;
@@ -48,17 +50,19 @@ mod unchecked;
 mod upgrading;
 mod write;
 
+pub use bits::Bits;
 pub use decoding::{decode, decode_by_threads};
 pub use encoding::encode;
 pub use fault::Fault;
+pub use heap::Heap;
 pub use image::{Image, ImageParts};
 pub use intake::{Failed, FromRead, Intake};
 pub use laws::{
-    faultless_is_text, faults_of_roots, live_objects_are_reached, one_text,
+    faultless_is_text, faults_of_roots, live_objects_are_reached, marked_parts_are_valid, one_text,
     reachable_is_the_least_closed, roots_are_null_or_live, text_is_faultless,
 };
 pub use length_cause::LengthCause;
-pub use outlet::{Outlet, ToWrite};
+pub use outlet::{Outlet, ToWrite, give_all};
 pub use reach::mark_from_roots;
 pub use read::{read_image, read_image_by_threads};
 pub use upgrading::{upgrade, upgrade_stream};

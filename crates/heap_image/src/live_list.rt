@@ -1,30 +1,30 @@
 //! The live list of what is marked.
 ghost use Rattle.std.specs.Prelude.{◌≡◌, ◌<◌, ◌≤◌, ◌+◌, ◌*◌, ◌/◌, ◌^◌, ◌==◌, ◌++◌, ◌-◌, bit_and, OnOk, IfOk, length, filter, map};
 ghost use Rattle.std.specs.List.{range_with_len};
-ghost use Rattle.heap_image.specs.Begins.{is_marked, ones_of};
+ghost use Rattle.heap_image.specs.Bits.{has, ones_of};
 
+use crate::bits::Bits;
 use std::alloc::{AllocError, Global};
 
 /// The marked addresses below a number, ascending, found by words of 64 bits.
 pub(crate) fn marked_addresses(
     alloc: Global,
-    bits: &[u64],
+    bits: &Bits,
     words: u64,
 ) -> Result<Vec<u64>, AllocError>
     requires room { words / 64 < length bits.now }
     requires few { words ≤ 4194304 }
-    requires short { length bits.now < 2 ^ 58 }
-    ensures { IfOk result (λ live. live.items ≡ filter (is_marked bits.now) (range_with_len 0 words)) }
+    ensures { IfOk result (λ live. live.items ≡ filter (has bits.now) (range_with_len 0 words)) }
 {
     let whole = (words / 64) as usize;
-    let mut live = Vec::with_capacity(alloc, count_ones(bits))?;
+    let mut live = Vec::with_capacity(alloc, bits.count(0, words) as usize)?;
     for index in 0..whole {
-        push_ones(&mut live, 64 * index as u64, bits[index])?;
+        push_ones(&mut live, 64 * index as u64, bits.word(index))?;
     }
     push_ones(
         &mut live,
         64 * whole as u64,
-        low_bits(bits[whole], words % 64),
+        low_bits(bits.word(whole), words % 64),
     )?;
     Ok(live)
 }
@@ -35,17 +35,6 @@ fn low_bits(word: u64, n: u64) -> u64
     ensures { result ≡ bit_and word (2 ^ n - 1) }
 {
     word & ((1 << n) - 1)
-}
-
-/// How many bits are set: the room that the list takes.
-fn count_ones(words: &[u64]) -> usize
-    requires { length words.now < 2 ^ 58 }
-{
-    let mut count = 0;
-    for word in words {
-        count += word.count_ones() as usize;
-    }
-    count
 }
 
 /// Puts the places of the bits that are set in a word behind a list, each with `base` added, ascending.

@@ -1,16 +1,15 @@
 //! `Marking`: which addresses are reached from roots, while it is found out.
 ghost use Rattle.std.specs.Prelude.{◌≡◌, ◌<◌, ◌≤◌, ◌+◌, ◌/◌, ◌==◌, ◌||◌, ◌++◌, ℕ, List, [], All, false, length, slice_index, IfOk, IsTrue};
-ghost use Rattle.std.specs.List.{concat, list_any};
+ghost use Rattle.std.specs.List.{list_any};
 ghost use Rattle.std.specs.Vec.{vec_capacity};
-ghost use Rattle.heap_image.specs.HeapImage.{FormHeap, image_of, leads_to, refers_to};
-ghost use Rattle.heap_image.specs.Begins.{is_marked};
+ghost use Rattle.heap_image.specs.HeapImage.{heap_words, word_at, leads_to, refers_to};
+ghost use Rattle.heap_image.specs.Bits.{has};
 ghost use Rattle.heap_image.specs.Marking.{IsGrown, IsMarking, IsWellFormed, AreReached, AreReachedWell, AreStacked, unmarked, addresses};
 
-use crate::begins::is_marked;
-use crate::blocks::{row_of, word_of};
+use crate::bits::Bits;
 use crate::check::is_unsound;
 use crate::header;
-use raw_region::Region;
+use crate::heap::Heap;
 use std::alloc::{AllocError, Global};
 
 /// How many headers are fetched in a row before the first of them is looked at, so that their ways from memory overlap.
@@ -33,7 +32,7 @@ pub(crate) struct Marking {
     /// How many words the heap has.
     words: u64,
     /// One bit for each address: whether it is marked.
-    bits: Vec<u64>,
+    bits: Bits,
     stack: Vec<u64>,
     /// Whether each object that was followed has a sound header, and no reference that leads out of the heap.
     well_formed: bool,
@@ -43,33 +42,26 @@ pub(crate) struct Marking {
 #[derive(Drop)]
 pub(crate) struct Marked {
     /// One bit for each address: whether it is reached.
-    pub(crate) bits: Vec<u64>,
+    pub(crate) bits: Bits,
     /// Whether each of these objects has a sound header, and no reference that leads out of the heap.
     pub(crate) well_formed: bool,
 }
 
-/// Marks what is reached from the roots in a heap of so many words, which lies in these regions.
-pub(crate) fn mark(
-    alloc: Global,
-    regions: &[Region],
-    region_log: u32,
-    words: u64,
-    roots: &[u64],
-) -> Result<Marked, AllocError>
-    requires heap { FormHeap region_log regions.now }
-    requires words { words ≡ length (concat regions.now) }
-    ensures reached { IfOk result (λ marked. AreReached (image_of region_log 0 regions.now []) roots.now marked.bits.items) }
+/// Marks what is reached from the roots in a heap.
+pub(crate) fn mark(alloc: Global, heap: &Heap<'_>, roots: &[u64]) -> Result<Marked, AllocError>
+    ensures reached { IfOk result (λ marked. AreReached heap.now roots.now marked.bits) }
     ensures well_formed { IfOk result
-        (λ marked. IsTrue marked.well_formed → AreReachedWell (image_of region_log 0 regions.now []) roots.now) }
+        (λ marked. IsTrue marked.well_formed → AreReachedWell heap.now roots.now) }
 {
+    let words = heap.len();
     let mut marking = Marking {
         words,
-        bits: vec![in alloc; 0u64; (words / 64 + 1) as usize]?,
+        bits: Bits::new(alloc, words)?,
         stack: Vec::with_capacity(alloc, words as usize)?,
         well_formed: true,
     };
     let mut batch = Vec::with_capacity(alloc, BATCH)?;
-    marking.mark_reached(regions, region_log, roots, &mut batch);
+    marking.mark_reached(heap, roots, &mut batch);
     Ok(Marked {
         bits: marking.bits,
         well_formed: marking.well_formed,
@@ -78,28 +70,22 @@ pub(crate) fn mark(
 
 impl Marking {
     /// Marks each address that is reached from the roots. Nothing is marked before, and the batch is empty.
-    fn mark_reached(
-        &mut self,
-        regions: &[Region],
-        region_log: u32,
-        roots: &[u64],
-        batch: &mut Vec<Waiting>,
-    )
-        requires heap { FormHeap region_log regions.now }
-        requires words { self.old.words ≡ length (concat regions.now) }
-        requires bits { length self.old.bits.items ≡ self.old.words / 64 + 1 }
-        requires clear { (a : ℕ) → is_marked self.old.bits.items a ≡ false }
+    fn mark_reached(&mut self, heap: &Heap<'_>, roots: &[u64], batch: &mut Vec<Waiting>)
+        requires words { self.old.words ≡ heap_words heap.now }
+        requires bits { length self.old.bits ≡ self.old.words / 64 + 1 }
+        requires few { self.old.words ≤ 4194304 }
+        requires clear { (a : ℕ) → has self.old.bits a ≡ false }
         requires empty { self.old.stack.items ≡ [] }
         requires room { self.old.words ≤ vec_capacity self.old.stack }
         requires batch { batch.old.items ≡ [] }
         requires batch_room { 64 ≤ vec_capacity batch.old }
-        ensures reached { AreReached (image_of region_log 0 regions.now []) roots.now self.new.bits.items }
-        ensures well_formed { IsTrue self.new.well_formed → AreReachedWell (image_of region_log 0 regions.now []) roots.now }
+        ensures reached { AreReached heap.now roots.now self.new.bits }
+        ensures well_formed { IsTrue self.new.well_formed → AreReachedWell heap.now roots.now }
     {
         self.visit_all(roots);
         while !self.stack.is_empty() {
-            self.take_batch(regions, region_log, batch);
-            self.follow_batch(regions, region_log, batch);
+            self.take_batch(heap, batch);
+            self.follow_batch(heap, batch);
         }
     }
 
@@ -107,10 +93,10 @@ impl Marking {
     /// the heap.
     fn visit_all(&mut self, references: &[u64])
         requires few { self.old.words ≤ 4194304 }
-        requires bits { self.old.words / 64 < length self.old.bits.items }
-        requires room { length self.old.stack.items + unmarked self.old.words self.old.bits.items ≤ vec_capacity self.old.stack }
+        requires bits { self.old.words / 64 < length self.old.bits }
+        requires room { length self.old.stack.items + unmarked self.old.words self.old.bits ≤ vec_capacity self.old.stack }
         ensures grown { IsGrown self.old.words (λ b. list_any (λ w. leads_to w b) references.now)
-            self.old.bits.items self.new.bits.items self.old.stack.items self.new.stack.items }
+            self.old.bits self.new.bits self.old.stack.items self.new.stack.items }
         ensures well_formed { IsTrue self.new.well_formed
             → IsTrue self.old.well_formed × All (λ w. w ≤ self.old.words) references.now }
         ensures capacity { vec_capacity self.new.stack ≡ vec_capacity self.old.stack }
@@ -125,16 +111,15 @@ impl Marking {
     }
 
     /// Takes up to 64 addresses from the stack and fetches their headers.
-    fn take_batch(&mut self, regions: &[Region], region_log: u32, batch: &mut Vec<Waiting>)
-        requires heap { FormHeap region_log regions.now }
-        requires words { self.old.words ≡ length (concat regions.now) }
-        requires inside { AreStacked self.old.words self.old.bits.items self.old.stack.items }
+    fn take_batch(&mut self, heap: &Heap<'_>, batch: &mut Vec<Waiting>)
+        requires words { self.old.words ≡ heap_words heap.now }
+        requires inside { AreStacked self.old.words self.old.bits self.old.stack.items }
         requires empty { batch.old.items ≡ [] }
         requires room { 64 ≤ vec_capacity batch.old }
-        ensures marking { (roots : List ℕ) → let image = image_of region_log 0 regions.now [] in
-            IsMarking image roots self.old.bits.items self.old.stack.items self.old.well_formed
-            → IsMarking image roots self.new.bits.items (self.new.stack.items ++ addresses batch.new.items) self.new.well_formed }
-        ensures fetched { All (λ w. w.header ≡ slice_index (concat regions.now) w.address) batch.new.items }
+        ensures marking { (roots : List ℕ) → let image = heap.now in
+            IsMarking image roots self.old.bits self.old.stack.items self.old.well_formed
+            → IsMarking image roots self.new.bits (self.new.stack.items ++ addresses batch.new.items) self.new.well_formed }
+        ensures fetched { All (λ w. w.header ≡ word_at heap.now w.address) batch.new.items }
         ensures total { length self.new.stack.items + length batch.new.items ≡ length self.old.stack.items }
         ensures some { 0 < length self.old.stack.items → 0 < length batch.new.items }
         ensures bits { self.new.bits ≡ self.old.bits }
@@ -146,57 +131,55 @@ impl Marking {
             let Some(address) = self.stack.pop() else {
                 return;
             };
-            let header = word_of(regions, region_log, address);
+            let header = heap.word(address);
             batch.push_reserved(Waiting { address, header });
         }
     }
 
     /// Follows the objects of a batch, and leaves it empty.
-    fn follow_batch(&mut self, regions: &[Region], region_log: u32, batch: &mut Vec<Waiting>)
-        requires heap { FormHeap region_log regions.now }
-        requires words { self.old.words ≡ length (concat regions.now) }
-        requires bits { self.old.words / 64 < length self.old.bits.items }
-        requires room { length self.old.stack.items + unmarked self.old.words self.old.bits.items ≤ vec_capacity self.old.stack }
+    fn follow_batch(&mut self, heap: &Heap<'_>, batch: &mut Vec<Waiting>)
+        requires words { self.old.words ≡ heap_words heap.now }
+        requires bits { self.old.words / 64 < length self.old.bits }
+        requires room { length self.old.stack.items + unmarked self.old.words self.old.bits ≤ vec_capacity self.old.stack }
         requires inside { All (λ a. a < self.old.words) (addresses batch.old.items) }
-        requires fetched { All (λ w. w.header ≡ slice_index (concat regions.now) w.address) batch.old.items }
-        ensures marking { (roots : List ℕ) → let image = image_of region_log 0 regions.now [] in
-            IsMarking image roots self.old.bits.items (self.old.stack.items ++ addresses batch.old.items) self.old.well_formed
-            → IsMarking image roots self.new.bits.items self.new.stack.items self.new.well_formed }
-        ensures total { length self.new.stack.items + unmarked self.new.words self.new.bits.items
-            ≡ length self.old.stack.items + unmarked self.old.words self.old.bits.items }
+        requires fetched { All (λ w. w.header ≡ word_at heap.now w.address) batch.old.items }
+        ensures marking { (roots : List ℕ) → let image = heap.now in
+            IsMarking image roots self.old.bits (self.old.stack.items ++ addresses batch.old.items) self.old.well_formed
+            → IsMarking image roots self.new.bits self.new.stack.items self.new.well_formed }
+        ensures total { length self.new.stack.items + unmarked self.new.words self.new.bits
+            ≡ length self.old.stack.items + unmarked self.old.words self.old.bits }
         ensures empty { batch.new.items ≡ [] }
         ensures words { self.new.words ≡ self.old.words }
         ensures capacity { vec_capacity self.new.stack ≡ vec_capacity self.old.stack }
         ensures batch_capacity { vec_capacity batch.new ≡ vec_capacity batch.old }
     {
         while let Some(object) = batch.pop() {
-            self.follow(regions, region_log, object);
+            self.follow(heap, object);
         }
     }
 
     /// Visits what an object refers to, if it has a sound header, and notes what is wrong with it.
-    fn follow(&mut self, regions: &[Region], region_log: u32, object: Waiting)
-        requires heap { FormHeap region_log regions.now }
-        requires words { self.old.words ≡ length (concat regions.now) }
+    fn follow(&mut self, heap: &Heap<'_>, object: Waiting)
+        requires words { self.old.words ≡ heap_words heap.now }
         requires inside { object.address < self.old.words }
-        requires header { object.header ≡ slice_index (concat regions.now) object.address }
-        requires bits { self.old.words / 64 < length self.old.bits.items }
-        requires room { length self.old.stack.items + unmarked self.old.words self.old.bits.items ≤ vec_capacity self.old.stack }
-        ensures grown { IsGrown self.old.words (refers_to (image_of region_log 0 regions.now []) object.address)
-            self.old.bits.items self.new.bits.items self.old.stack.items self.new.stack.items }
+        requires header { object.header ≡ word_at heap.now object.address }
+        requires bits { self.old.words / 64 < length self.old.bits }
+        requires room { length self.old.stack.items + unmarked self.old.words self.old.bits ≤ vec_capacity self.old.stack }
+        ensures grown { IsGrown self.old.words (refers_to heap.now object.address)
+            self.old.bits self.new.bits self.old.stack.items self.new.stack.items }
         ensures well_formed { IsTrue self.new.well_formed
-            → IsTrue self.old.well_formed × IsWellFormed (image_of region_log 0 regions.now []) object.address }
+            → IsTrue self.old.well_formed × IsWellFormed heap.now object.address }
         ensures capacity { vec_capacity self.new.stack ≡ vec_capacity self.old.stack }
         ensures words { self.new.words ≡ self.old.words }
     {
-        if is_unsound(object.header, object.address, self.words) {
+        if is_unsound(object.header, object.address, heap.len()) {
             self.well_formed = false;
             return;
         }
         let mut next = object.address + 1;
         let end = next + u64::from(header::references(object.header));
         while next < end {
-            let row = row_of(regions, region_log, next, end);
+            let row = heap.row(next, end);
             self.visit_all(row);
             next += row.len() as u64;
         }
@@ -206,10 +189,10 @@ impl Marking {
     #[inline]
     fn visit(&mut self, reference: u64)
         requires few { self.old.words ≤ 4194304 }
-        requires bits { self.old.words / 64 < length self.old.bits.items }
-        requires room { length self.old.stack.items + unmarked self.old.words self.old.bits.items ≤ vec_capacity self.old.stack }
+        requires bits { self.old.words / 64 < length self.old.bits }
+        requires room { length self.old.stack.items + unmarked self.old.words self.old.bits ≤ vec_capacity self.old.stack }
         ensures grown { IsGrown self.old.words (leads_to reference)
-            self.old.bits.items self.new.bits.items self.old.stack.items self.new.stack.items }
+            self.old.bits self.new.bits self.old.stack.items self.new.stack.items }
         ensures well_formed { self.new.well_formed ≡ self.old.well_formed }
         ensures capacity { vec_capacity self.new.stack ≡ vec_capacity self.old.stack }
         ensures words { self.new.words ≡ self.old.words }
@@ -218,20 +201,10 @@ impl Marking {
             return;
         }
         let a = reference - 1;
-        if is_marked(self.bits.as_slice(), a) {
+        if self.bits.has(a) {
             return;
         }
-        set_bit(&mut self.bits, a);
+        self.bits.insert(a);
         self.stack.push_reserved(a);
     }
-}
-
-/// Sets the bit of an address.
-#[inline]
-fn set_bit(bits: &mut Vec<u64>, a: u64)
-    requires { a / 64 < length bits.old.items }
-    ensures bits { (k : ℕ) → is_marked bits.new.items k ≡ (is_marked bits.old.items k || k == a) }
-    ensures room { length bits.new.items ≡ length bits.old.items }
-{
-    bits[(a / 64) as usize] |= 1 << (a % 64);
 }

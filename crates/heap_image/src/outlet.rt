@@ -28,7 +28,7 @@ pub trait Outlet {
 }
 
 /// Gives the device all of the bytes. After [`Failed`] it took a beginning of them.
-pub(crate) fn give_all<W: Outlet>(writer: &mut W, bytes: &[u8]) -> Result<(), Failed>
+pub fn give_all<W: Outlet>(writer: &mut W, bytes: &[u8]) -> Result<(), Failed>
     ensures bytes { OnOk result (Appends (W.took writer.old) (W.took writer.new) bytes.now) }
     ensures beginning { (n : ℕ)
         × Appends (W.took writer.old) (W.took writer.new) (take n bytes.now) }

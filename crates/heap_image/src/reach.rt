@@ -1,13 +1,15 @@
 //! The live objects of a heap, by what is reached from roots.
 ghost use Rattle.std.specs.Prelude.{◌≡◌, ◌<◌, ◌≤◌, ◌⊎◌, Some, None, true, [], All, length, find, nat_lt, slice_index, IfOk, OnOk, IfErr, IsTrue};
 ghost use Rattle.std.specs.List.{concat, range_with_len};
-ghost use Rattle.heap_image.specs.HeapImage.{FormHeap, image_of, reachable};
+ghost use Rattle.heap_image.specs.HeapImage.{FormHeap, heap_words, image_of, reachable, with_live};
 ghost use Rattle.heap_image.specs.ImageText.{first_some, from_tail, live_list_faults, misplaced_root};
-ghost use Rattle.heap_image.specs.Begins.{MarkBegins};
+ghost use Rattle.heap_image.specs.Bits.{MarkBegins};
 ghost use Rattle.heap_image.specs.Soundness.{AreWellFormed};
 
 use crate::Fault;
+use crate::bits::Bits;
 use crate::check::check_live;
+use crate::heap::Heap;
 use crate::live_list::marked_addresses;
 use crate::marking::mark;
 use raw_region::Region;
@@ -34,18 +36,13 @@ pub fn mark_from_roots(
     ensures fault { let faults = live_list_faults (from_tail true (image_of region_log 0 regions.now roots.now)) in
         IfErr result (λ fault. (fault ≡ Fault.Memory) ⊎ (first_some faults ≡ Some fault)) }
 {
+    let heap = Heap::new(regions, region_log);
     let Reached {
         live,
         begins,
         well_formed,
-    } = reached_from_roots(alloc, region_log, regions, roots)?;
-    check_live(
-        regions,
-        region_log,
-        live.as_slice(),
-        begins.as_slice(),
-        well_formed,
-    )?;
+    } = reached_from_roots(alloc, &heap, roots)?;
+    check_live(&heap, live.as_slice(), &begins, well_formed)?;
     Ok(live)
 }
 
@@ -55,7 +52,7 @@ pub(crate) struct Reached {
     /// The addresses, ascending.
     pub(crate) live: Vec<u64>,
     /// The same as bits.
-    pub(crate) begins: Vec<u64>,
+    pub(crate) begins: Bits,
     /// Whether each of these objects is known to have a sound header, and references that are null or to another of them.
     pub(crate) well_formed: bool,
 }
@@ -63,44 +60,31 @@ pub(crate) struct Reached {
 /// What is reached from the roots of a heap, if no root is above its number of words.
 pub(crate) fn reached_from_roots(
     alloc: Global,
-    region_log: u32,
-    regions: &[Region],
+    heap: &Heap<'_>,
     roots: &[u64],
 ) -> Result<Reached, Fault>
-    requires heap { FormHeap region_log regions.now }
-    requires few { length roots.now ≤ length (concat regions.now) }
-    ensures live { IfOk result
-        (λ reached. reached.live.items ≡ reachable (image_of region_log 0 regions.now []) roots.now) }
-    ensures inside { IfOk result
-        (λ reached. All (λ a. a < length (concat regions.now)) reached.live.items) }
+    requires few { length roots.now ≤ heap_words heap.now }
+    ensures live { IfOk result (λ reached. reached.live.items ≡ reachable heap.now roots.now) }
+    ensures inside { IfOk result (λ reached. All (λ a. a < heap_words heap.now) reached.live.items) }
     ensures begins { IfOk result
-        (λ reached. MarkBegins reached.live.items (length (concat regions.now)) reached.begins.items) }
+        (λ reached. MarkBegins reached.live.items (heap_words heap.now) reached.begins) }
     ensures well_formed { IfOk result
-        (λ reached. IsTrue reached.well_formed → AreWellFormed (image_of region_log 0 regions.now reached.live.items)) }
-    ensures roots { OnOk result
-        (misplaced_root (from_tail true (image_of region_log 0 regions.now roots.now)) ≡ None) }
-    ensures fault { let faults = live_list_faults (from_tail true (image_of region_log 0 regions.now roots.now)) in
+        (λ reached. IsTrue reached.well_formed → AreWellFormed (with_live heap.now reached.live.items)) }
+    ensures roots { OnOk result (misplaced_root (from_tail true (with_live heap.now roots.now)) ≡ None) }
+    ensures fault { let faults = live_list_faults (from_tail true (with_live heap.now roots.now)) in
         IfErr result (λ fault. (fault ≡ Fault.Memory) ⊎ (first_some faults ≡ Some fault)) }
 {
-    let words = words_in(regions, region_log);
+    let words = heap.len();
     if let Some(index) = misplaced_root(roots, words) {
         return Err(Fault::Root(index));
     }
-    let marked = mark(alloc, regions, region_log, words, roots)?;
-    let live = marked_addresses(alloc, marked.bits.as_slice(), words)?;
+    let marked = mark(alloc, heap, roots)?;
+    let live = marked_addresses(alloc, &marked.bits, words)?;
     Ok(Reached {
         live,
         begins: marked.bits,
         well_formed: marked.well_formed,
     })
-}
-
-/// How many words these regions have.
-pub(crate) fn words_in(regions: &[Region], region_log: u32) -> u64
-    requires heap { FormHeap region_log regions.now }
-    ensures { result ≡ length (concat regions.now) }
-{
-    (regions.len() as u64) << region_log
 }
 
 /// The least index of a root that is above the number of words.

@@ -1,15 +1,16 @@
 //! Reading an image.
-ghost use Rattle.std.specs.Prelude.{◌≡◌, ◌≢◌, ◌<◌, ◌≤◌, ◌+◌, ◌*◌, ◌++◌, ◌⊎◌, ◌↔◌, ◌||◌, ◌^◌, ℕ, List, All, Option, Some, None, false, length, IfOk, OnOk, IfErr, IfSome, IsErrOf, IsTrue, option_map};
+ghost use Rattle.std.specs.Prelude.{◌≡◌, ◌≢◌, ◌<◌, ◌≤◌, ◌+◌, ◌*◌, ◌++◌, ◌⊎◌, ◌↔◌, ◌||◌, ◌^◌, ℕ, List, All, Option, Some, None, [], false, length, IfOk, OnOk, IfErr, IfSome, IsErrOf, IsTrue, option_map};
 ghost use Rattle.std.specs.List.{concat};
 ghost use Rattle.std.specs.Io.KnownBytes.{Consumes, IsAtEnd};
 ghost use Rattle.heap_image.specs.Device.{is_io};
-ghost use Rattle.heap_image.specs.HeapImage.{IsValid, IsWithinLimits, AreBlocks, image_of};
+ghost use Rattle.heap_image.specs.HeapImage.{FormHeap, IsValid, IsWithinLimits, AreBlocks, image_of};
 ghost use Rattle.heap_image.specs.ImageText.{text, listed_text, front, numbers, front_faults, first_object_fault, first_some};
 ghost use Rattle.heap_image.specs.Reading.{HasFittingNumbers, IsFound, numbers_of};
 ghost use Rattle.heap_image.specs.Refusals.{IsReason, IsOfReading, IsOfBody, LeavesRest};
 ghost use Rattle.heap_image.specs.Incoming.{IsInRange, FallsShort, expected, known_rest};
 
 use crate::front::{FRONT_BYTES, Front};
+use crate::heap::Heap;
 use crate::incoming::Incoming;
 use crate::intake::{Intake, fill};
 use crate::unchecked::{Found, find_live_objects};
@@ -43,9 +44,7 @@ pub fn read_image<R: Intake>(alloc: Global, reader: &mut R) -> Result<Image, Fau
     ensures io { R.has_failed reader.new ≡ is_io result }
 {
     let read = read_unchecked(alloc, reader)?;
-    let checked = read
-        .found
-        .check(read.regions.as_slice(), read.front.region_log);
+    let checked = read.found.check(&read.heap());
     read.finish(reader, checked)
 }
 
@@ -75,9 +74,7 @@ pub fn read_image_by_threads<R: Intake>(
     ensures io { R.has_failed reader.new ≡ is_io result }
 {
     let read = read_unchecked(alloc, reader)?;
-    let checked = read
-        .found
-        .check_by_threads(read.regions.as_slice(), read.front.region_log, threads);
+    let checked = read.found.check_by_threads(alloc, &read.heap(), threads);
     read.finish(reader, checked)
 }
 
@@ -110,7 +107,8 @@ fn read_unchecked<R: Intake>(alloc: Global, reader: &mut R) -> Result<Unchecked,
 {
     let front = read_front(reader)?;
     let Body { regions, tail } = read_body(alloc, reader, front)?;
-    let found = find_live_objects(alloc, regions.as_slice(), front, tail)?;
+    let heap = Heap::new(regions.as_slice(), front.region_log);
+    let found = find_live_objects(alloc, &heap, front.rooted, tail)?;
     Ok(Unchecked {
         front,
         regions,
@@ -119,6 +117,14 @@ fn read_unchecked<R: Intake>(alloc: Global, reader: &mut R) -> Result<Unchecked,
 }
 
 impl Unchecked {
+    /// The words that were read.
+    fn heap(&self) -> Heap<'_>
+        requires { FormHeap self.now.front.region_log self.now.regions.items }
+        ensures { result ≡ image_of self.now.front.region_log 0 self.now.regions.items [] }
+    {
+        Heap::new(self.regions.as_slice(), self.front.region_log)
+    }
+
     /// The image, if its live objects were found in order and no byte follows.
     ///
     /// A clause that asks for `before` speaks of a device that had these bytes left before the image was read.
@@ -159,7 +165,7 @@ impl Unchecked {
             live: found.live,
             roots: found.roots,
         };
-        Ok(parts.into_image())
+        Ok(parts.with_begins(Some(found.begins)))
     }
 }
 

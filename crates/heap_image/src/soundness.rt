@@ -1,77 +1,157 @@
 //! Whether the objects of a live list are sound, by several threads.
-ghost use Rattle.std.specs.Prelude.{◌≡◌, ◌<◌, ◌/◌, All, IsTrue, length};
-ghost use Rattle.std.specs.List.{concat};
-ghost use Rattle.heap_image.specs.HeapImage.{FormHeap, HasLiveList, image_of};
-ghost use Rattle.heap_image.specs.Begins.{MarkBegins};
-ghost use Rattle.heap_image.specs.Soundness.{IsSoundObject};
+//!
+//! They are looked at in pieces of 64: first their headers are read in a row, since a header is mostly waited for, and then
+//! their references, a row of words at a time. A reference is looked up as it is in bits that are set at null and at each
+//! reference to a live object. What is wrong is gathered and not told apart: whoever wants to know which object is unsound
+//! looks again.
+ghost use Rattle.std.specs.Prelude.{◌≡◌, ◌<◌, ◌≤◌, ◌+◌, ◌*◌, ℕ, All, IsTrue, length, min, slice_index};
+ghost use Rattle.heap_image.specs.HeapImage.{HasLiveList, heap_words, with_live, word_at};
+ghost use Rattle.heap_image.specs.Bits.{MarkBegins, has, room};
+ghost use Rattle.heap_image.specs.Soundness.{AreTargets, IsSoundObject, IsSoundPiece};
 
-use crate::blocks::word_of;
-use crate::check::{dangling_field, is_unsound};
+use crate::bits::Bits;
+use crate::check::is_unsound;
 use crate::header;
-use raw_region::Region;
+use crate::heap::Heap;
 use rayon::prelude::*;
+use std::alloc::Global;
 use std::thread::Threads;
 
+/// How many objects are a piece.
+const PIECE: usize = 64;
+
+/// How many pieces are worth a thread of their own.
+const LEAST: usize = 16;
+
 /// Whether nothing is wrong with any live object, whose addresses are marked. As many threads as there are processors
-/// look at the objects, each object once.
+/// look at the objects, each object once. Where memory is refused for the bits of the references, the answer is no.
 pub(crate) fn are_sound(
-    regions: &[Region],
-    region_log: u32,
-    words: u64,
+    alloc: Global,
+    heap: &Heap<'_>,
     live: &[u64],
-    bits: &[u64],
+    begins: &Bits,
     threads: &(impl Threads + Sync),
 ) -> bool
-    requires heap { FormHeap region_log regions.now }
-    requires words { words ≡ length (concat regions.now) }
-    requires inside { All (λ a. a < words) live.now }
-    requires bits { MarkBegins live.now words bits.now }
-    ensures { IsTrue result → HasLiveList (image_of region_log 0 regions.now live.now) }
+    requires inside { All (λ a. a < heap_words heap.now) live.now }
+    requires bits { MarkBegins live.now (heap_words heap.now) begins.now }
+    ensures { IsTrue result → HasLiveList (with_live heap.now live.now) }
 {
-    (0..live.len()).into_par_iter().all(
+    match begins.raised(alloc) {
+        Ok(targets) => are_pieces_sound(heap, live, &targets, threads),
+        Err(_) => false,
+    }
+}
+
+/// Whether nothing is wrong with any live object, where the references that are null or lead to one are set.
+fn are_pieces_sound(
+    heap: &Heap<'_>,
+    live: &[u64],
+    targets: &Bits,
+    threads: &(impl Threads + Sync),
+) -> bool
+    requires inside { All (λ a. a < heap_words heap.now) live.now }
+    requires targets { AreTargets (with_live heap.now live.now) targets.now }
+    ensures { IsTrue result → HasLiveList (with_live heap.now live.now) }
+{
+    let pieces = (0..live.len().div_ceil(PIECE)).into_par_iter();
+    pieces.with_min_len(LEAST).all(
         threads,
-        |i: usize| -> bool
-            requires { FormHeap region_log regions.now × (words ≡ length (concat regions.now))
-                × All (λ a. a < words) live.now × MarkBegins live.now words bits.now × (i < length live.now) }
-            ensures { IsTrue result → IsSoundObject (image_of region_log 0 regions.entry.now live.entry.now) i }
-        { is_sound(regions, region_log, words, live, bits, i) },
+        |piece: usize| -> bool
+            requires { All (λ a. a < heap_words heap.now) live.now
+                × AreTargets (with_live heap.now live.now) targets.now × (64 * piece < length live.now) }
+            ensures { IsTrue result → IsSoundPiece (with_live heap.entry.now live.entry.now) piece }
+        { is_piece_sound(heap, live, targets, piece) },
     )
 }
 
-/// Whether the live object of this index has the header of an object that fits, ends before the next one begins, and
-/// has no reference but to nothing or to a live object.
+/// Whether nothing is wrong with the live objects of a piece.
+fn is_piece_sound(heap: &Heap<'_>, live: &[u64], targets: &Bits, piece: usize) -> bool
+    requires inside { All (λ a. a < heap_words heap.now) live.now }
+    requires targets { AreTargets (with_live heap.now live.now) targets.now }
+    requires piece { 64 * piece < length live.now }
+    ensures { IsTrue result → IsSoundPiece (with_live heap.now live.now) piece }
+{
+    let from = piece * PIECE;
+    let to = live.len().min(from + PIECE);
+    let headers = headers_of(heap, &live[from..to]);
+    let mut all = true;
+    for i in from..to {
+        all &= is_sound(heap, live, targets, i, headers[i - from]);
+    }
+    all
+}
+
+/// The headers of a few objects, and zeros behind them. Nothing is done here but to read them, so that the processor has
+/// many of them under way at once.
 #[inline]
-fn is_sound(
-    regions: &[Region],
-    region_log: u32,
-    words: u64,
-    live: &[u64],
-    bits: &[u64],
-    i: usize,
-) -> bool
-    requires heap { FormHeap region_log regions.now }
-    requires words { words ≡ length (concat regions.now) }
-    requires inside { All (λ a. a < words) live.now }
-    requires bits { MarkBegins live.now words bits.now }
+fn headers_of(heap: &Heap<'_>, objects: &[u64]) -> [u64; PIECE]
+    requires inside { All (λ a. a < heap_words heap.now) objects.now }
+    requires few { length objects.now ≤ 64 }
+    ensures { (i : ℕ) → i < length objects.now → slice_index result i ≡ word_at heap.now (slice_index objects.now i) }
+{
+    let mut headers = [0; PIECE];
+    for (i, &a) in objects.iter().enumerate() {
+        headers[i] = heap.word(a);
+    }
+    headers
+}
+
+/// Whether the live object of this index, which has this header, is an object that fits, ends before the next one begins,
+/// and has no reference but to nothing or to a live object.
+#[inline]
+fn is_sound(heap: &Heap<'_>, live: &[u64], targets: &Bits, i: usize, header: u64) -> bool
+    requires inside { All (λ a. a < heap_words heap.now) live.now }
+    requires targets { AreTargets (with_live heap.now live.now) targets.now }
     requires index { i < length live.now }
-    ensures { IsTrue result → IsSoundObject (image_of region_log 0 regions.now live.now) i }
+    requires header { header ≡ word_at heap.now (slice_index live.now i) }
+    ensures { IsTrue result → IsSoundObject (with_live heap.now live.now) i }
 {
     let a = live[i];
-    let word = word_of(regions, region_log, a);
-    if is_unsound(word, a, words) {
+    if is_unsound(header, a, heap.len()) {
         return false;
     }
-    let end = a + u64::from(header::size(word));
+    let end = a + u64::from(header::size(header));
     if i + 1 < live.len() && end > live[i + 1] {
         return false;
     }
-    dangling_field(
-        regions,
-        region_log,
-        a,
-        header::references(word),
-        words,
-        bits,
+    lead_to_targets(
+        heap,
+        targets,
+        a + 1,
+        a + 1 + u64::from(header::references(header)),
     )
-    .is_none()
+}
+
+/// Whether each word from `from` up to `to` is one of these references. One that leads out of the heap is cut to the
+/// least that does.
+#[inline]
+fn lead_to_targets(heap: &Heap<'_>, targets: &Bits, from: u64, to: u64) -> bool
+    requires inside { to ≤ heap_words heap.now }
+    requires room { heap_words heap.now + 1 < room targets.now }
+    ensures { IsTrue result → (p : ℕ) → from ≤ p → p < to
+        → IsTrue (has targets.now (min (word_at heap.now p) (heap_words heap.now + 1))) }
+{
+    let beyond = heap.len() + 1;
+    let mut all = true;
+    let mut next = from;
+    while next < to {
+        let row = heap.row(next, to);
+        all &= has_all(targets, row, beyond);
+        next += row.len() as u64;
+    }
+    all
+}
+
+/// Whether each of these references, cut to the highest, is in a set.
+#[inline]
+fn has_all(targets: &Bits, references: &[u64], highest: u64) -> bool
+    requires { highest < room targets.now }
+    ensures { IsTrue result → (k : ℕ) → k < length references.now
+        → IsTrue (has targets.now (min (slice_index references.now k) highest)) }
+{
+    let mut all = true;
+    for reference in references {
+        all &= targets.has((*reference).min(highest));
+    }
+    all
 }

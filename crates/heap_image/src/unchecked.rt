@@ -1,18 +1,16 @@
 //! `Unchecked`: what was read of an image, before its live objects are checked.
-ghost use Rattle.std.specs.Prelude.{◌≡◌, ◌<◌, ◌≤◌, ◌⊎◌, ◌++◌, Some, None, All, length, IfOk, OnOk, IfErr, IsTrue, option_map};
-ghost use Rattle.std.specs.List.{concat};
-ghost use Rattle.heap_image.specs.Begins.{MarkBegins};
+ghost use Rattle.std.specs.Prelude.{◌≡◌, ◌<◌, ◌≤◌, ◌⊎◌, Some, None, All, length, IfOk, OnOk, IfErr, IsTrue, option_map};
+ghost use Rattle.heap_image.specs.Bits.{MarkBegins};
 ghost use Rattle.heap_image.specs.Soundness.{AreWellFormed};
-ghost use Rattle.heap_image.specs.HeapImage.{FormHeap, image_of, roots_or};
+ghost use Rattle.heap_image.specs.HeapImage.{heap_words, with_live};
 ghost use Rattle.heap_image.specs.ImageText.{from_tail, first_some, first_object_fault, live_list_faults};
 
 use crate::Fault;
-use crate::begins::begin_bits;
+use crate::bits::Bits;
 use crate::check::{check_live, misplaced_index};
-use crate::front::Front;
-use crate::reach::{Reached, reached_from_roots, words_in};
+use crate::heap::Heap;
+use crate::reach::{Reached, reached_from_roots};
 use crate::soundness::are_sound;
-use raw_region::Region;
 use std::alloc::Global;
 use std::thread::Threads;
 
@@ -22,45 +20,44 @@ pub(crate) struct Found {
     /// Their addresses, ascending.
     pub(crate) live: Vec<u64>,
     /// The same as bits.
-    pub(crate) begins: Vec<u64>,
+    pub(crate) begins: Bits,
     /// Whether each of these objects is known to have a sound header, and references that are null or to another of them.
     pub(crate) well_formed: bool,
     /// The roots, in an image of version 2.
     pub(crate) roots: Option<Vec<u64>>,
 }
 
-/// The live objects of what was read, whose words lie in these regions. `tail` are the numbers behind the words: the
-/// live list, or in version 2 the roots.
+/// The live objects of what was read, whose words this heap has. `tail` are the numbers behind the words: the live list,
+/// or in version 2, which is rooted, the roots.
 pub(crate) fn find_live_objects(
     alloc: Global,
-    regions: &[Region],
-    front: Front,
+    heap: &Heap<'_>,
+    rooted: bool,
     tail: Vec<u64>,
 ) -> Result<Found, Fault>
-    requires heap { FormHeap front.region_log regions.now }
-    requires few { length tail.items ≤ length (concat regions.now) }
-    ensures live { let image = from_tail front.rooted (image_of front.region_log 0 regions.now tail.items) in
+    requires few { length tail.items ≤ heap_words heap.now }
+    ensures live { let image = from_tail rooted (with_live heap.now tail.items) in
         IfOk result (λ found. found.live.items ≡ image.live) }
-    ensures roots { let image = from_tail front.rooted (image_of front.region_log 0 regions.now tail.items) in
+    ensures roots { let image = from_tail rooted (with_live heap.now tail.items) in
         IfOk result (λ found. option_map (λ v. v.items) found.roots ≡ image.roots) }
-    ensures inside { IfOk result (λ found. All (λ a. a < length (concat regions.now)) found.live.items) }
+    ensures inside { IfOk result (λ found. All (λ a. a < heap_words heap.now) found.live.items) }
     ensures begins { IfOk result
-        (λ found. MarkBegins found.live.items (length (concat regions.now)) found.begins.items) }
+        (λ found. MarkBegins found.live.items (heap_words heap.now) found.begins) }
     ensures well_formed { IfOk result (λ found. IsTrue found.well_formed
-        → AreWellFormed (image_of front.region_log 0 regions.now found.live.items)) }
+        → AreWellFormed (with_live heap.now found.live.items)) }
     // What is still to be found is wrong with the objects.
-    ensures ordered { let image = from_tail front.rooted (image_of front.region_log 0 regions.now tail.items) in
+    ensures ordered { let image = from_tail rooted (with_live heap.now tail.items) in
         IfOk result (λ found. first_some (live_list_faults image)
-        ≡ first_object_fault (image_of front.region_log 0 regions.now found.live.items)) }
-    ensures fault { let image = from_tail front.rooted (image_of front.region_log 0 regions.now tail.items) in
+        ≡ first_object_fault (with_live heap.now found.live.items)) }
+    ensures fault { let image = from_tail rooted (with_live heap.now tail.items) in
         IfErr result (λ fault. (fault ≡ Fault.Memory) ⊎ (first_some (live_list_faults image) ≡ Some fault)) }
 {
-    if front.rooted {
+    if rooted {
         let Reached {
             live,
             begins,
             well_formed,
-        } = reached_from_roots(alloc, front.region_log, regions, tail.as_slice())?;
+        } = reached_from_roots(alloc, heap, tail.as_slice())?;
         let roots = Some(tail);
         return Ok(Found {
             live,
@@ -69,11 +66,11 @@ pub(crate) fn find_live_objects(
             roots,
         });
     }
-    let words = words_in(regions, front.region_log);
+    let words = heap.len();
     if let Some(index) = misplaced_index(tail.as_slice(), words) {
         return Err(Fault::LiveOrder(index));
     }
-    let begins = begin_bits(alloc, tail.as_slice(), words)?;
+    let begins = Bits::of(alloc, tail.as_slice(), words)?;
     Ok(Found {
         live: tail,
         begins,
@@ -83,49 +80,41 @@ pub(crate) fn find_live_objects(
 }
 
 impl Found {
-    /// What is first wrong with the live objects of the heap in these regions, if anything is. One thread looks at each
+    /// What is first wrong with the live objects of their heap, if anything is. One thread looks at each
     /// object once.
-    pub(crate) fn check(&self, regions: &[Region], region_log: u32) -> Result<(), Fault>
-        requires heap { FormHeap region_log regions.now }
-        requires inside { All (λ a. a < length (concat regions.now)) self.now.live.items }
-        requires begins { MarkBegins self.now.live.items (length (concat regions.now)) self.now.begins.items }
-        requires well_formed { IsTrue self.now.well_formed → AreWellFormed (image_of region_log 0 regions.now self.now.live.items) }
+    pub(crate) fn check(&self, heap: &Heap<'_>) -> Result<(), Fault>
+        requires inside { All (λ a. a < heap_words heap.now) self.now.live.items }
+        requires begins { MarkBegins self.now.live.items (heap_words heap.now) self.now.begins }
+        requires well_formed { IsTrue self.now.well_formed → AreWellFormed (with_live heap.now self.now.live.items) }
         ensures ok { OnOk result
-            (first_object_fault (image_of region_log 0 regions.now self.now.live.items) ≡ None) }
+            (first_object_fault (with_live heap.now self.now.live.items) ≡ None) }
         ensures fault { IfErr result
-            (λ fault. first_object_fault (image_of region_log 0 regions.now self.now.live.items) ≡ Some fault) }
+            (λ fault. first_object_fault (with_live heap.now self.now.live.items) ≡ Some fault) }
     {
-        check_live(
-            regions,
-            region_log,
-            self.live.as_slice(),
-            self.begins.as_slice(),
-            self.well_formed,
-        )
+        check_live(heap, self.live.as_slice(), &self.begins, self.well_formed)
     }
 
     /// As [`check`](Found::check). Most live objects are sound, so as many threads as there are processors are asked first
     /// whether these are. Where they don't say so, one thread looks for the fault that comes first.
     pub(crate) fn check_by_threads(
         &self,
-        regions: &[Region],
-        region_log: u32,
+        alloc: Global,
+        heap: &Heap<'_>,
         threads: &(impl Threads + Sync),
     ) -> Result<(), Fault>
-        requires heap { FormHeap region_log regions.now }
-        requires inside { All (λ a. a < length (concat regions.now)) self.now.live.items }
-        requires begins { MarkBegins self.now.live.items (length (concat regions.now)) self.now.begins.items }
-        requires well_formed { IsTrue self.now.well_formed → AreWellFormed (image_of region_log 0 regions.now self.now.live.items) }
+        requires inside { All (λ a. a < heap_words heap.now) self.now.live.items }
+        requires begins { MarkBegins self.now.live.items (heap_words heap.now) self.now.begins }
+        requires well_formed { IsTrue self.now.well_formed → AreWellFormed (with_live heap.now self.now.live.items) }
         ensures ok { OnOk result
-            (first_object_fault (image_of region_log 0 regions.now self.now.live.items) ≡ None) }
+            (first_object_fault (with_live heap.now self.now.live.items) ≡ None) }
         ensures fault { IfErr result
-            (λ fault. first_object_fault (image_of region_log 0 regions.now self.now.live.items) ≡ Some fault) }
+            (λ fault. first_object_fault (with_live heap.now self.now.live.items) ≡ Some fault) }
     {
-        let words = words_in(regions, region_log);
-        let (live, begins) = (self.live.as_slice(), self.begins.as_slice());
-        if !self.well_formed && are_sound(regions, region_log, words, live, begins, threads) {
+        if !self.well_formed
+            && are_sound(alloc, heap, self.live.as_slice(), &self.begins, threads)
+        {
             return Ok(());
         }
-        self.check(regions, region_log)
+        self.check(heap)
     }
 }

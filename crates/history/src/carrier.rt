@@ -98,7 +98,7 @@ impl<'a> Carrier<'a> {
         }
         let mut roots = Vec::new(alloc);
         for w in image.roots() {
-            roots.push(self.plan.redirected(self.marks, *w))?;
+            roots.push(self.plan.redirected(*w))?;
         }
         Ok(Some(roots))
     }
@@ -124,7 +124,7 @@ impl<'a> Carrier<'a> {
         requires moved { (a : ℕ) → a < heap_words self.now.plan.now → slice_index heap.now a ≡ moved_word self.now.plan.now a }
         ensures { IfOk result (λ region. region ≡ map (compacted_word self.now.plan.now) (addresses self.now.plan.now r)) }
     {
-        let len = region_words(self.plan);
+        let len = self.plan.region_words();
         let start = u64::from(r) * len;
         let mut region = Region::new(alloc, len as usize)?;
         for i in 0..len {
@@ -146,7 +146,7 @@ impl<'a> Carrier<'a> {
         }
         let word = heap[place as usize];
         if self.late[place as usize] {
-            self.plan.redirected(self.marks, word)
+            self.plan.redirected(word)
         } else {
             word
         }
@@ -180,7 +180,7 @@ impl<'a> Carrier<'a> {
         };
         let word = heap[origin as usize];
         if self.early[origin as usize] {
-            self.plan.redirected(self.marks, word)
+            self.plan.redirected(word)
         } else {
             word
         }
@@ -202,14 +202,4 @@ impl<'a> Carrier<'a> {
             None
         }
     }
-}
-
-/// How many words a region has.
-fn region_words(plan: &Plan) -> u64
-    ensures value { result ≡ region_words plan.now }
-    ensures some { 0 < result }
-    ensures few { result ≤ 65536 }
-    ensures valid { IsValid plan.now }
-{
-    1 << plan.region_log()
 }

@@ -182,7 +182,7 @@ fn fill_of<M: Moves>(alloc: Global, moves: &M, regions: u32) -> Result<Vec<bool>
     requires { regions ≡ region_count (M.table moves.now) }
     ensures { IfOk result (λ fill. fill.items ≡ (M.table moves.now).fill) }
 {
-    let mut fill = Vec::new(alloc);
+    let mut fill = Vec::with_capacity(alloc, regions as usize)?;
     for region in 0..regions {
         fill.push(moves.to_fill(region))?;
     }
@@ -195,11 +195,22 @@ fn pairs_of<M: Moves>(alloc: Global, moves: &M, regions: u32) -> Result<Vec<(u32
     requires lawful { IsMoveTable (M.table moves.now) }
     ensures { IfOk result (λ pairs. pairs.items ≡ (M.table moves.now).pairs) }
 {
-    let mut pairs = Vec::new(alloc);
+    let mut pairs = Vec::with_capacity(alloc, pair_count(moves, regions))?;
     for destination in 0..regions {
         push_pairs(&mut pairs, moves, destination)?;
     }
     Ok(pairs)
+}
+
+/// How many pairs there are, for which room is made.
+fn pair_count<M: Moves>(moves: &M, regions: u32) -> usize
+    requires { regions ≡ region_count (M.table moves.now) }
+{
+    let mut count: usize = 0;
+    for source in 0..regions {
+        count = count.saturating_add(moves.count(source) as usize);
+    }
+    count
 }
 
 /// Adds the pairs of one destination to those of the smaller ones.

@@ -134,7 +134,7 @@ impl Moves for IndexedMoves {
 fn first_places(alloc: Global, moves: &GivenMoves) -> Result<Vec<usize>, AllocError>
     ensures { IfOk result (λ first. AreFirstPlaces moves.now first.items) }
 {
-    let mut first = Vec::new(alloc);
+    let mut first = Vec::with_capacity(alloc, moves.regions() as usize)?;
     let mut place = 0;
     for destination in 0..moves.regions() {
         first.push(place)?;

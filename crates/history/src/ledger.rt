@@ -81,7 +81,7 @@ impl Ledger {
     {
         match event {
             Event::Copy(region, words) => {
-                let start = u64::from(region) * (1 << plan.region_log());
+                let start = u64::from(region) * plan.region_words();
                 (start + u64::from(self.written(region)), words)
             }
             _ => (0, 0),
@@ -147,7 +147,7 @@ fn note(written: &mut [u32], event: Event)
 fn words_of(plan: &Plan, region: u32) -> u64
     ensures { result ≡ words_of (image_slide plan.now) region }
 {
-    let size = 1 << plan.region_log();
+    let size = plan.region_words();
     let start = u64::from(region) * size;
     size.min(plan.new_top().saturating_sub(start))
 }
@@ -157,7 +157,7 @@ fn taken_up_to(plan: &Plan, destination: u32, source: u32) -> u64
     requires { IsTrue (reads (image_table plan.now) destination source) }
     ensures { result ≡ taken_up_to plan.now destination source }
 {
-    let size = 1 << plan.region_log();
+    let size = plan.region_words();
     let region = plan.region(source);
     let end = region.destination + u64::from(region.partial) + u64::from(region.live);
     size.min(end.saturating_sub(u64::from(destination) * size))

@@ -62,7 +62,7 @@ fn is_deferred(plan: &Plan, marks: &Marks, a: u64, header: u64) -> bool
     requires header { header ≡ word_at plan.now a }
     ensures { result ≡ is_deferred plan.now a }
 {
-    let size = 1 << plan.region_log();
+    let size = plan.region_words();
     let begin = plan.new_address(marks, a);
     let last = begin + u64::from(header::size(header)) - 1;
     begin / size != last / size

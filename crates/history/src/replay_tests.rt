@@ -13,7 +13,7 @@ use mark_bitmap::Marks;
 use std::alloc::{AllocError, Global};
 use std::test::Fail;
 use std::thread::Threads;
-use summary::Plan;
+use summary::{Plan, Survey};
 
 /// The text of the base heap in words: 32 words in regions of 8, and the addresses of 4 objects.
 const BASE: [u64; 40] = [
@@ -219,9 +219,8 @@ fn replayed(
     schedule: &Schedule,
 ) -> Result<Replayed, Fault> {
     let image = decode_by_threads(alloc, bytes_of(alloc, words)?.as_slice(), threads)?;
-    let marks = Marks::of(alloc, &image)?;
-    let plan = Plan::of(alloc, &image, &marks, threads)?;
-    replay(alloc, &image, &marks, &plan, schedule)
+    let survey = Survey::of(alloc, &image, threads)?;
+    replay(alloc, &image, &survey, schedule)
 }
 
 /// Whether the replay ended with the image of this text.

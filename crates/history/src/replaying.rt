@@ -12,9 +12,8 @@ use crate::line::Line;
 use crate::replayed::{End, Replayed};
 use crate::schedule::Schedule;
 use heap_image::{Fault, Image};
-use mark_bitmap::Marks;
 use std::alloc::{AllocError, Global};
-use summary::Plan;
+use summary::{Plan, Survey};
 
 /// Runs the schedule on a copy of the image by the word machine: words move word by word, each from
 /// where its origin stands then. At `Ok` the lines have the machine's reply for each that was left
@@ -24,16 +23,15 @@ use summary::Plan;
 pub fn replay(
     alloc: Global,
     image: &Image,
-    marks: &Marks,
-    plan: &Plan,
+    survey: &Survey,
     schedule: &Schedule,
 ) -> Result<Replayed, Fault>
-    requires marks { marks.now ≡ image.now }
-    requires plan { plan.now ≡ image.now }
+    requires same { survey.now ≡ image.now }
     ensures ok { IfOk result (IsReplayed image.now schedule.now) }
     ensures fault { IfErr result (λ fault. (fault ≡ Fault.Memory) ⊎ ((line : ℕ) × (fault ≡ Fault.Schedule line) × IsRefusedAt image.now schedule.now line)) }
 {
-    let carrier = Carrier::of(alloc, image, plan, marks)?;
+    let plan = survey.plan();
+    let carrier = Carrier::of(alloc, image, plan, survey.marks())?;
     let mut heap = words_of(alloc, image)?;
     let (lines, settled) = carry_out(alloc, &carrier, plan, schedule, &mut heap)?;
     let ended = if settled {

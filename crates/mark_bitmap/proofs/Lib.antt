@@ -1,9 +1,3 @@
-pub mod Places
-pub mod Masks
-pub mod Words
-pub mod Counts
-pub mod Firsts
 pub mod Apart
 pub mod Runs
-pub mod BlockSums
-pub mod Absent
+pub mod BlockStarts

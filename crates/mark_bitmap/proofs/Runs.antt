@@ -9,9 +9,9 @@ use Rattle.std.proofs.Math.Nat.{add-mul}
 use Rattle.std.proofs.Math.ListN.{set}
 use Rattle.std.proofs.lemmas.List.{get_or-set_same, get_or-set_other}
 use Rattle.heap_image.specs.HeapImage.{HeapImage, IsValid, heap_words, end_of, size_at, is_word_of, is_live_word}
-use Rattle.mark_bitmap.specs.Bits.{has}
+use Rattle.heap_image.specs.Bits.{has}
 use Rattle.mark_bitmap.specs.Marks.{is_begin, is_end}
-use Rattle.mark_bitmap.proofs.Places.{same_tests}
+use Rattle.heap_image.proofs.Places.{same_tests}
 use Rattle.mark_bitmap.proofs.Apart.{place_of, sound_at, apart}
 
 -- the tests of some numbers and of what they were made of

@@ -1,8 +1,8 @@
 -- What the marks of an image tell.
-use Rattle.std.specs.Prelude.{◌≡◌, ℕ, ◌+◌, ◌*◌, ◌/◌, ◌^◌, ◌≤◌, ◌==◌, min, Bool, List, length, map}
-use Rattle.std.specs.List.{list_any, range_with_len}
+use Rattle.std.specs.Prelude.{◌≡◌, ℕ, ◌+◌, ◌*◌, ◌/◌, ◌==◌, min, Bool, List, length}
+use Rattle.std.specs.List.{list_any}
 use Rattle.heap_image.specs.HeapImage.{HeapImage, IsValid, heap_words, region_words, region_of, start_of, end_of, is_word_of, live_words}
-use Rattle.mark_bitmap.specs.Bits.{has}
+use Rattle.heap_image.specs.Bits.{has}
 
 module _ (image : HeapImage) where
   -- a live object begins at a
@@ -38,9 +38,7 @@ module _ (image : HeapImage) where
     pub live_bits : (a : ℕ) → has live a ≡ list_any (λ b. is_word_of image b a) objects
 
   -- what the marks of this image keep
-  pub record AreMarks (block_log : ℕ) (begins ends live live_before : List ℕ) : Type 0 where
+  pub record AreMarks (region_log : ℕ) (begins ends live : List ℕ) : Type 0 where
     pub valid : IsValid image
-    pub block : 2 ^ block_log ≡ block_words
-    pub block_few : block_log ≤ 7
+    pub log : region_log ≡ image.region_log
     pub bits : HaveMarks image.live begins ends live
-    pub sums : live_before ≡ map block_live (range_with_len 0 block_count)

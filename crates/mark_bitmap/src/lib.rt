@@ -2,7 +2,7 @@
 //!
 //! [`Marks::of`] makes two bit arrays with one bit for each word of the heap, from the live list alone: the begin bit of
 //! an object's first word is set, and the end bit of its last. Beside them it keeps what makes counts fast: one bit for
-//! each word that belongs to a live object, and a sum for each block of 128 words. No other call takes memory.
+//! each word that belongs to a live object. No other call takes memory.
 //!
 //! # What a contract sees
 //!
@@ -16,16 +16,14 @@
 //! live list and no others; `next_begin` and `next_end` give the least such address, and `None` only where there is
 //! none, and `next_live` the least live word; `next_begin_before`, `next_live_before` and `next_dead_before` give the
 //! least begin, live word and dead word from a place on and before another; `live_words` is the plain count of the
-//! words in live objects, also where a range begins or ends inside one; `size_at` is the size in the object's header;
-//! `block_live` is the plain count from the start of the block's region.
+//! words in live objects, also where a range begins or ends inside one; `live_bits` are those of 64 addresses in a row; `size_at` is the size in
+//! the object's header; `block_live` is the plain count from the start of the block's region.
 //!
 //! # What is only tested
 //!
 //! That memory that is refused ends `of` with an error. How fast the queries are is neither proved nor tested.
 #![tactic(auto)]
 
-mod bits;
-mod blocks;
 mod marks;
 mod objects;
 #[cfg(test)]

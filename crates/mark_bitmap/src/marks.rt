@@ -1,13 +1,12 @@
 //! `Marks`: the mark bitmaps of an image.
-ghost use Rattle.std.specs.Prelude.{◌≡◌, ◌*◌, ◌/◌, ◌<◌, ◌≤◌, IsTrue, IfOk, MatchOption};
+ghost use Rattle.std.specs.Prelude.{◌≡◌, ℕ, ◌+◌, ◌*◌, ◌<◌, ◌≤◌, ◌==◌, IsTrue, IfOk, MatchOption};
+ghost use Rattle.std.specs.Int.{bit_at};
 ghost use Rattle.heap_image.specs.HeapImage.{IsValid, heap_words, is_live_word, is_dead_word, live_words, size_at};
-ghost use Rattle.mark_bitmap.specs.Bits.{NoneFrom, IsFirstFrom, NoneBetween, IsFirstBetween};
+ghost use Rattle.heap_image.specs.Bits.{NoneFrom, IsFirstFrom, NoneBetween, IsFirstBetween};
 ghost use Rattle.mark_bitmap.specs.Marks.{is_begin, is_end, block_words, block_count, block_live};
 
-use crate::bits::Bits;
-use crate::blocks::{live_before_blocks, log_of_block};
-use crate::objects::mark_objects;
-use heap_image::Image;
+use crate::objects::{begin_bits, mark_objects};
+use heap_image::{Bits, Image};
 use std::alloc::{AllocError, Global};
 use std::marker::Model;
 use std::snapshot::Snapshot;
@@ -18,11 +17,10 @@ use std::snapshot::Snapshot;
 #[derive(Drop)]
 pub struct Marks {
     image: Snapshot<Image>,
-    block_log: u32,
+    region_log: u32,
     begins: Bits,
     ends: Bits,
     live: Bits,
-    live_before: Vec<u32>,
 }
 
 impl Model for Marks {
@@ -33,29 +31,27 @@ impl Model for Marks {
 
     ghost view = { λ m. m.image.value };
 
-    ghost invariant = { λ m. AreMarks m.image.value m.block_log m.begins m.ends m.live m.live_before.items };
+    ghost invariant = { λ m. AreMarks m.image.value m.region_log m.begins m.ends m.live };
 }
 
 impl Marks {
     /// The marks of an image, by its live list and the headers of the objects that it names.
     ///
-    /// Takes about 3 bits for each word of the heap and 32 for each block.
+    /// Takes about 3 bits for each word of the heap.
     pub fn of(alloc: Global, image: &Image) -> Result<Marks, AllocError>
         ensures { IfOk result (λ marks. marks ≡ image.now) }
     {
         let len = image.len();
-        let mut begins = Bits::new(alloc, len)?;
+        let begins = begin_bits(alloc, image)?;
         let mut ends = Bits::new(alloc, len)?;
         let mut live = Bits::new(alloc, len)?;
-        mark_objects(image, &mut begins, &mut ends, &mut live);
-        let live_before = live_before_blocks(alloc, image, &live)?;
+        mark_objects(image, &begins, &mut ends, &mut live);
         Ok(Marks {
             image: Snapshot::of(image),
-            block_log: log_of_block(image),
+            region_log: image.region_log(),
             begins,
             ends,
             live,
-            live_before,
         })
     }
 
@@ -128,6 +124,16 @@ impl Marks {
         self.live.count(from, to)
     }
 
+    /// The live bits of 64 addresses in a row: bit `j` is set where the word at `64 * i + j` belongs to a live object.
+    #[inline]
+    pub fn live_bits(&self, i: u64) -> u64
+        requires { 64 * i ≤ heap_words self.now }
+        ensures bits { (j : ℕ) → j < 64 → (bit_at result j == 1) ≡ is_live_word self.now (64 * i + j) }
+        ensures valid { IsValid self.now }
+    {
+        self.live.word(i as usize)
+    }
+
     /// The size in words of the live object that begins at address `begin`.
     pub fn size_at(&self, begin: u64) -> u64
         requires { IsTrue (is_begin self.now begin) }
@@ -140,40 +146,22 @@ impl Marks {
     }
 
     /// The number of words of a block: 128, or those of a region where a region is smaller.
-    #[inline]
     pub fn block_words(&self) -> u64
         ensures value { result ≡ block_words self.now }
         ensures valid { IsValid self.now }
     {
-        1 << self.block_log
-    }
-
-    /// The number of the block that address `a` lies in.
-    #[inline]
-    pub fn block_of(&self, a: u64) -> u64
-        ensures { result ≡ a / block_words self.now }
-    {
-        a >> self.block_log
+        1 << self.region_log.min(7)
     }
 
     /// How many live words there are from the start of its region up to the start of block `b`.
     ///
     /// Blocks are numbered from 0 at address 0, and each lies within one region.
-    #[inline]
     pub fn block_live(&self, b: u64) -> u32
         requires { b < block_count self.now }
         ensures { result ≡ block_live self.now b }
     {
-        self.live_before[b as usize]
-    }
-
-    /// How many words from the start of its block up to address `a`, itself not included, belong to live objects.
-    #[inline]
-    pub fn live_in_block(&self, a: u64) -> u64
-        requires { a < heap_words self.now }
-        ensures { result ≡ live_words self.now (a / block_words self.now * block_words self.now) a }
-    {
-        let start = a >> self.block_log << self.block_log;
-        self.live.count_near(start, a)
+        let start = b * self.block_words();
+        let region = start >> self.region_log << self.region_log;
+        self.live_words(region, start) as u32
     }
 }

@@ -1,25 +1,36 @@
 //! The bits of the live objects.
-ghost use Rattle.std.specs.Prelude.{◌≡◌, ℕ, ◌+◌, ◌-◌, ◌*◌, ◌%◌, ◌^◌, ◌<◌, ◌≤◌, ◌==◌, ◌||◌, All, length, map, replicate, take};
+ghost use Rattle.std.specs.Prelude.{◌≡◌, ℕ, ◌+◌, ◌-◌, ◌*◌, ◌%◌, ◌^◌, ◌<◌, ◌≤◌, ◌==◌, ◌||◌, All, IfOk, length, map, replicate, take};
 ghost use Rattle.std.specs.List.{list_any};
 ghost use Rattle.heap_image.specs.HeapImage.{IsValid, HasSoundHeader, heap_words, end_of, size_at, is_live_word};
-ghost use Rattle.mark_bitmap.specs.Bits.{has};
+ghost use Rattle.heap_image.specs.Bits.{has};
 ghost use Rattle.mark_bitmap.specs.Marks.{HaveMarks, bit_words, is_begin, is_end};
 
-use crate::bits::Bits;
-use heap_image::{Image, header};
+use heap_image::{Bits, Image};
+use std::alloc::{AllocError, Global};
 
 /// How many headers are read in a row.
 const PIECE: usize = 64;
 
-/// Sets, for each live object, the bit of its first word in `begins`, that of its last word in `ends`, and those of all
-/// its words in `live`.
-pub(crate) fn mark_objects(image: &Image, begins: &mut Bits, ends: &mut Bits, live: &mut Bits)
-    requires no_begins { begins.old ≡ replicate (bit_words image.now) 0 }
+/// The bits of the first words of the live objects. Where they were seen when the image was read, they aren't made again.
+pub(crate) fn begin_bits(alloc: Global, image: &Image) -> Result<Bits, AllocError>
+    ensures room { IfOk result (λ bits. length bits ≡ bit_words image.now) }
+    ensures bits { IfOk result (λ bits. (a : ℕ) → has bits a ≡ is_begin image.now a) }
+{
+    match image.begins() {
+        Some(begins) => begins.copy(alloc),
+        None => Bits::of(alloc, image.live(), image.len()),
+    }
+}
+
+/// Sets, for each live object, whose first word has its bit in `begins`, the bit of its last word in `ends`, and those of
+/// all its words in `live`.
+pub(crate) fn mark_objects(image: &Image, begins: &Bits, ends: &mut Bits, live: &mut Bits)
+    requires begins_room { length begins.now ≡ bit_words image.now }
+    requires begins { (a : ℕ) → has begins.now a ≡ is_begin image.now a }
     requires no_ends { ends.old ≡ replicate (bit_words image.now) 0 }
     requires no_live { live.old ≡ replicate (bit_words image.now) 0 }
-    ensures { HaveMarks image.now image.now.live begins.new ends.new live.new }
+    ensures { HaveMarks image.now image.now.live begins.now ends.new live.new }
 {
-    begins.insert_all(image.live());
     mark_ends(image, ends);
     mark_words(image, begins, ends, live);
 }
@@ -62,20 +73,12 @@ fn last_words(image: &Image, objects: &[u64]) -> [u64; PIECE]
     requires sound { All (HasSoundHeader image.now) objects.now }
     ensures { take (length objects.now) result ≡ map (λ a. end_of image.now a - 1) objects.now }
 {
+    let heap = image.heap();
     let mut lasts = [0; PIECE];
     for (i, &begin) in objects.iter().enumerate() {
-        lasts[i] = begin + object_words(image, begin) - 1;
+        lasts[i] = begin + heap.size_at(begin) - 1;
     }
     lasts
-}
-
-/// The size in words of the object at `begin`, by its header.
-#[inline]
-fn object_words(image: &Image, begin: u64) -> u64
-    requires { begin < heap_words image.now }
-    ensures { result ≡ size_at image.now begin }
-{
-    u64::from(header::size(image.word(begin)))
 }
 
 /// Sets the bits of the words of all live objects, by the bits of their first words and of their last words.

@@ -108,7 +108,7 @@ fn base_image(threads: &(impl Threads + Sync), alloc: Global) -> Result<Image, F
     )
 }
 
-/// The sums of all blocks.
+/// The live words before each block in its region.
 fn block_sums(alloc: Global, image: &Image) -> Result<Vec<u32>, Fail> {
     let marks = Marks::of(alloc, image)?;
     let blocks = image
@@ -174,6 +174,22 @@ fn an_object_of_one_word_has_both_bits(rt: HostRuntime) -> Result<(), Fail> {
         .collect(rt.alloc())?;
     assert_eq!(rt; both.as_slice(), [0, 2].as_slice());
     assert_eq!(rt; marks.block_words(), 8);
+    Ok(())
+}
+
+#[test]
+fn live_bits_of_64_addresses(rt: HostRuntime) -> Result<(), Fail> {
+    let image = plain_image(
+        &rt,
+        rt.alloc(),
+        7,
+        128,
+        [(1, 1), (60, 6), (127, 1)].as_slice(),
+    )?;
+    let marks = Marks::of(rt.alloc(), &image)?;
+    assert_eq!(rt; image.len(), 128);
+    let bits = [marks.live_bits(0), marks.live_bits(1), marks.live_bits(2)];
+    assert_eq!(rt; bits, [0xf000_0000_0000_0002, 0x8000_0000_0000_0003, 0]);
     Ok(())
 }
 

@@ -1,13 +1,15 @@
 use Rattle.std.specs.Prelude.{ℕ}
+use Rattle.heap_dump.specs.declared.error.ImportError.{ImportError}
 use Rattle.heap_image.specs.declared.fault.Fault.TheVariants.{Memory, Io}
 use Rattle.pcompact.specs.declared.failure.Failure.{Failure}
-use Rattle.pcompact.specs.declared.failure.Failure.TheVariants.{Usage, Fault, Differs}
+use Rattle.pcompact.specs.declared.failure.Failure.TheVariants.{Usage, Fault, Differs, Dump}
 
 -- the exit status of a failure
 abbrev pub status_of : Failure → ℕ
 status_of (Usage text) = 2
 status_of (Fault fault) = 1
 status_of (Differs verdict) = 1
+status_of (Dump error) = 1
 
 -- the failure for want of memory
 abbrev pub out_of_memory : Failure
@@ -16,3 +18,9 @@ out_of_memory = Fault Memory
 -- the failure of a device
 abbrev pub failed_device : Failure
 failed_device = Fault Io
+
+-- the failure of a dump that gives no image
+abbrev pub failure_of : ImportError → Failure
+failure_of ImportError.Input = failed_device
+failure_of ImportError.Memory = out_of_memory
+failure_of error = Dump error

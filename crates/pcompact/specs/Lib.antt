@@ -1,13 +1,7 @@
-pub mod Tallies
-pub mod Sweeps
-pub mod Report
-pub mod Board
 pub mod Failure
+pub mod Arguments
+pub mod Figures
+pub mod Command
+pub mod Commands
 pub mod CommandLine
 pub mod Request
-pub mod Summary
-pub mod Verification
-pub mod Collection
-pub mod Recording
-pub mod Replaying
-pub mod Upgrading

@@ -1,8 +1,10 @@
 ghost use Rattle.std.specs.Prelude.{◌≡◌};
 ghost use Rattle.heap_image.specs.declared.fault.Fault.TheVariants.{Memory};
+ghost use Rattle.pcompact.specs.Failure.{failure_of};
 ghost use Rattle.pcompact.specs.declared.failure.Failure.TheVariants.{Fault};
 
 use collector::Verdict;
+use heap_dump::ImportError;
 use heap_image::Fault;
 use std::alloc::{AllocError, Global};
 
@@ -15,6 +17,8 @@ pub enum Failure {
     Fault(Fault),
     /// An image isn't the compaction of another: the first difference.
     Differs(Verdict),
+    /// A heap dump gives no image.
+    Dump(ImportError),
 }
 
 impl Failure {
@@ -31,7 +35,7 @@ impl Failure {
     {
         match self {
             Failure::Usage(_) => 2,
-            Failure::Fault(_) | Failure::Differs(_) => 1,
+            Failure::Fault(_) | Failure::Differs(_) | Failure::Dump(_) => 1,
         }
     }
 }
@@ -49,5 +53,18 @@ impl From<Fault> for Failure {
 
     fn from(fault: Fault) -> Failure {
         Failure::Fault(fault)
+    }
+}
+
+/// A device that failed is fault 13 and refused memory is fault 11, as everywhere.
+impl From<ImportError> for Failure {
+    ghost from_gives = { λ error failure. failure ≡ failure_of error };
+
+    fn from(error: ImportError) -> Failure {
+        match error {
+            ImportError::Input => Failure::Fault(Fault::Io),
+            ImportError::Memory => Failure::Fault(Fault::Memory),
+            of_dump => Failure::Dump(of_dump),
+        }
     }
 }

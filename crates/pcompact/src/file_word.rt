@@ -9,6 +9,7 @@ pub enum Role {
     Schedule,
     Before,
     After,
+    Dump,
 }
 
 impl fmt::Display for Role {
@@ -19,6 +20,7 @@ impl fmt::Display for Role {
             Role::Schedule => "SCHEDULE",
             Role::Before => "BEFORE",
             Role::After => "AFTER",
+            Role::Dump => "DUMP",
         })
     }
 }

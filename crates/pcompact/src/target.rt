@@ -1,8 +1,8 @@
 //! `Target`.
 use crate::failed_call::{Call, FailedCall};
-use crate::failure::Failure;
 use crate::file_id::FileId;
 use crate::file_word::FileWord;
+use crate::files::not_regular;
 use crate::output::Output;
 use crate::replacement::Replacement;
 use crate::trouble::{Trouble, called};
@@ -50,14 +50,24 @@ impl<'a, F: OpenFile + Drop> Target<'a, F> {
         }
     }
 
-    fn in_place<H: Files<File = F>>(
+    fn in_place<H: Files<File = F> + AllocGlobal>(
         host: &H,
         word: FileWord<'a>,
     ) -> Result<Target<'a, F>, Trouble<'a>> {
         let (file, is_new) = called(word, Call::Open, open(host, word.name))?;
-        let found = Some(called(word, Call::Stat, file.metadata())?);
-        let way = Way::InPlace { file, is_new };
-        Ok(Target { word, found, way })
+        match called(word, Call::Stat, file.metadata()) {
+            Ok(found) => Ok(Target {
+                word,
+                found: Some(found),
+                way: Way::InPlace { file, is_new },
+            }),
+            Err(trouble) => {
+                if is_new {
+                    remove_made(host, word.name);
+                }
+                Err(trouble)
+            }
+        }
     }
 
     fn beside<H: Files<File = F> + AllocGlobal>(
@@ -112,9 +122,7 @@ impl<'a, F: OpenFile + Drop> Target<'a, F> {
     /// Gives it up unchanged. One that was not there is removed again.
     pub fn leave<H: Files<File = F> + AllocGlobal>(self, host: &H) {
         if let Way::InPlace { is_new: true, .. } = self.way {
-            if let Ok(path) = fs::canonicalize(host, self.word.name) {
-                let _ = fs::remove_file(host, &path);
-            }
+            remove_made(host, self.word.name);
         }
     }
 
@@ -163,6 +171,20 @@ fn make<H: Files>(host: &H, name: &str) -> io::Result<H::File> {
     OpenOptions::new().write(true).create(true).open(host, name)
 }
 
+/// Removes a file that was made under this name. Where a link has the name, the file is removed that it
+/// leads to, if memory for that file's name is found.
+fn remove_made<H: Files + AllocGlobal>(host: &H, name: &str) {
+    let is_link = match fs::symlink_metadata(host, name) {
+        Ok(named) => named.is_symlink(),
+        Err(_) => true,
+    };
+    if !is_link {
+        let _ = fs::remove_file(host, name);
+    } else if let Ok(path) = fs::canonicalize(host, name) {
+        let _ = fs::remove_file(host, &path);
+    }
+}
+
 /// What is told of a file that may be written.
 fn writable<H: Files>(host: &H, name: &str) -> io::Result<Metadata> {
     OpenOptions::new().write(true).open(host, name)?.metadata()
@@ -180,8 +202,7 @@ fn standing<'a, H: Files + AllocGlobal>(
             return Err(Trouble::of_call(word, FailedCall::of(Call::Stat, &error)));
         }
         _ => {
-            let reason = "pcompact: not a regular file\n";
-            return Err(Trouble::new(Failure::usage(host.alloc(), reason)?).about(word));
+            return Err(not_regular(host.alloc(), word)?);
         }
     }
     let place = place_of(host, word, is_link)?;

@@ -9,6 +9,7 @@ use std::thread::Threads;
 use std::{fs, io};
 
 mod files;
+mod importing;
 mod library;
 mod replacing;
 mod roots;
@@ -37,6 +38,7 @@ Commands:
   record   Collects a heap image, and writes down what each worker did
   replay   Follows a schedule word by word, and prints it with each reply
   upgrade  Writes a heap image as one with roots
+  import   Writes the heap dump of a Java virtual machine as a heap image
   help     Print this message or the help of the given subcommand(s)
 
 Options:
@@ -45,7 +47,7 @@ Options:
 
 Exit status:
   0  the command did its work, or showed help or the version
-  1  a fault, or images that differ: standard error has one line that says which
+  1  a fault, images that differ, or a dump that gives no image: standard error says which
   2  the words are no command: standard error says why
 ";
 
@@ -75,7 +77,7 @@ const VERSION: &str = "pcompact 0.1.0\n";
 
 const NO_COMMAND: &str = "\
 error: 'pcompact' requires a subcommand but one was not provided
-  [subcommands: board, summary, collect, verify, record, replay, upgrade, help]
+  [subcommands: board, summary, collect, verify, record, replay, upgrade, import, help]
 
 Usage: pcompact <COMMAND>
 
@@ -212,7 +214,7 @@ fn run_on<R: Files + AllocGlobal + Threads + Wait + Sync, A: Write, B: Write>(
     for &text in texts {
         words.push(String::from_str(rt.alloc(), text)?)?;
     }
-    Ok(program::run(rt, words.as_slice(), out, err, rt, rt))
+    Ok(program::run(rt, words.as_slice(), out, err))
 }
 
 /// Asserts what a run on these words answers, and writes to standard output and standard error.

@@ -91,6 +91,18 @@ impl<'a> Trouble<'a> {
         }
     }
 
+    /// Where a dump gives no image, or a call on one of these two openings of it failed, it is about the
+    /// dump.
+    pub fn if_dump<F: Drop>(self, dump: &Watched<'a, F>, again: &Watched<'a, F>) -> Trouble<'a>
+        ensures { result.failure ≡ self.entry.failure }
+    {
+        if self.is_of_dump() {
+            self.about(dump.word())
+        } else {
+            self.if_failed(dump).if_failed(again)
+        }
+    }
+
     /// Where the number of workers is none that is allowed, this is it.
     pub fn if_workers(self, asked: u32) -> Trouble<'a>
         ensures { result.failure ≡ self.entry.failure }
@@ -134,6 +146,13 @@ impl<'a> Trouble<'a> {
         match &self.failure {
             Failure::Fault(fault) => Some(*fault),
             _ => None,
+        }
+    }
+
+    fn is_of_dump(&self) -> bool {
+        match &self.failure {
+            Failure::Dump(_) => true,
+            _ => false,
         }
     }
 

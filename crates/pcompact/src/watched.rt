@@ -3,7 +3,7 @@ use crate::failed_call::{Call, FailedCall};
 use crate::file_id::FileId;
 use crate::file_word::FileWord;
 use crate::trouble::{Trouble, called};
-use std::fs::OpenFile;
+use std::fs::{Metadata, OpenFile};
 use std::io::{Read, Write};
 use std::rt::Files;
 use std::{fs, io};
@@ -50,8 +50,17 @@ impl<'a, F: Drop> Watched<'a, F> {
     where
         F: OpenFile,
     {
-        let metadata = called(self.word, Call::Stat, self.file.metadata())?;
-        Ok(FileId::of(&metadata))
+        Ok(FileId::of(&self.metadata()?))
+    }
+
+    /// What the system tells of it.
+    ///
+    /// Fault 13 where it doesn't.
+    pub fn metadata(&self) -> Result<Metadata, Trouble<'a>>
+    where
+        F: OpenFile,
+    {
+        called(self.word, Call::Stat, self.file.metadata())
     }
 
     /// The file itself.

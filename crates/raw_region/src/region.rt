@@ -8,18 +8,24 @@ use crate::chunks::move_down;
 use std::alloc::{AllocError, Global};
 use std::marker::Model;
 
+/// As many zeros as a region has words at most.
+static ZEROS: [u64; MAX_WORDS] = [0; MAX_WORDS];
+
 /// From 1 to `MAX_WORDS` words of 64 bits. In a contract it is the list of them.
 pub struct Region {
     block: Block,
+    /// Whether all words are 0, whatever stands in the block.
+    is_clear: bool,
     alloc: Global,
 }
 
 impl Model for Region {
     ghost use Rattle.std.specs.Prelude.{List, ℕ};
+    ghost use Rattle.raw_region.specs.Region.{seen};
 
     ghost Value = { List ℕ };
 
-    ghost view = { λ r. r.block.words };
+    ghost view = { λ r. seen r.is_clear r.block.words };
 }
 
 impl Region {
@@ -33,7 +39,11 @@ impl Region {
         ensures length { IfOk result (λ r. length r ≡ words) }
     {
         let block = Block::zeroed(&alloc, words)?;
-        Ok(Region { block, alloc })
+        Ok(Region {
+            block,
+            is_clear: false,
+            alloc,
+        })
     }
 
     /// How many words the region has. It never changes.
@@ -51,7 +61,12 @@ impl Region {
         ensures nonempty { 1 ≤ length self.now }
         ensures at_most { length self.now ≤ MAX_WORDS }
     {
-        self.block.words()
+        let words = self.block.words();
+        if self.is_clear {
+            &ZEROS[..words.len()]
+        } else {
+            words
+        }
     }
 
     /// The words, to write. The region ends with those that the slice is left with.
@@ -59,6 +74,10 @@ impl Region {
         ensures* writes_back { sem 𝓛 (LendsRegion self.entry result) }
         ensures value { result.now ≡ self.old }
     {
+        if self.is_clear {
+            zero(self.block.words_mut());
+        }
+        self.is_clear = false;
         self.block.words_mut()
     }
 
@@ -77,6 +96,14 @@ impl Region {
         ensures same_length { length self.new ≡ length self.old }
     {
         self.words_mut()[i] = word;
+    }
+
+    /// Makes all words 0, and writes none of them: the next call that writes a word does.
+    pub fn clear(&mut self)
+        ensures value { self.new ≡ replicate (length self.old) 0 }
+        ensures same_length { length self.new ≡ length self.old }
+    {
+        self.is_clear = true;
     }
 
     /// Makes each of the `n` words from index `at` on `word`.
@@ -110,9 +137,20 @@ impl Region {
     }
 }
 
+/// Makes all of some words 0.
+fn zero(words: &mut [u64])
+    ensures { words.new ≡ replicate (length words.old) 0 }
+{
+    words.fill(0);
+}
+
 impl Drop for Region {
     fn drop(self) {
-        let Region { block, alloc } = self;
+        let Region {
+            block,
+            is_clear: _,
+            alloc,
+        } = self;
         block.release(&alloc);
     }
 }

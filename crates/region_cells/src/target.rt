@@ -1,8 +1,9 @@
 //! `Target`: a region that is written.
-ghost use Rattle.std.specs.Prelude.{◌≡◌, ◌+◌, ◌<◌, ◌≤◌, length, replicate, slice_index, slice_set, IfOk, IfErr};
-ghost use Rattle.heap_image.specs.HeapImage.{IsValid, region_words, region_count, block_of};
+ghost use Rattle.std.specs.Prelude.{◌≡◌, ◌+◌, ◌<◌, ◌≤◌, length, replicate, slice_index, slice_set, map, All, IsTrue, IfOk, IfErr};
+ghost use Rattle.heap_image.specs.HeapImage.{IsValid, region_words, region_count, block_of, is_null_or_live};
 ghost use Rattle.heap_image.specs.declared.fault.Fault.TheVariants.{Overwritten};
 ghost use Rattle.raw_region.specs.Region.{with_words, part};
+ghost use Rattle.summary.specs.Compaction.{redirected};
 ghost use Rattle.region_cells.specs.Blocks.{moved_block};
 ghost use Rattle.region_cells.specs.Kept.{HasWords};
 
@@ -16,6 +17,7 @@ use heap_image::Fault;
 use raw_region::Region;
 use std::marker::Model;
 use std::snapshot::Snapshot;
+use summary::Plan;
 
 /// A region that is written. Nobody else reads or writes it meanwhile.
 ///
@@ -110,6 +112,18 @@ impl<'a> Target<'a> {
         ensures length { length self.new.words ≡ region_words self.old.image }
     {
         self.region.fill(at, n, word);
+    }
+
+    /// Redirects the `n` references from index `at` on.
+    #[inline]
+    pub fn redirect(&mut self, plan: &Plan, at: usize, n: usize)
+        requires same { plan.now ≡ self.old.image }
+        requires inside { at + n ≤ region_words self.old.image }
+        requires sound { All (λ w. IsTrue (is_null_or_live self.old.image w)) (part self.old.words at n) }
+        ensures value { self.new ≡ record self.old { words = with_words self.old.words at (map (redirected self.old.image) (part self.old.words at n)) } }
+        ensures length { length self.new.words ≡ region_words self.old.image }
+    {
+        plan.redirect(&mut self.region, at, n);
     }
 
     /// Copies the `n` words of `region` from index `from` on to index `at` and on.

@@ -27,5 +27,6 @@ pub mod Filters
 pub mod SourceRows
 pub mod OutOfRange
 pub mod Crossings
-pub mod BlockAddresses
+pub mod Ranks
+pub mod BitWords
 pub mod Compacted

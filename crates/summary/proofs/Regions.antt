@@ -4,13 +4,16 @@ use Rattle.std.proofs.lemmas.Bool.{false≢true, cases_Bool, cases_lt, cond-true
 use Rattle.std.proofs.lemmas.Nat.{pow_pos, div-add-mod', mod_below, div-mul-add, le-div, mul-le}
 use Rattle.std.proofs.lemmas.List.{get_or_default}
 use Rattle.std.proofs.lemmas.List.Folds.{Any-from_list_any, list_any-from_Any}
+use Rattle.std.proofs.lemmas.List.FromFn.{get_or-map-range_with_len}
 use Rattle.std.specs.Prelude.{count_by}
 use Rattle.std.specs.List.{range_with_len, list_any}
-use Rattle.heap_image.specs.HeapImage.{HeapImage, HasLiveList, region_words, size_at, end_of, is_word_of, is_live_word, live_words, start_of, region_of}
+use Rattle.heap_image.specs.HeapImage.{HeapImage, HasLiveList, region_words, size_at, end_of, is_word_of, is_live_word, live_words, start_of, region_of, region_count}
 use Rattle.heap_image.proofs.Spans.{count_by-cons, count_by-or, is_in_parts}
 use Rattle.summary.specs.NewAddresses.{prefix_end}
 use Rattle.summary.specs.WordMoves.{slid}
-use Rattle.summary.specs.RegionData.{partial_words, own_words, destination, data_words}
+use Rattle.summary.specs.RegionData.{partial_words, own_words, destination, data_words, region_data}
+use Rattle.summary.specs.Plan.{AreRegions}
+use Rattle.summary.specs.declared.region_data.RegionData.{RegionData}
 use Rattle.summary.proofs.Prefix.{prefix_end_is}
 use Rattle.summary.proofs.Destinations.{count_by-none, count_by-same, destination-live_words}
 use Rattle.summary.proofs.Words.{count_by_nth, count_by-range-le, live_words-add, live_words-more, live_below, one_owner, slid-high}
@@ -223,3 +226,8 @@ module _ (image : HeapImage) (sound : HasLiveList image) where
       let count : live_words image (start_of image r) q ≡ k = w.4 in
       let to = slid-destination r q above w.1 live in
       (q, live, region_is (region_words image) r q w.1 w.2, omega arith)
+
+-- the data of a region in the table of all
+pub region_at : (image : HeapImage) (regions : List RegionData) → AreRegions image regions → (r j : ℕ) (none : RegionData) → r < region_count image → j ≡ r → get_or regions j none ≡ region_data image r
+region_at image regions all r j none inside e =
+    ap (λ n. get_or regions n none) e ∙ ap (λ rs. get_or rs r none) all ∙ get_or-map-range_with_len (region_data image) 0 (region_count image) r r none inside (omega arith)

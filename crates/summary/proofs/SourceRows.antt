@@ -11,13 +11,12 @@ use Rattle.summary.specs.RegionData.{region_data, data_words, destination, sourc
 use Rattle.summary.specs.Plan.{AreRegions, sources_from}
 use Rattle.summary.specs.Reads.{goes_below, no_data, sources_below, AreInOrder, BeginAt}
 use Rattle.summary.specs.declared.region_data.RegionData.{RegionData}
-use Rattle.summary.proofs.BlockAddresses.{region_at}
 use Rattle.summary.proofs.Destinations.{destination-live_words}
 use Rattle.summary.proofs.Blocks.{region_in_heap}
 use Rattle.summary.proofs.Filters.{filter-skip, filter-none, filter-same}
 use Rattle.summary.proofs.Layouts.{destination-low, destination-high}
 use Rattle.summary.proofs.Readers.{same_Bool, reads-below, reads-targets, reads-destination, prefix-reads, next-reads, reads-filled, reads-in_range, source-Some}
-use Rattle.summary.proofs.Regions.{prefix_region, region_apart}
+use Rattle.summary.proofs.Regions.{prefix_region, region_apart, region_at}
 use Rattle.summary.proofs.Steps.{source-is}
 use Rattle.summary.proofs.Words.{live_words-add}
 

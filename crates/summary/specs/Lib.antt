@@ -10,5 +10,6 @@ pub mod Placement
 pub mod Layout
 pub mod Sources
 pub mod Report
+pub mod Redirections
 pub mod Plan
 pub mod Reads

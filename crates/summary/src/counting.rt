@@ -6,7 +6,6 @@ ghost use Rattle.mark_bitmap.specs.Marks.{is_begin};
 ghost use Rattle.summary.specs.Layout.{region_counts, AreCounts, IsOwnStart, AreOwnStarts};
 
 use crate::region_counts::RegionCounts;
-use crate::region_words::region_words;
 use heap_image::Image;
 use mark_bitmap::Marks;
 use rayon::prelude::*;
@@ -44,7 +43,7 @@ fn counts_of(image: &Image, marks: &Marks, r: u32, own_start: u64) -> RegionCoun
     requires own_start { IsOwnStart image.now r own_start }
     ensures { result ≡ region_counts image.now r }
 {
-    let region_words = region_words(image);
+    let region_words = image.region_words();
     let start = u64::from(r) * region_words;
     let end = start + region_words;
     RegionCounts {
@@ -59,7 +58,7 @@ fn own_starts(alloc: Global, image: &Image, marks: &Marks) -> Result<Vec<u64>, A
     requires { marks.now ≡ image.now }
     ensures { IfOk result (λ starts. AreOwnStarts image.now starts.items) }
 {
-    let region_words = region_words(image);
+    let region_words = image.region_words();
     let mut starts = Vec::with_capacity(alloc, image.regions() as usize)?;
     let mut begin = begin_from(image, marks, 0);
     for r in 0..image.regions() {

@@ -8,8 +8,7 @@ ghost use Rattle.summary.specs.NewAddresses.{new_address};
 ghost use Rattle.summary.specs.RegionData.{deferred};
 ghost use Rattle.summary.specs.Plan.{AreDeferred};
 
-use crate::region_table::RegionTable;
-use crate::region_words::region_words;
+use crate::redirections::Redirections;
 use heap_image::Image;
 use mark_bitmap::Marks;
 use std::alloc::{AllocError, Global};
@@ -21,19 +20,19 @@ pub(crate) fn deferred_addresses(
     alloc: Global,
     image: &Image,
     marks: &Marks,
-    table: &RegionTable,
+    redirections: &Redirections,
 ) -> Result<Vec<Option<u64>>, AllocError>
     requires marks { marks.now ≡ image.now }
-    requires table { table.now ≡ image.now }
+    requires redirections { redirections.now ≡ image.now }
     ensures { IfOk result (λ addresses. AreDeferred image.now addresses.items) }
 {
-    let region_words = region_words(image);
+    let region_words = image.region_words();
     let mut addresses = Vec::with_capacity(alloc, image.regions() as usize)?;
     let mut placed = 0;
     for d in 0..image.regions() {
         let end = (u64::from(d) + 1) * region_words;
-        placed = placed_below(image, marks, table, end, placed);
-        addresses.push(deferred_in(image, marks, table, d, placed))?;
+        placed = placed_below(image, redirections, end, placed);
+        addresses.push(deferred_in(image, marks, redirections, d, placed))?;
     }
     Ok(addresses)
 }
@@ -43,24 +42,24 @@ pub(crate) fn deferred_addresses(
 fn deferred_in(
     image: &Image,
     marks: &Marks,
-    table: &RegionTable,
+    redirections: &Redirections,
     d: u32,
     placed: usize,
 ) -> Option<u64>
     requires marks { marks.now ≡ image.now }
-    requires table { table.now ≡ image.now }
+    requires redirections { redirections.now ≡ image.now }
     requires inside { d < region_count image.now }
     requires placed { ArePlacedBelow image.now (start_of image.now d + region_words image.now) placed }
     ensures { result ≡ deferred image.now d }
 {
-    let region_words = region_words(image);
+    let region_words = image.region_words();
     let start = u64::from(d) * region_words;
     let end = start + region_words;
     if placed == 0 {
         return None;
     }
     let a = image.live()[placed - 1];
-    let to = table.new_address(marks, a);
+    let to = redirections.new_address(a);
     if start <= to && end < to + marks.size_at(a) {
         Some(to)
     } else {
@@ -73,9 +72,8 @@ fn deferred_in(
 ///
 /// No object is moved farther down than one behind it. So of an object that goes to `n` words below the limit, all
 /// within the next `n` words go below the limit too, and are passed over.
-fn placed_below(image: &Image, marks: &Marks, table: &RegionTable, limit: u64, from: usize) -> usize
-    requires marks { marks.now ≡ image.now }
-    requires table { table.now ≡ image.now }
+fn placed_below(image: &Image, redirections: &Redirections, limit: u64, from: usize) -> usize
+    requires redirections { redirections.now ≡ image.now }
     requires inside { limit ≤ heap_words image.now }
     requires within { from ≤ object_count image.now }
     requires known { (i : ℕ) → i < from → new_address image.now (object_at image.now i) < limit }
@@ -85,7 +83,7 @@ fn placed_below(image: &Image, marks: &Marks, table: &RegionTable, limit: u64, f
     let mut placed = from;
     while placed < live.len() {
         let a = live[placed];
-        let to = table.new_address(marks, a);
+        let to = redirections.new_address(a);
         if limit <= to {
             break;
         }

@@ -8,7 +8,6 @@ ghost use Rattle.summary.specs.Layout.{region_counts, placed_region, AreCounts, 
 
 use crate::region_counts::RegionCounts;
 use crate::region_data::RegionData;
-use crate::region_words::region_words;
 use heap_image::{Image, header};
 use std::alloc::{AllocError, Global};
 
@@ -31,7 +30,7 @@ impl Layout {
     {
         let prefix = prefix_end(image, counts);
         let mut next = prefix;
-        let mut regions = Vec::new(alloc);
+        let mut regions = Vec::with_capacity(alloc, counts.len())?;
         for (r, counts) in counts.iter().enumerate() {
             let region = placed(image, prefix, next, r as u64, *counts);
             if region.destination >= prefix {
@@ -55,7 +54,7 @@ fn placed(image: &Image, prefix: u64, next: u64, r: u64, counts: RegionCounts) -
     requires next { prefix ≤ start_of image.now r → next ≡ destination image.now r }
     ensures { result ≡ placed_region image.now r }
 {
-    let start = r * region_words(image);
+    let start = r * image.region_words();
     let (destination, count) = if start < prefix {
         (start, 0)
     } else {
@@ -78,7 +77,7 @@ fn readers(image: &Image, s: u64, destination: u64, words: u64) -> u32
     if words == 0 {
         return 0;
     }
-    let region_words = region_words(image);
+    let region_words = image.region_words();
     let first = destination / region_words;
     let last = (destination + words - 1) / region_words;
     u32::from(s != last) + u32::from(first != last)
@@ -91,7 +90,7 @@ pub fn prefix_end(image: &Image, counts: &[RegionCounts]) -> u64
     ensures value { result ≡ prefix_end image.now }
     ensures valid { IsValid image.now }
 {
-    let region_words = region_words(image);
+    let region_words = image.region_words();
     let mut dead = 0;
     let mut regions = 0;
     for r in 0..last_end(image) / region_words {

@@ -2,8 +2,9 @@
 //! holds and reads.
 //!
 //! [`Plan::of`] makes the plan of an image from its marks. It counts the regions by several threads, and takes memory
-//! for each region alone. Its queries take no memory; each is answered at once, but for [`Plan::reads`], which goes from
-//! region to region.
+//! for each region and 12 bytes for each 64 words. Its queries take no memory; each is answered at once, but for
+//! [`Plan::reads`], which goes from region to region. A reference is redirected by one count of bits, whether it is null,
+//! leads into the dense prefix or to an object that slides.
 //!
 //! The definitions stand in `specs/`. [`laws`] has their laws, by subject: among them that live objects keep their
 //! order and don't overlap, that nothing but live words lies between the prefix end and the new top, that each
@@ -23,7 +24,6 @@
 //! that memory is enough, in how many threads the counting runs, and how long a call takes.
 #![tactic(auto)]
 
-mod block_bases;
 mod counting;
 mod deferred;
 pub mod laws;
@@ -31,12 +31,13 @@ mod layout;
 mod plainly;
 mod plan;
 mod reads;
+mod redirections;
 mod region_counts;
 mod region_data;
 mod region_table;
-mod region_words;
 mod report_text;
 mod sources;
+mod survey;
 #[cfg(test)]
 mod tests;
 
@@ -44,3 +45,4 @@ pub use plainly::compact_plainly;
 pub use plan::{Plan, report};
 pub use reads::Reads;
 pub use region_data::RegionData;
+pub use survey::Survey;

@@ -13,7 +13,6 @@ ghost use Rattle.summary.specs.Compaction.{redirected, is_reference_of, carried,
 ghost use Rattle.summary.specs.RegionData.{addresses};
 ghost use Rattle.summary.specs.Placement.{IsPrefix, IsPlacement};
 
-use crate::region_words::region_words;
 use heap_image::{Image, ImageParts, header};
 use raw_region::Region;
 use std::alloc::{AllocError, Global};
@@ -93,7 +92,7 @@ fn compacted_region(
     requires inside { r < region_count image.now }
     ensures { IfOk result (λ region. region ≡ map (compacted_word image.now) (addresses image.now r)) }
 {
-    let len = region_words(image);
+    let len = image.region_words();
     let start = u64::from(r) * len;
     let mut region = Region::new(alloc, len as usize)?;
     for i in 0..len {
@@ -230,7 +229,7 @@ fn next_after(image: &Image, prefix: u64, next: u64, a: u64) -> u64
 fn prefix_end(image: &Image) -> u64
     ensures { IsPrefix image.now result }
 {
-    let region_words = region_words(image);
+    let region_words = image.region_words();
     let mut dead = 0;
     let mut regions = 0;
     for r in 0..last_end(image) / region_words {

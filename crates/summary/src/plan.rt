@@ -1,7 +1,8 @@
 //! `Plan`: what a collection will do to an image.
 
-ghost use Rattle.std.specs.Prelude.{◌≡◌, ◌<◌, IfOk, IfErr, IsTrue, Contains, string_bytes};
-ghost use Rattle.heap_image.specs.HeapImage.{IsValid, region_count, is_null_or_live};
+ghost use Rattle.std.specs.Prelude.{◌≡◌, ◌+◌, ◌<◌, ◌≤◌, length, map, All, IfOk, IfErr, IsTrue, Contains, string_bytes};
+ghost use Rattle.raw_region.specs.Region.{with_words, part};
+ghost use Rattle.heap_image.specs.HeapImage.{IsValid, region_count, region_words, is_null_or_live};
 ghost use Rattle.heap_image.specs.declared.fault.Fault.TheVariants.{Memory};
 ghost use Rattle.summary.specs.NewAddresses.{prefix_end, new_address, new_top};
 ghost use Rattle.summary.specs.Compaction.{redirected};
@@ -12,11 +13,13 @@ ghost use Rattle.summary.specs.Report.{report};
 use crate::counting::count_regions;
 use crate::deferred::deferred_addresses;
 use crate::reads::Reads;
+use crate::redirections::Redirections;
 use crate::region_data::RegionData;
 use crate::region_table::RegionTable;
 use crate::report_text::report_of_table;
 use heap_image::{Fault, Image};
 use mark_bitmap::Marks;
+use raw_region::Region;
 use std::alloc::{AllocError, Global};
 use std::marker::Model;
 use std::thread::Threads;
@@ -27,18 +30,19 @@ use std::thread::Threads;
 #[derive(Drop)]
 pub struct Plan {
     table: RegionTable,
+    redirections: Redirections,
     deferred: Vec<Option<u64>>,
 }
 
 impl Model for Plan {
     ghost use Rattle.heap_image.specs.HeapImage.{HeapImage};
-    ghost use Rattle.summary.specs.Plan.{AreDeferred};
+    ghost use Rattle.summary.specs.Plan.{IsPlan};
 
     ghost Value = { HeapImage };
 
     ghost view = { λ p. p.table };
 
-    ghost invariant = { λ p. AreDeferred p.table p.deferred.items };
+    ghost invariant = { λ p. IsPlan p.table p.redirections p.deferred.items };
 }
 
 impl Plan {
@@ -56,9 +60,14 @@ impl Plan {
         ensures fault { IfErr result (λ fault. fault ≡ Memory) }
     {
         let counts = count_regions(alloc, image, marks, threads)?;
-        let table = RegionTable::of(alloc, image, marks, counts.as_slice())?;
-        let deferred = deferred_addresses(alloc, image, marks, &table)?;
-        Ok(Plan { table, deferred })
+        let table = RegionTable::of(alloc, image, counts.as_slice())?;
+        let redirections = Redirections::of(alloc, image, marks, table.prefix_end())?;
+        let deferred = deferred_addresses(alloc, image, marks, &redirections)?;
+        Ok(Plan {
+            table,
+            redirections,
+            deferred,
+        })
     }
 
     /// The logarithm, to base 2, of the number of words of a region.
@@ -67,6 +76,16 @@ impl Plan {
         ensures valid { IsValid self.now }
     {
         self.table.region_log()
+    }
+
+    /// The number of words of a region.
+    pub fn region_words(&self) -> u64
+        ensures value { result ≡ region_words self.now }
+        ensures some { 0 < result }
+        ensures few { result ≤ 65536 }
+        ensures valid { IsValid self.now }
+    {
+        self.table.region_words()
     }
 
     /// The address at which the dense prefix ends. Objects that begin below it stay.
@@ -100,24 +119,33 @@ impl Plan {
         self.table.regions()[r as usize]
     }
 
-    /// The new address of the live object at `a`.
+    /// The new address of the live object at `a`. The marks are not looked at: the plan knows it by itself.
     #[inline]
-    pub fn new_address(&self, marks: &Marks, a: u64) -> u64
-        requires same { marks.now ≡ self.now }
-        requires live { Contains self.now.live a }
+    pub fn new_address(&self, _marks: &Marks, a: u64) -> u64
+        requires { Contains self.now.live a }
         ensures { result ≡ new_address self.now a }
     {
-        self.table.new_address(marks, a)
+        self.redirections.new_address(a)
     }
 
     /// A reference, as it is once its object has moved: null stays null.
     #[inline]
-    pub fn redirected(&self, marks: &Marks, reference: u64) -> u64
-        requires same { marks.now ≡ self.now }
-        requires sound { IsTrue (is_null_or_live self.now reference) }
+    pub fn redirected(&self, reference: u64) -> u64
+        requires { IsTrue (is_null_or_live self.now reference) }
         ensures { result ≡ redirected self.now reference }
     {
-        self.table.redirected(marks, reference)
+        self.redirections.redirected(reference)
+    }
+
+    /// Redirects the `n` references of a region from index `at` on.
+    pub fn redirect(&self, region: &mut Region, at: usize, n: usize)
+        requires inside { at + n ≤ length region.old }
+        requires sound { All (λ w. IsTrue (is_null_or_live self.now w)) (part region.old at n) }
+        ensures value { region.new ≡ with_words region.old at (map (redirected self.now) (part region.old at n)) }
+        ensures same_length { length region.new ≡ length region.old }
+    {
+        self.redirections
+            .redirect_all(&mut region.words_mut()[at..at + n]);
     }
 
     /// The new address of the deferred object that begins in region `d` at its new address. None too if there is no such

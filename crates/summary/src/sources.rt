@@ -9,7 +9,6 @@ ghost use Rattle.summary.specs.Layout.{placed_region};
 ghost use Rattle.summary.specs.Sources.{StartsOnly, told_region};
 
 use crate::region_data::RegionData;
-use crate::region_words::region_words;
 use heap_image::Image;
 
 /// Tells each region its source, where nothing but the sources is missing.
@@ -32,7 +31,7 @@ fn started_by(image: &Image, prefix: u64, s: u32, region: &RegionData) -> Option
     requires region { told_region image.now s s ≡ region.now }
     ensures { MatchOption result ((d : ℕ) → source image.now d ≢ Some s) (StartsOnly image.now s) }
 {
-    let region_words = region_words(image);
+    let region_words = image.region_words();
     let words = u64::from(region.partial) + u64::from(region.live);
     if region.destination < prefix {
         return None;

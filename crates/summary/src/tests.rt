@@ -4,9 +4,10 @@ ghost use Rattle.std.specs.Prelude.{◌≡◌};
 mod rooted;
 mod seeded;
 
-use crate::Plan;
+use crate::{Plan, Survey};
 use heap_image::{Image, decode_by_threads};
 use mark_bitmap::Marks;
+use raw_region::Region;
 use std::alloc::{AllocError, Global};
 use std::test::Fail;
 use std::thread::Threads;
@@ -156,19 +157,13 @@ fn objects_of_the_base_heap_slide(rt: HostRuntime) -> Result<(), Fail> {
 }
 
 /// What becomes of null, and then of a reference to each live object.
-fn references(
-    alloc: Global,
-    image: &Image,
-    marks: &Marks,
-    plan: &Plan,
-) -> Result<Vec<u64>, AllocError>
-    requires marks { marks.now ≡ image.now }
-    requires plan { plan.now ≡ image.now }
+fn references(alloc: Global, image: &Image, plan: &Plan) -> Result<Vec<u64>, AllocError>
+    requires { plan.now ≡ image.now }
 {
     let mut references = Vec::new(alloc);
-    references.push(plan.redirected(marks, 0))?;
+    references.push(plan.redirected(0))?;
     for a in image.live() {
-        references.push(plan.redirected(marks, *a + 1))?;
+        references.push(plan.redirected(*a + 1))?;
     }
     Ok(references)
 }
@@ -184,7 +179,7 @@ fn redirects_to(
     let image = image_of(threads, alloc, sizes, objects)?;
     let marks = Marks::of(alloc, &image)?;
     let plan = Plan::of(alloc, &image, &marks, threads)?;
-    let found = references(alloc, &image, &marks, &plan)?;
+    let found = references(alloc, &image, &plan)?;
     Ok(found.as_slice() == expected)
 }
 
@@ -193,6 +188,53 @@ fn references_follow_their_objects(rt: HostRuntime) -> Result<(), Fail> {
     let alloc = rt.alloc();
     assert!(rt; redirects_to(&rt, alloc, (3, 32, 0), &BASE, &[0, 1, 4, 8, 10])?);
     assert!(rt; redirects_to(&rt, alloc, (3, 32, 2), &BASE, &[0, 1, 6, 10, 12])?);
+    Ok(())
+}
+
+#[test]
+fn references_to_the_last_word(rt: HostRuntime) -> Result<(), Fail> {
+    let alloc = rt.alloc();
+    assert!(rt; redirects_to(&rt, alloc, (3, 8, 0), &[(7, 1)], &[0, 1])?);
+    assert!(rt; redirects_to(&rt, alloc, (3, 8, 7), &[(7, 1)], &[0, 8])?);
+    let ends = [(0, 1), (63, 1)];
+    assert!(rt; redirects_to(&rt, alloc, (6, 64, 0), &ends, &[0, 1, 2])?);
+    assert!(rt; redirects_to(&rt, alloc, (6, 64, 62), &ends, &[0, 1, 64])?);
+    let two_regions = [(0, 64), (127, 1)];
+    assert!(rt; redirects_to(&rt, alloc, (6, 128, 0), &two_regions, &[0, 1, 65])?);
+    assert!(rt; redirects_to(&rt, alloc, (6, 128, 63), &two_regions, &[0, 1, 128])?);
+    Ok(())
+}
+
+/// Whether a reference to each live object is redirected in a region as it is alone.
+fn redirects_in_regions(alloc: Global, image: &Image, plan: &Plan) -> Result<bool, AllocError>
+    requires { plan.now ≡ image.now }
+{
+    for a in image.live() {
+        let mut region = Region::new(alloc, 1)?;
+        region.set(0, *a + 1);
+        plan.redirect(&mut region, 0, 1);
+        if region.get(0) != plan.redirected(*a + 1) {
+            return Ok(false);
+        }
+    }
+    Ok(true)
+}
+
+#[test]
+fn references_of_a_region_follow_their_objects(rt: HostRuntime) -> Result<(), Fail> {
+    let image = image_of(&rt, rt.alloc(), (3, 32, 0), &BASE)?;
+    let marks = Marks::of(rt.alloc(), &image)?;
+    let plan = Plan::of(rt.alloc(), &image, &marks, &rt)?;
+    assert!(rt; redirects_in_regions(rt.alloc(), &image, &plan)?);
+    Ok(())
+}
+
+#[test]
+fn a_survey_has_marks_and_plan(rt: HostRuntime) -> Result<(), Fail> {
+    let image = image_of(&rt, rt.alloc(), (3, 32, 0), &BASE)?;
+    let survey = Survey::of(rt.alloc(), &image, &rt)?;
+    assert_eq!(rt; survey.plan().new_top(), 19);
+    assert_eq!(rt; survey.marks().next_begin(6), Some(12));
     Ok(())
 }
 
@@ -314,7 +356,10 @@ fn an_object_over_three_regions(rt: HostRuntime) -> Result<(), Fail> {
 #[test]
 fn one_region_of_the_base_heap(rt: HostRuntime) -> Result<(), Fail> {
     let plan = plan_of(&rt, rt.alloc(), (3, 32, 0), &BASE)?;
-    assert_eq!(rt; (plan.regions(), plan.region_log()), (4, 3));
+    assert_eq!(rt;
+        (plan.regions(), plan.region_log(), plan.region_words()),
+        (4, 3, 8)
+    );
     assert_eq!(rt; plan.region(1).source, Some(1));
     assert!(rt; plan.reads_from(1, 2).eq([2, 3]));
     Ok(())

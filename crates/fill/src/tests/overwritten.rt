@@ -22,7 +22,7 @@ fn base_heap<T: Threads + Sync>(alloc: Global, threads: &T) -> Result<(Heap, Pas
 {
     let image = image_of(alloc, 0, &BASE, &BASE_LIVE, threads)?;
     let (heap, pass) = heap_of(alloc, image, threads)?;
-    if heap.plan.regions() != 4 {
+    if heap.survey.plan().regions() != 4 {
         return Err(Fail::from("not four regions"));
     }
     Ok((heap, pass))

@@ -9,13 +9,12 @@ use crate::tests::{BASE, BASE_LIVE, image_of};
 use claim_board::{Desk, Done, Recorder, Ticket};
 use heap_image::{Fault, Image};
 use history::{GivenMoves, Moves, moves_of_images, write_schedule};
-use mark_bitmap::Marks;
 use region_cells::Cells;
 use std::alloc::{AllocError, Global};
 use std::sync::Wait;
 use std::test::Fail;
 use std::thread::Threads;
-use summary::Plan;
+use summary::Survey;
 use summary::laws::region_data::regions_to_fill;
 
 /// The fills with allowance 0.
@@ -65,13 +64,11 @@ const BEHIND_PREFIX: &str = "schedule 1 1
 /// A heap whose fills are recorded, by one worker.
 #[derive(Drop)]
 struct RecordedHeap {
-    plan: Plan,
-    marks: Marks,
+    survey: Survey,
     cells: Cells,
     recorder: Recorder,
-    ghost marks_are: { marks ≡ plan },
-    ghost cells_are: { cells ≡ plan },
-    ghost moves_are: { moves_of recorder ≡ image_table plan },
+    ghost cells_are: { cells ≡ survey },
+    ghost moves_are: { moves_of recorder ≡ image_table survey },
     ghost alone: { worker_count recorder ≡ 1 },
 }
 
@@ -80,15 +77,13 @@ fn heap_of<T: Threads + Sync>(
     image: Image,
     threads: &T,
 ) -> Result<RecordedHeap, Fail> {
-    let marks = Marks::of(alloc, &image)?;
-    let plan = Plan::of(alloc, &image, &marks, threads)?;
-    let recorder = Recorder::new(alloc, &plan, 1)?;
-    let Ok(cells) = Cells::of(alloc, image, &plan) else {
+    let survey = Survey::of(alloc, &image, threads)?;
+    let recorder = Recorder::new(alloc, survey.plan(), 1)?;
+    let Ok(cells) = Cells::of(alloc, image, survey.plan()) else {
         return Err(Fail::from(AllocError));
     };
     Ok(RecordedHeap {
-        plan,
-        marks,
+        survey,
         cells,
         recorder,
     })
@@ -108,8 +103,7 @@ fn fill_of<W: Wait>(
     let (done, _placed) = fill_region(
         &heap.recorder,
         &heap.cells,
-        &heap.plan,
-        &heap.marks,
+        &heap.survey,
         seat,
         ticket,
         &mut |_source: u32| {},
@@ -122,8 +116,8 @@ fn fill_of<W: Wait>(
 fn fill_recorded<W: Wait>(heap: &RecordedHeap, region: u32, wait: &W) -> Result<bool, Fault> {
     moves_of_images();
     regions_to_fill();
-    let _regions = heap.plan.regions();
-    if region >= heap.plan.fill_regions() {
+    let _regions = heap.survey.plan().regions();
+    if region >= heap.survey.plan().fill_regions() {
         return Ok(false);
     }
     let mut seat = 0;

@@ -223,7 +223,7 @@ fn fill_ordered<W: Wait>(
 ) -> Result<bool, Fault>
     requires { board_of pass.old ≡ identity heap.now.board }
 {
-    for _ in 0..heap.plan.fill_regions() {
+    for _ in 0..heap.survey.plan().fill_regions() {
         let regions = order.next();
         if !fill_first(heap, pass, told, regions.as_slice(), wait)? {
             return Ok(false);
@@ -240,11 +240,11 @@ fn outcome<R: Threads + Wait + Sync>(
     rt: &R,
 ) -> Result<Outcome, Fail> {
     let (heap, mut pass) = heap_of(alloc, image, rt)?;
-    let mut told = Vec::with_capacity(alloc, heap.plan.regions() as usize)?;
+    let mut told = Vec::with_capacity(alloc, heap.survey.plan().regions() as usize)?;
     if !fill_ordered(&heap, &mut pass, &mut told, &mut order, rt)? {
         return Err(Fail::from("no region is granted"));
     }
-    let sources = read_by_others(alloc, &heap.plan)?;
+    let sources = read_by_others(alloc, heap.survey.plan())?;
     told.sort_unstable();
     if told != sources {
         return Err(Fail::from("other sources were told"));

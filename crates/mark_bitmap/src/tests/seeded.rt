@@ -103,6 +103,19 @@ fn counts_agree(marks: &Marks, objects: &[Object], from: u64, len: u64) -> bool
     true
 }
 
+/// Whether each 64 addresses in a row have the live bits of their words.
+fn live_bits_agree(marks: &Marks, objects: &[Object], len: u64) -> bool
+    requires { len ≤ heap_words marks.now }
+{
+    for a in 0..len {
+        let bit = marks.live_bits(a / 64) >> (a % 64) & 1;
+        if (bit == 1) != is_live(objects, a) {
+            return false;
+        }
+    }
+    true
+}
+
 /// Whether each object has its size.
 fn sizes_agree(marks: &Marks, objects: &[Object]) -> bool {
     for (begin, size) in objects {
@@ -137,7 +150,7 @@ fn marks_agree(marks: &Marks, objects: &[Object], len: u64) -> bool
             return false;
         }
     }
-    sizes_agree(marks, objects)
+    sizes_agree(marks, objects) && live_bits_agree(marks, objects, len)
 }
 
 #[test]

@@ -78,6 +78,24 @@ Options:
   -h, --help     Print help
 ";
 
+const IMPORT_HELP: &str = "\
+Writes the heap dump of a Java virtual machine as a heap image
+
+Usage: pcompact import [OPTIONS] <DUMP> <IMAGE>
+
+Arguments:
+  <DUMP>   A file with a heap dump
+  <IMAGE>  The file for the image
+
+Options:
+      --region-log <k>  The image has regions of 2^k words, k from 3 to 16; 9 if not given
+      --allowance <m>   How many dead words the dense prefix may keep; 0 if not given
+      --live-only       Keeps the objects alone that are reached from the roots
+      --atomic          Replaces files only once the command has ended well
+      --verbose         Says more of what goes wrong
+  -h, --help            Print help
+";
+
 const NO_WORKERS: &str = "\
 error: the following required arguments were not provided:
   --workers <n>
@@ -121,7 +139,36 @@ fn help_of_commands_over_files(rt: HostRuntime) -> Result<(), Fail> {
     assert_run(&rt, &["record", "-h"], 0, RECORD_HELP, "")?;
     assert_run(&rt, &["help", "replay"], 0, REPLAY_HELP, "")?;
     assert_run(&rt, &["verify", "--help"], 0, VERIFY_HELP, "")?;
-    assert_run(&rt, &["upgrade", "--help"], 0, UPGRADE_HELP, "")
+    assert_run(&rt, &["upgrade", "--help"], 0, UPGRADE_HELP, "")?;
+    assert_run(&rt, &["import", "--help"], 0, IMPORT_HELP, "")
+}
+
+const REGION_LOG_OUTSIDE: &str = "\
+error: invalid value '2' for '--region-log <k>': 2 is not in 3..=16
+
+For more information, try '--help'.
+";
+
+const REGION_LOG_ABOVE: &str = "\
+error: invalid value '17' for '--region-log <k>': 17 is not in 3..=16
+
+For more information, try '--help'.
+";
+
+const NO_ALLOWANCE: &str = "\
+error: invalid value '18446744073709551616' for '--allowance <m>': number too large to fit in target type
+
+For more information, try '--help'.
+";
+
+#[test]
+fn numbers_of_an_import_must_be_in_range(rt: HostRuntime) -> Result<(), Fail> {
+    let below = ["import", "in", "out", "--region-log", "2"];
+    assert_run(&rt, &below, 2, "", REGION_LOG_OUTSIDE)?;
+    let above = ["import", "in", "out", "--region-log", "17"];
+    assert_run(&rt, &above, 2, "", REGION_LOG_ABOVE)?;
+    let large = ["import", "in", "out", "--allowance", "18446744073709551616"];
+    assert_run(&rt, &large, 2, "", NO_ALLOWANCE)
 }
 
 #[test]

@@ -2,12 +2,15 @@
 //!
 //! The functions do nothing: each one's contract is a law.
 
-ghost use Rattle.std.specs.Prelude.{◌≡◌, ◌+◌, ◌<◌, ◌≤◌, ℕ};
-ghost use Rattle.heap_image.specs.HeapImage.{HeapImage, HasLiveList, heap_words, region_of, start_of, size_at, live_words};
+ghost use Rattle.std.specs.Prelude.{◌≡◌, ◌+◌, ◌<◌, ◌≤◌, ℕ, IsTrue, count_by};
+ghost use Rattle.std.specs.List.{range_with_len};
+ghost use Rattle.heap_image.specs.HeapImage.{HeapImage, HasLiveList, heap_words, region_of, start_of, size_at, live_words, is_null_or_live};
 ghost use Rattle.summary.specs.LiveObjects.{object_count, object_at};
 ghost use Rattle.summary.specs.NewAddresses.{prefix_end, new_address, new_end_of, new_top};
 ghost use Rattle.summary.specs.WordMoves.{slid};
 ghost use Rattle.summary.specs.RegionData.{partial_words, destination};
+ghost use Rattle.summary.specs.Compaction.{redirected};
+ghost use Rattle.summary.specs.Redirections.{is_counted};
 
 /// Live objects keep their order and do not overlap at their new addresses, none goes up, and none ends above the
 /// new top.
@@ -66,4 +69,11 @@ pub fn new_address_by_region()
         + live_words image (start_of image (region_of image
         (object_at image i)) + partial_words image (region_of image (object_at image i)))
         (object_at image i) }
+{}
+
+/// A reference becomes the count of the numbers below it that are null, or 1 plus the address of a word that lies below
+/// the prefix end or is live.
+pub fn redirection_by_counting()
+    ensures { (image : HeapImage) → HasLiveList image → (w : ℕ) → IsTrue (is_null_or_live image w)
+        → redirected image w ≡ count_by (is_counted image) (range_with_len 0 w) }
 {}

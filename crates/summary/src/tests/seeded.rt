@@ -134,6 +134,17 @@ impl Heap<'_> {
         }
     }
 
+    /// Whether a number is null, or 1 plus the address of a word that lies in the dense prefix or is live.
+    fn is_counted(&self, x: u64) -> bool {
+        let mut words = self.words.iter();
+        x <= self.prefix_end || words.any(|word| word.from.wrapping_add(1) == x)
+    }
+
+    /// How many such numbers lie below this one.
+    fn counted_below(&self, x: u64) -> u64 {
+        (0..x).filter(|y| self.is_counted(*y)).count() as u64
+    }
+
     /// Whether a word goes from region `s` to region `d`.
     fn reads(&self, d: u64, s: u64) -> bool {
         let mut words = self.words.iter();
@@ -234,6 +245,18 @@ fn addresses_agree(image: &Image, marks: &Marks, plan: &Plan, heap: &Heap<'_>) -
     true
 }
 
+/// Whether null stays null, and a reference to each object becomes what is counted.
+fn references_agree(image: &Image, plan: &Plan, heap: &Heap<'_>) -> bool
+    requires { plan.now ≡ image.now }
+{
+    for a in image.live() {
+        if plan.redirected(*a + 1) != heap.counted_below(a.wrapping_add(1)) {
+            return false;
+        }
+    }
+    plan.redirected(0) == 0
+}
+
 /// Whether the plan has the ends that are counted.
 fn ends_agree(plan: &Plan, heap: &Heap<'_>) -> bool {
     let top = heap.words.last().map_or(0, |word| word.to.wrapping_add(1));
@@ -265,6 +288,7 @@ fn plan_agrees(
     Ok(
         ends_agree(&plan, &heap)
             && addresses_agree(image, &marks, &plan, &heap)
+            && references_agree(image, &plan, &heap)
             && regions_agree(&plan, &heap),
     )
 }

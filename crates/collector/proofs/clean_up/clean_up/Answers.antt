@@ -3,8 +3,8 @@ use Rattle.std.proofs.Math.Seq.{take-append_seam}
 use Rattle.std.specs.Prelude.{map, option_map}
 use Rattle.std.specs.List.{concat}
 use Rattle.heap_image.specs.HeapImage.{HeapImage, IsValid, AreBlocks, rooted_image_of}
-use Rattle.summary.specs.NewAddresses.{new_address}
-use Rattle.summary.specs.Compaction.{compact}
+use Rattle.summary.specs.NewAddresses.{new_address, new_top}
+use Rattle.summary.specs.Compaction.{compact, redirected}
 use Rattle.fill.specs.Heap.{cleared}
 use Rattle.collector.proofs.Telling.{same_image}
 use Rattle.collector.proofs.clean_up.clean_up.Goals as goal
@@ -15,7 +15,7 @@ all_new n new old e = ap (λ k. take k (new ++ drop (length new) old)) (sym e) �
 
 pub into_image-requires-clause-regions : goal.into_image-requires-clause-regions
 into_image-requires-clause-regions g c =
-    let plan : HeapImage = c.args.plan.now in
+    let plan : HeapImage = c.args.survey.now in
     let parts = c.in_ok-parts.parts in
     let updated : List (List ℕ) = c.update_deferred.new.regions in
     let cleared' : List (List ℕ) = c.clear_above.new.regions in
@@ -30,7 +30,7 @@ into_image-requires-clause-regions g c =
 
 pub into_image-requires-clause-valid : goal.into_image-requires-clause-valid
 into_image-requires-clause-valid g c =
-    let plan : HeapImage = c.args.plan.now in
+    let plan : HeapImage = c.args.survey.now in
     let parts = c.in_ok-parts.parts in
     let updated : List (List ℕ) = c.update_deferred.new.regions in
     let cleared' : List (List ℕ) = c.clear_above.new.regions in
@@ -43,10 +43,11 @@ into_image-requires-clause-valid g c =
     let second = all_new n cleared' (take n (updated ++ drop (length updated) parts.regions.items)) two in
     let log : parts.region_log ≡ plan.region_log = c.in_ok-parts.ensures.numbers.0 ∙ ap (λ (i : HeapImage). i.region_log) c.requires.cells in
     let allowed : parts.allowance ≡ plan.allowance = c.in_ok-parts.ensures.numbers.1 ∙ ap (λ (i : HeapImage). i.allowance) c.requires.cells in
-    let words = ap concat second ∙ c.clear_above.ensures.words ∙ ap (λ (bs : List (List ℕ)). cleared c.new_top.result (concat bs)) first ∙ ap (λ k. cleared k (concat updated)) c.new_top.ensures ∙ c.update_deferred.ensures.compacted in
+    let words = ap concat second ∙ c.clear_above.ensures.words ∙ ap (λ (bs : List (List ℕ)). cleared c.new_top.result (concat bs)) first ∙ ap (λ k. cleared k (concat updated)) (c.new_top.ensures ∙ ap new_top c.plan-plan.ensures) ∙ c.update_deferred.ensures.compacted in
     let live = all_new parts.live.len places parts.live.items three ∙ c.redirect_live.ensures ∙ ap (map (new_address plan)) (c.as_mut_slice-3.ensures.value ∙ c.in_ok-parts.ensures.live ∙ ap (λ (i : HeapImage). i.live) c.requires.cells) in
     let image : HeapImage = rooted_image_of parts.region_log parts.allowance
     (take n (cleared' ++ drop (length cleared') (take n (updated ++ drop (length updated) parts.regions.items))))
     (take parts.live.len (places ++ drop (length places) parts.live.items)) (option_map (λ v. v.items) c.redirected_roots.result) in
-    let same : image ≡ compact plan = same_image image (compact plan) log allowed words live c.redirected_roots.ensures in
-    subst IsValid (sym same) (c.compaction_is_valid.ensures plan c.regions-regions.ensures.valid)
+    let roots = subst (λ (i : HeapImage). option_map (λ v. v.items) c.redirected_roots.result ≡ option_map (map (redirected i)) i.roots) c.plan-plan.ensures c.redirected_roots.ensures in
+    let same : image ≡ compact plan = same_image image (compact plan) log allowed words live roots in
+    subst IsValid (sym same) (c.compaction_is_valid.ensures plan (subst IsValid c.plan-plan.ensures c.regions-regions.ensures.valid))

@@ -11,6 +11,6 @@ returns-in-Err-collect-clause-gate g c is =
     let may = g.G.Gate.may_refuse c.args.gate.now in
     let made = c.in-Ok.ensures in
     let gate : c.in-Err-collect.fault ≡ Gate = cc in
-    let refused = refused_by may (worker_count c.in-Ok.prepared.board) (fill_count c.in-Ok.prepared.plan) c.in-Err-collect.fault gate c.in-Err-collect.ensures.fault in
-    subst (λ (image : HeapImage). IsRefusedBy may c.args.workers (fill_count image)) made.plan
-    (subst (λ (n : ℕ). IsRefusedBy may n (fill_count c.in-Ok.prepared.plan)) made.workers refused)
+    let refused = refused_by may (worker_count c.in-Ok.collection.prepared.desk) (fill_count c.in-Ok.collection.prepared.survey) c.in-Err-collect.fault gate c.in-Err-collect.ensures.fault in
+    subst (λ (image : HeapImage). IsRefusedBy may c.args.workers (fill_count image)) made.survey
+    (subst (λ (n : ℕ). IsRefusedBy may n (fill_count c.in-Ok.collection.prepared.survey)) made.workers refused)

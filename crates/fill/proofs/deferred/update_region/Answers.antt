@@ -61,8 +61,8 @@ word-reference-requires-clause-inside c =
     let fits = c.late_references.ensures.fits in
     omega (arith, long, h.end, c.loop-p-test.true)
 
-pub redirected-requires-clause-sound : goal.redirected-requires-clause-sound
-redirected-requires-clause-sound c =
+pub redirected-requires : goal.redirected-requires
+redirected-requires c =
     let image = c.args.plan.now in
     let d : ℕ = c.args.d in
     let x : ℕ = c.in-Some.begin in

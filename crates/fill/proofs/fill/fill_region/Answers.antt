@@ -5,7 +5,8 @@ use Rattle.fill.proofs.fill.fill_region.Goals as goal
 
 pub write-requires : goal.write-requires
 write-requires g c =
-    let few = c.regions_to_fill.ensures.few c.args.plan.now c.regions-regions.ensures.valid in
+    let few = c.regions_to_fill.ensures.few c.plan-plan.result.now c.regions-regions.ensures.valid in
+    let same = ap region_count c.plan-plan.ensures in
     let inside = c.if-region-fill_regions.false in
     let region = c.region-region.ensures in
     let count = c.fill_regions.ensures in
@@ -15,7 +16,7 @@ write-requires g c =
 
 pub returns-clause-filled : goal.returns-clause-filled
 returns-clause-filled g c =
-    filled_here (λ f s h. goal.F-step g f s tt h) g.D.Desk.tells c.args.plan.now c.new-guide.result c.new-guide.ensures (c.moves_of_images.ensures.regions c.args.plan.now)
-    c.args.ticket.region c.right.new.self.region c.fill_target-filled.new.ticket.region c.in-Some.ensures.same.0 (c.in_default-filled.ensures.same.0 ∙ c.in-Some.ensures.same.0)
-    (g.D.Desk.caller c.args.seat.now) (g.D.Desk.caller c.fill_target-filled.new.seat) (g.D.Desk.caller c.complete.new.seat) c.args.on_last.now c.fill_target-filled.new.on_last
+    filled_here (λ f s h. goal.F-step g f s tt h) g.D.Desk.tells c.args.survey.now c.of.result.guide.now (c.of.ensures.guide ∙ c.new-guide.ensures) (c.moves_of_images.ensures.regions c.args.survey.now)
+    c.args.ticket.region c.of.result.region c.fill-filled.new.ticket.region (c.of.ensures.region ∙ c.region-region.ensures) (c.in_default-filled.ensures.ticket.region ∙ c.in-Some.ensures.same.0)
+    (g.D.Desk.caller c.args.seat.now) (g.D.Desk.caller c.fill-filled.new.seat) (g.D.Desk.caller c.complete.new.seat) c.args.on_last.now c.fill-filled.new.on_last
     c.in_default-filled.ensures.drained c.in_ok-done.ensures.gains

@@ -1,44 +1,49 @@
 use Rattle.std.proofs.Common.{◌≡◌, ℕ, List, get_or, not, sym, ◌∙◌, ap, Option}
-use Rattle.std.specs.Prelude.{find, map}
-use Rattle.std.specs.List.{concat, range_with_len}
-use Rattle.heap_image.specs.HeapImage.{image_of, is_unsound}
+use Rattle.std.specs.Prelude.{find, map, option_map}
+use Rattle.std.specs.List.{range_with_len}
+use Rattle.heap_image.specs.HeapImage.{HeapImage, with_live, is_unsound}
 use Rattle.heap_image.specs.Header.{references_of}
 use Rattle.heap_image.specs.ImageText.{is_dangling, fields_of}
 use Rattle.heap_image.proofs.Fields.{dangling_searched, dangling_kept}
-use Rattle.heap_image.proofs.Finds.{find_none_more}
+use Rattle.heap_image.proofs.Finds.{find_none_more, find-pairs}
 use Rattle.heap_image.proofs.Objects.{unsound_tested, end_more, overlaps_more, header_first}
 use Rattle.heap_image.proofs.check.check_objects.Goals as goal
-use Rattle.heap_image.proofs.check.check_objects.Goals.{then-is_none, else-is_none}
+use Rattle.heap_image.proofs.check.check_objects.Goals.{then-is_none+in-Some, then-is_none+in-None, else-is_none}
 
 pub returns-then-is_unsound-clause-fault : goal.returns-then-is_unsound-clause-fault
 returns-then-is_unsound-clause-fault c =
-    header_first c.args.region_log c.args.regions.now c.args.live.now c.args.words c.loop-a.a-index c.loop-a-test.true c.requires.words c.loop-a.invariant.sound
-    (unsound_tested c.args.region_log c.args.regions.now c.args.live.now c.args.words c.loop-a.a-index c.loop-a-test.true c.requires.words c.word_of-word.result c.word_of-word.ensures c.is_unsound.result c.is_unsound.ensures ∙ c.if-is_unsound.true)
+    header_first c.args.heap.now c.args.live.now c.len-words.result c.loop-a.a-index c.loop-a-test.true c.len-words.ensures.value c.loop-a.invariant.sound
+    (unsound_tested c.args.heap.now c.args.live.now c.len-words.result c.loop-a.a-index c.loop-a-test.true c.len-words.ensures.value c.word-word.result c.word-word.ensures c.is_unsound.result c.is_unsound.ensures ∙ c.if-is_unsound.true)
 
 -- the search of one object, by the number of references that its header tells
-searched : (log : ℕ) (regions : List (List ℕ)) (live : List ℕ) (a word n : ℕ) (found : Option (ℕ × ℕ)) → word ≡ get_or (concat regions) a 0 → n ≡ references_of word
-    → found ≡ find (is_dangling (image_of log 0 regions live)) (map (λ f. (a, f)) (range_with_len 0 n))
-    → find (is_dangling (image_of log 0 regions live)) (fields_of (image_of log 0 regions live) a) ≡ found
-searched log regions live a word n found w e f =
-    ap (λ m. find (is_dangling (image_of log 0 regions live)) (map (λ f. (a, f)) (range_with_len 0 m))) (sym (e ∙ ap references_of w)) ∙ sym f
+searched : (heap : HeapImage) (live : List ℕ) (a word n : ℕ) (field : Option ℕ) → word ≡ get_or heap.words a 0 → n ≡ references_of word
+    → field ≡ find (λ f. is_dangling (with_live heap live) (a, f)) (range_with_len 0 n)
+    → find (is_dangling (with_live heap live)) (fields_of (with_live heap live) a) ≡ option_map (λ f. (a, f)) field
+searched heap live a word n field w e f =
+    let image = with_live heap live in
+    ap (λ m. find (is_dangling image) (map (λ f. (a, f)) (range_with_len 0 m))) (sym (e ∙ ap references_of w))
+    ∙ find-pairs (is_dangling image) a (range_with_len 0 n)
+    ∙ ap (option_map (λ f. (a, f))) (sym f)
 
 pub loop-a-preserved : goal.loop-a-preserved
 loop-a-preserved c =
-    let log = c.args.region_log in
-    let regions = c.args.regions.now in
+    let heap = c.args.heap.now in
     let live = c.args.live.now in
-    let words = c.args.words in
+    let words = c.len-words.result in
     let i = c.loop-a.a-index in
-    let word = c.word_of-word.result in
-    let image = image_of log 0 regions live in
+    let word = c.word-word.result in
+    let image = with_live heap live in
     record {
-      sound = find_none_more (is_unsound (image_of log 0 regions live)) live i 0 c.loop-a-test.true c.loop-a.invariant.sound (unsound_tested log regions live words i c.loop-a-test.true c.requires.words word c.word_of-word.ensures c.is_unsound.result c.is_unsound.ensures ∙ c.if-is_unsound.false);
-      end = end_more log regions live words i c.loop-a-test.true c.requires.words word c.word_of-word.ensures c.from.result (c.from.ensures ∙ c.size.ensures);
-      overlap = overlaps_more log regions live words i c.loop-a-test.true c.requires.words c.loop-a.end c.loop-a.overlap c.or-overlap.result c.then_some.result c.loop-a.invariant.end c.loop-a.invariant.overlap c.then_some.ensures c.or-overlap.ensures;
+      sound = find_none_more (is_unsound (with_live heap live)) live i 0 c.loop-a-test.true c.loop-a.invariant.sound (unsound_tested heap live words i c.loop-a-test.true c.len-words.ensures.value word c.word-word.ensures c.is_unsound.result c.is_unsound.ensures ∙ c.if-is_unsound.false);
+      end = end_more heap live words i c.loop-a-test.true c.len-words.ensures.value word c.word-word.ensures c.from.result (c.from.ensures ∙ c.size.ensures);
+      overlap = overlaps_more heap live words i c.loop-a-test.true c.len-words.ensures.value c.loop-a.end c.loop-a.overlap c.or-overlap.result c.then_some.result c.loop-a.invariant.end c.loop-a.invariant.overlap c.then_some.ensures c.or-overlap.ensures;
       dangling = elim c.if-is_none.branch [
-        | then-is_none w ↦ dangling_searched (is_dangling image) (fields_of image) live i c.loop-a.dangling c.if-is_none.dangling c.loop-a-test.true c.loop-a.invariant.dangling
+        | then-is_none+in-Some w ↦ dangling_searched (is_dangling image) (fields_of image) live i c.loop-a.dangling c.if-is_none.dangling c.loop-a-test.true c.loop-a.invariant.dangling
             (c.is_none.ensures ∙ ap not w.if-is_none.true)
-            (searched log regions live (get_or live i 0) word w.references-references.result w.dangling_field-dangling.result c.word_of-word.ensures w.references-references.ensures (w.dangling_field-dangling.ensures live c.requires.inside c.requires.bits) ∙ sym w.dangling-is)
+            (searched heap live (get_or live i 0) word w.references.result w.dangling_field-field.result c.word-word.ensures w.references.ensures (w.dangling_field-field.ensures live c.requires.inside c.requires.bits) ∙ ap (option_map (λ f. (get_or live i 0, f))) w.in-Some.is ∙ sym w.dangling-is)
+        | then-is_none+in-None w ↦ dangling_searched (is_dangling image) (fields_of image) live i c.loop-a.dangling c.if-is_none.dangling c.loop-a-test.true c.loop-a.invariant.dangling
+            (c.is_none.ensures ∙ ap not w.if-is_none.true)
+            (searched heap live (get_or live i 0) word w.references.result w.dangling_field-field.result c.word-word.ensures w.references.ensures (w.dangling_field-field.ensures live c.requires.inside c.requires.bits) ∙ ap (option_map (λ f. (get_or live i 0, f))) w.in-None.is ∙ sym w.dangling-is)
         | else-is_none w ↦ w.dangling-is ∙ dangling_kept (is_dangling image) (fields_of image) live i c.loop-a.dangling c.loop-a-test.true c.loop-a.invariant.dangling (c.is_none.ensures ∙ ap not w.if-is_none.false)
       ];
     }

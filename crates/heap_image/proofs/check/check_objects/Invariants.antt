@@ -1,14 +1,14 @@
 use Rattle.std.proofs.Common.{◌≡◌, take, None}
 use Rattle.std.specs.Prelude.{find, flat_map}
-use Rattle.heap_image.specs.HeapImage.{image_of, size_at, is_unsound}
+use Rattle.heap_image.specs.HeapImage.{with_live, size_at, is_unsound}
 use Rattle.heap_image.specs.ImageText.{is_dangling, fields_of}
 use Rattle.heap_image.proofs.Overlaps.{last_end_of, overlap_of}
 use Rattle.heap_image.proofs.check.check_objects.Given as goal
 
 abbrev pub invariant-loop-a : goal.invariant-loop-a
 invariant-loop-a l = record {
-  sound : find (is_unsound (image_of l.region_log 0 l.regions l.live)) (take l.a-index l.live) ≡ None;
-  end : l.end ≡ last_end_of (size_at (image_of l.region_log 0 l.regions l.live)) (take l.a-index l.live);
-  overlap : l.overlap ≡ overlap_of (size_at (image_of l.region_log 0 l.regions l.live)) (take l.a-index l.live);
-  dangling : l.dangling ≡ find (is_dangling (image_of l.region_log 0 l.regions l.live)) (flat_map (fields_of (image_of l.region_log 0 l.regions l.live)) (take l.a-index l.live));
+  sound : find (is_unsound (with_live l.heap l.live)) (take l.a-index l.live) ≡ None;
+  end : l.end ≡ last_end_of (size_at (with_live l.heap l.live)) (take l.a-index l.live);
+  overlap : l.overlap ≡ overlap_of (size_at (with_live l.heap l.live)) (take l.a-index l.live);
+  dangling : l.dangling ≡ find (is_dangling (with_live l.heap l.live)) (flat_map (fields_of (with_live l.heap l.live)) (take l.a-index l.live));
 }

@@ -1,10 +1,13 @@
-use Rattle.std.proofs.Common.{◌<◌, ◌∙◌, arith}
+use Rattle.std.proofs.Common.{ℕ, ◌<◌, ◌∙◌, arith}
 use Rattle.std.proofs.lemmas.Bool.{lt-leb}
+use Rattle.heap_image.specs.HeapImage.{heap_words}
 use Rattle.heap_image.proofs.References.{leads_nowhere}
 use Rattle.heap_image.proofs.check.is_null_or_live.Goals as goal
 
-pub returns-else-reference-words : goal.returns-else-reference-words
-returns-else-reference-words c = λ live below marks.
-    let outside : c.args.words < c.args.reference = c.if-reference-words.false in
-    lt-leb c.args.reference c.args.words outside
-    ∙ leads_nowhere c.args.words live c.args.bits.now below marks c.args.reference (λ null. omega arith) outside
+pub returns-else-reference-len : goal.returns-else-reference-len
+returns-else-reference-len c = λ live below marks.
+    let words : ℕ = heap_words c.args.heap.now in
+    let is = c.len.ensures.value in
+    let outside : words < c.args.reference = (let past = c.if-reference-len.false in omega arith) in
+    lt-leb c.args.reference c.len.result c.if-reference-len.false
+    ∙ leads_nowhere words live c.args.bits.now below marks c.args.reference (λ null. omega arith) outside

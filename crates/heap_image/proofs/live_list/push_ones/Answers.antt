@@ -3,7 +3,7 @@ use Rattle.std.proofs.lemmas.List.{append-nil}
 use Rattle.std.proofs.lemmas.Nat.Bits.{bit_at-trailing_zeros}
 use Rattle.std.specs.Prelude.{map}
 use Rattle.std.specs.Int.{bit_not, trailing_zeros, w64}
-use Rattle.heap_image.specs.Begins.{ones_of}
+use Rattle.heap_image.specs.Bits.{ones_of}
 use Rattle.heap_image.proofs.Ones.{ones_of-zero, ones_of-next}
 use Rattle.heap_image.proofs.live_list.push_ones.Goals as goal
 use Rattle.heap_image.proofs.live_list.push_ones.Goals.{After-push}

@@ -1,6 +1,6 @@
 use Rattle.std.proofs.Common.{◌≡◌, ◌+◌, ◌++◌, length}
 use Rattle.std.specs.Prelude.{map}
-use Rattle.heap_image.specs.Begins.{ones_of}
+use Rattle.heap_image.specs.Bits.{ones_of}
 use Rattle.heap_image.proofs.live_list.push_ones.Given as goal
 
 -- the list, and what is left of the word, are what was there and the whole word

@@ -1,11 +1,12 @@
-use Rattle.std.proofs.Common.{◌<◌, length, ap, sym, subst, ◌∙◌, Err}
+use Rattle.std.proofs.Common.{◌≡◌, ◌<◌, ◌⊎◌, [], length, ap, sym, subst, ◌∙◌, Some, Err}
 use Rattle.std.proofs.lemmas.Result.{err_from_is_err_and}
 use Rattle.std.specs.Prelude.{All, option_map}
 use Rattle.std.specs.List.{concat}
 use Rattle.std.specs.Io.KnownBytes.{Consumes}
-use Rattle.heap_image.specs.Begins.{MarkBegins}
+use Rattle.heap_image.specs.Bits.{MarkBegins}
 use Rattle.heap_image.specs.Soundness.{AreWellFormed}
-use Rattle.heap_image.specs.HeapImage.{HeapImage, image_of}
+use Rattle.heap_image.specs.HeapImage.{HeapImage, heap_words, image_of, with_live}
+use Rattle.heap_image.specs.declared.fault.Fault.TheVariants.{Memory}
 use Rattle.heap_image.specs.ImageText.{listed_text, from_tail, first_some, first_object_fault, live_list_faults}
 use Rattle.heap_image.specs.Reading.{HasFittingNumbers}
 use Rattle.heap_image.specs.declared.read.Unchecked.{Unchecked}
@@ -48,7 +49,8 @@ returns-in_err-found-clause-fault g c =
     let fits : HasFittingNumbers image = fitting_parts front.region_log front.allowance body.regions.items body.tail.items front.words front.count c.in_ok-front.ensures.limits done.words done.tail c.in_ok-front.ensures.fit done.fit done.tail_fit in
     let read : Consumes before after (listed_text front.rooted image) = read_parts front.rooted front.region_log front.allowance body.regions.items body.tail.items front.words front.count done.words done.tail before (g.R.Intake.left c.read_front.new.reader) after c.in_ok-front.ensures.told done.bytes in
     let fault = c.in_err-found.field-0.0 in
-    let why = check_of_parts front.rooted front.region_log front.allowance c.as_slice.result.now body.regions.items body.tail.items c.as_slice.ensures.value fault c.in_err-found.ensures.fault in
+    let told = subst (λ (heap : HeapImage). (fault ≡ Memory) ⊎ (first_some (live_list_faults (from_tail front.rooted (with_live heap body.tail.items))) ≡ Some fault)) c.new-heap.ensures c.in_err-found.ensures.fault in
+    let why = check_of_parts front.rooted front.region_log front.allowance c.as_slice.result.now body.regions.items body.tail.items c.as_slice.ensures.value fault told in
     rw (p.1, p.2) (check_reason front.rooted image fits before after read fault why)
 
 pub returns-in_err-found-clause-kind : goal.returns-in_err-found-clause-kind
@@ -56,7 +58,7 @@ returns-in_err-found-clause-kind g c =
     let front = c.in_ok-front.front in
     let tail = c.in_ok-regions.field-0.tail.items in
     let p = err_from_is_err_and c.from_residual-in_err-found.result c.from_residual-in_err-found.ensures.1 in
-    rw (p.1, p.2) (search_kind (from_tail front.rooted (image_of front.region_log 0 c.as_slice.result.now tail)) c.in_err-found.field-0.0 c.in_err-found.ensures.fault).0
+    rw (p.1, p.2) (search_kind (from_tail front.rooted (with_live c.new-heap.result tail)) c.in_err-found.field-0.0 c.in_err-found.ensures.fault).0
 
 pub returns-in_err-found-clause-left : goal.returns-in_err-found-clause-left
 returns-in_err-found-clause-left g c =
@@ -70,7 +72,8 @@ returns-in_err-found-clause-left g c =
     let fits : HasFittingNumbers image = fitting_parts front.region_log front.allowance body.regions.items body.tail.items front.words front.count c.in_ok-front.ensures.limits done.words done.tail c.in_ok-front.ensures.fit done.fit done.tail_fit in
     let read : Consumes before after (listed_text front.rooted image) = read_parts front.rooted front.region_log front.allowance body.regions.items body.tail.items front.words front.count done.words done.tail before (g.R.Intake.left c.read_front.new.reader) after c.in_ok-front.ensures.told done.bytes in
     let fault = c.in_err-found.field-0.0 in
-    let why = check_of_parts front.rooted front.region_log front.allowance c.as_slice.result.now body.regions.items body.tail.items c.as_slice.ensures.value fault c.in_err-found.ensures.fault in
+    let told = subst (λ (heap : HeapImage). (fault ≡ Memory) ⊎ (first_some (live_list_faults (from_tail front.rooted (with_live heap body.tail.items))) ≡ Some fault)) c.new-heap.ensures c.in_err-found.ensures.fault in
+    let why = check_of_parts front.rooted front.region_log front.allowance c.as_slice.result.now body.regions.items body.tail.items c.as_slice.ensures.value fault told in
     rw (p.1, p.2) (check_leaves front.rooted image fits before after read fault why)
 
 pub returns-in_err-found-clause-memory : goal.returns-in_err-found-clause-memory
@@ -91,7 +94,7 @@ returns-in_err-found-clause-io g c =
     let front = c.in_ok-front.front in
     let tail = c.in_ok-regions.field-0.tail.items in
     let p = err_from_is_err_and c.from_residual-in_err-found.result c.from_residual-in_err-found.ensures.1 in
-    rw (p.1, p.2) (c.in_ok-regions.ensures.failed ∙ c.in_ok-front.ensures.failed ∙ sym ((search_kind (from_tail front.rooted (image_of front.region_log 0 c.as_slice.result.now tail)) c.in_err-found.field-0.0 c.in_err-found.ensures.fault).1 Unchecked))
+    rw (p.1, p.2) (c.in_ok-regions.ensures.failed ∙ c.in_ok-front.ensures.failed ∙ sym ((search_kind (from_tail front.rooted (with_live c.new-heap.result tail)) c.in_err-found.field-0.0 c.in_err-found.ensures.fault).1 Unchecked))
 
 pub returns-clause-fits : goal.returns-clause-fits
 returns-clause-fits g c =
@@ -104,7 +107,7 @@ returns-clause-fits g c =
     let fits : HasFittingNumbers image = fitting_parts front.region_log front.allowance body.regions.items body.tail.items front.words front.count c.in_ok-front.ensures.limits done.words done.tail c.in_ok-front.ensures.fit done.fit done.tail_fit in
     let read : Consumes before after (listed_text front.rooted image) = read_parts front.rooted front.region_log front.allowance body.regions.items body.tail.items front.words front.count done.words done.tail before (g.R.Intake.left c.read_front.new.reader) after c.in_ok-front.ensures.told done.bytes in
     let found = c.in_ok-found.ensures in
-    let tail = tail_is front.rooted front.region_log c.as_slice.result.now body.tail.items c.in_ok-found.found.live.items (option_map (λ v. v.items) c.in_ok-found.found.roots) found.live found.roots in
+    let tail = tail_is front.rooted c.new-heap.result body.tail.items c.in_ok-found.found.live.items (option_map (λ v. v.items) c.in_ok-found.found.roots) found.live found.roots in
     subst (λ xs. HasFittingNumbers (image_of front.region_log front.allowance body.regions.items xs)) (sym tail) fits
 
 pub returns-clause-text : goal.returns-clause-text
@@ -118,7 +121,7 @@ returns-clause-text g c =
     let fits : HasFittingNumbers image = fitting_parts front.region_log front.allowance body.regions.items body.tail.items front.words front.count c.in_ok-front.ensures.limits done.words done.tail c.in_ok-front.ensures.fit done.fit done.tail_fit in
     let read : Consumes before after (listed_text front.rooted image) = read_parts front.rooted front.region_log front.allowance body.regions.items body.tail.items front.words front.count done.words done.tail before (g.R.Intake.left c.read_front.new.reader) after c.in_ok-front.ensures.told done.bytes in
     let found = c.in_ok-found.ensures in
-    let tail = tail_is front.rooted front.region_log c.as_slice.result.now body.tail.items c.in_ok-found.found.live.items (option_map (λ v. v.items) c.in_ok-found.found.roots) found.live found.roots in
+    let tail = tail_is front.rooted c.new-heap.result body.tail.items c.in_ok-found.found.live.items (option_map (λ v. v.items) c.in_ok-found.found.roots) found.live found.roots in
     subst (λ xs. Consumes before after (listed_text front.rooted (image_of front.region_log front.allowance body.regions.items xs))) (sym tail) read
 
 pub returns-clause-found : goal.returns-clause-found
@@ -131,18 +134,18 @@ returns-clause-found g c =
     let live = c.in_ok-found.found.live.items in
     let roots = option_map (λ v. v.items) c.in_ok-found.found.roots in
     let found = c.in_ok-found.ensures in
-    let same = c.as_slice.ensures.value in
-    let told = sym (tail_is rooted log c.as_slice.result.now tail live roots found.live found.roots) in
+    let same = c.new-heap.ensures ∙ ap (λ bs. image_of log 0 bs []) c.as_slice.ensures.value in
+    let told = sym (tail_is rooted c.new-heap.result tail live roots found.live found.roots) in
     record {
-      live = found.live ∙ ap (λ bs. (from_tail rooted (image_of log 0 bs tail)).live) same ∙ sym (live_same rooted log front.allowance blocks tail) ∙ ap (λ xs. (from_tail rooted (image_of log front.allowance blocks xs)).live) told;
-      roots = found.roots ∙ ap (λ bs. (from_tail rooted (image_of log 0 bs tail)).roots) same ∙ sym (roots_same rooted log front.allowance blocks tail) ∙ ap (λ xs. (from_tail rooted (image_of log front.allowance blocks xs)).roots) told;
-      inside = subst (λ bs. All (λ a. a < length (concat bs)) live) same found.inside;
-      begins = subst (λ bs. MarkBegins live (length (concat bs)) c.in_ok-found.found.begins.items) same found.begins;
-      well_formed = λ said. subst (λ bs. AreWellFormed (image_of log 0 bs live)) same (found.well_formed said);
+      live = found.live ∙ ap (λ heap. (from_tail rooted (with_live heap tail)).live) same ∙ sym (live_same rooted log front.allowance blocks tail) ∙ ap (λ xs. (from_tail rooted (image_of log front.allowance blocks xs)).live) told;
+      roots = found.roots ∙ ap (λ heap. (from_tail rooted (with_live heap tail)).roots) same ∙ sym (roots_same rooted log front.allowance blocks tail) ∙ ap (λ xs. (from_tail rooted (image_of log front.allowance blocks xs)).roots) told;
+      inside = subst (λ heap. All (λ a. a < heap_words heap) live) same found.inside;
+      begins = subst (λ heap. MarkBegins live (heap_words heap) c.in_ok-found.found.begins) same found.begins;
+      well_formed = λ said. subst (λ heap. AreWellFormed (with_live heap live)) same (found.well_formed said);
       ordered =
           ap (λ xs. first_some (live_list_faults (from_tail rooted (image_of log front.allowance blocks xs)))) (sym told)
           ∙ ap first_some (faults_same rooted log front.allowance blocks tail)
-          ∙ ap (λ bs. first_some (live_list_faults (from_tail rooted (image_of log 0 bs tail)))) (sym same)
+          ∙ ap (λ heap. first_some (live_list_faults (from_tail rooted (with_live heap tail)))) (sym same)
           ∙ found.ordered
-          ∙ ap (λ bs. first_object_fault (image_of log 0 bs live)) same;
+          ∙ ap (λ heap. first_object_fault (with_live heap live)) same;
     }

@@ -4,7 +4,7 @@ use Rattle.history.proofs.Pairs.{pairs_before-opening, pairs_before-whole}
 use Rattle.history.proofs.given_moves.pairs_of.Goals as goal
 
 pub loop-destination-init : goal.loop-destination-init
-loop-destination-init g c = c.new-pairs.ensures.items ∙ sym (pairs_before-opening (g.M.Moves.table c.args.moves.now))
+loop-destination-init g c = c.in_ok-pairs.ensures.items ∙ sym (pairs_before-opening (g.M.Moves.table c.args.moves.now))
 
 pub returns : goal.returns
 returns g c =

@@ -7,12 +7,12 @@ use Rattle.history.proofs.CopiedOut.{IsRead, is_read}
 use Rattle.history.proofs.ledger.taken_up_to.Goals as goal
 
 pub region-region-requires : goal.region-region-requires
-region-region-requires c = (is_read c.args.plan.now c.region_log.ensures.valid c.args.destination c.args.source c.requires).inside
+region-region-requires c = (is_read c.args.plan.now c.region_words-size.ensures.valid c.args.destination c.args.source c.requires).inside
 
 pub overflow_add-end : goal.overflow_add-end
 overflow_add-end c =
     let image : HeapImage = c.args.plan.now in
-    let valid : IsValid image = c.region_log.ensures.valid in
+    let valid : IsValid image = c.region_words-size.ensures.valid in
     let is : IsRead image c.args.destination c.args.source = is_read image valid c.args.destination c.args.source c.requires in
     let to : destination image c.args.source ≤ _ = destination-le image valid c.args.source is.inside in
     let fit = data-le image valid.live_list c.args.source in
@@ -25,7 +25,7 @@ overflow_add-end c =
 pub overflow_add-end-2 : goal.overflow_add-end-2
 overflow_add-end-2 c =
     let image : HeapImage = c.args.plan.now in
-    let valid : IsValid image = c.region_log.ensures.valid in
+    let valid : IsValid image = c.region_words-size.ensures.valid in
     let is : IsRead image c.args.destination c.args.source = is_read image valid c.args.destination c.args.source c.requires in
     let to : destination image c.args.source ≤ _ = destination-le image valid c.args.source is.inside in
     let fit = data-le image valid.live_list c.args.source in

@@ -3,7 +3,7 @@ use Rattle.std.specs.Prelude.{MatchOption, ◌==◌, ◌||◌}
 use Rattle.std.specs.Option.{unwrap_or}
 use Rattle.std.proofs.lemmas.Bool.{or_left, or_right, eq-eqb, cond-true}
 use Rattle.heap_image.specs.Header.{filler_header}
-use Rattle.mark_bitmap.specs.Bits.{NoneFrom, IsFirstFrom}
+use Rattle.heap_image.specs.Bits.{NoneFrom, IsFirstFrom}
 use Rattle.summary.specs.Fillers.{gap_at}
 use Rattle.history.proofs.Carrying.{filler_end}
 use Rattle.heap_image.specs.HeapImage.{HeapImage, heap_words, is_live_word}

@@ -1,6 +1,6 @@
 use Rattle.std.proofs.Common.{◌≡◌, ℕ, ◌+◌, List, ◌++◌, [], ◌∷◌, sym, subst, arith}
 use Rattle.heap_image.specs.HeapImage.{HeapImage, is_live_word}
-use Rattle.mark_bitmap.specs.Bits.{IsFirstFrom, NoneFrom}
+use Rattle.heap_image.specs.Bits.{IsFirstFrom, NoneFrom}
 use Rattle.summary.specs.NewAddresses.{prefix_end}
 use Rattle.summary.proofs.Words.{live_below}
 use Rattle.history.proofs.Carrying.{IsListed, listed_first, listed_more, listed_all}

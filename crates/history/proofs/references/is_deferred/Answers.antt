@@ -6,7 +6,7 @@ use Rattle.history.proofs.references.is_deferred.Goals as goal
 
 pub overflow_add-last : goal.overflow_add-last
 overflow_add-last c =
-    let fits = new_fits c.args.plan.now c.region_log.ensures.valid c.args.a c.requires.live in
-    let few = c.region_log.ensures.valid.limits.few_words in
+    let fits = new_fits c.args.plan.now c.region_words-size.ensures.valid c.args.a c.requires.live in
+    let few = c.region_words-size.ensures.valid.limits.few_words in
     let size : c.from.result ≡ size_at c.args.plan.now c.args.a = c.from.ensures ∙ (c.size.ensures ∙ ap size_of c.requires.header) in
     omega (arith, fits.0, fits.1)

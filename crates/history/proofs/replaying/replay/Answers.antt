@@ -19,7 +19,7 @@ finish-requires-clause-moved c =
     let image : HeapImage = c.args.image.now in
     let valid : IsValid image = subst IsValid c.in_ok-carrier.ensures.plan c.in_ok-carrier.ensures.kept.valid in
     let all : IsCarriedOut image c.args.schedule.now c.in_ok-lines.lines.items c.in_ok-lines.settled c.carry_out.new.heap =
-    subst (λ (i : HeapImage). IsCarriedOut i c.args.schedule.now c.in_ok-lines.lines.items c.in_ok-lines.settled c.carry_out.new.heap) c.requires.plan c.in_ok-lines.ensures.ok in
+    subst (λ (i : HeapImage). IsCarriedOut i c.args.schedule.now c.in_ok-lines.lines.items c.in_ok-lines.settled c.carry_out.new.heap) (c.plan-plan.ensures ∙ c.requires.same) c.in_ok-lines.ensures.ok in
     let long : length c.carry_out.new.heap ≡ c.in_ok-heap.heap.len = omega (arith, c.carry_out.auto.heap, ap (length {A = ℕ}) c.deref_mut.ensures.value, c.in_ok-heap.heap.ok.0) in
     let same : c.deref.result.now ≡ c.carry_out.new.heap = c.deref.ensures.value ∙ with_items_is c.in_ok-heap.heap c.carry_out.new.heap long in
     subst (λ (xs : List ℕ). (a : ℕ) → a < heap_words image → slice_index xs a ≡ moved_word image a) (sym same)
@@ -30,7 +30,7 @@ of_lines-lines-requires c =
     let image : HeapImage = c.args.image.now in
     let valid : IsValid image = subst IsValid c.in_ok-carrier.ensures.plan c.in_ok-carrier.ensures.kept.valid in
     let all : IsCarriedOut image c.args.schedule.now c.in_ok-lines.lines.items c.in_ok-lines.settled c.carry_out.new.heap =
-    subst (λ (i : HeapImage). IsCarriedOut i c.args.schedule.now c.in_ok-lines.lines.items c.in_ok-lines.settled c.carry_out.new.heap) c.requires.plan c.in_ok-lines.ensures.ok in
+    subst (λ (i : HeapImage). IsCarriedOut i c.args.schedule.now c.in_ok-lines.lines.items c.in_ok-lines.settled c.carry_out.new.heap) (c.plan-plan.ensures ∙ c.requires.same) c.in_ok-lines.ensures.ok in
     rw c.workers.ensures.value (replied_schedule image c.args.schedule.now c.in_ok-lines.lines.items c.carry_out.new.heap c.in_ok-lines.settled valid c.workers.ensures.formed all)
 
 pub returns-clause-ok : goal.returns-clause-ok
@@ -38,7 +38,7 @@ returns-clause-ok c =
     let image : HeapImage = c.args.image.now in
     let valid : IsValid image = subst IsValid c.in_ok-carrier.ensures.plan c.in_ok-carrier.ensures.kept.valid in
     let all : IsCarriedOut image c.args.schedule.now c.in_ok-lines.lines.items c.in_ok-lines.settled c.carry_out.new.heap =
-    subst (λ (i : HeapImage). IsCarriedOut i c.args.schedule.now c.in_ok-lines.lines.items c.in_ok-lines.settled c.carry_out.new.heap) c.requires.plan c.in_ok-lines.ensures.ok in
+    subst (λ (i : HeapImage). IsCarriedOut i c.args.schedule.now c.in_ok-lines.lines.items c.in_ok-lines.settled c.carry_out.new.heap) (c.plan-plan.ensures ∙ c.requires.same) c.in_ok-lines.ensures.ok in
     let told : c.of_lines-lines.result ≡ record { workers = c.args.schedule.now.workers; lines = c.in_ok-lines.lines.items } = rw c.workers.ensures.value at c.of_lines-lines.ensures in
     let ended : (log : List Entry) → IsTrue c.in_ok-lines.settled ↔ AllAreSettled (image_table image) (machine_of image log).known → IsEndOf image log c.if-settled.ended =
     λ log tells. elim c.if-settled.branch [

@@ -1,7 +1,7 @@
 use Rattle.std.proofs.Common.{◌≡◌, ℕ, ◌+◌, ◌*◌, ◌==◌, length, take}
 use Rattle.std.specs.List.{list_any}
 use Rattle.heap_image.specs.HeapImage.{end_of}
-use Rattle.mark_bitmap.specs.Bits.{has}
+use Rattle.heap_image.specs.Bits.{has}
 use Rattle.mark_bitmap.specs.Marks.{bit_words}
 use Rattle.mark_bitmap.proofs.objects.mark_ends.Given as goal
 

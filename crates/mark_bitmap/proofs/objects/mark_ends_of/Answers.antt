@@ -3,9 +3,9 @@ use Rattle.std.specs.List.{list_any}
 use Rattle.std.proofs.lemmas.Bool.{eqb-true, eq-eqb}
 use Rattle.std.proofs.lemmas.List.Elements.{All-map}
 use Rattle.heap_image.specs.HeapImage.{HeapImage, HasSoundHeader, size_at, end_of}
-use Rattle.mark_bitmap.specs.Bits.{has, room}
+use Rattle.heap_image.specs.Bits.{has, room}
 use Rattle.mark_bitmap.specs.Marks.{bit_words}
-use Rattle.mark_bitmap.proofs.Places.{same_tests}
+use Rattle.heap_image.proofs.Places.{same_tests}
 use Rattle.mark_bitmap.proofs.Runs.{list_any-same}
 use Rattle.mark_bitmap.proofs.objects.mark_ends_of.Goals as goal
 

@@ -5,7 +5,7 @@ use Rattle.std.proofs.lemmas.Bool.{cases_lt, false_from_ne_true}
 use Rattle.std.proofs.lemmas.List.{length-set}
 use Rattle.std.proofs.lemmas.Nat.Bits.{bit_at-zero}
 use Rattle.heap_image.specs.HeapImage.{HeapImage, is_live_word}
-use Rattle.mark_bitmap.specs.Bits.{has}
+use Rattle.heap_image.specs.Bits.{has}
 use Rattle.mark_bitmap.specs.Marks.{bit_words}
 use Rattle.mark_bitmap.proofs.Runs.{one, goes_on, none-on, live-inside, has-set, live_word-is}
 use Rattle.mark_bitmap.proofs.objects.mark_words.Goals as goal

@@ -1,6 +1,6 @@
 use Rattle.std.proofs.Common.{◌≡◌, ℕ, ◌*◌, ◌<◌, length}
 use Rattle.heap_image.specs.HeapImage.{is_live_word}
-use Rattle.mark_bitmap.specs.Bits.{has}
+use Rattle.heap_image.specs.Bits.{has}
 use Rattle.mark_bitmap.specs.Marks.{bit_words}
 use Rattle.mark_bitmap.proofs.Runs.{one, goes_on}
 use Rattle.mark_bitmap.proofs.objects.mark_words.Given as goal

@@ -21,7 +21,7 @@ returns-then-end-to c =
     let words = c.region_words-region_words.ensures.value in
     let start : c.from.result * c.region_words-region_words.result ≡ start_of image d = ap (λ m. m * c.region_words-region_words.result) c.from.ensures ∙ ap (λ m. d * m) words in
     let at : get_or c.live.result.now (n - 1) 0 ≡ object_at image (n - 1) = ap (λ (l : List ℕ). get_or l (n - 1) 0) c.live.ensures.value in
-    let to : c.new_address-to.result ≡ new_address image (object_at image (n - 1)) = c.new_address-to.ensures ∙ ap (λ (i : HeapImage). new_address i (get_or c.live.result.now (n - 1) 0)) c.requires.table ∙ ap (new_address image) at in
+    let to : c.new_address-to.result ≡ new_address image (object_at image (n - 1)) = c.new_address-to.ensures ∙ ap (λ (i : HeapImage). new_address i (get_or c.live.result.now (n - 1) 0)) c.requires.redirections ∙ ap (new_address image) at in
     let some = c.if-placed-eq0.false in
     let size : c.size_at.result ≡ size_at image (object_at image (n - 1)) = c.size_at.ensures ∙ ap (λ (i : HeapImage). size_at i (get_or c.live.result.now (n - 1) 0)) c.requires.marks ∙ ap (size_at image) at in
     let low = c.if-start-to.true in
@@ -37,7 +37,7 @@ returns-else-start-to c =
     let words = c.region_words-region_words.ensures.value in
     let start : c.from.result * c.region_words-region_words.result ≡ start_of image d = ap (λ m. m * c.region_words-region_words.result) c.from.ensures ∙ ap (λ m. d * m) words in
     let at : get_or c.live.result.now (n - 1) 0 ≡ object_at image (n - 1) = ap (λ (l : List ℕ). get_or l (n - 1) 0) c.live.ensures.value in
-    let to : c.new_address-to.result ≡ new_address image (object_at image (n - 1)) = c.new_address-to.ensures ∙ ap (λ (i : HeapImage). new_address i (get_or c.live.result.now (n - 1) 0)) c.requires.table ∙ ap (new_address image) at in
+    let to : c.new_address-to.result ≡ new_address image (object_at image (n - 1)) = c.new_address-to.ensures ∙ ap (λ (i : HeapImage). new_address i (get_or c.live.result.now (n - 1) 0)) c.requires.redirections ∙ ap (new_address image) at in
     let some = c.if-placed-eq0.false in
     sym (last_stays_inside image sound d n (omega arith) c.requires.placed (λ first over. elim c.else-start-to.branch [
       | else-start-to-via-then-start-to+else-end-to w ↦

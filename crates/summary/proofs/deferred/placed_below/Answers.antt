@@ -20,7 +20,7 @@ more c =
     let m : ℕ = c.front_below-placed.result in
     let live : List ℕ = c.live-live.result.now in
     let same : live ≡ image.live = c.live-live.ensures.value in
-    let to = asked image c.args.table.now live n c.new_address-to.result same c.requires.table c.new_address-to.ensures in
+    let to = asked image c.args.redirections.now live n c.new_address-to.result same c.requires.redirections c.new_address-to.ensures in
     let test = c.loop-placed-test.true in
     let near : ℕ = get_or live n 0 + (c.args.limit - c.new_address-to.result) in
     let place : get_or live n 0 ≡ object_at image n = ap (λ (l : List ℕ). get_or l n 0) same in
@@ -46,7 +46,7 @@ returns-then-limit-to c =
     let image = c.args.image.now in
     let sound = c.live-live.ensures.valid.live_list in
     let n : ℕ = c.loop-placed.placed in
-    let to = asked image c.args.table.now c.live-live.result.now n c.new_address-to.result c.live-live.ensures.value c.requires.table c.new_address-to.ensures in
+    let to = asked image c.args.redirections.now c.live-live.result.now n c.new_address-to.result c.live-live.ensures.value c.requires.redirections c.new_address-to.ensures in
     let over = c.if-limit-to.true in
     record {
       within = c.loop-placed.invariant.within;

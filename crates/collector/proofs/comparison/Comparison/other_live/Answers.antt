@@ -11,7 +11,7 @@ returns-then-found-i c =
       differs = λ same. c.if-found-i.true (
           ap (λ (l : List ℕ). get_or l i 0) c.live-found.ensures.value ∙ same
           ∙ ap (λ (l : List ℕ). new_address c.args.self.now.before.now (get_or l i 0)) (sym c.live-a-items.ensures.value)
-          ∙ ap (λ (image : HeapImage). new_address image (get_or c.live-a-items.result.now i 0)) (sym c.args.self.now.plan_of)
+          ∙ ap (λ (image : HeapImage). new_address image (get_or c.live-a-items.result.now i 0)) (sym (c.plan.ensures ∙ c.args.self.now.survey_of))
           ∙ sym c.new_address.ensures);
       least = c.loop-i.invariant;
     }

@@ -38,7 +38,7 @@ other_in_gap-requires-clause-ordered c =
     let i : ℕ = c.loop-a.a-index in
     let place : ℕ = c.new_address-place.result in
     low image c.args.self.now.after.now c.objects_are_placed.ensures items i c.loop-a.next place c.live-a-items.ensures.value c.loop-a-test.true c.loop-a.invariant.next
-    (place_of image c.args.self.now.plan.now items i place c.args.self.now.plan_of c.live-a-items.ensures.value c.new_address-place.ensures)
+    (place_of image c.plan.result.now items i place (c.plan.ensures ∙ c.args.self.now.survey_of) c.live-a-items.ensures.value c.new_address-place.ensures)
 
 pub other_in_gap-requires-clause-run : goal.other_in_gap-requires-clause-run
 other_in_gap-requires-clause-run c =
@@ -47,7 +47,7 @@ other_in_gap-requires-clause-run c =
     let i : ℕ = c.loop-a.a-index in
     let place : ℕ = c.new_address-place.result in
     run image c.args.self.now.after.now c.objects_are_placed.ensures items i c.loop-a.next place c.live-a-items.ensures.value c.loop-a-test.true c.loop-a.invariant.next
-    (place_of image c.args.self.now.plan.now items i place c.args.self.now.plan_of c.live-a-items.ensures.value c.new_address-place.ensures)
+    (place_of image c.plan.result.now items i place (c.plan.ensures ∙ c.args.self.now.survey_of) c.live-a-items.ensures.value c.new_address-place.ensures)
 
 pub other_in_object-requires : goal.other_in_object-requires
 other_in_object-requires c =
@@ -56,7 +56,7 @@ other_in_object-requires c =
     let i : ℕ = c.loop-a.a-index in
     let place : ℕ = c.new_address-place.result in
     object image c.args.self.now.after.now c.objects_are_placed.ensures items i c.loop-a.next place c.live-a-items.ensures.value c.loop-a-test.true c.loop-a.invariant.next
-    (place_of image c.args.self.now.plan.now items i place c.args.self.now.plan_of c.live-a-items.ensures.value c.new_address-place.ensures)
+    (place_of image c.plan.result.now items i place (c.plan.ensures ∙ c.args.self.now.survey_of) c.live-a-items.ensures.value c.new_address-place.ensures)
 
 pub returns-in-Some : goal.returns-in-Some
 returns-in-Some c =
@@ -66,7 +66,7 @@ returns-in-Some c =
     let i : ℕ = c.loop-a.a-index in
     let place : ℕ = c.new_address-place.result in
     let placed = object image after c.objects_are_placed.ensures items i c.loop-a.next place c.live-a-items.ensures.value c.loop-a-test.true c.loop-a.invariant.next
-    (place_of image c.args.self.now.plan.now items i place c.args.self.now.plan_of c.live-a-items.ensures.value c.new_address-place.ensures) in
+    (place_of image c.plan.result.now items i place (c.plan.ensures ∙ c.args.self.now.survey_of) c.live-a-items.ensures.value c.new_address-place.ensures) in
     later image after 0 c.loop-a.next place (heap_words image) c.in-Some.p (omega arith) (place_inside place (size_at image (get_or items i 0)) (heap_words image) placed.inside) c.loop-a.invariant.alike c.in-Some.ensures
 
 pub returns-in-Some-other_in_object : goal.returns-in-Some-other_in_object
@@ -77,7 +77,7 @@ returns-in-Some-other_in_object c =
     let i : ℕ = c.loop-a.a-index in
     let place : ℕ = c.new_address-place.result in
     let placed = object image after c.objects_are_placed.ensures items i c.loop-a.next place c.live-a-items.ensures.value c.loop-a-test.true c.loop-a.invariant.next
-    (place_of image c.args.self.now.plan.now items i place c.args.self.now.plan_of c.live-a-items.ensures.value c.new_address-place.ensures) in
+    (place_of image c.plan.result.now items i place (c.plan.ensures ∙ c.args.self.now.survey_of) c.live-a-items.ensures.value c.new_address-place.ensures) in
     later image after 0 place (place + size_at image (get_or items i 0)) (heap_words image) c.in-Some-other_in_object.p (omega arith) placed.inside
     (joined image after 0 c.loop-a.next place c.loop-a.invariant.alike c.in_default.ensures) c.in-Some-other_in_object.ensures
 
@@ -88,7 +88,7 @@ loop-a-preserved c =
     let items : List ℕ = c.live-a-items.result.now in
     let i : ℕ = c.loop-a.a-index in
     let place : ℕ = c.new_address-place.result in
-    let place_is = place_of image c.args.self.now.plan.now items i place c.args.self.now.plan_of c.live-a-items.ensures.value c.new_address-place.ensures in
+    let place_is = place_of image c.plan.result.now items i place (c.plan.ensures ∙ c.args.self.now.survey_of) c.live-a-items.ensures.value c.new_address-place.ensures in
     record {
       next = end_of_place image items i place c.object_words.result c.live-a-items.ensures.value place_is c.object_words.ensures ∙ sym (behind-next (place_end image) i (i + 1) refl);
       alike = subst (λ n. AreCompacted image after 0 (place + n)) (sym c.object_words.ensures)

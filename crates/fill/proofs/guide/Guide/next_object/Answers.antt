@@ -1,7 +1,7 @@
 use Rattle.std.proofs.Common.{◌∙◌, subst}
 use Rattle.std.specs.Prelude.{MatchOption}
 use Rattle.heap_image.specs.HeapImage.{HeapImage}
-use Rattle.mark_bitmap.specs.Bits.{NoneBetween, IsFirstBetween}
+use Rattle.heap_image.specs.Bits.{NoneBetween, IsFirstBetween}
 use Rattle.mark_bitmap.specs.Marks.{is_begin}
 use Rattle.fill.proofs.Steps.{next-from_begin}
 use Rattle.fill.proofs.guide.Guide.next_object.Goals as goal

@@ -23,5 +23,5 @@ blocks-are log allowance blocks live roots parts =
 pub returns-clause-blocks : goal.returns-clause-blocks
 returns-clause-blocks c =
     let i = c.self.inside in
-    blocks-are i.region_log i.allowance i.regions.items i.live.items (option_map (λ v. v.items) i.roots) c.self.invariant
+    blocks-are i.region_log i.allowance i.regions.items i.live.items (option_map (λ v. v.items) i.roots) c.self.invariant.parts
     ∙ ap (λ image. map (block_of image) (range_with_len 0 (region_count image))) c.self.view_is

@@ -9,4 +9,4 @@ returns-in-Some-clause-live c =
     let image : HeapImage = c.args.self.now in
     let same : c.as_slice.result.now ≡ roots_of image =
     c.as_slice.ensures.value ∙ ap (λ o. roots_or [] (option_map (λ v. v.items) o)) (sym c.in-Some.is) ∙ ap roots_of c.self.view_is in
-    subst (All (λ w. IsTrue (is_null_or_live image w))) (sym same) (roots-live image (subst IsValid c.self.view_is c.self.invariant.valid))
+    subst (All (λ w. IsTrue (is_null_or_live image w))) (sym same) (roots-live image (subst IsValid c.self.view_is c.self.invariant.parts.valid))

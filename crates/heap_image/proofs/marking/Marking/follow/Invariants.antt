@@ -10,8 +10,8 @@ use Rattle.heap_image.proofs.marking.Marking.follow.Given as goal
 -- the first fields are visited
 abbrev pub invariant-loop-next : goal.invariant-loop-next
 invariant-loop-next l = record {
-  grown : IsGrown l.initial.self.words (λ b. list_any (λ f. leads_to (reference_at (image_of l.region_log 0 l.regions []) l.fn.object.address f) b) (range_with_len 0 (l.next - (l.fn.object.address + 1)))) l.initial.self.bits.items l.self.bits.items l.initial.self.stack.items l.self.stack.items;
-  formed : IsTrue l.self.well_formed → IsTrue l.initial.self.well_formed × ((f : ℕ) → f < l.next - (l.fn.object.address + 1) → reference_at (image_of l.region_log 0 l.regions []) l.fn.object.address f ≤ l.initial.self.words);
+  grown : IsGrown l.initial.self.words (λ b. list_any (λ f. leads_to (reference_at l.heap l.fn.object.address f) b) (range_with_len 0 (l.next - (l.fn.object.address + 1)))) l.initial.self.bits l.self.bits l.initial.self.stack.items l.self.stack.items;
+  formed : IsTrue l.self.well_formed → IsTrue l.initial.self.well_formed × ((f : ℕ) → f < l.next - (l.fn.object.address + 1) → reference_at l.heap l.fn.object.address f ≤ l.initial.self.words);
   low : l.fn.object.address + 1 ≤ l.next;
   high : l.next ≤ l.end;
   capacity : vec_capacity l.self.stack ≡ vec_capacity l.initial.self.stack;

@@ -42,11 +42,11 @@ pub follow-requires-clause-inside : goal.follow-requires-clause-inside
 follow-requires-clause-inside c = (last_inside c.loop-object.self.words c.loop-object.batch.items c.pop.new.self.items c.in-Some.object c.in-Some.ensures.items c.loop-object.invariant.inside).0
 
 pub follow-requires-clause-header : goal.follow-requires-clause-header
-follow-requires-clause-header c = (last_fetched (concat c.args.regions.now) c.loop-object.batch.items c.pop.new.self.items c.in-Some.object c.in-Some.ensures.items c.loop-object.invariant.fetched).0
+follow-requires-clause-header c = (last_fetched c.args.heap.now.words c.loop-object.batch.items c.pop.new.self.items c.in-Some.object c.in-Some.ensures.items c.loop-object.invariant.fetched).0
 
 pub loop-object-preserved : goal.loop-object-preserved
 loop-object-preserved c =
-    let image : HeapImage = image_of c.args.region_log 0 c.args.regions.now [] in
+    let image : HeapImage = c.args.heap.now in
     let before = c.loop-object.invariant in
     let words = before.words ∙ c.requires.words in
     let batch = c.loop-object.batch.items in
@@ -56,11 +56,11 @@ loop-object-preserved c =
     let grown = c.follow.ensures.grown in
     let after = c.follow.new.self in
     record {
-      marking = λ roots m. batch_followed image roots c.loop-object.self.words w.address c.loop-object.self.bits.items after.bits.items c.loop-object.self.stack.items after.stack.items (addresses batch) (addresses rest) c.loop-object.self.well_formed after.well_formed words (addresses_push batch rest w popped) (before.marking roots m) grown c.follow.ensures.well_formed;
+      marking = λ roots m. batch_followed image roots c.loop-object.self.words w.address c.loop-object.self.bits after.bits c.loop-object.self.stack.items after.stack.items (addresses batch) (addresses rest) c.loop-object.self.well_formed after.well_formed words (addresses_push batch rest w popped) (before.marking roots m) grown c.follow.ensures.well_formed;
       inside = subst (λ n. All (λ a. a < n) (addresses rest)) (sym c.follow.ensures.words) (last_inside c.loop-object.self.words batch rest w popped before.inside).1;
-      fetched = (last_fetched (concat c.args.regions.now) batch rest w popped before.fetched).1;
+      fetched = (last_fetched c.args.heap.now.words batch rest w popped before.fetched).1;
       room = grown.room ∙ before.room;
-      total = ap (λ n. length after.stack.items + unmarked n after.bits.items) c.follow.ensures.words ∙ grown.total ∙ before.total;
+      total = ap (λ n. length after.stack.items + unmarked n after.bits) c.follow.ensures.words ∙ grown.total ∙ before.total;
       words = c.follow.ensures.words ∙ before.words;
       capacity = c.follow.ensures.capacity ∙ before.capacity;
       batch_capacity = c.in-Some.ensures.capacity ∙ before.batch_capacity;
@@ -68,7 +68,7 @@ loop-object-preserved c =
 
 pub returns-clause-marking : goal.returns-clause-marking
 returns-clause-marking c = λ roots m.
-    let image : HeapImage = image_of c.args.region_log 0 c.args.regions.now [] in
+    let image : HeapImage = c.args.heap.now in
     let stack = c.loop-object.self.stack.items in
     let empty : c.loop-object.batch.items ≡ [] = none_left c.loop-object.batch.items (omega (arith, c.in_default.ensures.cases, c.loop-object.batch.ok.0)) in
-    subst (λ xs. IsMarking image roots c.loop-object.self.bits.items xs c.loop-object.self.well_formed) (ap (λ xs. stack ++ addresses xs) empty ∙ append-nil stack) (c.loop-object.invariant.marking roots m)
+    subst (λ xs. IsMarking image roots c.loop-object.self.bits xs c.loop-object.self.well_formed) (ap (λ xs. stack ++ addresses xs) empty ∙ append-nil stack) (c.loop-object.invariant.marking roots m)

@@ -7,12 +7,12 @@ use Rattle.heap_image.proofs.marking.Marking.follow_batch.Given as goal
 
 abbrev pub invariant-loop-object : goal.invariant-loop-object
 invariant-loop-object l = record {
-  marking : (roots : List ℕ) → IsMarking (image_of l.region_log 0 l.regions []) roots l.initial.self.bits.items (l.initial.self.stack.items ++ addresses l.initial.batch.items) l.initial.self.well_formed
-      → IsMarking (image_of l.region_log 0 l.regions []) roots l.self.bits.items (l.self.stack.items ++ addresses l.batch.items) l.self.well_formed;
+  marking : (roots : List ℕ) → IsMarking l.heap roots l.initial.self.bits (l.initial.self.stack.items ++ addresses l.initial.batch.items) l.initial.self.well_formed
+      → IsMarking l.heap roots l.self.bits (l.self.stack.items ++ addresses l.batch.items) l.self.well_formed;
   inside : All (λ a. a < l.self.words) (addresses l.batch.items);
-  fetched : All (λ w. w.header ≡ get_or (concat l.regions) w.address 0) l.batch.items;
-  room : length l.self.bits.items ≡ length l.initial.self.bits.items;
-  total : length l.self.stack.items + unmarked l.self.words l.self.bits.items ≡ length l.initial.self.stack.items + unmarked l.initial.self.words l.initial.self.bits.items;
+  fetched : All (λ w. w.header ≡ get_or l.heap.words w.address 0) l.batch.items;
+  room : length l.self.bits ≡ length l.initial.self.bits;
+  total : length l.self.stack.items + unmarked l.self.words l.self.bits ≡ length l.initial.self.stack.items + unmarked l.initial.self.words l.initial.self.bits;
   words : l.self.words ≡ l.initial.self.words;
   capacity : vec_capacity l.self.stack ≡ vec_capacity l.initial.self.stack;
   batch_capacity : vec_capacity l.batch ≡ vec_capacity l.initial.batch;

@@ -1,19 +1,18 @@
 use Rattle.std.proofs.Common.{◌≡◌, ◌≤◌, ◌+◌, [], length}
 use Rattle.std.specs.Vec.{vec_capacity}
-use Rattle.std.specs.List.{concat}
-use Rattle.heap_image.specs.HeapImage.{image_of}
+use Rattle.heap_image.specs.HeapImage.{heap_words}
 use Rattle.heap_image.specs.Marking.{IsMarking, unmarked}
 use Rattle.heap_image.proofs.marking.Marking.mark_reached.Given as goal
 
 abbrev pub invariant-loop-self : goal.invariant-loop-self
 invariant-loop-self l = record {
-  marking : IsMarking (image_of l.region_log 0 l.regions []) l.roots l.self.bits.items l.self.stack.items l.self.well_formed;
-  words : l.self.words ≡ length (concat l.regions);
-  room : length l.self.stack.items + unmarked l.self.words l.self.bits.items ≤ vec_capacity l.self.stack;
+  marking : IsMarking l.heap l.roots l.self.bits l.self.stack.items l.self.well_formed;
+  words : l.self.words ≡ heap_words l.heap;
+  room : length l.self.stack.items + unmarked l.self.words l.self.bits ≤ vec_capacity l.self.stack;
   batch : l.batch.items ≡ [];
   batch_room : 64 ≤ vec_capacity l.batch;
 }
 
 -- a turn takes some addresses from the stack, and each that is put there is marked then
 abbrev pub decreases-loop-self : goal.decreases-loop-self
-decreases-loop-self l = length l.self.stack.items + unmarked l.self.words l.self.bits.items
+decreases-loop-self l = length l.self.stack.items + unmarked l.self.words l.self.bits

@@ -3,7 +3,7 @@ use Rattle.std.proofs.lemmas.List.{length_push, append-nil}
 use Rattle.std.proofs.lemmas.List.Elements.{All-push}
 use Rattle.std.specs.List.{concat}
 use Rattle.heap_image.specs.HeapImage.{HeapImage, image_of}
-use Rattle.heap_image.specs.Begins.{is_marked}
+use Rattle.heap_image.specs.Bits.{has}
 use Rattle.heap_image.specs.Marking.{IsMarking, AreStacked, addresses}
 use Rattle.heap_image.specs.declared.marking.Waiting.{Waiting}
 use Rattle.heap_image.proofs.Growth.{all_left}
@@ -12,12 +12,12 @@ use Rattle.heap_image.proofs.marking.Marking.take_batch.Goals as goal
 
 pub loop-self-init : goal.loop-self-init
 loop-self-init c =
-    let image : HeapImage = image_of c.args.region_log 0 c.args.regions.now [] in
+    let image : HeapImage = c.args.heap.now in
     let stack = c.args.self.now.stack.items in
     let none : stack ≡ stack ++ addresses c.args.batch.now.items = sym (ap (λ xs. stack ++ addresses xs) c.requires.empty ∙ append-nil stack) in
     record {
-      marking = λ roots m. subst (λ xs. IsMarking image roots c.args.self.now.bits.items xs c.args.self.now.well_formed) none m;
-      fetched = subst (λ xs. (k : ℕ) → (d : Waiting) → k < length xs → (get_or xs k d).header ≡ get_or (concat c.args.regions.now) (get_or xs k d).address 0) (sym c.requires.empty) (λ k d l. let no : ⊥ = omega arith in absurd no);
+      marking = λ roots m. subst (λ xs. IsMarking image roots c.args.self.now.bits xs c.args.self.now.well_formed) none m;
+      fetched = subst (λ xs. (k : ℕ) → (d : Waiting) → k < length xs → (get_or xs k d).header ≡ get_or c.args.heap.now.words (get_or xs k d).address 0) (sym c.requires.empty) (λ k d l. let no : ⊥ = omega arith in absurd no);
       inside = c.requires.inside;
       total = let empty = ap length c.requires.empty in omega arith;
       bits = refl;
@@ -28,35 +28,35 @@ loop-self-init c =
 
 pub returns-in_default-clause-marking : goal.returns-in_default-clause-marking
 returns-in_default-clause-marking c = λ roots m.
-    let image : HeapImage = image_of c.args.region_log 0 c.args.regions.now [] in
+    let image : HeapImage = c.args.heap.now in
     let same : c.loop-self.self.stack.items ≡ c.pop.new.self.items = c.in_default.ensures.items ∙ append-nil c.pop.new.self.items in
-    subst (λ xs. IsMarking image roots c.loop-self.self.bits.items (xs ++ addresses c.loop-self.batch.items) c.loop-self.self.well_formed) same (c.loop-self.invariant.marking roots m)
+    subst (λ xs. IsMarking image roots c.loop-self.self.bits (xs ++ addresses c.loop-self.batch.items) c.loop-self.self.well_formed) same (c.loop-self.invariant.marking roots m)
 
-pub word_of-header-requires-clause-inside : goal.word_of-header-requires-clause-inside
-word_of-header-requires-clause-inside c =
-    let low = stacked_last c.loop-self.self.words c.loop-self.self.bits.items c.loop-self.self.stack.items c.pop.new.self.items c.in-Some.address c.in-Some.ensures.items c.loop-self.invariant.inside in
+pub word-header-requires : goal.word-header-requires
+word-header-requires c =
+    let low = stacked_last c.loop-self.self.words c.loop-self.self.bits c.loop-self.self.stack.items c.pop.new.self.items c.in-Some.address c.in-Some.ensures.items c.loop-self.invariant.inside in
     let words = c.loop-self.invariant.words ∙ c.requires.words in
     omega arith
 
 pub loop-self-preserved : goal.loop-self-preserved
 loop-self-preserved c =
-    let image : HeapImage = image_of c.args.region_log 0 c.args.regions.now [] in
+    let image : HeapImage = c.args.heap.now in
     let a = c.in-Some.address in
-    let bits = c.loop-self.self.bits.items in
+    let bits = c.loop-self.self.bits in
     let words = c.loop-self.self.words in
     let stack = c.loop-self.self.stack.items in
     let rest = c.pop.new.self.items in
     let batch = c.loop-self.batch.items in
     let more = c.push_reserved.new.self.items in
-    let object : Waiting = record { address = a; header = c.word_of-header.result } in
+    let object : Waiting = record { address = a; header = c.word-header.result } in
     let popped = c.in-Some.ensures.items in
     let pushed = c.push_reserved.ensures.items in
     let before = c.loop-self.invariant in
     record {
       marking = λ roots m. batch_taken image roots a bits stack rest (addresses batch) (addresses more) c.loop-self.self.well_formed popped (addresses_push more batch object pushed) (before.marking roots m);
-      fetched = subst (λ xs. (k : ℕ) → (d : Waiting) → k < length xs → (get_or xs k d).header ≡ get_or (concat c.args.regions.now) (get_or xs k d).address 0) (sym pushed)
-          (All-push (λ (w : Waiting). w.header ≡ get_or (concat c.args.regions.now) w.address 0) batch object before.fetched c.word_of-header.ensures);
-      inside = all_left (λ b. (b < words) × (is_marked bits b ≡ true)) rest (a ∷ []) (subst (AreStacked words bits) popped before.inside);
+      fetched = subst (λ xs. (k : ℕ) → (d : Waiting) → k < length xs → (get_or xs k d).header ≡ get_or c.args.heap.now.words (get_or xs k d).address 0) (sym pushed)
+          (All-push (λ (w : Waiting). w.header ≡ get_or c.args.heap.now.words w.address 0) batch object before.fetched c.word-header.ensures);
+      inside = all_left (λ b. (b < words) × (has bits b ≡ true)) rest (a ∷ []) (subst (AreStacked words bits) popped before.inside);
       total =
           let one = ap length popped ∙ length_push rest a in
           let two = ap length pushed ∙ length_push batch object in

@@ -7,10 +7,10 @@ use Rattle.heap_image.proofs.marking.Marking.take_batch.Given as goal
 
 abbrev pub invariant-loop-self : goal.invariant-loop-self
 invariant-loop-self l = record {
-  marking : (roots : List ℕ) → IsMarking (image_of l.region_log 0 l.regions []) roots l.initial.self.bits.items l.initial.self.stack.items l.initial.self.well_formed
-      → IsMarking (image_of l.region_log 0 l.regions []) roots l.self.bits.items (l.self.stack.items ++ addresses l.batch.items) l.self.well_formed;
-  fetched : All (λ w. w.header ≡ get_or (concat l.regions) w.address 0) l.batch.items;
-  inside : AreStacked l.self.words l.self.bits.items l.self.stack.items;
+  marking : (roots : List ℕ) → IsMarking l.heap roots l.initial.self.bits l.initial.self.stack.items l.initial.self.well_formed
+      → IsMarking l.heap roots l.self.bits (l.self.stack.items ++ addresses l.batch.items) l.self.well_formed;
+  fetched : All (λ w. w.header ≡ get_or l.heap.words w.address 0) l.batch.items;
+  inside : AreStacked l.self.words l.self.bits l.self.stack.items;
   total : length l.self.stack.items + length l.batch.items ≡ length l.initial.self.stack.items;
   bits : l.self.bits ≡ l.initial.self.bits;
   words : l.self.words ≡ l.initial.self.words;

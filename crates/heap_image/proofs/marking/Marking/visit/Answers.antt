@@ -1,5 +1,5 @@
 use Rattle.std.proofs.Common.{◌≡◌, ℕ, ◌+◌, ◌-◌, ◌<◌, false, sym, ◌∙◌, ap, arith}
-use Rattle.heap_image.specs.Begins.{is_marked}
+use Rattle.heap_image.specs.Bits.{has}
 use Rattle.heap_image.proofs.Growth.{unmarked_less, grown_push}
 use Rattle.heap_image.proofs.marking.Marking.visit.Goals as goal
 
@@ -7,8 +7,8 @@ pub push_reserved-requires : goal.push_reserved-requires
 push_reserved-requires c =
     let a : ℕ = c.args.reference - 1 in
     let l : a < c.args.self.now.words = omega arith in
-    let clear : is_marked c.args.self.now.bits.items a ≡ false = ap (λ xs. is_marked xs a) (sym c.as_slice.ensures.value) ∙ sym c.is_marked.ensures ∙ c.if-is_marked.false in
-    let less = unmarked_less c.args.self.now.words a c.args.self.now.bits.items c.set_bit.new.bits.items l clear c.set_bit.ensures.bits in
+    let clear : has c.args.self.now.bits a ≡ false = sym c.has.ensures ∙ c.if-has.false in
+    let less = unmarked_less c.args.self.now.words a c.args.self.now.bits c.insert.new.self l clear c.insert.ensures.bits in
     let room = c.requires.room in
     omega (arith, c.args.self.now.stack.ok.0)
 
@@ -16,6 +16,6 @@ pub returns-clause-grown : goal.returns-clause-grown
 returns-clause-grown c =
     let a : ℕ = c.args.reference - 1 in
     let l : a < c.args.self.now.words = omega arith in
-    let clear : is_marked c.args.self.now.bits.items a ≡ false = ap (λ xs. is_marked xs a) (sym c.as_slice.ensures.value) ∙ sym c.is_marked.ensures ∙ c.if-is_marked.false in
+    let clear : has c.args.self.now.bits a ≡ false = sym c.has.ensures ∙ c.if-has.false in
     let is : c.args.reference ≡ a + 1 = omega arith in
-    grown_push c.args.self.now.words c.args.reference a c.args.self.now.bits.items c.set_bit.new.bits.items c.args.self.now.stack.items c.push_reserved.new.self.items is l clear c.set_bit.ensures.room c.set_bit.ensures.bits c.push_reserved.ensures.items
+    grown_push c.args.self.now.words c.args.reference a c.args.self.now.bits c.insert.new.self c.args.self.now.stack.items c.push_reserved.new.self.items is l clear c.insert.ensures.room c.insert.ensures.bits c.push_reserved.ensures.items

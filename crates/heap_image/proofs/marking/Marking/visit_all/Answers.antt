@@ -14,9 +14,9 @@ pub loop-reference-preserved : goal.loop-reference-preserved
 loop-reference-preserved c =
     let references = c.args.references.now in
     let i = c.loop-reference.reference-index in
-    let grown = subst (λ n. IsGrown n (leads_to (get_or references i 0)) c.loop-reference.self.bits.items c.visit.new.self.bits.items c.loop-reference.self.stack.items c.visit.new.self.stack.items) c.loop-reference.invariant.words c.visit.ensures.grown in
+    let grown = subst (λ n. IsGrown n (leads_to (get_or references i 0)) c.loop-reference.self.bits c.visit.new.self.bits c.loop-reference.self.stack.items c.visit.new.self.stack.items) c.loop-reference.invariant.words c.visit.ensures.grown in
     record {
-      grown = grown_more c.args.self.now.words (λ b. list_any (λ w. leads_to w b) (take i references)) (leads_to (get_or references i 0)) (λ b. list_any (λ w. leads_to w b) (take (i + 1) references)) c.args.self.now.bits.items c.loop-reference.self.bits.items c.visit.new.self.bits.items c.args.self.now.stack.items c.loop-reference.self.stack.items c.visit.new.self.stack.items
+      grown = grown_more c.args.self.now.words (λ b. list_any (λ w. leads_to w b) (take i references)) (leads_to (get_or references i 0)) (λ b. list_any (λ w. leads_to w b) (take (i + 1) references)) c.args.self.now.bits c.loop-reference.self.bits c.visit.new.self.bits c.args.self.now.stack.items c.loop-reference.self.stack.items c.visit.new.self.stack.items
           (λ b. list_any_more (λ w. leads_to w b) references i 0 c.loop-reference-test.true) c.loop-reference.invariant.grown grown;
       inside = λ said.
           let both = and_parts c.loop-reference.inside (leb (get_or references i 0) c.loop-reference.self.words) said in

@@ -9,7 +9,7 @@ use Rattle.heap_image.proofs.marking.Marking.visit_all.Given as goal
 -- the first references are visited
 abbrev pub invariant-loop-reference : goal.invariant-loop-reference
 invariant-loop-reference l = record {
-  grown : IsGrown l.initial.self.words (λ b. list_any (λ w. leads_to w b) (take l.reference-index l.references)) l.initial.self.bits.items l.self.bits.items l.initial.self.stack.items l.self.stack.items;
+  grown : IsGrown l.initial.self.words (λ b. list_any (λ w. leads_to w b) (take l.reference-index l.references)) l.initial.self.bits l.self.bits l.initial.self.stack.items l.self.stack.items;
   inside : IsTrue l.inside → All (λ w. w ≤ l.initial.self.words) (take l.reference-index l.references);
   well_formed : l.self.well_formed ≡ l.initial.self.well_formed;
   capacity : vec_capacity l.self.stack ≡ vec_capacity l.initial.self.stack;

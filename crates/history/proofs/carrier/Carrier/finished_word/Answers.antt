@@ -7,8 +7,8 @@ use Rattle.summary.proofs.Updates.{moved-late, moved-same}
 use Rattle.history.proofs.Carrying.{late_sound}
 use Rattle.history.proofs.carrier.Carrier.finished_word.Goals as goal
 
-pub redirected-requires-clause-sound : goal.redirected-requires-clause-sound
-redirected-requires-clause-sound c =
+pub redirected-requires : goal.redirected-requires
+redirected-requires c =
     let image : HeapImage = c.args.self.now.plan.now in
     let long : c.args.place < length c.args.self.now.late.items = let all = c.requires.kept.late.all in let l = c.requires.inside in omega arith in
     let flag : get_or c.args.self.now.late.items c.args.place false ≡ true = get_or_default c.args.self.now.late.items c.args.place false c.index.result.now long ∙ (sym c.index.ensures ∙ c.if-index.true) in

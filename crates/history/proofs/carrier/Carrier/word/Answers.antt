@@ -29,8 +29,8 @@ index-requires c =
     let ok = c.args.self.now.early.ok.0 in
     omega arith
 
-pub redirected-requires-clause-sound : goal.redirected-requires-clause-sound
-redirected-requires-clause-sound c =
+pub redirected-requires : goal.redirected-requires
+redirected-requires c =
     let image = c.args.self.now.plan.now in
     let x : ℕ = c.in-Some.origin in
     let l = origin_inside c.args.self.now.plan.now c.requires.kept.valid c.args.place c.in-Some.origin (sym c.origin.ensures ∙ c.in-Some.is) in

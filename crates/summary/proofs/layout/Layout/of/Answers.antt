@@ -52,7 +52,7 @@ pub loop-r-init : goal.loop-r-init
 loop-r-init c =
     let image = c.args.image.now in
     let prefix = c.prefix_end-prefix.ensures.value in
-    (c.new-regions.ensures.items, (λ _. refl), λ h. prefix ∙ destination-none image c.prefix_end-prefix.ensures.valid (omega arith))
+    (c.in_ok-regions.ensures.items, (λ _. refl), λ h. prefix ∙ destination-none image c.prefix_end-prefix.ensures.valid (omega arith))
 
 pub loop-r-preserved : goal.loop-r-preserved
 loop-r-preserved c =

@@ -9,7 +9,7 @@ use Rattle.summary.proofs.plan.Plan.deferred.Goals as goal
 pub index-requires : goal.index-requires
 index-requires c =
     let image = c.self.inside.table in
-    let long = ap length c.self.invariant ∙ length-map-range_with_len (deferred image) 0 (region_count image) ∙ ap region_count c.self.view_is in
+    let long = ap length c.self.invariant.deferred_are ∙ length-map-range_with_len (deferred image) 0 (region_count image) ∙ ap region_count c.self.view_is in
     let inside = c.if-d-regions.false in
     let n = c.regions.ensures.value in
     omega arith
@@ -23,7 +23,7 @@ returns c =
     let here : d < region_count c.args.self.now = omega arith in
     let inside : d < region_count image = subst (λ i. d < region_count i) (sym c.self.view_is) here in
     c.index.ensures
-    ∙ ap (λ (xs : List (Option ℕ)). slice_index_or xs d c.index.result.now) c.self.invariant
+    ∙ ap (λ (xs : List (Option ℕ)). slice_index_or xs d c.index.result.now) c.self.invariant.deferred_are
     ∙ get_or-map-range_with_len (deferred image) 0 (region_count image) d d c.index.result.now inside (omega arith)
     ∙ ap (λ i. deferred i d) c.self.view_is
 

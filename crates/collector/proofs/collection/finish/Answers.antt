@@ -1,0 +1,12 @@
+use Rattle.std.proofs.Common.{sym, refl, subst}
+use Rattle.history.specs.State.{AllAreSettled}
+use Rattle.history.specs.History.{state_of}
+use Rattle.claim_board.specs.Boards.{moves}
+use Rattle.collector.proofs.Settled.{none_left}
+use Rattle.collector.proofs.collection.finish.Goals as goal
+
+pub returns-in-Some-clause-settled : goal.returns-in-Some-clause-settled
+returns-in-Some-clause-settled c =
+    let e = c.in-Some.ensures in
+    let m = moves c.args.board in
+    subst (λ log. AllAreSettled m (state_of log)) (sym e.4) (none_left m (state_of e.0) (e.3.0 refl).1)

@@ -1,0 +1,172 @@
+use Rattle.std.proofs.Common.{◌≡◌, ◌+◌, ◌-◌, ◌≤◌, ◌<◌, ℕ, List, min, true, false, refl, sym, ◌∙◌, ap, subst, arith}
+use Rattle.raw_region.specs.Region.{with_words, part}
+use Rattle.heap_image.specs.HeapImage.{HeapImage, HasLiveList, word_at, region_words, start_of}
+use Rattle.summary.specs.WordMoves.{slid, reads}
+use Rattle.summary.proofs.Words.{slid-le}
+use Rattle.fill.specs.Splits.{IsSplit, Shows}
+use Rattle.fill.specs.Filling.{copied_word, written_to}
+use Rattle.fill.specs.Hands.{IsBlockOf}
+use Rattle.fill.proofs.Hands.{same_hand, hand_over, hand_kept, still_block, unwritten_block}
+use Rattle.fill.proofs.Slides.{slid-gap, slid-run, split_slide}
+use Rattle.fill.proofs.Targets.{next_start, region_fits, shows_start, written_to-own, written_to-read, written_to-skip}
+use Rattle.fill.proofs.Writing.{split_none}
+use Rattle.fill.proofs.behind_prefix.BehindPrefix.slide_own.Goals as goal
+use Rattle.fill.proofs.behind_prefix.BehindPrefix.slide_own.Goals.{After-prefix_end-prefix_end}
+
+-- the region, as it was at the start
+module _ (c : After-prefix_end-prefix_end) where
+  abbrev image : HeapImage
+  image = c.args.self.now.site.guide.now
+
+  abbrev d : ℕ
+  d = c.args.self.now.site.region
+
+  abbrev start : ℕ
+  start = c.args.self.now.site.span.start
+
+  abbrev words : List ℕ
+  words = c.args.target.now.words
+
+  block : IsBlockOf image c.args.target.now
+  block = unwritten_block image d c.args.target.now c.prefix_end-prefix_end.ensures.valid c.args.self.now.site.inside c.requires
+
+  shows : Shows (word_at image) start words
+  shows = subst (λ (n : ℕ). Shows (word_at image) n words) (sym c.args.self.now.site.start)
+      (subst (λ (xs : List ℕ). Shows (word_at image) (start_of image d) xs) (sym c.requires.words) (shows_start image c.prefix_end-prefix_end.ensures.valid d c.args.self.now.site.inside))
+
+  split : IsSplit (copied_word image) (word_at image) start words start
+  split = split_none (copied_word image) (word_at image) start words shows
+
+pub returns-then-not-reads_itself : goal.returns-then-not-reads_itself
+returns-then-not-reads_itself c =
+    let at = (goal.at.returns-then-not-reads_itself c).After-prefix_end-prefix_end in
+    let site = c.args.self.now.site in
+    let image : HeapImage = site.guide.now in
+    let valid = c.prefix_end-prefix_end.ensures.valid in
+    let sound : HasLiveList image = valid.live_list in
+    let d : ℕ = site.region in
+    let behind = c.args.self.now.behind_prefix in
+    let unread : reads image d d ≡ false = sym c.reads_itself.ensures ∙ c.if-not-reads_itself.true in
+    record {
+      hand = same_hand c.args.target.now;
+      now = record {
+        block = block at;
+        place = site.start ∙ sym (written_to-own image sound d) ∙ written_to-skip image sound d d behind behind (region_fits image valid d site.inside) unread ∙ ap (written_to image (start_of image d)) (next_start image d (d + 1) refl);
+        split = subst (λ (n : ℕ). IsSplit (copied_word image) (word_at image) n c.args.target.now.words site.span.start) site.start (split at);
+      };
+    }
+
+pub first_from-from-requires-clause-region : goal.first_from-from-requires-clause-region
+first_from-from-requires-clause-region c = record { inside = c.args.self.now.site.inside; behind_prefix = c.args.self.now.behind_prefix }
+
+pub first_from-from-requires-clause-low : goal.first_from-from-requires-clause-low
+first_from-from-requires-clause-low c =
+    let site = c.args.self.now.site in
+    let down = slid-le site.guide.now (start_of site.guide.now site.region) in
+    omega (arith, site.start)
+
+pub first_from-from-requires-clause-high : goal.first_from-from-requires-clause-high
+first_from-from-requires-clause-high c =
+    let site = c.args.self.now.site in
+    let image : HeapImage = site.guide.now in
+    let sound : HasLiveList image = c.prefix_end-prefix_end.ensures.valid.live_list in
+    let d : ℕ = site.region in
+    let read : reads image d d ≡ true = sym c.reads_itself.ensures ∙ c.if-not-reads_itself.false in
+    let on = written_to-read image sound d d c.args.self.now.behind_prefix read in
+    let own = written_to-own image sound d in
+    let high : written_to image (start_of image d) (start_of image d) ≤ slid image (start_of image d + region_words image) = on.1 in
+    omega (arith, site.start)
+
+pub loop-from-init : goal.loop-from-init
+loop-from-init c =
+    let at = (goal.at.loop-from-init c).After-prefix_end-prefix_end in
+    let site = c.args.self.now.site in
+    let from = c.first_from-from.ensures in
+    let behind = c.args.self.now.behind_prefix in
+    record {
+      after = omega (arith, from.after, site.start);
+      inside = omega (arith, from.inside, site.end);
+      behind_prefix = omega (arith, from.after);
+      place = sym from.place;
+      low = omega arith;
+      split = split at;
+      hand = same_hand c.args.target.now;
+    }
+
+pub slide-requires-clause-downward : goal.slide-requires-clause-downward
+slide-requires-clause-downward c =
+    let image : HeapImage = c.args.self.now.site.guide.now in
+    let down = slid-le image c.loop-from.from in
+    let far : c.loop-from.from ≤ c.next_run-run.result.begin = c.next_run-run.ensures.after in
+    let h : c.loop-from.to ≡ slid image c.loop-from.from = c.loop-from.invariant.place in
+    omega arith
+
+pub slide-requires-clause-inside : goal.slide-requires-clause-inside
+slide-requires-clause-inside c =
+    let site = c.args.self.now.site in
+    let h = c.loop-from.invariant in
+    let r = c.next_run-run.ensures in
+    let same : region_words c.loop-from.target.image ≡ region_words site.guide.now = ap region_words (h.hand.image ∙ c.requires.image) in
+    let up : c.next_run-run.result.end ≤ site.span.end = r.within in
+    let on : c.next_run-run.result.begin ≤ c.next_run-run.result.end = r.ordered in
+    let far : c.loop-from.from ≤ c.next_run-run.result.begin = r.after in
+    omega (arith, h.after, site.start, site.end)
+
+pub loop-from-preserved : goal.loop-from-preserved
+loop-from-preserved c =
+    let at = (goal.at.loop-from-preserved c).After-prefix_end-prefix_end in
+    let site = c.args.self.now.site in
+    let image : HeapImage = site.guide.now in
+    let sound : HasLiveList image = c.prefix_end-prefix_end.ensures.valid.live_list in
+    let h = c.loop-from.invariant in
+    let r = c.next_run-run.ensures in
+    let a : ℕ = c.next_run-run.result.begin in
+    let n : ℕ = c.next_run-run.result.end - a in
+    let up : c.next_run-run.result.end ≤ site.span.end = r.within in
+    let on : a ≤ c.next_run-run.result.end = r.ordered in
+    let far : c.loop-from.from ≤ a = r.after in
+    let live = λ (q : ℕ) (l : a ≤ q) (m : q < a + n). (let below : q < c.next_run-run.result.end = omega arith in r.live q l below) in
+    let still = slid-gap image c.loop-from.from a h.behind_prefix far r.dead in
+    let on_run = slid-run image a n (omega arith) live in
+    let whole : a + n ≡ c.next_run-run.result.end = omega arith in
+    let end_place : slid image (a + n) ≡ slid image c.next_run-run.result.end = ap (slid image) whole in
+    let place : c.loop-from.to ≡ slid image a = omega arith in
+    let down = slid-le image a in
+    let now = still_block image c.args.target.now c.loop-from.target (block at) h.hand in
+    let words = ap (λ t. t.words) c.slide.ensures.value in
+    let slid_words : List ℕ = with_words c.loop-from.target.words (c.loop-from.to - site.span.start) (part c.loop-from.target.words (a - site.span.start) n) in
+    record {
+      after = omega arith;
+      inside = omega arith;
+      behind_prefix = omega arith;
+      place = omega arith;
+      low = omega arith;
+      split = subst (λ (xs : List ℕ). IsSplit (copied_word image) (word_at image) site.span.start xs (c.loop-from.to + n)) (sym words)
+          (split_slide image sound site.span.start c.loop-from.target.words a n c.loop-from.to h.split (omega arith) place live (omega arith) (omega (arith, now.long, site.start, site.end)));
+      hand = hand_over c.args.target.now c.loop-from.target c.slide.new.self h.hand (hand_kept image c.loop-from.target c.slide.new.self slid_words now c.slide.ensures.value c.slide.ensures.length);
+    }
+
+pub returns : goal.returns
+returns c =
+    let at = (goal.at.returns c).After-prefix_end-prefix_end in
+    let site = c.args.self.now.site in
+    let image : HeapImage = site.guide.now in
+    let sound : HasLiveList image = c.prefix_end-prefix_end.ensures.valid.live_list in
+    let d : ℕ = site.region in
+    let h = c.loop-from.invariant in
+    let read : reads image d d ≡ true = sym c.reads_itself.ensures ∙ c.if-not-reads_itself.false in
+    let on = written_to-read image sound d d c.args.self.now.behind_prefix read in
+    let new : written_to image (start_of image d) (start_of image d + region_words image) ≡ min (start_of image d + region_words image) (slid image (start_of image d + region_words image)) = on.2 in
+    let down = slid-le image (start_of image d + region_words image) in
+    let past : site.span.end ≤ c.loop-from.from = c.loop-from-test.false in
+    let last : c.loop-from.from ≡ start_of image d + region_words image = omega (arith, h.inside, site.end) in
+    let end : c.loop-from.to ≡ slid image (start_of image d + region_words image) = h.place ∙ ap (slid image) last in
+    let whole : c.loop-from.to ≡ written_to image (start_of image d) (start_of image d + region_words image) = omega arith in
+    record {
+      hand = h.hand;
+      now = record {
+        block = still_block image c.args.target.now c.loop-from.target (block at) h.hand;
+        place = whole ∙ ap (written_to image (start_of image d)) (next_start image d (d + 1) refl);
+        split = subst (λ (n : ℕ). IsSplit (copied_word image) (word_at image) n c.loop-from.target.words c.loop-from.to) site.start h.split;
+      };
+    }

@@ -1,0 +1,18 @@
+use Rattle.std.proofs.Common.{ℕ, ◌<◌, subst, arith}
+use Rattle.heap_image.specs.HeapImage.{HeapImage, IsValid, region_count, start_of}
+use Rattle.summary.specs.NewAddresses.{prefix_end}
+use Rattle.summary.specs.WordMoves.{reads as image_reads}
+use Rattle.history.specs.MoveTable.{reads}
+use Rattle.history.specs.ImageMoves.{image_table}
+use Rattle.fill.proofs.Draining.{sources_skip, other_unread}
+use Rattle.fill.proofs.filling.Filling.fill_in_prefix.Goals as goal
+
+pub returns-clause-no_source : goal.returns-clause-no_source
+returns-clause-no_source g c =
+    let site = c.args.self.now.site in
+    let image : HeapImage = site.guide.now in
+    let valid : IsValid image = c.prefix_end-prefix_end.ensures.valid in
+    let d : ℕ = site.region in
+    let low : start_of image d < prefix_end image = subst (λ (n : ℕ). n < prefix_end image) site.start c.requires.in_prefix in
+    sources_skip (image_table image) d 0 (region_count image) (omega arith) (λ t a b.
+    other_unread d t (reads (image_table image) d t) (image_reads image d t) (c.moves_of_images.ensures.reads image valid d t) (c.reads_by_words.ensures.prefix image valid.live_list d t low))

@@ -1,0 +1,24 @@
+-- The regions from which words come to a region behind the prefix.
+use Rattle.std.specs.Prelude.{◌≡◌, ℕ, ◌<◌, ◌≤◌, true, false}
+use Rattle.heap_image.specs.HeapImage.{HeapImage, region_count, start_of}
+use Rattle.summary.specs.NewAddresses.{prefix_end}
+use Rattle.summary.specs.WordMoves.{reads}
+use Rattle.region_cells.specs.Views.{Reading}
+
+-- a region behind the prefix
+pub record IsBehindPrefix (image : HeapImage) (r : ℕ) : Type 0 where
+  pub inside : r < region_count image
+  pub behind_prefix : prefix_end image ≤ start_of image r
+
+-- s is the first region, from `from` on, from which region d takes words; `from` lies behind d
+pub record IsNextSource (image : HeapImage) (d from s : ℕ) : Type 0 where
+  pub own : d < from
+  pub ordered : from ≤ s
+  pub inside : s < region_count image
+  pub read : reads image d s ≡ true
+  pub between : (t : ℕ) → from ≤ t → t < s → reads image d t ≡ false
+
+-- region s of this image is read
+pub record IsReadOf (heap : HeapImage) (s : ℕ) (reading : Reading) : Type 0 where
+  pub image : reading.image ≡ heap
+  pub region : reading.opening.source ≡ s

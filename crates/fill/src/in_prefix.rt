@@ -1,0 +1,91 @@
+//! `InPrefix`: a region of the dense prefix.
+ghost use Rattle.std.specs.Prelude.{◌≡◌, ℕ, ◌<◌, ◌≤◌, false};
+ghost use Rattle.heap_image.specs.HeapImage.{start_of, word_at, is_live_word};
+ghost use Rattle.summary.specs.NewAddresses.{prefix_end};
+ghost use Rattle.summary.specs.Compaction.{moved_word};
+ghost use Rattle.fill.specs.Splits.{IsSplit, Shows};
+ghost use Rattle.fill.specs.Filling.{copied_word};
+ghost use Rattle.fill.specs.Hands.{Becomes, IsBlockOf, IsUnwritten, IsMoved};
+
+use crate::site::Site;
+use heap_image::header::{filler, size};
+use region_cells::Target;
+
+/// A region of the dense prefix, where each live object keeps its place.
+#[derive(Drop)]
+pub(crate) struct InPrefix<'a> {
+    pub(crate) site: Site<'a>,
+    pub(crate) ghost in_prefix: { start_of site.guide.now site.region < prefix_end site.guide.now },
+}
+
+impl InPrefix<'_> {
+    /// Fills the region: the fillers are written, and the references redirected in place.
+    pub(crate) fn fill(&self, target: &mut Target<'_>)
+        requires { IsUnwritten self.now.site.guide.now self.now.site.region target.old }
+        ensures { Becomes (IsMoved self.now.site.guide.now self.now.site.region) target.old target.new }
+    {
+        let _prefix_end = self.site.guide.prefix_end();
+        self.write_fillers(target);
+        self.redirect_objects(target);
+    }
+
+    /// Writes the fillers.
+    fn write_fillers(&self, target: &mut Target<'_>)
+        requires { IsUnwritten self.now.site.guide.now self.now.site.region target.old }
+        ensures { Becomes (λ w. Shows (copied_word self.now.site.guide.now) self.now.site.span.start w.words) target.old target.new }
+    {
+        let span = self.site.span;
+        let _prefix_end = self.site.guide.prefix_end();
+        let mut at = span.start;
+        while at < span.end {
+            let run = self.site.guide.next_run(at, span.end);
+            self.write_gap(target, at, run.begin);
+            at = run.end;
+        }
+    }
+
+    /// Writes the filler's words from `at` up to `stop`, which are dead. No word behind them is written, though the
+    /// filler may go on in the regions behind.
+    fn write_gap(&self, target: &mut Target<'_>, at: u64, stop: u64)
+        requires low { self.now.site.span.start ≤ at }
+        requires ordered { at ≤ stop }
+        requires high { stop ≤ self.now.site.span.end }
+        requires dead { (q : ℕ) → at ≤ q → q < stop → is_live_word self.now.site.guide.now q ≡ false }
+        requires target { IsBlockOf self.now.site.guide.now target.old }
+        requires split { IsSplit (copied_word self.now.site.guide.now) (word_at self.now.site.guide.now) self.now.site.span.start target.old.words at }
+        ensures { Becomes (λ w. IsSplit (copied_word self.now.site.guide.now) (word_at self.now.site.guide.now) self.now.site.span.start w.words stop) target.old target.new }
+    {
+        let _prefix_end = self.site.guide.prefix_end();
+        if at == stop {
+            return;
+        }
+        let first = (at - self.site.span.start) as usize;
+        let n = (stop - at) as usize;
+        if self.site.guide.begins_gap(at) {
+            let end = self.site.guide.gap_end(stop);
+            target.set(first, filler((end - at) as u32));
+            target.fill(first + 1, n - 1, 0);
+        } else {
+            target.fill(first, n, 0);
+        }
+    }
+
+    /// Redirects the references of the live objects that lie wholly in the region.
+    fn redirect_objects(&self, target: &mut Target<'_>)
+        requires target { IsBlockOf self.now.site.guide.now target.old }
+        requires copied { Shows (copied_word self.now.site.guide.now) self.now.site.span.start target.old.words }
+        ensures { Becomes (λ w. Shows (moved_word self.now.site.guide.now) self.now.site.span.start w.words) target.old target.new }
+    {
+        let span = self.site.span;
+        let _prefix_end = self.site.guide.prefix_end();
+        let mut from = span.start;
+        while let Some(a) = self.site.guide.next_object(from, span.end) {
+            let header = target.get((a - span.start) as usize);
+            let words = u64::from(size(header));
+            if a + words <= span.end {
+                self.site.redirect_object(target, a);
+            }
+            from = a + words;
+        }
+    }
+}

@@ -1,0 +1,80 @@
+//! `Site`: the region that is filled.
+ghost use Rattle.std.specs.Prelude.{◌≡◌, ℕ, ◌+◌, ◌<◌, ◌≤◌};
+ghost use Rattle.heap_image.specs.HeapImage.{heap_words, region_words, region_count, start_of, size_at};
+ghost use Rattle.summary.specs.NewAddresses.{prefix_end, new_top};
+ghost use Rattle.summary.specs.RegionData.{fill_count};
+ghost use Rattle.summary.specs.Compaction.{moved_word};
+ghost use Rattle.fill.specs.Splits.{IsSplit};
+ghost use Rattle.fill.specs.Filling.{copied_word};
+ghost use Rattle.fill.specs.Objects.{IsMovedTo, IsEarlyAt};
+ghost use Rattle.fill.specs.Hands.{Becomes, IsBlockOf};
+
+use crate::behind_prefix::BehindPrefix;
+use crate::guide::Guide;
+use crate::in_prefix::InPrefix;
+use crate::span::Span;
+use heap_image::header::references;
+use region_cells::Target;
+use summary::laws::region_data::regions_to_fill;
+
+/// The region that is filled: its number and its addresses, and what tells where its words come from.
+#[derive(Clone, Copy)]
+pub(crate) struct Site<'a> {
+    pub(crate) guide: &'a Guide<'a>,
+    pub(crate) region: u32,
+    pub(crate) span: Span,
+    pub(crate) ghost inside: { region < region_count guide.now },
+    pub(crate) ghost to_fill: { start_of guide.now region < new_top guide.now },
+    pub(crate) ghost start: { span.start ≡ start_of guide.now region },
+    pub(crate) ghost end: { span.end ≡ start_of guide.now region + region_words guide.now },
+    pub(crate) ghost in_heap: { span.end ≤ heap_words guide.now },
+}
+
+impl<'a> Site<'a> {
+    /// Region `region`, which is to be filled.
+    pub(crate) fn of(guide: &'a Guide<'a>, region: u32) -> Site<'a>
+        requires { region < fill_count guide.now }
+        ensures guide { result.guide.now ≡ guide.now }
+        ensures region { result.region ≡ region }
+    {
+        let _prefix_end = guide.prefix_end();
+        regions_to_fill();
+        Site {
+            guide,
+            region,
+            span: guide.span(region),
+        }
+    }
+
+    /// The region as one of the prefix.
+    pub(crate) fn in_prefix(self) -> InPrefix<'a>
+        requires { self.span.start < prefix_end self.guide.now }
+        ensures { result.site ≡ self.entry }
+    {
+        InPrefix { site: self }
+    }
+
+    /// The region as one behind the prefix.
+    pub(crate) fn behind_prefix(self) -> BehindPrefix<'a>
+        requires { prefix_end self.guide.now ≤ self.span.start }
+        ensures { result.site ≡ self.entry }
+    {
+        BehindPrefix { site: self }
+    }
+
+    /// Redirects the references of the live object that goes to the address `at`, where its new words lie wholly in the
+    /// region.
+    pub(crate) fn redirect_object(&self, target: &mut Target<'_>, at: u64)
+        requires object { IsEarlyAt self.now.guide.now at self.now.span.end }
+        requires low { self.now.span.start ≤ at }
+        requires target { IsBlockOf self.now.guide.now target.old }
+        requires split { IsSplit (moved_word self.now.guide.now) (copied_word self.now.guide.now) self.now.span.start target.old.words at }
+        ensures { Becomes (λ w. (a : ℕ) → IsMovedTo self.now.guide.now at a → IsSplit (moved_word self.now.guide.now) (copied_word self.now.guide.now)
+            self.now.span.start w.words (at + size_at self.now.guide.now a)) target.old target.new }
+    {
+        let _prefix_end = self.guide.prefix_end();
+        let first = (at - self.span.start) as usize;
+        let count = references(target.get(first)) as usize;
+        target.redirect(self.guide.plan(), first + 1, count);
+    }
+}

@@ -1,0 +1,24 @@
+use Rattle.std.proofs.Common.{◌≡◌, ◌*◌, ◌/◌, ◌%◌, ◌^◌, length, ap, ◌∙◌, arith}
+use Rattle.std.proofs.Math.Nat.{mul-mod_left}
+use Rattle.heap_image.proofs.BlockWords.{length-concat, count}
+use Rattle.heap_image.proofs.Parts.{region_some}
+use Rattle.heap_dump.proofs.limits.words_within_limits.Goals as goal
+
+pub returns-clause-limits : goal.returns-clause-limits
+returns-clause-limits c =
+    let log = c.args.region_log in
+    let regions = c.args.regions.now in
+    let words = c.words_of-words.result in
+    let are = c.words_of-words.ensures.count in
+    let long : words ≡ length regions * 2 ^ log = are ∙ length-concat (2 ^ log) regions c.requires.whole in
+    let rows : words / 2 ^ log ≡ length regions = ap (λ n. n / 2 ^ log) are ∙ count (2 ^ log) (region_some log) regions c.requires.whole in
+    let some = c.if-words-eq0.false in
+    record {
+      region_log_low = c.requires.low;
+      region_log_high = c.requires.high;
+      not_empty = omega arith;
+      whole_regions = ap (λ n. n % 2 ^ log) long ∙ mul-mod_left (length regions) (2 ^ log);
+      few_words = c.if-words-gt-MOST_WORDS.false;
+      few_regions = omega arith;
+      few_live = omega arith;
+    }

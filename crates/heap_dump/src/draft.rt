@@ -1,0 +1,74 @@
+//! `Draft`: the heap of an image, before its live objects are found.
+ghost use Rattle.std.specs.Prelude.{◌≡◌, IfOk, ◌≢◌};
+ghost use Rattle.heap_image.specs.HeapImage.{IsValid, version_of};
+ghost use Rattle.heap_dump.specs.Figures.{AreFiguresOf};
+
+use crate::error::ImportError;
+use crate::figures::Figures;
+use crate::heap::Heap;
+use crate::limits::words_within_limits;
+use crate::roots::roots_to;
+use heap_image::{Fault, Image, mark_from_roots, marked_parts_are_valid};
+use std::alloc::Global;
+
+/// The heap of an image, with its headers.
+#[derive(Drop)]
+pub(crate) struct Draft {
+    pub(crate) heap: Heap,
+    /// The addresses to which roots lead.
+    pub(crate) roots: Vec<u64>,
+    /// How many objects the heap has.
+    pub(crate) objects: u64,
+    /// How many gaps were left out since they are too wide.
+    pub(crate) dropped_gaps: u64,
+    /// How many references and roots lead to no object of the dump.
+    pub(crate) unresolved: u64,
+}
+
+/// An image that was made from a dump.
+#[derive(Drop)]
+pub struct Imported {
+    /// The image, of version 2.
+    pub image: Image,
+    /// What it was made of.
+    pub figures: Figures,
+}
+
+impl Draft {
+    /// The image with this heap.
+    pub(crate) fn into_image(self, alloc: Global, allowance: u64) -> Result<Imported, ImportError>
+        ensures valid { IfOk result (λ imported. IsValid imported.image) }
+        ensures rooted { IfOk result (λ imported. version_of imported.image ≡ 2) }
+        ensures allowance { IfOk result (λ imported. imported.image.allowance ≡ allowance) }
+        ensures figures { IfOk result (λ imported. AreFiguresOf imported.image imported.figures) }
+        ensures no_device { result ≢ Err ImportError.Input }
+    {
+        let Draft {
+            heap,
+            roots,
+            objects,
+            dropped_gaps,
+            unresolved,
+        } = self;
+        let (region_log, regions) = heap.into_parts();
+        let words = words_within_limits(region_log, regions.as_slice())?;
+        let roots = roots_to(alloc, roots.as_slice(), words)?;
+        let live = match mark_from_roots(alloc, region_log, regions.as_slice(), roots.as_slice()) {
+            Ok(live) => live,
+            Err(Fault::Memory) => return Err(ImportError::Memory),
+            Err(fault) => return Err(ImportError::NoHeap(fault)),
+        };
+        let figures = Figures {
+            words,
+            objects,
+            roots: roots.len() as u64,
+            live: live.len() as u64,
+            dead: objects.saturating_sub(live.len() as u64),
+            dropped_gaps,
+            unresolved,
+        };
+        marked_parts_are_valid();
+        let image = Image::of_rooted_parts(region_log, allowance, regions, live, roots);
+        Ok(Imported { image, figures })
+    }
+}

@@ -1,0 +1,298 @@
+//! `Dump`: a heap dump, record by record.
+ghost use Rattle.std.specs.Prelude.{◌≡◌, ◌≤◌, ◌*◌, None, IsTrue, ◌≢◌};
+ghost use Rattle.std.specs.Io.KnownBytes.{IsAtEnd};
+
+use crate::error::{ImportError, Problem};
+use crate::field_type::{FieldType, IdSize};
+use crate::window::Window;
+use heap_image::Intake;
+
+/// How many bytes stand before the first record: the name of the format, the size of ids, and the time.
+const HEAD_BYTES: u64 = 31;
+
+/// How many bytes stand before the body of a record: its tag, its time and its length.
+const RECORD_HEAD_BYTES: u64 = 9;
+
+/// A record of the heap. Of those with a body, the head was read and the body follows.
+#[derive(Clone, Copy)]
+pub(crate) enum Record {
+    /// A root, and whatever else its kind tells was passed over.
+    Root { id: u64 },
+    /// A class.
+    Class { id: u64 },
+    /// An instance of a class.
+    Instance(Instance),
+    /// An array of references.
+    References(References),
+    /// An array of primitive values.
+    Primitives(Primitives),
+}
+
+/// The head of an instance.
+#[derive(Clone, Copy)]
+pub(crate) struct Instance {
+    pub(crate) id: u64,
+    /// The id of its class.
+    pub(crate) class: u64,
+    /// How many bytes its fields have.
+    pub(crate) bytes: u32,
+}
+
+/// The head of an array of references.
+#[derive(Clone, Copy)]
+pub(crate) struct References {
+    pub(crate) id: u64,
+    /// How many there are.
+    pub(crate) count: u32,
+}
+
+/// The head of an array of primitive values.
+#[derive(Clone, Copy)]
+pub(crate) struct Primitives {
+    pub(crate) id: u64,
+    /// The type of its elements, which is no reference.
+    pub(crate) element: FieldType,
+    /// How many elements it has.
+    pub(crate) count: u32,
+}
+
+impl Primitives {
+    /// How many bytes the elements have.
+    pub(crate) fn bytes(self) -> u64
+        ensures { result ≤ 8 * self.count }
+    {
+        u64::from(self.count) * self.element.data_bytes() as u64
+    }
+}
+
+/// What the dump has told so far of a heap and its end.
+#[derive(Clone, Copy, PartialEq, Eq)]
+enum Stage {
+    /// No heap yet.
+    Before,
+    /// A whole heap in one record.
+    Whole,
+    /// Segments of a heap, whose end is still to come.
+    Segments,
+    /// The end of the heap.
+    Ended,
+}
+
+/// A heap dump while it is read.
+#[derive(Drop)]
+pub(crate) struct Dump {
+    /// The bytes that come next.
+    pub(crate) window: Window,
+    ids: IdSize,
+    stage: Stage,
+    /// Whether the record that is being read is a heap or a segment of one.
+    in_heap: bool,
+    /// How many bytes stand before the record of the heap that was read last.
+    at: u64,
+}
+
+impl Dump {
+    /// Reads what stands before the first record.
+    pub(crate) fn open<R: Intake>(source: &mut R) -> Result<Dump, ImportError>
+        ensures input { result ≡ Err ImportError.Input → IsTrue (R.has_failed source.new) }
+    {
+        let mut window = Window::new();
+        window.begin(HEAD_BYTES);
+        window.need(source, 19)?;
+        let name = window.front(19);
+        if name != b"JAVA PROFILE 1.0.1\0".as_slice()
+            && name != b"JAVA PROFILE 1.0.2\0".as_slice()
+        {
+            return Err(window.problem(Problem::Name));
+        }
+        window.pass(19);
+        let at = window.offset();
+        let ids = match window.u32(source)? {
+            4 => IdSize::Four,
+            8 => IdSize::Eight,
+            other => {
+                return Err(ImportError::Malformed {
+                    offset: at,
+                    problem: Problem::IdSize(other),
+                });
+            }
+        };
+        window.skip(source, 8)?;
+        Ok(Dump {
+            window,
+            ids,
+            stage: Stage::Before,
+            in_heap: false,
+            at,
+        })
+    }
+
+    /// How many bytes an id has.
+    pub(crate) fn ids(&self) -> IdSize {
+        self.ids
+    }
+
+    /// What is wrong with the record of the heap that was read last.
+    pub(crate) fn problem(&self, problem: Problem) -> ImportError
+        ensures { result ≢ ImportError.Input }
+    {
+        ImportError::Malformed {
+            offset: self.at,
+            problem,
+        }
+    }
+
+    /// The next record of the heap, up to its body, or None at the end of the dump. The body of the record before it was
+    /// read.
+    pub(crate) fn next<R: Intake>(&mut self, source: &mut R) -> Result<Option<Record>, ImportError>
+        ensures end { result ≡ Ok None → IsAtEnd (R.left source.new) }
+        ensures input { result ≡ Err ImportError.Input → IsTrue (R.has_failed source.new) }
+    {
+        for _ in 0..u64::MAX {
+            if self.in_heap && self.window.left() > 0 {
+                return Ok(Some(self.heap_record(source)?));
+            }
+            if self.window.is_at_end(source)? {
+                self.check_end()?;
+                return Ok(None);
+            }
+            self.enter(source)?;
+        }
+        Err(self.window.problem(Problem::NoEnd))
+    }
+
+    /// Whether the dump may end here.
+    fn check_end(&self) -> Result<(), ImportError>
+        ensures { result ≢ Err ImportError.Input }
+    {
+        match self.stage {
+            Stage::Before => Err(self.window.problem(Problem::NoHeap)),
+            Stage::Segments => Err(self.window.problem(Problem::NoEnd)),
+            Stage::Whole | Stage::Ended => Ok(()),
+        }
+    }
+
+    /// Enters the next heap or segment of one, or goes on behind a record of another kind.
+    fn enter<R: Intake>(&mut self, source: &mut R) -> Result<(), ImportError>
+        ensures input { result ≡ Err ImportError.Input → IsTrue (R.has_failed source.new) }
+    {
+        self.window.begin(RECORD_HEAD_BYTES);
+        let tag = self.window.u8(source)?;
+        self.window.skip(source, 4)?;
+        let length = u64::from(self.window.u32(source)?);
+        self.window.begin(length);
+        self.in_heap = tag == 0x0C || tag == 0x1C;
+        self.stage = match tag {
+            0x0C => Stage::Whole,
+            0x1C => Stage::Segments,
+            0x2C => Stage::Ended,
+            _ => self.stage,
+        };
+        if !self.in_heap {
+            self.window.skip(source, length)?;
+        }
+        Ok(())
+    }
+
+    /// Reads a record of the heap up to its body.
+    fn heap_record<R: Intake>(&mut self, source: &mut R) -> Result<Record, ImportError>
+        ensures input { result ≡ Err ImportError.Input → IsTrue (R.has_failed source.new) }
+    {
+        self.at = self.window.offset();
+        let tag = self.window.u8(source)?;
+        match tag {
+            0x20 => Ok(Record::Class {
+                id: self.id(source)?,
+            }),
+            0x21 => self.instance(source),
+            0x22 => self.references(source),
+            0x23 => self.primitives(source),
+            _ => self.root(source, tag),
+        }
+    }
+
+    fn instance<R: Intake>(&mut self, source: &mut R) -> Result<Record, ImportError>
+        ensures input { result ≡ Err ImportError.Input → IsTrue (R.has_failed source.new) }
+    {
+        let id = self.id(source)?;
+        self.window.skip(source, 4)?;
+        let class = self.id(source)?;
+        let bytes = self.window.u32(source)?;
+        Ok(Record::Instance(Instance { id, class, bytes }))
+    }
+
+    fn references<R: Intake>(&mut self, source: &mut R) -> Result<Record, ImportError>
+        ensures input { result ≡ Err ImportError.Input → IsTrue (R.has_failed source.new) }
+    {
+        let id = self.id(source)?;
+        self.window.skip(source, 4)?;
+        let count = self.window.u32(source)?;
+        self.id(source)?;
+        Ok(Record::References(References { id, count }))
+    }
+
+    fn primitives<R: Intake>(&mut self, source: &mut R) -> Result<Record, ImportError>
+        ensures input { result ≡ Err ImportError.Input → IsTrue (R.has_failed source.new) }
+    {
+        let id = self.id(source)?;
+        self.window.skip(source, 4)?;
+        let count = self.window.u32(source)?;
+        let element = self.field_type(source)?;
+        if element.data_bytes() == 0 {
+            return Err(self.problem(Problem::NotPrimitive));
+        }
+        Ok(Record::Primitives(Primitives { id, element, count }))
+    }
+
+    /// Reads a root with this tag.
+    fn root<R: Intake>(&mut self, source: &mut R, tag: u8) -> Result<Record, ImportError>
+        ensures input { result ≡ Err ImportError.Input → IsTrue (R.has_failed source.new) }
+    {
+        let more = match tag {
+            0xFF | 0x05 | 0x07 => 0,
+            0x01 => self.ids.bytes() as u64,
+            0x02 | 0x03 | 0x08 => 8,
+            0x04 | 0x06 => 4,
+            _ => return Err(self.problem(Problem::HeapTag(tag))),
+        };
+        let id = self.id(source)?;
+        self.window.skip(source, more)?;
+        Ok(Record::Root { id })
+    }
+
+    /// Reads an id.
+    pub(crate) fn id<R: Intake>(&mut self, source: &mut R) -> Result<u64, ImportError>
+        ensures input { result ≡ Err ImportError.Input → IsTrue (R.has_failed source.new) }
+    {
+        match self.ids {
+            IdSize::Four => Ok(u64::from(self.window.u32(source)?)),
+            IdSize::Eight => self.window.u64(source),
+        }
+    }
+
+    /// Reads a number of two bytes.
+    pub(crate) fn u16<R: Intake>(&mut self, source: &mut R) -> Result<u16, ImportError>
+        ensures input { result ≡ Err ImportError.Input → IsTrue (R.has_failed source.new) }
+    {
+        self.window.u16(source)
+    }
+
+    /// Reads a type.
+    pub(crate) fn field_type<R: Intake>(&mut self, source: &mut R) -> Result<FieldType, ImportError>
+        ensures input { result ≡ Err ImportError.Input → IsTrue (R.has_failed source.new) }
+    {
+        let offset = self.window.offset();
+        let code = self.window.u8(source)?;
+        FieldType::of_code(code).ok_or(ImportError::Malformed {
+            offset,
+            problem: Problem::Type(code),
+        })
+    }
+
+    /// Goes on behind so many bytes.
+    pub(crate) fn skip<R: Intake>(&mut self, source: &mut R, count: u64) -> Result<(), ImportError>
+        ensures input { result ≡ Err ImportError.Input → IsTrue (R.has_failed source.new) }
+    {
+        self.window.skip(source, count)
+    }
+}

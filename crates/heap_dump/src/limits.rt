@@ -1,0 +1,55 @@
+//! The limits of an image.
+ghost use Rattle.std.specs.Prelude.{◌≡◌, ◌<◌, ◌≤◌, ◌^◌, All, OnOk, IfOk, length, ◌≢◌};
+ghost use Rattle.std.specs.List.{concat};
+ghost use Rattle.heap_image.specs.HeapImage.{AreBlocks, IsWithinLimits};
+
+use crate::error::ImportError;
+use heap_image::Fault;
+use raw_region::Region;
+
+/// The most words that an image may have.
+pub(crate) const MOST_WORDS: u64 = 4_194_304;
+
+/// The most regions that an image may have.
+pub(crate) const MOST_REGIONS: usize = 16_384;
+
+/// How many words these regions of `2 ^ region_log` words have, where an image may have so many.
+pub(crate) fn words_within_limits(region_log: u32, regions: &[Region]) -> Result<u64, ImportError>
+    requires low { 3 ≤ region_log }
+    requires high { region_log ≤ 16 }
+    requires whole { AreBlocks region_log regions.now }
+    ensures count { IfOk result (λ words. words ≡ length (concat regions.now)) }
+    ensures limits { IfOk result (λ words. IsWithinLimits region_log words 0) }
+    ensures fit { OnOk result (All (λ w. w < 2 ^ 64) (concat regions.now)) }
+    ensures no_device { result ≢ Err ImportError.Input }
+{
+    if regions.len() > MOST_REGIONS {
+        return Err(ImportError::NoHeap(Fault::Length));
+    }
+    let words = words_of(regions);
+    if words == 0 || words > MOST_WORDS {
+        return Err(ImportError::NoHeap(Fault::Length));
+    }
+    Ok(words)
+}
+
+/// How many words these regions have.
+fn words_of(regions: &[Region]) -> u64
+    requires { length regions.now ≤ 16384 }
+    ensures count { result ≡ length (concat regions.now) }
+    ensures fit { All (λ w. w < 2 ^ 64) (concat regions.now) }
+{
+    let mut words = 0;
+    for region in regions {
+        words += length_of(region.words());
+    }
+    words
+}
+
+/// How many words these are.
+fn length_of(words: &[u64]) -> u64
+    ensures count { result ≡ length words.now }
+    ensures fit { All (λ w. w < 2 ^ 64) words.now }
+{
+    words.len() as u64
+}

@@ -1,0 +1,48 @@
+//! `Options`: how an image is to be made.
+ghost use Rattle.std.specs.Prelude.{◌≤◌, ◌≢◌};
+
+use crate::error::ImportError;
+use crate::limits::{MOST_REGIONS, MOST_WORDS};
+
+/// The region log where none is asked for: with regions of so many words every image that is allowed has few enough.
+const USUAL_REGION_LOG: u32 = 9;
+
+/// How an image is to be made from a dump.
+#[derive(Debug, Clone, Copy, PartialEq, Eq)]
+pub struct Options {
+    /// The logarithm, to base 2, of the number of words of a region: 3 to 16. None is 9, which allows every image.
+    pub region_log: Option<u32>,
+    /// How many dead words the dense prefix of the image may keep.
+    pub allowance: u64,
+    /// Whether reachable objects alone are kept, without gaps.
+    pub live_only: bool,
+}
+
+/// The size of the regions of an image.
+#[derive(Clone, Copy)]
+pub(crate) struct Regions {
+    /// The logarithm of the number of words of one.
+    pub(crate) log: u32,
+    ghost low: { 3 ≤ log },
+    ghost high: { log ≤ 16 },
+}
+
+impl Options {
+    /// The size of regions that is asked for.
+    pub(crate) fn regions(&self) -> Result<Regions, ImportError>
+        ensures { result ≢ Err ImportError.Input }
+    {
+        let log = self.region_log.unwrap_or(USUAL_REGION_LOG);
+        if log < 3 || log > 16 {
+            return Err(ImportError::RegionLog(log));
+        }
+        Ok(Regions { log })
+    }
+}
+
+impl Regions {
+    /// The most words that an image with such regions may have.
+    pub(crate) fn most_words(self) -> u64 {
+        MOST_WORDS.min((MOST_REGIONS as u64) << self.log)
+    }
+}

@@ -1,0 +1,25 @@
+//! The roots of an image.
+ghost use Rattle.std.specs.Prelude.{◌≤◌, All, length, IfOk};
+
+use std::alloc::{AllocError, Global};
+
+/// The roots that lead to these addresses of a heap of so many words, each once, ascending. An address outside the heap is
+/// left out.
+pub(crate) fn roots_to(alloc: Global, addresses: &[u64], words: u64) -> Result<Vec<u64>, AllocError>
+    ensures few { IfOk result (λ roots. length roots.items ≤ words) }
+    ensures inside { IfOk result (λ roots. All (λ root. root ≤ words) roots.items) }
+{
+    let mut is_root = vec![in alloc; false; words as usize]?;
+    for address in addresses {
+        if *address < words {
+            is_root[*address as usize] = true;
+        }
+    }
+    let mut roots = Vec::new(alloc);
+    for address in 0..words {
+        if is_root[address as usize] {
+            roots.push(address + 1)?;
+        }
+    }
+    Ok(roots)
+}

@@ -1,0 +1,105 @@
+//! `Slots`: the words of one object, while they are filled in.
+ghost use Rattle.std.specs.Prelude.{◌<◌};
+
+use crate::heap::Heap;
+use byteorder::{ByteOrder, LittleEndian};
+
+/// Where the next reference and the next primitive data of an object go.
+///
+/// The data's bytes stand in the image's text as they stand in the dump, with zeros behind them up to the end of the last
+/// word.
+#[derive(Drop)]
+pub(crate) struct Slots {
+    /// The address of the next reference.
+    reference: u64,
+    /// The address behind the last reference.
+    references_end: u64,
+    /// The address of the next word of data.
+    data: u64,
+    /// The address behind the object.
+    end: u64,
+    /// The bytes of the next word of data that have come.
+    held: [u8; 8],
+    held_count: usize,
+    ghost few_held: { held_count < 8 },
+}
+
+impl Slots {
+    /// The slots of an object at this address with so many references and words.
+    pub(crate) fn new(address: u64, references: u64, words: u64) -> Slots {
+        let first = address.saturating_add(1);
+        let data = first.saturating_add(references);
+        Slots {
+            reference: first,
+            references_end: data,
+            data,
+            end: address.saturating_add(words),
+            held: [0; 8],
+            held_count: 0,
+        }
+    }
+
+    /// Puts the next reference, and answers whether there was room.
+    pub(crate) fn put_reference(&mut self, heap: &mut Heap, reference: u64) -> bool {
+        if self.reference >= self.references_end {
+            return false;
+        }
+        heap.put(self.reference, reference);
+        self.reference += 1;
+        true
+    }
+
+    /// Puts the next bytes of data, and answers whether there was room.
+    pub(crate) fn put_data(&mut self, heap: &mut Heap, bytes: &[u8]) -> bool {
+        let mut rest = bytes;
+        while let Some((first, more)) = rest.split_first() {
+            if self.held_count == 0 && rest.len() >= 8 {
+                let (word, behind) = rest.split_at(8);
+                if !self.put_word(heap, LittleEndian::read_u64(word)) {
+                    return false;
+                }
+                rest = behind;
+            } else {
+                if !self.put_byte(heap, *first) {
+                    return false;
+                }
+                rest = more;
+            }
+        }
+        true
+    }
+
+    fn put_byte(&mut self, heap: &mut Heap, byte: u8) -> bool {
+        self.held[self.held_count] = byte;
+        if self.held_count < 7 {
+            self.held_count += 1;
+            return true;
+        }
+        self.put_held(heap)
+    }
+
+    /// Puts the word of which bytes are held.
+    fn put_held(&mut self, heap: &mut Heap) -> bool {
+        let word = LittleEndian::read_u64(&self.held);
+        self.held = [0; 8];
+        self.held_count = 0;
+        self.put_word(heap, word)
+    }
+
+    fn put_word(&mut self, heap: &mut Heap, word: u64) -> bool {
+        if self.data >= self.end {
+            return false;
+        }
+        heap.put(self.data, word);
+        self.data += 1;
+        true
+    }
+
+    /// Puts what is still held, and answers whether the object is full.
+    pub(crate) fn close(mut self, heap: &mut Heap) -> bool {
+        if self.held_count > 0 && !self.put_held(heap) {
+            return false;
+        }
+        self.reference == self.references_end && self.data == self.end
+    }
+}

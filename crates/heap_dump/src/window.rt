@@ -1,0 +1,227 @@
+//! `Window`: the bytes of a dump, as they come.
+ghost use Rattle.std.specs.Prelude.{◌≡◌, ◌<◌, ◌≤◌, ◌+◌, ◌-◌, ◌*◌, length, true, false, IfOk, OnOk, IsTrue, ◌≢◌};
+ghost use Rattle.std.specs.Io.KnownBytes.{IsAtEnd};
+
+use crate::error::{ImportError, Problem};
+use byteorder::{BigEndian, ByteOrder};
+use heap_image::Intake;
+
+/// How many bytes are asked for at a time, at most.
+const ROOM: usize = 65_536;
+
+/// The next bytes of a dump, and how many of them belong to the record that is being read.
+#[derive(Drop)]
+pub(crate) struct Window {
+    bytes: [u8; ROOM],
+    /// The bytes from `start` to `end` have come and were not read.
+    start: usize,
+    end: usize,
+    /// How many bytes of the dump were read.
+    offset: u64,
+    /// How many bytes the record still has.
+    left: u64,
+    ghost ordered: { start ≤ end },
+    ghost within: { end ≤ 65536 },
+}
+
+impl Window {
+    ghost use Rattle.heap_dump.specs.Window.{held};
+
+    /// No byte has come yet, and no record was begun.
+    pub(crate) fn new() -> Window {
+        Window {
+            bytes: [0; ROOM],
+            start: 0,
+            end: 0,
+            offset: 0,
+            left: 0,
+        }
+    }
+
+    /// How many bytes of the dump were read.
+    pub(crate) fn offset(&self) -> u64 {
+        self.offset
+    }
+
+    /// How many bytes the record still has.
+    pub(crate) fn left(&self) -> u64 {
+        self.left
+    }
+
+    /// Begins a record that has so many bytes.
+    pub(crate) fn begin(&mut self, length: u64) {
+        self.left = length;
+    }
+
+    /// What is wrong with the byte that comes next.
+    pub(crate) fn problem(&self, problem: Problem) -> ImportError
+        ensures { result ≢ ImportError.Input }
+    {
+        ImportError::Malformed {
+            offset: self.offset,
+            problem,
+        }
+    }
+
+    /// Whether the dump ends before the next byte.
+    pub(crate) fn is_at_end<R: Intake>(&mut self, source: &mut R) -> Result<bool, ImportError>
+        ensures end { result ≡ Ok true → IsAtEnd (R.left source.new) }
+        ensures input { result ≡ Err ImportError.Input → IsTrue (R.has_failed source.new) }
+    {
+        Ok(!self.hold(source, 1)?)
+    }
+
+    /// Brings up so many bytes, and says whether the dump has them.
+    fn hold<R: Intake>(&mut self, source: &mut R, count: usize) -> Result<bool, ImportError>
+        requires { count ≤ 65536 }
+        ensures held { result ≡ Ok true → count ≤ held self.new }
+        ensures left { self.new.left ≡ self.old.left }
+        ensures end { result ≡ Ok false → IsAtEnd (R.left source.new) }
+        ensures input { result ≡ Err ImportError.Input → IsTrue (R.has_failed source.new) }
+    {
+        if count <= self.end - self.start {
+            return Ok(true);
+        }
+        self.make_room();
+        while self.end < count {
+            let came = source.take(&mut self.bytes[self.end..])?;
+            if came == 0 {
+                return Ok(false);
+            }
+            self.end += came;
+        }
+        Ok(true)
+    }
+
+    /// Moves what has come and was not read to the front.
+    fn make_room(&mut self)
+        ensures start { self.new.start ≡ 0 }
+        ensures end { self.new.end ≡ self.old.end - self.old.start }
+        ensures left { self.new.left ≡ self.old.left }
+    {
+        self.bytes.copy_within(self.start..self.end, 0);
+        self.end -= self.start;
+        self.start = 0;
+    }
+
+    /// Brings up so many bytes of the record, or says what is wrong where it has fewer.
+    pub(crate) fn need<R: Intake>(
+        &mut self,
+        source: &mut R,
+        count: usize,
+    ) -> Result<(), ImportError>
+        requires { count ≤ 65536 }
+        ensures held { OnOk result (count ≤ held self.new) }
+        ensures left { OnOk result (count ≤ self.new.left) }
+        ensures input { result ≡ Err ImportError.Input → IsTrue (R.has_failed source.new) }
+    {
+        if self.left < count as u64 {
+            return Err(self.problem(Problem::PastRecord));
+        }
+        if self.hold(source, count)? {
+            return Ok(());
+        }
+        let held = (self.end - self.start) as u64;
+        Err(ImportError::Malformed {
+            offset: self.offset.saturating_add(held),
+            problem: Problem::Cut,
+        })
+    }
+
+    /// The first of the bytes that have come.
+    pub(crate) fn front(&self, count: usize) -> &[u8]
+        requires { count ≤ held self.now }
+        ensures { length result.now ≡ count }
+    {
+        let (held, _) = self.bytes.split_at(self.end);
+        let (_, unread) = held.split_at(self.start);
+        &unread[..count]
+    }
+
+    /// Goes on behind so many bytes that have come.
+    pub(crate) fn pass(&mut self, count: usize)
+        requires { count ≤ held self.old }
+    {
+        self.start += count;
+        self.offset = self.offset.saturating_add(count as u64);
+        self.left = self.left.saturating_sub(count as u64);
+    }
+
+    /// Brings up whole units of so many bytes, as many as have come and at most so many bytes, and answers how many bytes
+    /// these are. At least one unit comes.
+    pub(crate) fn piece<R: Intake>(
+        &mut self,
+        source: &mut R,
+        most: u64,
+        unit: usize,
+    ) -> Result<usize, ImportError>
+        requires some { 1 ≤ unit }
+        requires small { unit ≤ 65536 }
+        requires room { unit ≤ most }
+        ensures held { IfOk result (λ count. count ≤ held self.new) }
+        ensures some { IfOk result (λ count. 1 ≤ count) }
+        ensures within { IfOk result (λ count. count ≤ most) }
+        ensures input { result ≡ Err ImportError.Input → IsTrue (R.has_failed source.new) }
+    {
+        self.need(source, unit)?;
+        let held = (self.end - self.start) as u64;
+        let bytes = held.min(most).min(self.left) as usize;
+        Ok(bytes - bytes % unit)
+    }
+
+    /// Reads a number of one byte.
+    pub(crate) fn u8<R: Intake>(&mut self, source: &mut R) -> Result<u8, ImportError>
+        ensures input { result ≡ Err ImportError.Input → IsTrue (R.has_failed source.new) }
+    {
+        self.need(source, 1)?;
+        let number = self.front(1)[0];
+        self.pass(1);
+        Ok(number)
+    }
+
+    /// Reads a number of two bytes.
+    pub(crate) fn u16<R: Intake>(&mut self, source: &mut R) -> Result<u16, ImportError>
+        ensures input { result ≡ Err ImportError.Input → IsTrue (R.has_failed source.new) }
+    {
+        self.need(source, 2)?;
+        let number = BigEndian::read_u16(self.front(2));
+        self.pass(2);
+        Ok(number)
+    }
+
+    /// Reads a number of four bytes.
+    pub(crate) fn u32<R: Intake>(&mut self, source: &mut R) -> Result<u32, ImportError>
+        ensures input { result ≡ Err ImportError.Input → IsTrue (R.has_failed source.new) }
+    {
+        self.need(source, 4)?;
+        let number = BigEndian::read_u32(self.front(4));
+        self.pass(4);
+        Ok(number)
+    }
+
+    /// Reads a number of eight bytes.
+    pub(crate) fn u64<R: Intake>(&mut self, source: &mut R) -> Result<u64, ImportError>
+        ensures input { result ≡ Err ImportError.Input → IsTrue (R.has_failed source.new) }
+    {
+        self.need(source, 8)?;
+        let number = BigEndian::read_u64(self.front(8));
+        self.pass(8);
+        Ok(number)
+    }
+
+    /// Goes on behind so many bytes of the record, which need not have come.
+    pub(crate) fn skip<R: Intake>(&mut self, source: &mut R, count: u64) -> Result<(), ImportError>
+        ensures input { result ≡ Err ImportError.Input → IsTrue (R.has_failed source.new) }
+    {
+        if self.left < count {
+            return Err(self.problem(Problem::PastRecord));
+        }
+        let mut rest = count;
+        while rest > 0 {
+            let bytes = self.piece(source, rest, 1)?;
+            self.pass(bytes);
+            rest -= bytes as u64;
+        }
+        Ok(())
+    }
+}

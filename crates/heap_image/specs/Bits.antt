@@ -1,0 +1,40 @@
+-- Bits in words of 64.
+use Rattle.std.specs.Prelude.{◌≡◌, ℕ, ◌+◌, ◌*◌, ◌/◌, ◌%◌, ◌<◌, ◌≤◌, ◌==◌, Bool, false, IsTrue, List, length, slice_index, filter}
+use Rattle.std.specs.List.{list_any, range_with_len}
+use Rattle.std.specs.Int.{bit_at}
+
+-- how many bits the words have
+abbrev pub room : List ℕ → ℕ
+room words = 64 * length words
+
+-- whether bit k is set
+abbrev pub has : List ℕ → ℕ → Bool
+has words k = bit_at (slice_index words (k / 64)) (k % 64) == 1
+
+-- no address from this one on passes the test
+abbrev pub NoneFrom : (ℕ → Bool) → ℕ → Type 0
+NoneFrom test from = (k : ℕ) → from ≤ k → test k ≡ false
+
+-- no address from this one on and below `to` passes the test
+abbrev pub NoneBetween : (ℕ → Bool) → ℕ → ℕ → Type 0
+NoneBetween test from to = (k : ℕ) → from ≤ k → k < to → test k ≡ false
+
+-- a is the first address from this one on that passes the test
+pub record IsFirstFrom (test : ℕ → Bool) (from a : ℕ) : Type 0 where
+  pub behind : from ≤ a
+  pub passes : IsTrue (test a)
+  pub least : (k : ℕ) → from ≤ k → k < a → test k ≡ false
+
+-- a is the first address from this one on that passes the test, and lies below `to`
+pub record IsFirstBetween (test : ℕ → Bool) (from to a : ℕ) : Type 0 where
+  pub first : IsFirstFrom test from a
+  pub below : a < to
+
+-- the addresses of the list, which are below words, have their bit set and no others
+pub record MarkBegins (live : List ℕ) (words : ℕ) (bits : List ℕ) : Type 0 where
+  pub room : length bits ≡ words / 64 + 1
+  pub marked : (a : ℕ) → has bits a ≡ list_any (λ b. b == a) live
+
+-- the places of the bits that are set in a word of 64 bits, ascending
+abbrev pub ones_of : ℕ → List ℕ
+ones_of word = filter (λ j. bit_at word j == 1) (range_with_len 0 64)

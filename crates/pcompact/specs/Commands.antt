@@ -1,0 +1,35 @@
+-- The commands of the program. Each has a module of its own, with its words and what a good call prints.
+pub mod Board
+pub mod Summarize
+pub mod Collect
+pub mod Verify
+pub mod Record
+pub mod Replay
+pub mod Upgrade
+pub mod Import
+use Rattle.std.specs.Prelude.{ℕ, List, [], ◌∷◌, MatchBool, bytes_eq}
+use Rattle.clap.specs.Walk.{Text}
+use Rattle.pcompact.specs.Command.{Command}
+
+-- the commands, in the order in which help lists them
+abbrev pub listed : List Command
+listed =
+    Board.board_command
+    ∷ Summarize.summary_command
+    ∷ Collect.collect_command
+    ∷ Verify.verify_command
+    ∷ Record.record_command
+    ∷ Replay.replay_command
+    ∷ Upgrade.upgrade_command
+    ∷ Import.import_command
+    ∷ []
+
+-- the first of these commands that has this name prints such a text
+abbrev pub IsPrintedByOneOf : List Command → Text → List ℕ → Type 0
+IsPrintedByOneOf [] name text = ⊥
+IsPrintedByOneOf (command ∷ others) name text =
+    MatchBool (bytes_eq command.words.top.name name) (command.prints text) (IsPrintedByOneOf others name text)
+
+-- a good call of the command of this name prints such a text
+abbrev pub IsPrintedBy : Text → List ℕ → Type 0
+IsPrintedBy name text = IsPrintedByOneOf listed name text

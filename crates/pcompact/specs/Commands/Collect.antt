@@ -1,0 +1,31 @@
+use Rattle.std.specs.Prelude.{◌≡◌, ℕ, List, Option, Some, IfSome, codes}
+use Rattle.std.specs.Io.KnownBytes.{Appends}
+use Rattle.heap_image.specs.HeapImage.{HeapImage}
+use Rattle.heap_image.specs.ImageText.{text, first_fault}
+use Rattle.heap_image.specs.declared.fault.Fault.{Fault}
+use Rattle.summary.specs.Compaction.{compact}
+use Rattle.collector.specs.Collections.{figures_of}
+use Rattle.heap_image.specs.Reading.{IsRead}
+use Rattle.collector.specs.Streams.{IsOfBytes}
+use Rattle.pcompact.specs.Figures.{IsFigures, figures_line}
+use Rattle.clap.specs.Words.{App, new_app, with_rule}
+use Rattle.pcompact.specs.Arguments.{atomic_rule, file_rule, verbose_rule, workers_rule}
+use Rattle.pcompact.specs.Command.{Command}
+
+-- all of the input was read, which is the text of some image; the text of its compaction was written; and its figures are shown
+abbrev pub IsCollection : Option (List ℕ) → Option (List ℕ) → Option (List ℕ) → Option (List ℕ) → List ℕ → Type 0
+IsCollection left left' took took' shown = (image : HeapImage) × IsRead image left left'
+    × Appends took took' (text (compact image)) × (shown ≡ figures_line (figures_of image))
+
+-- a fault of an image's bytes is the first of the input's
+abbrev pub IsFirstOfBytes : Option (List ℕ) → Fault → Type 0
+IsFirstOfBytes input fault = IsOfBytes fault → IfSome input (λ bytes. first_fault bytes ≡ Some fault)
+
+-- the words of `collect`
+abbrev pub collect_words : App
+collect_words =
+    with_rule (with_rule (with_rule (with_rule (with_rule (new_app (codes "collect")) (file_rule (codes "IMAGE"))) (file_rule (codes "OUT")))
+    workers_rule) atomic_rule) verbose_rule
+
+abbrev pub collect_command : Command
+collect_command = record { words = collect_words; prints = IsFigures }

@@ -1,0 +1,31 @@
+use Rattle.std.specs.Prelude.{◌≡◌, ℕ, List, ◌++◌, Option, codes, decimal, length}
+use Rattle.std.specs.Io.KnownBytes.{Appends}
+use Rattle.heap_image.specs.HeapImage.{HeapImage, IsValid, roots_of}
+use Rattle.heap_image.specs.ImageText.{text}
+use Rattle.heap_image.specs.Reading.{IsRead}
+use Rattle.heap_image.specs.Upgrade.{upgraded}
+use Rattle.clap.specs.Words.{App, new_app, with_rule}
+use Rattle.pcompact.specs.Arguments.{atomic_rule, file_rule, verbose_rule}
+use Rattle.pcompact.specs.Command.{Command}
+
+-- the line with the number of roots of an image
+abbrev pub roots_line : HeapImage → List ℕ
+roots_line image = codes "roots " ++ (decimal (length (roots_of image)) ++ codes "\n")
+
+-- all of the input was read, which is the text of some image; the text of the upgraded one was written; and the number of its roots is shown
+abbrev pub IsUpgrading : Option (List ℕ) → Option (List ℕ) → Option (List ℕ) → Option (List ℕ) → List ℕ → Type 0
+IsUpgrading left left' took took' shown = (image : HeapImage) × IsRead image left left'
+    × Appends took took' (text (upgraded image)) × (shown ≡ roots_line (upgraded image))
+
+-- the line with the number of roots of some valid image, upgraded
+abbrev pub IsRootCount : List ℕ → Type 0
+IsRootCount shown = (image : HeapImage) × IsValid image × (shown ≡ roots_line (upgraded image))
+
+-- the words of `upgrade`
+abbrev pub upgrade_words : App
+upgrade_words =
+    with_rule (with_rule (with_rule (with_rule (new_app (codes "upgrade")) (file_rule (codes "IMAGE"))) (file_rule (codes "OUT"))) atomic_rule)
+    verbose_rule
+
+abbrev pub upgrade_command : Command
+upgrade_command = record { words = upgrade_words; prints = IsRootCount }

@@ -1,0 +1,227 @@
+//! The command `record`.
+ghost use Rattle.std.specs.Prelude.{◌≡◌, codes, false, ℕ, List, IfOk, IfErr, string_bytes, ◌∷◌, []};
+ghost use Rattle.clap.specs.Words.{app_of};
+ghost use Rattle.clap.specs.declared.builder.command.Command.TheViews.{out-Command as fields_of};
+ghost use Rattle.pcompact.specs.CommandLine.{IsCallOf};
+ghost use Rattle.pcompact.specs.Commands.{IsPrintedBy};
+ghost use Rattle.pcompact.specs.Commands.Collect.{IsFirstOfBytes};
+ghost use Rattle.pcompact.specs.Commands.Record.{IsRecording, record_words};
+ghost use Rattle.pcompact.specs.Figures.{IsFigures};
+
+use crate::arguments;
+use crate::done::Done;
+use crate::figures::{LINE_ROOM, tell_figures};
+use crate::file_id::FileId;
+use crate::file_word::{FileWord, Role};
+use crate::files::{failed, must_differ, same_file};
+use crate::output::Output;
+use crate::target::Target;
+use crate::trouble::Trouble;
+use crate::watched::Watched;
+use clap::{ArgMatches, Command};
+use collector::{OpenGate, record_stream};
+use heap_image::{Fault, FromRead, Intake, Outlet, ToWrite};
+use std::alloc::{AllocError, Global};
+use std::rt::Files;
+use std::sync::Wait;
+use std::thread::Threads;
+
+/// The words of `record`.
+pub fn words<'a>(alloc: Global) -> Result<Command<'a>, AllocError>
+    ensures app { IfOk result (λ command. app_of command ≡ record_words) }
+    ensures local { IfOk result (λ command. (fields_of command).has_globals ≡ false) }
+{
+    Command::new(alloc, "record")
+        .about("Collects a heap image, and writes down what each worker did")
+        .arg(arguments::image(alloc))?
+        .arg(arguments::file(alloc, "OUT", "The file for the compacted image"))?
+        .arg(arguments::file(
+            alloc,
+            "SCHEDULE",
+            "The file for the schedule of the workers",
+        ))?
+        .arg(arguments::workers(alloc))?
+        .arg(arguments::atomic(alloc))?
+        .arg(arguments::verbose(alloc))
+}
+
+/// What `record` is asked.
+#[derive(Drop)]
+struct Asked<'a> {
+    /// The file with the image.
+    image: &'a str,
+    /// The file for the compacted one.
+    out: &'a str,
+    /// The file for the schedule.
+    schedule: &'a str,
+    /// How many workers share the work.
+    workers: u32,
+    /// Whether what is written takes its place only once all is done.
+    atomic: bool,
+}
+
+impl<'a> Asked<'a> {
+    fn read(alloc: Global, given: &ArgMatches<'a>) -> Result<Asked<'a>, Trouble<'a>> {
+        Ok(Asked {
+            image: arguments::file_in(alloc, given, "IMAGE")?,
+            out: arguments::file_in(alloc, given, "OUT")?,
+            schedule: arguments::file_in(alloc, given, "SCHEDULE")?,
+            workers: arguments::workers_in(alloc, given)?,
+            atomic: arguments::is_atomic(given),
+        })
+    }
+}
+
+/// Collects one file into another and writes a third with the schedule, and answers what `record`
+/// prints.
+pub fn answer<'a, R: Files + AllocGlobal + Threads + Wait + Sync>(
+    rt: &R,
+    given: &ArgMatches<'a>,
+) -> Result<Done<'a>, Trouble<'a>>
+    ensures { IfOk result (λ done. IsFigures done.text.items) }
+{
+    let asked = Asked::read(rt.alloc(), given)?;
+    let (image, out, schedule) = image_out_and_schedule(rt, &asked)?;
+    let mut image = FromRead::new(image);
+    let Output { file, replacement } = out;
+    let mut written = ToWrite::new(file);
+    let Output {
+        file,
+        replacement: new_schedule,
+    } = schedule;
+    let mut lines = ToWrite::new(file);
+    let line = record_into(rt, &mut image, &mut written, &mut lines, asked.workers);
+    let out = Output {
+        file: written.into_inner(),
+        replacement,
+    };
+    let schedule = Output {
+        file: lines.into_inner(),
+        replacement: new_schedule,
+    };
+    match line {
+        Ok(line) => both_ended(rt, line, out, schedule),
+        Err(fault) => {
+            let trouble = Trouble::from(fault)
+                .if_image(&image.into_inner())
+                .if_failed(&out.file)
+                .if_failed(&schedule.file)
+                .if_workers(asked.workers);
+            schedule.abandon(rt);
+            Err(failed(rt, trouble, out))
+        }
+    }
+}
+
+/// A file to read, and two to write.
+type ImageOutAndSchedule<'a, F> = (Watched<'a, F>, Output<'a, F>, Output<'a, F>);
+
+/// The three files. The first is opened before the others are made or emptied. No two may be one
+/// file, but for the first two where OUT is replaced.
+fn image_out_and_schedule<'a, H: Files + AllocGlobal>(
+    host: &H,
+    asked: &Asked<'a>,
+) -> Result<ImageOutAndSchedule<'a, H::File>, Trouble<'a>> {
+    let image = FileWord::new(Role::Image, asked.image);
+    let out = FileWord::new(Role::Out, asked.out);
+    let schedule = FileWord::new(Role::Schedule, asked.schedule);
+    if !asked.atomic {
+        must_differ(host.alloc(), image, out)?;
+    }
+    must_differ(host.alloc(), image, schedule)?;
+    must_differ(host.alloc(), out, schedule)?;
+    let image = Watched::open(host, image)?;
+    let id = image.id()?;
+    let out = Target::find(host, out, asked.atomic)?;
+    let schedule = Target::find(host, schedule, asked.atomic)?;
+    if let Some((one, other)) = one_file(host, (image.word(), id), &out, &schedule)? {
+        let same = same_file(host.alloc(), one, other);
+        schedule.leave(host);
+        out.leave(host);
+        return Err(same?);
+    }
+    let out = out.begin(host)?;
+    match schedule.begin(host) {
+        Ok(schedule) => Ok((image, out, schedule)),
+        Err(trouble) => Err(failed(host, trouble, out)),
+    }
+}
+
+/// Two of these that are one file and may not be. The image is told by its word and by which file it
+/// is; it may be replaced by OUT.
+fn one_file<'a, H: Files>(
+    host: &H,
+    (image, id): (FileWord<'a>, FileId),
+    out: &Target<'a, H::File>,
+    schedule: &Target<'a, H::File>,
+) -> Result<Option<(FileWord<'a>, FileWord<'a>)>, Trouble<'a>> {
+    Ok(if !out.is_replaced() && out.is(id) {
+        Some((image, out.word()))
+    } else if schedule.is(id) {
+        Some((image, schedule.word()))
+    } else if schedule.is_same(host, out)? {
+        Some((out.word(), schedule.word()))
+    } else {
+        None
+    })
+}
+
+/// What `record` has done, which prints this line and has written two files.
+fn both_ended<'a, H: Files>(
+    host: &H,
+    line: String,
+    out: Output<'a, H::File>,
+    schedule: Output<'a, H::File>,
+) -> Result<Done<'a>, Trouble<'a>>
+    ensures { IfOk result (λ done. done.text.items ≡ string_bytes line) }
+{
+    let out = match out.finish(host) {
+        Ok(out) => out,
+        Err(trouble) => return Err(failed(host, trouble, schedule)),
+    };
+    let mut done = Done {
+        text: line.into_bytes(),
+        out,
+        schedule: None,
+    };
+    match schedule.finish(host) {
+        Ok(schedule) => {
+            done.schedule = schedule;
+            Ok(done)
+        }
+        Err(trouble) => {
+            done.remove(host);
+            Err(trouble)
+        }
+    }
+}
+
+/// Collects the image that the input is the text of, writes the text of the compacted one, and then
+/// the schedule of all that the workers did. What it answers is for standard output: the figures.
+///
+/// Nothing takes memory once a byte is written.
+pub fn record_into<R: AllocGlobal + Threads + Wait + Sync, I: Intake, O: Outlet, L: Outlet>(
+    rt: &R,
+    input: &mut I,
+    output: &mut O,
+    lines: &mut L,
+    workers: u32,
+) -> Result<String, Fault>
+    ensures record { IfOk result (λ shown. IsRecording workers (I.left input.old) (I.left input.new)
+        (O.took output.old) (O.took output.new)
+        (L.took lines.old) (L.took lines.new) (string_bytes shown)) }
+    ensures fault { IfErr result (λ fault. IsFirstOfBytes (I.left input.old) fault) }
+{
+    let alloc = rt.alloc();
+    let mut line = String::with_capacity(alloc, LINE_ROOM)?;
+    let figures = record_stream(alloc, input, output, lines, workers, &OpenGate, rt, rt)?;
+    tell_figures(figures, &mut line)?;
+    Ok(line)
+}
+
+/// A line that calls `record`, and what the contract of the program says of it: it prints the
+/// figures of the collection of some valid image.
+pub fn record_prints_figures()
+    ensures line { IsCallOf (codes "record") (codes "record" ∷ codes "heap.pcheap" ∷ codes "out.pcheap" ∷ codes "schedule" ∷ codes "--workers=2" ∷ []) }
+    ensures prints { (text : List ℕ) → IsPrintedBy (codes "record") text → IsFigures text }
+{}

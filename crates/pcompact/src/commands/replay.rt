@@ -1,0 +1,175 @@
+//! The command `replay`.
+ghost use Rattle.std.specs.Prelude.{◌≡◌, false, ℕ, List, IfOk, IfSome, codes, ◌∷◌, []};
+ghost use Rattle.clap.specs.Words.{app_of};
+ghost use Rattle.clap.specs.declared.builder.command.Command.TheViews.{out-Command as fields_of};
+ghost use Rattle.history.specs.ScheduleText.{schedule_text};
+ghost use Rattle.pcompact.specs.CommandLine.{IsCallOf};
+ghost use Rattle.pcompact.specs.Commands.{IsPrintedBy};
+ghost use Rattle.pcompact.specs.Commands.Replay.{IsReplay, IsReplayOf, end_line, replay_words};
+
+use crate::arguments;
+use crate::done::Done;
+use crate::file_word::{FileWord, Role};
+use crate::files::{must_differ, same_file};
+use crate::reason::LineReason;
+use crate::trouble::Trouble;
+use crate::watched::Watched;
+use clap::{ArgMatches, Command};
+use heap_image::{Fault, FromRead, Intake, read_image_by_threads};
+use history::{End, Schedule, explain, read_schedule, replay, write_schedule};
+use std::alloc::{AllocError, Global};
+use std::io::{ErrorKind, Read};
+use std::rt::Files;
+use std::thread::Threads;
+use summary::{Plan, Survey};
+
+/// The words of `replay`.
+pub fn words<'a>(alloc: Global) -> Result<Command<'a>, AllocError>
+    ensures app { IfOk result (λ command. app_of command ≡ replay_words) }
+    ensures local { IfOk result (λ command. (fields_of command).has_globals ≡ false) }
+{
+    Command::new(alloc, "replay")
+        .about("Follows a schedule word by word, and prints it with each reply")
+        .arg(arguments::image(alloc))?
+        .arg(arguments::file(alloc, "SCHEDULE", "A file with a schedule"))?
+        .arg(arguments::verbose(alloc))
+}
+
+/// What `replay` is asked.
+#[derive(Drop)]
+struct Asked<'a> {
+    /// The file with the image.
+    image: &'a str,
+    /// The file with the schedule.
+    schedule: &'a str,
+}
+
+impl<'a> Asked<'a> {
+    fn read(alloc: Global, given: &ArgMatches<'a>) -> Result<Asked<'a>, Trouble<'a>> {
+        Ok(Asked {
+            image: arguments::file_in(alloc, given, "IMAGE")?,
+            schedule: arguments::file_in(alloc, given, "SCHEDULE")?,
+        })
+    }
+}
+
+/// Replays the schedule in a file on the image in another, and answers what `replay` prints.
+pub fn answer<'a, R: Files + AllocGlobal + Threads + Sync>(
+    rt: &R,
+    given: &ArgMatches<'a>,
+) -> Result<Done<'a>, Trouble<'a>>
+    ensures { IfOk result (λ done. IsReplay done.text.items) }
+{
+    let asked = Asked::read(rt.alloc(), given)?;
+    let image = FileWord::new(Role::Image, asked.image);
+    let schedule = FileWord::new(Role::Schedule, asked.schedule);
+    must_differ(rt.alloc(), image, schedule)?;
+    let image = Watched::open(rt, image)?;
+    let mut schedule = Watched::open(rt, schedule)?;
+    if image.id()?.is_same(schedule.id()?) {
+        return Err(same_file(rt.alloc(), image.word(), schedule.word())?);
+    }
+    let mut image = FromRead::new(image);
+    match replay_text(rt.alloc(), &mut image, &mut schedule, rt) {
+        Ok(text) => Ok(Done::printing(text)),
+        Err(Unreplayed { fault, line }) => Err(
+            Trouble::from(fault)
+                .if_image(&image.into_inner())
+                .if_line(&schedule, line),
+        ),
+    }
+}
+
+/// A fault of a replay.
+#[derive(Debug, Clone, Copy, PartialEq, Eq)]
+pub struct Unreplayed {
+    pub fault: Fault,
+    /// Of fault 14, why the line isn't taken, where there was memory to find it out.
+    pub line: Option<LineReason>,
+}
+
+impl From<Fault> for Unreplayed {
+    fn from(fault: Fault) -> Unreplayed {
+        Unreplayed { fault, line: None }
+    }
+}
+
+impl From<AllocError> for Unreplayed {
+    fn from(_refused: AllocError) -> Unreplayed {
+        Unreplayed::from(Fault::Memory)
+    }
+}
+
+/// Replays a schedule on a copy of the image, and answers its lines, each with its reply, and
+/// whether the collection was finished.
+pub fn replay_text<R: Intake, S: Read, T: Threads + Sync>(
+    alloc: Global,
+    input: &mut R,
+    schedule: &mut S,
+    threads: &T,
+) -> Result<Vec<u8>, Unreplayed>
+    ensures { IfOk result (λ shown. IsReplayOf (R.left input.old) (R.left input.new)
+        (S.remaining schedule.old) shown.items) }
+{
+    let image = read_image_by_threads(alloc, input, threads)?;
+    let asked = schedule_in(alloc, schedule)?;
+    let survey = Survey::of(alloc, &image, threads)?;
+    let replayed = match replay(alloc, &image, &survey, &asked) {
+        Ok(replayed) => replayed,
+        Err(fault) => return Err(refused(alloc, survey.plan(), &asked, fault)),
+    };
+    let mut text = write_schedule(alloc, &replayed.lines)?;
+    text.extend_from_slice(end_line(&replayed.ended).as_bytes())?;
+    Ok(text)
+}
+
+/// The schedule that a file has the text of.
+fn schedule_in<S: Read>(alloc: Global, file: &mut S) -> Result<Schedule, Unreplayed>
+    ensures { IfOk result (λ schedule. IfSome (S.remaining file.old) (λ bytes. bytes ≡ schedule_text schedule)) }
+{
+    let mut text = Vec::new(alloc);
+    match file.read_to_end(&mut text) {
+        Ok(_) => read_schedule(alloc, text.as_slice()).map_err(malformed),
+        Err(error) if error.kind() == ErrorKind::OutOfMemory => Err(Unreplayed::from(
+            Fault::Memory,
+        )),
+        Err(_) => Err(Unreplayed::from(Fault::Io)),
+    }
+}
+
+/// A fault of the text of a schedule.
+fn malformed(fault: Fault) -> Unreplayed {
+    let line = match fault {
+        Fault::Schedule(_) => Some(LineReason::Malformed),
+        _ => None,
+    };
+    Unreplayed { fault, line }
+}
+
+/// A fault of the replay of a schedule.
+fn refused(alloc: Global, plan: &Plan, asked: &Schedule, fault: Fault) -> Unreplayed {
+    let line = match explain(alloc, plan, asked) {
+        Ok(Some(refused)) if fault == Fault::Schedule(refused.number) => {
+            Some(LineReason::Refused(refused.cause))
+        }
+        _ => None,
+    };
+    Unreplayed { fault, line }
+}
+
+/// The last line: whether all regions to be filled are settled.
+fn end_line(ended: &End) -> &'static str
+    ensures { result.now ≡ end_line ended.now }
+{
+    match ended {
+        End::Finished(_) => "finished\n",
+        End::Open => "open\n",
+    }
+}
+
+/// A line that calls `replay`, and what the contract of the program says of it: it prints the
+/// replay of some schedule on some valid image.
+pub fn replay_prints_a_replay()
+    ensures line { IsCallOf (codes "replay") (codes "replay" ∷ codes "heap.pcheap" ∷ codes "schedule" ∷ []) }
+    ensures prints { (text : List ℕ) → IsPrintedBy (codes "replay") text → IsReplay text }
+{}

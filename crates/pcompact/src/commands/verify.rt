@@ -1,0 +1,133 @@
+//! The command `verify`.
+ghost use Rattle.std.specs.Prelude.{◌≡◌, codes, false, ℕ, List, IfOk, ◌∷◌, []};
+ghost use Rattle.clap.specs.Words.{app_of};
+ghost use Rattle.clap.specs.declared.builder.command.Command.TheViews.{out-Command as fields_of};
+ghost use Rattle.pcompact.specs.CommandLine.{IsCallOf};
+ghost use Rattle.pcompact.specs.Commands.{IsPrintedBy};
+ghost use Rattle.pcompact.specs.Commands.Verify.{IsVerdictOf, verify_words};
+
+use crate::arguments;
+use crate::done::Done;
+use crate::failure::Failure;
+use crate::file_word::{FileWord, Role};
+use crate::trouble::Trouble;
+use crate::watched::Watched;
+use clap::{ArgMatches, Command};
+use collector::{Verdict, verify};
+use heap_image::{Fault, FromRead, Intake, read_image_by_threads};
+use std::alloc::{AllocError, Global};
+use std::rt::Files;
+use std::thread::Threads;
+
+/// The words of `verify`.
+pub fn words<'a>(alloc: Global) -> Result<Command<'a>, AllocError>
+    ensures app { IfOk result (λ command. app_of command ≡ verify_words) }
+    ensures local { IfOk result (λ command. (fields_of command).has_globals ≡ false) }
+{
+    Command::new(alloc, "verify")
+        .about("Says whether a heap image is the compaction of another, or where they differ")
+        .arg(arguments::file(alloc, "BEFORE", "A file with a heap image"))?
+        .arg(arguments::file(
+            alloc,
+            "AFTER",
+            "A file with the image that should be its compaction",
+        ))?
+        .arg(arguments::verbose(alloc))
+}
+
+/// What `verify` is asked.
+#[derive(Drop)]
+struct Asked<'a> {
+    /// The file with the image as it was.
+    before: &'a str,
+    /// The file with the image that should be its compaction.
+    after: &'a str,
+}
+
+impl<'a> Asked<'a> {
+    fn read(alloc: Global, given: &ArgMatches<'a>) -> Result<Asked<'a>, Trouble<'a>> {
+        Ok(Asked {
+            before: arguments::file_in(alloc, given, "BEFORE")?,
+            after: arguments::file_in(alloc, given, "AFTER")?,
+        })
+    }
+}
+
+/// What `verify` prints where one file has the compaction of another.
+pub fn answer<'a, R: Files + AllocGlobal + Threads + Sync>(
+    rt: &R,
+    given: &ArgMatches<'a>,
+) -> Result<Done<'a>, Trouble<'a>>
+    ensures { IfOk result (λ done. done.text.items ≡ codes "same\n") }
+{
+    let asked = Asked::read(rt.alloc(), given)?;
+    match compared(rt, &asked)? {
+        Verdict::Same => Ok(Done::printing(Vec::from_slice(rt.alloc(), b"same\n")?)),
+        difference => {
+            let after = FileWord::new(Role::After, asked.after);
+            Err(Trouble::new(Failure::Differs(difference)).about(after))
+        }
+    }
+}
+
+/// The verdict on two files, of which both are opened before one is read.
+fn compared<'a, R: Files + AllocGlobal + Threads + Sync>(
+    rt: &R,
+    asked: &Asked<'a>,
+) -> Result<Verdict, Trouble<'a>> {
+    let before = Watched::open(rt, FileWord::new(Role::Before, asked.before))?;
+    let after = Watched::open(rt, FileWord::new(Role::After, asked.after))?;
+    let mut before = FromRead::new(before);
+    let mut after = FromRead::new(after);
+    match verify_images(rt.alloc(), &mut before, &mut after, rt) {
+        Ok(verdict) => Ok(verdict),
+        Err(Unverified::Before(fault)) => {
+            Err(Trouble::from(fault).if_image(&before.into_inner()))
+        }
+        Err(Unverified::After(fault)) => Err(Trouble::from(fault).if_image(&after.into_inner())),
+        Err(Unverified::Neither(fault)) => Err(Trouble::from(fault)),
+    }
+}
+
+/// A fault of a comparison, and of which image it is.
+#[derive(Debug, Clone, Copy, PartialEq, Eq)]
+pub enum Unverified {
+    /// Of the image as it was, or of reading it.
+    Before(Fault),
+    /// Of the image that should be its compaction, or of reading it.
+    After(Fault),
+    /// Of neither: of comparing them.
+    Neither(Fault),
+}
+
+/// Whether the image that comes second is the compaction of the first, or the first difference.
+///
+/// A fault is the first of `before`, else of `after`, or want of memory.
+pub fn verify_images<R: Intake, S: Intake, T: Threads + Sync>(
+    alloc: Global,
+    before: &mut R,
+    after: &mut S,
+    threads: &T,
+) -> Result<Verdict, Unverified>
+    ensures { IfOk result (λ verdict. IsVerdictOf (R.left before.old) (R.left before.new)
+        (S.left after.old) (S.left after.new) verdict) }
+{
+    let was = match read_image_by_threads(alloc, before, threads) {
+        Ok(image) => image,
+        Err(fault) => return Err(Unverified::Before(fault)),
+    };
+    let is = match read_image_by_threads(alloc, after, threads) {
+        Ok(image) => image,
+        Err(fault) => return Err(Unverified::After(fault)),
+    };
+    match verify(alloc, &was, &is, threads) {
+        Ok(verdict) => Ok(verdict),
+        Err(fault) => Err(Unverified::Neither(fault)),
+    }
+}
+
+/// A line that calls `verify`, and what the contract of the program says of it: it prints `same`.
+pub fn verify_prints_same()
+    ensures line { IsCallOf (codes "verify") (codes "verify" ∷ codes "heap.pcheap" ∷ codes "out.pcheap" ∷ []) }
+    ensures prints { (text : List ℕ) → IsPrintedBy (codes "verify") text → text ≡ codes "same\n" }
+{}

@@ -1,0 +1,146 @@
+//! `Redirections`: what becomes of each reference, by one count.
+
+ghost use Rattle.std.specs.Prelude.{◌≡◌, ℕ, ◌+◌, ◌*◌, ◌<◌, ◌≤◌, ◌==◌, nat_lt, map, All, IfOk, IsTrue, Contains};
+ghost use Rattle.std.specs.Int.{bit_at};
+ghost use Rattle.heap_image.specs.HeapImage.{heap_words, is_null_or_live};
+ghost use Rattle.summary.specs.NewAddresses.{prefix_end, new_address};
+ghost use Rattle.summary.specs.Compaction.{redirected};
+ghost use Rattle.summary.specs.Redirections.{AreBits, is_counted, counted_below};
+
+use heap_image::Image;
+use mark_bitmap::Marks;
+use std::alloc::{AllocError, Global};
+use std::marker::Model;
+use std::snapshot::Snapshot;
+
+/// What becomes of each reference of an image.
+///
+/// Bit 0 is null's, and bit `a + 1` that of address `a`, as in references. The bits of null, of all words below the prefix
+/// end and of all other live words are set. So a reference becomes the number of bits that are set below its own, and null,
+/// an object of the prefix and one that slides need no case of their own.
+///
+/// A contract sees the image that they were made of, as it was then.
+#[derive(Drop)]
+pub(crate) struct Redirections {
+    image: Snapshot<Image>,
+    bits: Vec<u64>,
+    /// For each word of bits, how many are set in all words before it.
+    ranks: Vec<u32>,
+}
+
+impl Model for Redirections {
+    ghost use Rattle.heap_image.specs.HeapImage.{HeapImage};
+    ghost use Rattle.summary.specs.Redirections.{AreRedirections};
+
+    ghost Value = { HeapImage };
+
+    ghost view = { λ r. r.image.value };
+
+    ghost invariant = { λ r. AreRedirections r.image.value r.bits.items r.ranks.items };
+}
+
+impl Redirections {
+    /// The redirections of an image with these marks, whose dense prefix ends at `prefix`.
+    ///
+    /// Takes 12 bytes for each 64 words of the heap.
+    pub(crate) fn of(
+        alloc: Global,
+        image: &Image,
+        marks: &Marks,
+        prefix: u64,
+    ) -> Result<Redirections, AllocError>
+        requires marks { marks.now ≡ image.now }
+        requires prefix { prefix ≡ prefix_end image.now }
+        ensures { IfOk result (λ redirections. redirections ≡ image.now) }
+    {
+        let words = image.len() / 64 + 1;
+        let mut bits = Vec::with_capacity(alloc, words as usize)?;
+        let mut ranks = Vec::with_capacity(alloc, words as usize)?;
+        let mut carried = 1;
+        let mut rank = 0;
+        for i in 0..words {
+            let shifted = bits_behind(marks, prefix, i);
+            let word = with_first(shifted, carried);
+            carried = shifted >> 63;
+            bits.push(word)?;
+            ranks.push(rank)?;
+            rank += word.count_ones();
+        }
+        Ok(Redirections {
+            image: Snapshot::of(image),
+            bits,
+            ranks,
+        })
+    }
+
+    /// The new address of the live object at `a`.
+    #[inline]
+    pub(crate) fn new_address(&self, a: u64) -> u64
+        requires { Contains self.now.live a }
+        ensures { result ≡ new_address self.now a }
+    {
+        // The image is valid by what they keep.
+        let _image = &self.image;
+        self.rank(a + 1) - 1
+    }
+
+    /// A reference, as it is once its object has moved: null stays null.
+    #[inline]
+    pub(crate) fn redirected(&self, reference: u64) -> u64
+        requires { IsTrue (is_null_or_live self.now reference) }
+        ensures { result ≡ redirected self.now reference }
+    {
+        let _image = &self.image;
+        self.rank(reference)
+    }
+
+    /// Redirects each of these references.
+    pub(crate) fn redirect_all(&self, references: &mut [u64])
+        requires { All (λ w. IsTrue (is_null_or_live self.now w)) references.old }
+        ensures { references.new ≡ map (redirected self.now) references.old }
+    {
+        for reference in references.iter_mut() {
+            *reference = self.redirected(*reference);
+        }
+    }
+
+    /// How many bits below bit `x` are set.
+    #[inline]
+    fn rank(&self, x: u64) -> u64
+        requires { x ≤ heap_words self.now }
+        ensures { result ≡ counted_below self.now x }
+    {
+        let i = (x / 64) as usize;
+        let below = self.bits[i] & ((1 << (x % 64)) - 1);
+        u64::from(self.ranks[i]) + u64::from(below.count_ones())
+    }
+}
+
+/// The 64 bits behind the first one of word `i`: those of the addresses from `64 * i` on.
+#[inline]
+fn bits_behind(marks: &Marks, prefix: u64, i: u64) -> u64
+    requires prefix { prefix ≡ prefix_end marks.now }
+    requires inside { 64 * i ≤ heap_words marks.now }
+    ensures { AreBits (is_counted marks.now) (64 * i + 1) result }
+{
+    let live = marks.live_bits(i);
+    low_bits(prefix.saturating_sub(64 * i)) | live
+}
+
+/// The word whose lowest `n` bits are set, or all if there are no more.
+#[inline]
+fn low_bits(n: u64) -> u64
+    ensures { (j : ℕ) → j < 64 → (bit_at result j == 1) ≡ nat_lt j n }
+{
+    if n < 64 { (1 << n) - 1 } else { u64::MAX }
+}
+
+/// The bits moved up by one, behind a new first one. The last is lost.
+#[inline]
+fn with_first(bits: u64, first: u64) -> u64
+    requires { first ≤ 1 }
+    ensures first { bit_at result 0 ≡ first }
+    ensures others { (j : ℕ) → j < 63 → bit_at result (j + 1) ≡ bit_at bits j }
+{
+    bits << 1 | first
+}

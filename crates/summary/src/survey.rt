@@ -1,0 +1,64 @@
+//! `Survey`: the marks of an image and its plan.
+ghost use Rattle.std.specs.Prelude.{◌≡◌, IfOk, IfErr};
+ghost use Rattle.heap_image.specs.declared.fault.Fault.TheVariants.{Memory};
+
+use crate::plan::Plan;
+use heap_image::{Fault, Image};
+use mark_bitmap::Marks;
+use std::alloc::Global;
+use std::marker::Model;
+use std::thread::Threads;
+
+/// What is found out about an image before anything moves: its marks, and the plan of its collection.
+///
+/// A contract sees them as the image that they were made of, as it was then.
+#[derive(Drop)]
+pub struct Survey {
+    marks: Marks,
+    plan: Plan,
+}
+
+impl Model for Survey {
+    ghost use Rattle.std.specs.Prelude.{◌≡◌};
+    ghost use Rattle.heap_image.specs.HeapImage.{HeapImage};
+
+    ghost Value = { HeapImage };
+
+    ghost view = { λ s. s.plan };
+
+    ghost invariant = { λ s. s.marks ≡ s.plan };
+}
+
+impl Survey {
+    /// The survey of an image. The regions are counted by as many threads as there are processors.
+    ///
+    /// The only error is [`Fault::Memory`], where memory is refused.
+    pub fn of(
+        alloc: Global,
+        image: &Image,
+        threads: &(impl Threads + Sync),
+    ) -> Result<Survey, Fault>
+        ensures survey { IfOk result (λ survey. survey ≡ image.now) }
+        ensures fault { IfErr result (λ fault. fault ≡ Memory) }
+    {
+        let marks = Marks::of(alloc, image)?;
+        let plan = Plan::of(alloc, image, &marks, threads)?;
+        Ok(Survey { marks, plan })
+    }
+
+    /// The plan.
+    #[inline]
+    pub fn plan(&self) -> &Plan
+        ensures { result.now ≡ self.now }
+    {
+        &self.plan
+    }
+
+    /// The marks.
+    #[inline]
+    pub fn marks(&self) -> &Marks
+        ensures { result.now ≡ self.now }
+    {
+        &self.marks
+    }
+}

@@ -1,0 +1,132 @@
+"""What `tests/commands` runs over heap dumps. `tests/imports` compares what comes of many more."""
+import dataclasses
+import os
+import pathlib
+
+import dump_model
+import dump_writer
+import model
+from program import TOP, Answer, Tried, fault, usage
+
+DUMP = dump_writer.small().text()
+FULL = pathlib.Path("/dev/full")
+FAULT_13 = "13 input or output"
+OLD = b"what stood there before" * 40
+CUT = f"byte {len(DUMP) - 1}: the dump ends here, inside a record"
+NAME = "byte 0: this is no heap dump of version 1.0.1 or 1.0.2"
+SAME = Answer(2, err="pcompact: same file\n")
+IRREGULAR = Answer(2, err="pcompact: not a regular file\n")
+
+
+def imported(data: bytes, name: str = "out", **options) -> Answer:
+    """What a good import of this dump answers and makes."""
+    made = dump_model.make(data, **options)
+    return Answer(0, f"{made.line}\n", made={name: made.image})
+
+
+def refused(text: str, made: dict[str, bytes | None] | None = None) -> Answer:
+    return Answer(1, err=f"pcompact: {text}\n", made=made or {})
+
+
+def try_imports(tried: Tried) -> None:
+    """Dumps as images, with each option, and what the other commands make of these."""
+    tried.write("dump", DUMP)
+    tried.run("import dump out", imported(DUMP))
+    for log in (3, 9, 16):
+        tried.run(f"import dump out --region-log {log}", imported(DUMP, region_log=log))
+    tried.run("import dump out --allowance 18446744073709551615", imported(DUMP, allowance=2**64 - 1))
+    tried.run("import --live-only dump out", imported(DUMP, live_only=True))
+    for flags in ("--verbose", "--atomic", "--atomic --verbose"):
+        tried.run(f"import dump {flags} out --live-only --region-log=4 --allowance=5",
+                  imported(DUMP, region_log=4, allowance=5, live_only=True))
+    # A file that is longer than the image.
+    tried.write("longer", DUMP * 40)
+    tried.run("import dump longer --region-log 3", Answer(0, imported(DUMP, region_log=3).out))
+    if tried.read("longer") != dump_model.make(DUMP, 3).image:
+        tried.is_wrong("a file is not emptied before an image is written")
+    for kept in sorted((TOP / "examples" / "dumps").glob("*.hprof")):
+        try_collected(tried, kept.read_bytes())
+
+
+def try_collected(tried: Tried, data: bytes) -> None:
+    """An imported heap, whole and of its live objects alone, and what a collection makes of it."""
+    tried.write("dump", data)
+    whole, live = dump_model.make(data, 6), dump_model.make(data, 6, live_only=True)
+    tried.run("import dump whole --region-log 6", Answer(0, f"{whole.line}\n", made={"whole": whole.image}))
+    tried.run("import dump live --region-log 6 --live-only", Answer(0, f"{live.line}\n", made={"live": live.image}))
+    after = model.Collection(model.decode(whole.image))
+    tried.run("summary whole", Answer(0, after.report()))
+    tried.run("collect whole out --workers 2", Answer(0, after.figures(), made={"out": model.encode(after.compaction())}))
+
+
+def try_refused_dumps(tried: Tried) -> None:
+    """What is no dump, or is too large, with the file for the image there or not: it stays as it was."""
+    large = dump_writer.Writer()
+    large.record(0x0C, large.root(0xFF, 64) + large.primitives(64, 8, [7] * 16) + large.primitives(4096, 11, [0] * 131_072))
+    whole = large.text()
+    rows = [("", b"", "byte 0: the dump ends here, inside a record"), ("", OLD, NAME), ("", DUMP[:-1], CUT),
+            ("--live-only", DUMP[:-1], CUT), ("--atomic", DUMP[:-1], CUT),
+            ("", dump_writer.Writer().text(), "byte 31: the dump ends without a heap"),
+            ("--region-log 3", whole, dump_model.make(whole, 3).line)]
+    for words, data, said in rows:
+        tried.write("dump", data)
+        tried.run(f"import dump out {words}", refused(said, {"out": None}))
+        tried.write("old", OLD)
+        tried.run(f"import dump old {words}", refused(said))
+        if tried.read("old") != OLD:
+            tried.is_wrong(f"import {words}: the file is changed where the dump gives no image")
+    tried.run("import dump out --region-log 3 --live-only", imported(whole, region_log=3, live_only=True))
+
+
+def try_import_words(tried: Tried) -> None:
+    """Words that are no call of `import`, and the numbers of its options."""
+    tried.write("dump", DUMP)
+    nothing = {"out": None}
+    missing = "error: the following required arguments were not provided:\n"
+    tried.run("import dump", usage(f"{missing}  <IMAGE>\n"))
+    tried.run("import", usage(f"{missing}  <DUMP>\n  <IMAGE>\n"))
+    tried.run("import dump out more", usage("error: unexpected argument 'more' found\n"))
+    for option, value, said in (("--region-log <k>", "2", "2 is not in 3..=16"), ("--region-log <k>", "17", "17 is not in 3..=16"),
+                                ("--region-log <k>", "nine", "invalid digit found in string"),
+                                ("--allowance <m>", "18446744073709551616", "number too large to fit in target type"),
+                                ("--allowance <m>", "1.5", "invalid digit found in string")):
+        answer = usage(f"error: invalid value '{value}' for '{option}': {said}\n")
+        tried.run(f"import dump out {option.split()[0]} {value}", dataclasses.replace(answer, made=nothing))
+    for option in ("--region-log 3", "--allowance 3", "--live-only"):
+        name = {"--region-log 3": "--region-log <k>", "--allowance 3": "--allowance <m>"}.get(option, option)
+        tried.run(f"import dump out {option} {option}", usage(f"error: the argument '{name}' cannot be used multiple times\n"))
+        tried.run(f"upgrade base out {option}", usage(f"error: unexpected argument '{option.split()[0]}' found\n"))
+
+
+def try_import_files(tried: Tried) -> None:
+    """Files that aren't there, can't be read or written, are named twice, or can't be read twice."""
+    tried.write("dump", DUMP)
+    (tried.folder / "hard dump").hardlink_to(tried.folder / "dump")
+    for name in ("nothing", "nothing/dump", "dump/image", "/proc/self/mem"):
+        tried.run(f"import {name} out", fault(FAULT_13, {"out": None}))
+    for name in ("folder", "nothing/out"):
+        tried.run(f"import dump {name}", fault(FAULT_13))
+    for name in ("dump", "./dump", "hard dump", str(tried.folder / "dump")):
+        tried.run(["import", "dump", name], SAME)
+        tried.run(["import", name, "dump"], SAME)
+    tried.run("import folder out", dataclasses.replace(IRREGULAR, made={"out": None}))
+    tried.run("import /dev/null out", dataclasses.replace(IRREGULAR, made={"out": None}))
+    tried.run("import /dev/stdin out", dataclasses.replace(IRREGULAR, made={"out": None}), input=DUMP)
+    with (tried.folder / "dump").open("rb") as dump:
+        tried.run("import /dev/stdin out", imported(DUMP), stdin=dump)
+    tried.run("import dump /dev/full", fault(FAULT_13))
+    with FULL.open("wb") as full:
+        tried.run("import dump out", fault(FAULT_13, imported(DUMP).made), stdout=full)
+        tried.run("import dump out --atomic", fault(FAULT_13, {"out": None}), stdout=full)
+        tried.write("cut", DUMP[:-1])
+        tried.run("import cut out", Answer(1, made={"out": None}), stderr=full)
+    who = {"user": "nobody"} if os.geteuid() == 0 else {}
+    tried.run("import dump new", fault(FAULT_13, {"new": None}), **who)
+    (tried.folder / "dump").chmod(0)
+    tried.run("import dump out", fault(FAULT_13, {"out": None}), **who)
+    (tried.folder / "dump").chmod(0o600)
+    if tried.read("dump") != DUMP:
+        tried.is_wrong("a dump that was named twice is changed")
+
+
+GROUPS = (try_imports, try_refused_dumps, try_import_words, try_import_files)
