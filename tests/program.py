@@ -98,7 +98,10 @@ def states_of(process: int) -> str:
     return " ".join(stat.read_text().rpartition(")")[2].split()[0] for stat in stats)
 
 
+END_OF_USAGE = "\nFor more information, try '--help'.\n"
+
+
 def is_told(err: str, answer: Answer) -> bool:
-    """Whether standard error has the text. A text of usage must begin as given."""
-    is_usage = answer.status == 2 and answer.err.startswith("error: ")
-    return err.startswith(answer.err) and err.endswith("try '--help'.\n") if is_usage else err == answer.err
+    """Whether standard error has the text. A text of usage that is given without its end must begin so."""
+    is_begun = answer.status == 2 and answer.err.startswith("error: ") and not answer.err.endswith(END_OF_USAGE)
+    return err.startswith(answer.err) and err.endswith(END_OF_USAGE) if is_begun else err == answer.err

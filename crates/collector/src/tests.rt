@@ -1,4 +1,5 @@
 //! Tests of what no clause says: the worked verdicts, heaps made from seeds, and queues that two threads steal from.
+mod library;
 mod roots;
 
 use crate::{Gate, OpenGate, Ready, Thief, Verdict, verify};

@@ -3,9 +3,8 @@ ghost use Rattle.std.specs.Prelude.{◌≡◌, IfOk};
 ghost use Rattle.heap_image.specs.ImageText.{text};
 ghost use Rattle.summary.specs.Compaction.{compact};
 
-use super::BASE_FRONT;
-use super::files::{base, compacted};
-use collector::{OpenGate, collect};
+use super::{BASE_LIVE, BASE_WORDS, MOVED_LIVE, MOVED_WORDS, image_text};
+use crate::{OpenGate, collect};
 use heap_image::{Fault, Image, decode, encode};
 use std::sync::Wait;
 use std::test::Fail;
@@ -26,12 +25,11 @@ fn text_after<R: AllocGlobal + Threads + Wait + Sync>(
 }
 
 #[test]
-fn the_base_heap_is_collected_by_the_library(rt: HostRuntime) -> Result<(), Fail> {
-    let image = decode(rt.alloc(), base(rt.alloc())?.as_slice())?;
+fn the_base_heap_is_collected(rt: HostRuntime) -> Result<(), Fail> {
+    let before = image_text(rt.alloc(), (3, 0), &BASE_WORDS, &BASE_LIVE)?;
+    let image = decode(rt.alloc(), before.as_slice())?;
     let after = text_after(&rt, image)?;
-    assert_eq!(rt;
-        after.as_slice(),
-        compacted(rt.alloc(), BASE_FRONT, 129)?.as_slice()
-    );
+    let moved = image_text(rt.alloc(), (3, 0), &MOVED_WORDS, &MOVED_LIVE)?;
+    assert_eq!(rt; after.as_slice(), moved.as_slice());
     Ok(())
 }
