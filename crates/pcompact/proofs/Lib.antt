@@ -1,4 +1,1 @@
-pub mod Tallying
-pub mod Sweeping
-pub mod Totals
 pub mod CommandLineLemmas

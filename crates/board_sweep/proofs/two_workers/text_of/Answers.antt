@@ -3,12 +3,12 @@ use Rattle.std.specs.Prelude.{◌++◌, codes}
 use Rattle.std.proofs.lemmas.List.{append-nil}
 use Rattle.claim_board.specs.Boards.{moves, mine}
 use Rattle.history.specs.MoveTable.{region_count}
-use Rattle.pcompact.specs.declared.commands.board.tally.Tally.{Tally}
-use Rattle.pcompact.specs.Commands.Board.Tallies.{claims_in, completions_in}
-use Rattle.pcompact.specs.Commands.Board.Report.{lines_of, report_of}
-use Rattle.pcompact.proofs.Totals.{lines-of_both}
-use Rattle.pcompact.proofs.commands.board.text_of.Goals as goal
-use Rattle.pcompact.proofs.commands.board.text_of.Goals.{then-branch+in_ok-push_str, else-branch}
+use Rattle.board_sweep.specs.declared.tally.Tally.{Tally}
+use Rattle.board_sweep.specs.Tallies.{claims_in, completions_in}
+use Rattle.board_sweep.specs.Report.{lines_of, report_of}
+use Rattle.board_sweep.proofs.Totals.{lines-of_both}
+use Rattle.board_sweep.proofs.two_workers.text_of.Goals as goal
+use Rattle.board_sweep.proofs.two_workers.text_of.Goals.{then-branch+in_ok-push_str, else-branch}
 
 pub returns : goal.returns
 returns c =

@@ -6,8 +6,8 @@ use Rattle.history.specs.History.{IsLegal, calls_by, state_of}
 use Rattle.history.specs.declared.entry.Entry.{Entry}
 use Rattle.claim_board.specs.declared.board.Board.{Board}
 use Rattle.claim_board.specs.Boards.{moves, identity, board_of, worker, mine}
-use Rattle.pcompact.specs.declared.commands.board.sweeper.Swept.{Swept}
-use Rattle.pcompact.specs.Commands.Board.Tallies.{AreTallies}
+use Rattle.board_sweep.specs.declared.sweeper.Swept.{Swept}
+use Rattle.board_sweep.specs.Tallies.{AreTallies}
 
 -- this worker of the board has swept, and its tallies count its own calls
 pub record IsSweptBy (of : Board) (number : ℕ) (swept : Swept) : Type 0 where

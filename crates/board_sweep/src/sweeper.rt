@@ -3,9 +3,9 @@ ghost use Rattle.std.specs.Prelude.{◌≡◌, ◌<◌, [], IfOk};
 ghost use Rattle.history.specs.MoveTable.{region_count};
 ghost use Rattle.claim_board.specs.Boards.{moves as moves_of, identity, board_of, worker, mine, caller};
 ghost use Rattle.claim_board.specs.Tickets.{IsUnused, IsTicketOf};
-ghost use Rattle.pcompact.specs.Commands.Board.Tallies.{Adds, AreTallies};
+ghost use Rattle.board_sweep.specs.Tallies.{Adds, AreTallies};
 
-use super::tally::Tally;
+use crate::tally::Tally;
 use claim_board::{
     Board, Pass, Ticket, appended_calls_are_gained, one_more_source_is_drained,
     swept_tickets_have_none_left,

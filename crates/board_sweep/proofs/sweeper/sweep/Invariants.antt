@@ -2,8 +2,8 @@ use Rattle.std.proofs.Common.{◌≡◌, ◌≤◌, ℕ}
 use Rattle.std.specs.Prelude.{count_by}
 use Rattle.history.specs.History.{is_grant}
 use Rattle.claim_board.specs.Boards.{board_of, worker, mine}
-use Rattle.pcompact.specs.Commands.Board.Tallies.{AreTallies, completes}
-use Rattle.pcompact.proofs.commands.board.sweeper.sweep.Given as goal
+use Rattle.board_sweep.specs.Tallies.{AreTallies, completes}
+use Rattle.board_sweep.proofs.sweeper.sweep.Given as goal
 
 -- what was done in the regions so far, and nothing in the others
 abbrev pub invariant-loop-region : goal.invariant-loop-region

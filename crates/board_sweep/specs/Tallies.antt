@@ -4,7 +4,7 @@ use Rattle.history.specs.declared.event.Event.{Event}
 use Rattle.history.specs.declared.event.Event.TheVariants.{Complete}
 use Rattle.history.specs.declared.entry.Entry.{Entry}
 use Rattle.history.specs.History.{is_grant}
-use Rattle.pcompact.specs.declared.commands.board.tally.Tally.{Tally}
+use Rattle.board_sweep.specs.declared.tally.Tally.{Tally}
 
 -- the event completes the region
 abbrev pub is_completion : ℕ → Event → Bool

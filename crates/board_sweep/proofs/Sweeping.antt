@@ -6,8 +6,8 @@ use Rattle.std.proofs.lemmas.List.{get_or_append_left, length-append}
 use Rattle.std.proofs.Math.Seq.{get_or-append_seam}
 use Rattle.history.specs.declared.entry.Entry.{Entry}
 use Rattle.history.specs.History.{is_grant}
-use Rattle.pcompact.specs.declared.commands.board.tally.Tally.{Tally}
-use Rattle.pcompact.specs.Commands.Board.Tallies.{Adds, AreTallies, claims_in, completions_in, completes, none}
+use Rattle.board_sweep.specs.declared.tally.Tally.{Tally}
+use Rattle.board_sweep.specs.Tallies.{Adds, AreTallies, claims_in, completions_in, completes, none}
 
 le_ne : (a b : ℕ) → a ≤ b → (a ≡ b → ⊥) → a < b
 le_ne a b le ne = go (cases_lt a b)

@@ -1,7 +1,7 @@
 use Rattle.std.proofs.Common.{◌≡◌, ◌+◌, string_bytes}
-use Rattle.pcompact.specs.Commands.Board.Report.{lines_of}
-use Rattle.pcompact.specs.Commands.Board.Tallies.{claims_in, completions_in}
-use Rattle.pcompact.proofs.commands.board.report.lines.Given as goal
+use Rattle.board_sweep.specs.Report.{lines_of}
+use Rattle.board_sweep.specs.Tallies.{claims_in, completions_in}
+use Rattle.board_sweep.proofs.report.lines.Given as goal
 
 -- the lines so far
 abbrev pub invariant-loop-region : goal.invariant-loop-region

@@ -1,9 +1,9 @@
 //! The text that `board` prints.
 ghost use Rattle.std.specs.Prelude.{◌≡◌, ◌+◌, ◌≤◌, IfOk, string_bytes, length};
-ghost use Rattle.pcompact.specs.Commands.Board.Report.{lines_of};
-ghost use Rattle.pcompact.specs.Commands.Board.Tallies.{claims_in, completions_in};
+ghost use Rattle.board_sweep.specs.Report.{lines_of};
+ghost use Rattle.board_sweep.specs.Tallies.{claims_in, completions_in};
 
-use super::tally::Tally;
+use crate::tally::Tally;
 use std::alloc::{AllocError, Global};
 
 /// A line for each of so many regions, with the claims and completions of both workers.

@@ -6,9 +6,9 @@ use Rattle.history.specs.declared.entry.Entry.{Entry}
 use Rattle.history.specs.MoveTable.{MoveTable, region_count}
 use Rattle.history.specs.State.{State, opening, state_after}
 use Rattle.history.specs.History.{AreSteps, IsLegal, calls_by, is_grant}
-use Rattle.pcompact.specs.declared.commands.board.tally.Tally.{Tally}
-use Rattle.pcompact.specs.Commands.Board.Tallies.{AreTallies, claims_in, completions_in, completes}
-use Rattle.pcompact.specs.Commands.Board.Report.{lines_of, line_of}
+use Rattle.board_sweep.specs.declared.tally.Tally.{Tally}
+use Rattle.board_sweep.specs.Tallies.{AreTallies, claims_in, completions_in, completes}
+use Rattle.board_sweep.specs.Report.{lines_of, line_of}
 
 -- the first or the second
 either : (n : ℕ) → n < 2 → (n ≡ 0) ⊎ (n ≡ 1)

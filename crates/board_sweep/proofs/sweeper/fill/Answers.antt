@@ -7,9 +7,9 @@ use Rattle.history.specs.MoveTable.{MoveTable, IsMoveTable, reads}
 use Rattle.claim_board.specs.Boards.{moves, mine, worker, caller}
 use Rattle.claim_board.specs.Callers.{Gains}
 use Rattle.claim_board.specs.Drains.{reply_of}
-use Rattle.pcompact.specs.Commands.Board.Tallies.{Adds, none}
-use Rattle.pcompact.proofs.Tallying.{tally, adds-drain, adds-completion, adds-settling, adds-both}
-use Rattle.pcompact.proofs.commands.board.sweeper.fill.Goals as goal
+use Rattle.board_sweep.specs.Tallies.{Adds, none}
+use Rattle.board_sweep.proofs.Tallying.{tally, adds-drain, adds-completion, adds-settling, adds-both}
+use Rattle.board_sweep.proofs.sweeper.fill.Goals as goal
 
 pub loop-opening-preserved : goal.loop-opening-preserved
 loop-opening-preserved g c =

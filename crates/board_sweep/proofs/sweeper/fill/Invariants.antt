@@ -1,8 +1,8 @@
 use Rattle.std.proofs.Common.{◌≡◌, ◌-◌}
 use Rattle.claim_board.specs.Boards.{moves, board_of, worker, mine, caller}
 use Rattle.claim_board.specs.Tickets.{IsTicketOf, IsSwept}
-use Rattle.pcompact.specs.Commands.Board.Tallies.{Adds, none}
-use Rattle.pcompact.proofs.commands.board.sweeper.fill.Given as goal
+use Rattle.board_sweep.specs.Tallies.{Adds, none}
+use Rattle.board_sweep.proofs.sweeper.fill.Given as goal
 
 abbrev pub invariant-loop-opening : goal.invariant-loop-opening
 invariant-loop-opening g l = (board_of l.pass ≡ board_of l.initial.pass)

@@ -1,7 +1,7 @@
 use Rattle.std.proofs.Common.{◌∙◌}
 use Rattle.claim_board.specs.Boards.{mine}
-use Rattle.pcompact.proofs.Sweeping.{swept-one_more}
-use Rattle.pcompact.proofs.commands.board.sweeper.sweep.Goals as goal
+use Rattle.board_sweep.proofs.Sweeping.{swept-one_more}
+use Rattle.board_sweep.proofs.sweeper.sweep.Goals as goal
 
 pub loop-region-preserved : goal.loop-region-preserved
 loop-region-preserved g c =

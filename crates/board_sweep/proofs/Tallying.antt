@@ -7,8 +7,8 @@ use Rattle.history.specs.declared.reply.Reply.{Reply}
 use Rattle.history.specs.declared.reply.Reply.TheVariants.{Yes, No}
 use Rattle.history.specs.declared.entry.Entry.{Entry}
 use Rattle.history.specs.History.{entry, is_grant}
-use Rattle.pcompact.specs.declared.commands.board.tally.Tally.{Tally}
-use Rattle.pcompact.specs.Commands.Board.Tallies.{Adds, completes, none}
+use Rattle.board_sweep.specs.declared.tally.Tally.{Tally}
+use Rattle.board_sweep.specs.Tallies.{Adds, completes, none}
 
 abbrev pub tally : ℕ → ℕ → Tally
 tally claims completions = record { claims = claims; completions = completions }
