@@ -1,7 +1,6 @@
 use Rattle.std.specs.Prelude.{ℕ, List}
-use Rattle.clap.specs.Words.{App}
 
--- a command of the program: its words, as the reading of the command line sees them, and what a good call prints
+-- a command of the program: its name, and what a good call prints
 pub record Command : Type 1 where
-  pub words : App
+  pub name : List ℕ
   pub prints : List ℕ → Type 0

@@ -1,4 +1,4 @@
--- The commands of the program. Each has a module of its own, with its words and what a good call prints.
+-- The commands of the program. Each has a module of its own, with what a good call prints.
 pub mod Board
 pub mod Summarize
 pub mod Collect
@@ -8,7 +8,6 @@ pub mod Replay
 pub mod Upgrade
 pub mod Import
 use Rattle.std.specs.Prelude.{ℕ, List, [], ◌∷◌, MatchBool, bytes_eq}
-use Rattle.clap.specs.Walk.{Text}
 use Rattle.pcompact.specs.Command.{Command}
 
 -- the commands, in the order in which help lists them
@@ -25,11 +24,11 @@ listed =
     ∷ []
 
 -- the first of these commands that has this name prints such a text
-abbrev pub IsPrintedByOneOf : List Command → Text → List ℕ → Type 0
+abbrev pub IsPrintedByOneOf : List Command → List ℕ → List ℕ → Type 0
 IsPrintedByOneOf [] name text = ⊥
 IsPrintedByOneOf (command ∷ others) name text =
-    MatchBool (bytes_eq command.words.top.name name) (command.prints text) (IsPrintedByOneOf others name text)
+    MatchBool (bytes_eq command.name name) (command.prints text) (IsPrintedByOneOf others name text)
 
 -- a good call of the command of this name prints such a text
-abbrev pub IsPrintedBy : Text → List ℕ → Type 0
+abbrev pub IsPrintedBy : List ℕ → List ℕ → Type 0
 IsPrintedBy name text = IsPrintedByOneOf listed name text

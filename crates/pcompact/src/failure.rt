@@ -4,6 +4,7 @@ ghost use Rattle.pcompact.specs.Failure.{failure_of};
 ghost use Rattle.pcompact.specs.declared.failure.Failure.TheVariants.{Fault};
 
 use collector::Verdict;
+use command_line::Unread;
 use heap_dump::ImportError;
 use heap_image::Fault;
 use std::alloc::{AllocError, Global};
@@ -22,11 +23,25 @@ pub enum Failure {
 }
 
 impl Failure {
-    ghost use Rattle.pcompact.specs.Failure.{status_of};
+    ghost use Rattle.pcompact.specs.Failure.{out_of_memory, status_of};
 
     /// Words that are no command, for this reason.
     pub fn usage(alloc: Global, reason: &str) -> Result<Failure, AllocError> {
         Ok(Failure::Usage(String::from_str(alloc, reason)?))
+    }
+
+    /// Why words give no request.
+    pub fn of_unread(alloc: Global, unread: Unread) -> Failure
+        ensures { unread ≡ Unread.Memory → result ≡ out_of_memory }
+    {
+        match unread {
+            Unread::Usage(text) => Failure::Usage(text),
+            Unread::NoCommand => match Failure::usage(alloc, "pcompact: no such command\n") {
+                Ok(failure) => failure,
+                Err(refused) => Failure::from(refused),
+            },
+            Unread::Memory => Failure::Fault(Fault::Memory),
+        }
     }
 
     /// The exit status: 2 for words that are no command, else 1.

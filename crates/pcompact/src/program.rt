@@ -1,18 +1,16 @@
 //! The whole program, over the writers that it is handed.
 ghost use Rattle.std.specs.Prelude.{◌≡◌, ◌≤◌, ◌∷◌, [], codes, ℕ, List, IfOk, OnOk, IfErr};
 ghost use Rattle.std.specs.Io.KnownBytes.{Appends};
-ghost use Rattle.pcompact.specs.CommandLine.{AreWords, AreCallOf};
+ghost use Rattle.command_line.specs.CommandLine.{AreWords, AreCallOf};
 ghost use Rattle.pcompact.specs.Commands.{IsPrintedBy};
 ghost use Rattle.pcompact.specs.Failure.{failed_device, out_of_memory, status_of};
-ghost use Rattle.pcompact.specs.Request.{IsFor};
 
-use crate::command_line::Request;
+use crate::commands;
 use crate::done::Done;
 use crate::failed_call::{Call, FailedCall};
 use crate::failure::Failure;
 use crate::reason::Reason;
 use crate::trouble::Trouble;
-use crate::{command_line, commands};
 use collector::Verdict;
 use heap_image::Fault;
 use std::io;
@@ -47,10 +45,13 @@ pub fn run<R: Files + AllocGlobal + Threads + Wait + Sync, A: Write, B: Write>(
 {
     let request = match command_line::read(rt.alloc(), words) {
         Ok(request) => request,
-        Err(failure) => return tell(&Trouble::new(failure), false, err),
+        Err(unread) => {
+            let failure = Failure::of_unread(rt.alloc(), unread);
+            return tell(&Trouble::new(failure), false, err);
+        }
     };
     let verbose = request.is_verbose();
-    let done = match answer(rt, request) {
+    let done = match commands::answer(rt, request) {
         Ok(done) => done,
         Err(trouble) => return tell(&trouble, verbose, err),
     };
@@ -72,22 +73,6 @@ fn end<'a, H: Files, A: Write>(host: &H, done: Done<'a>, out: &mut A) -> Result<
             let failed = FailedCall::of(Call::Write, &error);
             Err(Trouble::from(Fault::Io).because(Reason::Output(failed)))
         }
-    }
-}
-
-/// What is asked for, but for its end.
-fn answer<'a, R: Files + AllocGlobal + Threads + Wait + Sync>(
-    rt: &R,
-    request: Request<'a>,
-) -> Result<Done<'a>, Trouble<'a>>
-    ensures prints { (name : List ℕ) → IsFor name request.entry
-        → IfOk result (λ done. IsPrintedBy name done.text.items) }
-    ensures board { IsFor (codes "board") request.entry
-        → IfErr result (λ trouble. trouble.failure ≡ out_of_memory) }
-{
-    match request {
-        Request::Call(matches) => commands::answer(rt, &matches),
-        Request::Show(text) => Ok(Done::printing(text.into_bytes())),
     }
 }
 

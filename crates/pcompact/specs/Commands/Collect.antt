@@ -8,8 +8,6 @@ use Rattle.collector.specs.Collections.{figures_of}
 use Rattle.heap_image.specs.Reading.{IsRead}
 use Rattle.collector.specs.Streams.{IsOfBytes}
 use Rattle.pcompact.specs.Figures.{IsFigures, figures_line}
-use Rattle.clap.specs.Words.{App, new_app, with_rule}
-use Rattle.pcompact.specs.Arguments.{atomic_rule, file_rule, verbose_rule, workers_rule}
 use Rattle.pcompact.specs.Command.{Command}
 
 -- all of the input was read, which is the text of some image; the text of its compaction was written; and its figures are shown
@@ -21,11 +19,5 @@ IsCollection left left' took took' shown = (image : HeapImage) × IsRead image l
 abbrev pub IsFirstOfBytes : Option (List ℕ) → Fault → Type 0
 IsFirstOfBytes input fault = IsOfBytes fault → IfSome input (λ bytes. first_fault bytes ≡ Some fault)
 
--- the words of `collect`
-abbrev pub collect_words : App
-collect_words =
-    with_rule (with_rule (with_rule (with_rule (with_rule (new_app (codes "collect")) (file_rule (codes "IMAGE"))) (file_rule (codes "OUT")))
-    workers_rule) atomic_rule) verbose_rule
-
 abbrev pub collect_command : Command
-collect_command = record { words = collect_words; prints = IsFigures }
+collect_command = record { name = codes "collect"; prints = IsFigures }

@@ -8,8 +8,6 @@ use Rattle.history.specs.Replayed.{IsReplayed}
 use Rattle.history.specs.declared.replayed.End.{End}
 use Rattle.history.specs.declared.replayed.End.TheVariants.{Finished, Open}
 use Rattle.history.specs.declared.replayed.Replayed.{Replayed}
-use Rattle.clap.specs.Words.{App, new_app, with_rule}
-use Rattle.pcompact.specs.Arguments.{file_rule, verbose_rule}
 use Rattle.pcompact.specs.Command.{Command}
 
 -- the line that tells how a replay ended
@@ -38,10 +36,5 @@ pub record IsReplay (shown : List ℕ) : Type 0 where
   pub follows : IsReplayed image schedule replayed
   pub tells : shown ≡ schedule_text replayed.lines ++ end_line replayed.ended
 
--- the words of `replay`
-abbrev pub replay_words : App
-replay_words =
-    with_rule (with_rule (with_rule (new_app (codes "replay")) (file_rule (codes "IMAGE"))) (file_rule (codes "SCHEDULE"))) verbose_rule
-
 abbrev pub replay_command : Command
-replay_command = record { words = replay_words; prints = IsReplay }
+replay_command = record { name = codes "replay"; prints = IsReplay }

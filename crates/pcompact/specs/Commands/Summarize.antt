@@ -4,8 +4,6 @@ use Rattle.heap_image.specs.HeapImage.{HeapImage, IsValid}
 use Rattle.heap_image.specs.ImageText.{text}
 use Rattle.summary.specs.NewAddresses.{prefix_end, new_top}
 use Rattle.summary.specs.Report.{report}
-use Rattle.clap.specs.Words.{App, new_app, with_rule}
-use Rattle.pcompact.specs.Arguments.{file_rule, verbose_rule}
 use Rattle.pcompact.specs.Command.{Command}
 
 -- the ends of the dense prefix and of the compacted heap, and then the table of the regions
@@ -23,10 +21,5 @@ abbrev pub IsSummaryOf : Option (List ℕ) → Option (List ℕ) → List ℕ �
 IsSummaryOf before after shown = (image : HeapImage) × IsValid image
     × Consumes before after (text image) × (shown ≡ summary_of image)
 
--- the words of `summary`
-abbrev pub summary_words : App
-summary_words =
-    with_rule (with_rule (new_app (codes "summary")) (file_rule (codes "IMAGE"))) verbose_rule
-
 abbrev pub summary_command : Command
-summary_command = record { words = summary_words; prints = IsSummary }
+summary_command = record { name = codes "summary"; prints = IsSummary }

@@ -4,8 +4,6 @@ use Rattle.heap_image.specs.HeapImage.{HeapImage, IsValid, roots_of}
 use Rattle.heap_image.specs.ImageText.{text}
 use Rattle.heap_image.specs.Reading.{IsRead}
 use Rattle.heap_image.specs.Upgrade.{upgraded}
-use Rattle.clap.specs.Words.{App, new_app, with_rule}
-use Rattle.pcompact.specs.Arguments.{atomic_rule, file_rule, verbose_rule}
 use Rattle.pcompact.specs.Command.{Command}
 
 -- the line with the number of roots of an image
@@ -21,11 +19,5 @@ IsUpgrading left left' took took' shown = (image : HeapImage) × IsRead image le
 abbrev pub IsRootCount : List ℕ → Type 0
 IsRootCount shown = (image : HeapImage) × IsValid image × (shown ≡ roots_line (upgraded image))
 
--- the words of `upgrade`
-abbrev pub upgrade_words : App
-upgrade_words =
-    with_rule (with_rule (with_rule (with_rule (new_app (codes "upgrade")) (file_rule (codes "IMAGE"))) (file_rule (codes "OUT"))) atomic_rule)
-    verbose_rule
-
 abbrev pub upgrade_command : Command
-upgrade_command = record { words = upgrade_words; prints = IsRootCount }
+upgrade_command = record { name = codes "upgrade"; prints = IsRootCount }

@@ -1,14 +1,10 @@
 //! The command `record`.
-ghost use Rattle.std.specs.Prelude.{◌≡◌, codes, false, ℕ, List, IfOk, IfErr, string_bytes, ◌∷◌, []};
-ghost use Rattle.clap.specs.Words.{app_of};
-ghost use Rattle.clap.specs.declared.builder.command.Command.TheViews.{out-Command as fields_of};
-ghost use Rattle.pcompact.specs.CommandLine.{IsCallOf};
+ghost use Rattle.std.specs.Prelude.{◌≡◌, codes, ℕ, List, IfOk, IfErr, string_bytes};
 ghost use Rattle.pcompact.specs.Commands.{IsPrintedBy};
 ghost use Rattle.pcompact.specs.Commands.Collect.{IsFirstOfBytes};
-ghost use Rattle.pcompact.specs.Commands.Record.{IsRecording, record_words};
+ghost use Rattle.pcompact.specs.Commands.Record.{IsRecording};
 ghost use Rattle.pcompact.specs.Figures.{IsFigures};
 
-use crate::arguments;
 use crate::done::Done;
 use crate::figures::{LINE_ROOM, tell_figures};
 use crate::file_id::FileId;
@@ -18,69 +14,21 @@ use crate::output::Output;
 use crate::target::Target;
 use crate::trouble::Trouble;
 use crate::watched::Watched;
-use clap::{ArgMatches, Command};
 use collector::{OpenGate, record_stream};
+use command_line::Record;
 use heap_image::{Fault, FromRead, Intake, Outlet, ToWrite};
-use std::alloc::{AllocError, Global};
 use std::rt::Files;
 use std::sync::Wait;
 use std::thread::Threads;
-
-/// The words of `record`.
-pub fn words<'a>(alloc: Global) -> Result<Command<'a>, AllocError>
-    ensures app { IfOk result (λ command. app_of command ≡ record_words) }
-    ensures local { IfOk result (λ command. (fields_of command).has_globals ≡ false) }
-{
-    Command::new(alloc, "record")
-        .about("Collects a heap image, and writes down what each worker did")
-        .arg(arguments::image(alloc))?
-        .arg(arguments::file(alloc, "OUT", "The file for the compacted image"))?
-        .arg(arguments::file(
-            alloc,
-            "SCHEDULE",
-            "The file for the schedule of the workers",
-        ))?
-        .arg(arguments::workers(alloc))?
-        .arg(arguments::atomic(alloc))?
-        .arg(arguments::verbose(alloc))
-}
-
-/// What `record` is asked.
-#[derive(Drop)]
-struct Asked<'a> {
-    /// The file with the image.
-    image: &'a str,
-    /// The file for the compacted one.
-    out: &'a str,
-    /// The file for the schedule.
-    schedule: &'a str,
-    /// How many workers share the work.
-    workers: u32,
-    /// Whether what is written takes its place only once all is done.
-    atomic: bool,
-}
-
-impl<'a> Asked<'a> {
-    fn read(alloc: Global, given: &ArgMatches<'a>) -> Result<Asked<'a>, Trouble<'a>> {
-        Ok(Asked {
-            image: arguments::file_in(alloc, given, "IMAGE")?,
-            out: arguments::file_in(alloc, given, "OUT")?,
-            schedule: arguments::file_in(alloc, given, "SCHEDULE")?,
-            workers: arguments::workers_in(alloc, given)?,
-            atomic: arguments::is_atomic(given),
-        })
-    }
-}
 
 /// Collects one file into another and writes a third with the schedule, and answers what `record`
 /// prints.
 pub fn answer<'a, R: Files + AllocGlobal + Threads + Wait + Sync>(
     rt: &R,
-    given: &ArgMatches<'a>,
+    asked: Record<'a>,
 ) -> Result<Done<'a>, Trouble<'a>>
     ensures { IfOk result (λ done. IsFigures done.text.items) }
 {
-    let asked = Asked::read(rt.alloc(), given)?;
     let (image, out, schedule) = image_out_and_schedule(rt, &asked)?;
     let mut image = FromRead::new(image);
     let Output { file, replacement } = out;
@@ -120,7 +68,7 @@ type ImageOutAndSchedule<'a, F> = (Watched<'a, F>, Output<'a, F>, Output<'a, F>)
 /// file, but for the first two where OUT is replaced.
 fn image_out_and_schedule<'a, H: Files + AllocGlobal>(
     host: &H,
-    asked: &Asked<'a>,
+    asked: &Record<'a>,
 ) -> Result<ImageOutAndSchedule<'a, H::File>, Trouble<'a>> {
     let image = FileWord::new(Role::Image, asked.image);
     let out = FileWord::new(Role::Out, asked.out);
@@ -219,9 +167,8 @@ pub fn record_into<R: AllocGlobal + Threads + Wait + Sync, I: Intake, O: Outlet,
     Ok(line)
 }
 
-/// A line that calls `record`, and what the contract of the program says of it: it prints the
+/// What the contract of the program says of `record`: it prints the
 /// figures of the collection of some valid image.
 pub fn record_prints_figures()
-    ensures line { IsCallOf (codes "record") (codes "record" ∷ codes "heap.pcheap" ∷ codes "out.pcheap" ∷ codes "schedule" ∷ codes "--workers=2" ∷ []) }
     ensures prints { (text : List ℕ) → IsPrintedBy (codes "record") text → IsFigures text }
 {}

@@ -1,20 +1,16 @@
 //! The command `replay`.
-ghost use Rattle.std.specs.Prelude.{◌≡◌, false, ℕ, List, IfOk, IfSome, codes, ◌∷◌, []};
-ghost use Rattle.clap.specs.Words.{app_of};
-ghost use Rattle.clap.specs.declared.builder.command.Command.TheViews.{out-Command as fields_of};
+ghost use Rattle.std.specs.Prelude.{◌≡◌, ℕ, List, IfOk, IfSome, codes};
 ghost use Rattle.history.specs.ScheduleText.{schedule_text};
-ghost use Rattle.pcompact.specs.CommandLine.{IsCallOf};
 ghost use Rattle.pcompact.specs.Commands.{IsPrintedBy};
-ghost use Rattle.pcompact.specs.Commands.Replay.{IsReplay, IsReplayOf, end_line, replay_words};
+ghost use Rattle.pcompact.specs.Commands.Replay.{IsReplay, IsReplayOf, end_line};
 
-use crate::arguments;
 use crate::done::Done;
 use crate::file_word::{FileWord, Role};
 use crate::files::{must_differ, same_file};
 use crate::reason::LineReason;
 use crate::trouble::Trouble;
 use crate::watched::Watched;
-use clap::{ArgMatches, Command};
+use command_line::Replay;
 use heap_image::{Fault, FromRead, Intake, read_image_by_threads};
 use history::{End, Schedule, explain, read_schedule, replay, write_schedule};
 use std::alloc::{AllocError, Global};
@@ -23,44 +19,13 @@ use std::rt::Files;
 use std::thread::Threads;
 use summary::{Plan, Survey};
 
-/// The words of `replay`.
-pub fn words<'a>(alloc: Global) -> Result<Command<'a>, AllocError>
-    ensures app { IfOk result (λ command. app_of command ≡ replay_words) }
-    ensures local { IfOk result (λ command. (fields_of command).has_globals ≡ false) }
-{
-    Command::new(alloc, "replay")
-        .about("Follows a schedule word by word, and prints it with each reply")
-        .arg(arguments::image(alloc))?
-        .arg(arguments::file(alloc, "SCHEDULE", "A file with a schedule"))?
-        .arg(arguments::verbose(alloc))
-}
-
-/// What `replay` is asked.
-#[derive(Drop)]
-struct Asked<'a> {
-    /// The file with the image.
-    image: &'a str,
-    /// The file with the schedule.
-    schedule: &'a str,
-}
-
-impl<'a> Asked<'a> {
-    fn read(alloc: Global, given: &ArgMatches<'a>) -> Result<Asked<'a>, Trouble<'a>> {
-        Ok(Asked {
-            image: arguments::file_in(alloc, given, "IMAGE")?,
-            schedule: arguments::file_in(alloc, given, "SCHEDULE")?,
-        })
-    }
-}
-
 /// Replays the schedule in a file on the image in another, and answers what `replay` prints.
 pub fn answer<'a, R: Files + AllocGlobal + Threads + Sync>(
     rt: &R,
-    given: &ArgMatches<'a>,
+    asked: Replay<'a>,
 ) -> Result<Done<'a>, Trouble<'a>>
     ensures { IfOk result (λ done. IsReplay done.text.items) }
 {
-    let asked = Asked::read(rt.alloc(), given)?;
     let image = FileWord::new(Role::Image, asked.image);
     let schedule = FileWord::new(Role::Schedule, asked.schedule);
     must_differ(rt.alloc(), image, schedule)?;
@@ -167,9 +132,8 @@ fn end_line(ended: &End) -> &'static str
     }
 }
 
-/// A line that calls `replay`, and what the contract of the program says of it: it prints the
+/// What the contract of the program says of `replay`: it prints the
 /// replay of some schedule on some valid image.
 pub fn replay_prints_a_replay()
-    ensures line { IsCallOf (codes "replay") (codes "replay" ∷ codes "heap.pcheap" ∷ codes "schedule" ∷ []) }
     ensures prints { (text : List ℕ) → IsPrintedBy (codes "replay") text → IsReplay text }
 {}

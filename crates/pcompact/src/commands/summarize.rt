@@ -1,58 +1,27 @@
 //! The command `summary`. (A module of that name would hide the crate `summary`.)
-ghost use Rattle.std.specs.Prelude.{◌≡◌, codes, false, ℕ, List, IfOk, IfErr, IfSome, string_bytes, ◌∷◌, []};
-ghost use Rattle.clap.specs.Words.{app_of};
-ghost use Rattle.clap.specs.declared.builder.command.Command.TheViews.{out-Command as fields_of};
+ghost use Rattle.std.specs.Prelude.{◌≡◌, codes, ℕ, List, IfOk, IfErr, IfSome, string_bytes};
 ghost use Rattle.heap_image.specs.Refusals.{IsReason};
-ghost use Rattle.pcompact.specs.CommandLine.{IsCallOf};
 ghost use Rattle.pcompact.specs.Commands.{IsPrintedBy};
-ghost use Rattle.pcompact.specs.Commands.Summarize.{IsSummary, IsSummaryOf, summary_of, summary_words};
+ghost use Rattle.pcompact.specs.Commands.Summarize.{IsSummary, IsSummaryOf, summary_of};
 
-use crate::arguments;
 use crate::done::Done;
 use crate::file_word::{FileWord, Role};
 use crate::trouble::Trouble;
 use crate::watched::Watched;
-use clap::{ArgMatches, Command};
+use command_line::Summary;
 use heap_image::{Fault, FromRead, Intake, read_image_by_threads};
 use std::alloc::{AllocError, Global};
 use std::rt::Files;
 use std::thread::Threads;
 use summary::{Plan, Survey};
 
-/// The words of `summary`.
-pub fn words<'a>(alloc: Global) -> Result<Command<'a>, AllocError>
-    ensures app { IfOk result (λ command. app_of command ≡ summary_words) }
-    ensures local { IfOk result (λ command. (fields_of command).has_globals ≡ false) }
-{
-    Command::new(alloc, "summary")
-        .about("Prints what a collection of a heap image will do, region by region")
-        .arg(arguments::image(alloc))?
-        .arg(arguments::verbose(alloc))
-}
-
-/// What `summary` is asked.
-#[derive(Drop)]
-struct Asked<'a> {
-    /// The file with the image.
-    image: &'a str,
-}
-
-impl<'a> Asked<'a> {
-    fn read(alloc: Global, given: &ArgMatches<'a>) -> Result<Asked<'a>, Trouble<'a>> {
-        Ok(Asked {
-            image: arguments::file_in(alloc, given, "IMAGE")?,
-        })
-    }
-}
-
 /// What `summary` prints of the image in a file.
 pub fn answer<'a, R: Files + AllocGlobal + Threads + Sync>(
     rt: &R,
-    given: &ArgMatches<'a>,
+    asked: Summary<'a>,
 ) -> Result<Done<'a>, Trouble<'a>>
     ensures { IfOk result (λ done. IsSummary done.text.items) }
 {
-    let asked = Asked::read(rt.alloc(), given)?;
     let image = Watched::open(rt, FileWord::new(Role::Image, asked.image))?;
     let mut image = FromRead::new(image);
     match summarize(rt.alloc(), &mut image, rt) {
@@ -86,10 +55,8 @@ fn text_of(alloc: Global, plan: &Plan) -> Result<String, AllocError>
     Ok(text)
 }
 
-/// Lines that call `summary`, and what the contract of the program says of it: it prints the
+/// What the contract of the program says of `summary`: it prints the
 /// summary of some valid image.
 pub fn summary_prints_a_summary()
-    ensures line { IsCallOf (codes "summary") (codes "summary" ∷ codes "heap.pcheap" ∷ []) }
-    ensures options { IsCallOf (codes "summary") (codes "summary" ∷ codes "--verbose" ∷ codes "heap.pcheap" ∷ []) }
     ensures prints { (text : List ℕ) → IsPrintedBy (codes "summary") text → IsSummary text }
 {}

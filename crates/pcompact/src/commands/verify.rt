@@ -1,66 +1,27 @@
 //! The command `verify`.
-ghost use Rattle.std.specs.Prelude.{◌≡◌, codes, false, ℕ, List, IfOk, ◌∷◌, []};
-ghost use Rattle.clap.specs.Words.{app_of};
-ghost use Rattle.clap.specs.declared.builder.command.Command.TheViews.{out-Command as fields_of};
-ghost use Rattle.pcompact.specs.CommandLine.{IsCallOf};
+ghost use Rattle.std.specs.Prelude.{◌≡◌, codes, ℕ, List, IfOk};
 ghost use Rattle.pcompact.specs.Commands.{IsPrintedBy};
-ghost use Rattle.pcompact.specs.Commands.Verify.{IsVerdictOf, verify_words};
+ghost use Rattle.pcompact.specs.Commands.Verify.{IsVerdictOf};
 
-use crate::arguments;
 use crate::done::Done;
 use crate::failure::Failure;
 use crate::file_word::{FileWord, Role};
 use crate::trouble::Trouble;
 use crate::watched::Watched;
-use clap::{ArgMatches, Command};
 use collector::{Verdict, verify};
+use command_line::Verify;
 use heap_image::{Fault, FromRead, Intake, read_image_by_threads};
-use std::alloc::{AllocError, Global};
+use std::alloc::Global;
 use std::rt::Files;
 use std::thread::Threads;
-
-/// The words of `verify`.
-pub fn words<'a>(alloc: Global) -> Result<Command<'a>, AllocError>
-    ensures app { IfOk result (λ command. app_of command ≡ verify_words) }
-    ensures local { IfOk result (λ command. (fields_of command).has_globals ≡ false) }
-{
-    Command::new(alloc, "verify")
-        .about("Says whether a heap image is the compaction of another, or where they differ")
-        .arg(arguments::file(alloc, "BEFORE", "A file with a heap image"))?
-        .arg(arguments::file(
-            alloc,
-            "AFTER",
-            "A file with the image that should be its compaction",
-        ))?
-        .arg(arguments::verbose(alloc))
-}
-
-/// What `verify` is asked.
-#[derive(Drop)]
-struct Asked<'a> {
-    /// The file with the image as it was.
-    before: &'a str,
-    /// The file with the image that should be its compaction.
-    after: &'a str,
-}
-
-impl<'a> Asked<'a> {
-    fn read(alloc: Global, given: &ArgMatches<'a>) -> Result<Asked<'a>, Trouble<'a>> {
-        Ok(Asked {
-            before: arguments::file_in(alloc, given, "BEFORE")?,
-            after: arguments::file_in(alloc, given, "AFTER")?,
-        })
-    }
-}
 
 /// What `verify` prints where one file has the compaction of another.
 pub fn answer<'a, R: Files + AllocGlobal + Threads + Sync>(
     rt: &R,
-    given: &ArgMatches<'a>,
+    asked: Verify<'a>,
 ) -> Result<Done<'a>, Trouble<'a>>
     ensures { IfOk result (λ done. done.text.items ≡ codes "same\n") }
 {
-    let asked = Asked::read(rt.alloc(), given)?;
     match compared(rt, &asked)? {
         Verdict::Same => Ok(Done::printing(Vec::from_slice(rt.alloc(), b"same\n")?)),
         difference => {
@@ -73,7 +34,7 @@ pub fn answer<'a, R: Files + AllocGlobal + Threads + Sync>(
 /// The verdict on two files, of which both are opened before one is read.
 fn compared<'a, R: Files + AllocGlobal + Threads + Sync>(
     rt: &R,
-    asked: &Asked<'a>,
+    asked: &Verify<'a>,
 ) -> Result<Verdict, Trouble<'a>> {
     let before = Watched::open(rt, FileWord::new(Role::Before, asked.before))?;
     let after = Watched::open(rt, FileWord::new(Role::After, asked.after))?;
@@ -126,8 +87,7 @@ pub fn verify_images<R: Intake, S: Intake, T: Threads + Sync>(
     }
 }
 
-/// A line that calls `verify`, and what the contract of the program says of it: it prints `same`.
+/// What the contract of the program says of `verify`: it prints `same`.
 pub fn verify_prints_same()
-    ensures line { IsCallOf (codes "verify") (codes "verify" ∷ codes "heap.pcheap" ∷ codes "out.pcheap" ∷ []) }
     ensures prints { (text : List ℕ) → IsPrintedBy (codes "verify") text → text ≡ codes "same\n" }
 {}

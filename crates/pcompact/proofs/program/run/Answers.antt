@@ -1,23 +1,21 @@
-use Rattle.std.proofs.Common.{◌≡◌, ◌∙◌, ap, arith, codes, map}
-use Rattle.std.specs.Prelude.{string_bytes}
+use Rattle.std.proofs.Common.{◌≡◌, ◌∙◌, ap, arith, codes}
+use Rattle.command_line.specs.Request.{IsFor}
 use Rattle.pcompact.specs.Failure.{out_of_memory, status_of}
-use Rattle.pcompact.specs.Request.{IsFor}
-use Rattle.pcompact.proofs.CommandLineLemmas.{calls_board}
 use Rattle.pcompact.proofs.program.run.Goals as goal
 
 pub returns-in-Err-clause-board_is_known : goal.returns-in-Err-clause-board_is_known
 returns-in-Err-clause-board_is_known g c = λ words_are.
-    let memory : c.in-Err.failure ≡ out_of_memory = c.in-Err.ensures (codes "board") (calls_board (map string_bytes c.args.words.now) words_are) in
+    let memory : c.of_unread-failure.result ≡ out_of_memory = c.of_unread-failure.ensures (c.in-Err.ensures.board words_are) in
     let status : c.tell.result ≡ 1 = c.tell.ensures ∙ ap status_of (c.new.ensures ∙ memory) in
     omega arith
 
 pub returns-in-Err-answer-clause-board_is_known : goal.returns-in-Err-answer-clause-board_is_known
 returns-in-Err-answer-clause-board_is_known g c = λ words_are.
-    let asked : IsFor (codes "board") c.in-Ok.request = c.in-Ok.ensures (codes "board") (calls_board (map string_bytes c.args.words.now) words_are) in
+    let asked : IsFor (codes "board") c.in-Ok.request = c.in-Ok.ensures.board words_are in
     let status : c.tell-in-Err-answer.result ≡ 1 = c.tell-in-Err-answer.ensures ∙ ap status_of (c.in-Err-answer.ensures.board asked) in
     omega arith
 
 -- what the command printed
 pub returns-in-Ok-end-clause-prints : goal.returns-in-Ok-end-clause-prints
 returns-in-Ok-end-clause-prints g c = λ name call good.
-    (c.in-Ok-answer.done.text.items, c.in-Ok-answer.ensures.prints name (c.in-Ok.ensures name call), c.in-Ok-end.ensures.shown)
+    (c.in-Ok-answer.done.text.items, c.in-Ok-answer.ensures.prints name (c.in-Ok.ensures.calls name call), c.in-Ok-end.ensures.shown)

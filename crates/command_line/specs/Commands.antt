@@ -1,0 +1,79 @@
+-- The commands of the program, as the reading of the words sees them.
+use Rattle.std.specs.Prelude.{List, [], ◌∷◌, Some, codes, pos}
+use Rattle.clap.specs.Walk.{Rule}
+use Rattle.clap.specs.Words.{App, new_app, new_rule, with_rule}
+use Rattle.clap.specs.declared.builder.value_parser.ValueParser.TheVariants.{Signed, Unsigned}
+use Rattle.command_line.specs.Arguments.{atomic_rule, file_rule, flag_rule, verbose_rule, workers_rule}
+
+-- the words of `board`
+abbrev pub board_words : App
+board_words = new_app (codes "board")
+
+-- the words of `summary`
+abbrev pub summary_words : App
+summary_words =
+    with_rule (with_rule (new_app (codes "summary")) (file_rule (codes "IMAGE"))) verbose_rule
+
+-- the words of `collect`
+abbrev pub collect_words : App
+collect_words =
+    with_rule (with_rule (with_rule (with_rule (with_rule (new_app (codes "collect")) (file_rule (codes "IMAGE"))) (file_rule (codes "OUT")))
+    workers_rule) atomic_rule) verbose_rule
+
+-- the words of `verify`
+abbrev pub verify_words : App
+verify_words =
+    with_rule (with_rule (with_rule (new_app (codes "verify")) (file_rule (codes "BEFORE"))) (file_rule (codes "AFTER"))) verbose_rule
+
+-- the words of `record`
+abbrev pub record_words : App
+record_words =
+    with_rule (with_rule (with_rule (with_rule (with_rule (with_rule (new_app (codes "record")) (file_rule (codes "IMAGE"))) (file_rule (codes "OUT")))
+    (file_rule (codes "SCHEDULE"))) workers_rule) atomic_rule) verbose_rule
+
+-- the words of `replay`
+abbrev pub replay_words : App
+replay_words =
+    with_rule (with_rule (with_rule (new_app (codes "replay")) (file_rule (codes "IMAGE"))) (file_rule (codes "SCHEDULE"))) verbose_rule
+
+-- the words of `upgrade`
+abbrev pub upgrade_words : App
+upgrade_words =
+    with_rule (with_rule (with_rule (with_rule (new_app (codes "upgrade")) (file_rule (codes "IMAGE"))) (file_rule (codes "OUT"))) atomic_rule)
+    verbose_rule
+
+-- the option `--region-log`, which takes a number from 3 to 16
+abbrev pub region_log_rule : Rule
+region_log_rule = record (new_rule (codes "region-log")) {
+  long = Some (codes "region-log");
+  value_names = 1;
+  parser = Some (Signed (pos 3) (pos 16));
+}
+
+-- the option `--allowance`, which takes a number of 64 bits
+abbrev pub allowance_rule : Rule
+allowance_rule = record (new_rule (codes "allowance")) {
+  long = Some (codes "allowance");
+  value_names = 1;
+  parser = Some (Unsigned 0 18446744073709551615);
+}
+
+-- the words of `import`
+abbrev pub import_words : App
+import_words =
+    with_rule (with_rule (with_rule (with_rule (with_rule (with_rule (with_rule (new_app (codes "import"))
+    (file_rule (codes "DUMP"))) (file_rule (codes "IMAGE"))) region_log_rule) allowance_rule) (flag_rule (codes "live-only")))
+    atomic_rule) verbose_rule
+
+-- the words of the commands, in the order in which help lists them
+abbrev pub listed : List App
+listed =
+    board_words
+    ∷ summary_words
+    ∷ collect_words
+    ∷ verify_words
+    ∷ record_words
+    ∷ replay_words
+    ∷ upgrade_words
+    ∷ import_words
+    ∷ []

@@ -1,0 +1,24 @@
+use Rattle.std.specs.Prelude.{◌≡◌, ⊤, codes}
+use Rattle.clap.specs.Walk.{Text}
+use Rattle.command_line.specs.declared.request.Request.{Request}
+use Rattle.command_line.specs.declared.request.Request.TheVariants.{Board, Summary, Collect, Verify, Record, Replay, Upgrade, Import, Show}
+use Rattle.command_line.specs.declared.unread.Unread.{Unread}
+use Rattle.command_line.specs.declared.unread.Unread.TheVariants.{Usage, NoCommand, Memory}
+
+-- the request is a call of the command of this name
+abbrev pub IsFor : Text → Request → Type 0
+IsFor name Board = name ≡ codes "board"
+IsFor name (Summary asked) = name ≡ codes "summary"
+IsFor name (Collect asked) = name ≡ codes "collect"
+IsFor name (Verify asked) = name ≡ codes "verify"
+IsFor name (Record asked) = name ≡ codes "record"
+IsFor name (Replay asked) = name ≡ codes "replay"
+IsFor name (Upgrade asked) = name ≡ codes "upgrade"
+IsFor name (Import asked) = name ≡ codes "import"
+IsFor name (Show text) = ⊥
+
+-- nothing is said of the words to whoever called
+abbrev pub IsNoUsage : Unread → Type 0
+IsNoUsage (Usage text) = ⊥
+IsNoUsage NoCommand = ⊤
+IsNoUsage Memory = ⊤

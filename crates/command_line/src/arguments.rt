@@ -1,0 +1,99 @@
+//! The arguments that several commands share: how each is declared, and how it is read.
+ghost use Rattle.std.specs.Prelude.{◌≡◌, codes, false, IfErr};
+ghost use Rattle.clap.specs.Words.{rule_of};
+ghost use Rattle.command_line.specs.Arguments.{file_rule, flag_rule, workers_rule};
+ghost use Rattle.command_line.specs.Request.{IsNoUsage};
+
+use crate::unread::Unread;
+use clap::{Arg, ArgAction, ArgMatches, value_parser};
+use std::alloc::Global;
+
+/// The file that is read.
+pub fn image<'a>(alloc: Global) -> Arg<'a>
+    ensures rule { rule_of result ≡ file_rule (codes "IMAGE") }
+    ensures local { result.global ≡ false }
+{
+    file(alloc, "IMAGE", "A file with a heap image")
+}
+
+/// The name of a file, which must be given.
+pub fn file<'a>(alloc: Global, id: &'a str, help: &'a str) -> Arg<'a>
+    ensures rule { rule_of result ≡ file_rule id.now }
+    ensures local { result.global ≡ false }
+{
+    Arg::new(alloc, id).help(help).required(true)
+}
+
+/// The name that is given for the file of this word.
+pub fn file_in<'a>(given: &ArgMatches<'a>, id: &str) -> Result<&'a str, Unread>
+    ensures { IfErr result IsNoUsage }
+{
+    match given.get_str(id) {
+        Some(name) => Ok(name),
+        None => Err(Unread::NoCommand),
+    }
+}
+
+/// How many workers, which must be given.
+pub fn workers<'a>(alloc: Global) -> Arg<'a>
+    ensures rule { rule_of result ≡ workers_rule }
+    ensures local { result.global ≡ false }
+{
+    Arg::new(alloc, "workers")
+        .long("workers")
+        .value_name("n")
+        .value_parser(value_parser!(u32))
+        .help("How many workers share the work, from 1 to 64")
+        .required(true)
+}
+
+/// How many workers are given.
+pub fn workers_in(given: &ArgMatches<'_>) -> Result<u32, Unread>
+    ensures { IfErr result IsNoUsage }
+{
+    match given.get_one("workers") {
+        Some(workers) => Ok(workers),
+        None => Err(Unread::NoCommand),
+    }
+}
+
+/// Whether files are replaced only once all is done.
+pub fn atomic<'a>(alloc: Global) -> Arg<'a>
+    ensures rule { rule_of result ≡ flag_rule (codes "atomic") }
+    ensures local { result.global ≡ false }
+{
+    flag(
+        alloc,
+        "atomic",
+        "Replaces files only once the command has ended well",
+    )
+}
+
+/// Whether `--atomic` is given.
+pub fn is_atomic(given: &ArgMatches<'_>) -> bool {
+    given.get_flag("atomic")
+}
+
+/// Whether to say at length what goes wrong.
+pub fn verbose<'a>(alloc: Global) -> Arg<'a>
+    ensures rule { rule_of result ≡ flag_rule (codes "verbose") }
+    ensures local { result.global ≡ false }
+{
+    flag(alloc, "verbose", "Says more of what goes wrong")
+}
+
+/// Whether `--verbose` is given. Of a command that doesn't take it the answer is no.
+pub fn is_verbose(given: &ArgMatches<'_>) -> bool {
+    given.get_flag("verbose")
+}
+
+/// An option that takes no value and may be left out.
+pub fn flag<'a>(alloc: Global, name: &'a str, help: &'a str) -> Arg<'a>
+    ensures rule { rule_of result ≡ flag_rule name.now }
+    ensures local { result.global ≡ false }
+{
+    Arg::new(alloc, name)
+        .long(name)
+        .action(ArgAction::SetTrue)
+        .help(help)
+}

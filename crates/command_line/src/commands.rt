@@ -1,0 +1,77 @@
+//! The commands: the words of all of them, and which one was called. A command is a file of its own,
+//! and has a line in each of the two lists below.
+ghost use Rattle.std.specs.Prelude.{◌≡◌, codes, Some, Ok, ℕ, List, IfOk, MatchResult};
+ghost use Rattle.clap.specs.Words.{app_of, subcommand_name_of};
+ghost use Rattle.command_line.specs.CommandLine.{commands, program_words};
+ghost use Rattle.command_line.specs.Request.{IsFor, IsNoUsage};
+ghost use Rattle.command_line.specs.declared.request.Request.TheVariants.{Board};
+
+use crate::collect::Collect;
+use crate::import::Import;
+use crate::record::Record;
+use crate::replay::Replay;
+use crate::request::Request;
+use crate::summary::Summary;
+use crate::unread::Unread;
+use crate::upgrade::Upgrade;
+use crate::verify::Verify;
+use crate::{board, collect, import, record, replay, summary, upgrade, verify};
+use clap::{ArgMatches, Command};
+use std::alloc::{AllocError, Global};
+
+const ABOUT: &str = "Full collection of a heap image by parallel sliding compaction";
+
+const STATUSES: &str = "\
+Exit status:
+  0  the command did its work, or showed help or the version
+  1  a fault, images that differ, or a dump that gives no image: standard error says which
+  2  the words are no command: standard error says why";
+
+/// The words of the program with those of its commands, which help lists in this order.
+pub fn words<'a>(alloc: Global) -> Result<Command<'a>, AllocError>
+    ensures { IfOk result (λ command. app_of command ≡ commands) }
+{
+    program(alloc)?
+        .subcommand(board::words(alloc))?
+        .subcommand(summary::words(alloc)?)?
+        .subcommand(collect::words(alloc)?)?
+        .subcommand(verify::words(alloc)?)?
+        .subcommand(record::words(alloc)?)?
+        .subcommand(replay::words(alloc)?)?
+        .subcommand(upgrade::words(alloc)?)?
+        .subcommand(import::words(alloc)?)
+}
+
+/// What was called, with what it is given.
+pub fn called<'a>(matches: &ArgMatches<'a>) -> Result<Request<'a>, Unread>
+    ensures calls { (name : List ℕ) → subcommand_name_of matches.now ≡ Some name
+        → MatchResult result (IsFor name) IsNoUsage }
+    ensures board { subcommand_name_of matches.now ≡ Some (codes "board") → result ≡ Ok Board }
+{
+    Ok(match matches.subcommand() {
+        Some(("board", _)) => Request::Board,
+        Some(("summary", given)) => Request::Summary(Summary::of(given)?),
+        Some(("collect", given)) => Request::Collect(Collect::of(given)?),
+        Some(("verify", given)) => Request::Verify(Verify::of(given)?),
+        Some(("record", given)) => Request::Record(Record::of(given)?),
+        Some(("replay", given)) => Request::Replay(Replay::of(given)?),
+        Some(("upgrade", given)) => Request::Upgrade(Upgrade::of(given)?),
+        Some(("import", given)) => Request::Import(Import::of(given)?),
+        _ => return Err(Unread::NoCommand),
+    })
+}
+
+/// The words of the program, with no command yet.
+fn program<'a>(alloc: Global) -> Result<Command<'a>, AllocError>
+    ensures { IfOk result (λ command. app_of command ≡ program_words) }
+{
+    let named = Command::new(alloc, "pcompact").bin_name("pcompact")?;
+    Ok(
+        named
+            .version("0.1.0")
+            .about(ABOUT)
+            .after_help(STATUSES)
+            .no_binary_name(true)
+            .subcommand_required(true),
+    )
+}

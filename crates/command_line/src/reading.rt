@@ -1,0 +1,44 @@
+//! The reading of the words.
+ghost use Rattle.std.specs.Prelude.{◌≡◌, ◌∷◌, [], codes, ℕ, List, Err, IfErr, MatchResult};
+ghost use Rattle.clap.specs.Words.{kind_of};
+ghost use Rattle.command_line.specs.CommandLine.{AreCallOf, AreWords};
+ghost use Rattle.command_line.specs.Request.{IsFor, IsNoUsage};
+ghost use Rattle.command_line.specs.declared.unread.Unread.TheVariants.{Memory};
+
+use crate::commands;
+use crate::request::Request;
+use crate::unread::Unread;
+use clap::Error;
+use clap::error::ErrorKind;
+use std::alloc::Global;
+
+/// Reads the words that follow the program's name.
+///
+/// Words that call a command give its request, where memory suffices.
+pub fn read(alloc: Global, words: &[String]) -> Result<Request<'_>, Unread>
+    ensures calls { (name : List ℕ) → AreCallOf name words.now
+        → MatchResult result (IsFor name) IsNoUsage }
+    ensures board { AreWords words.now (codes "board" ∷ [])
+        → MatchResult result (IsFor (codes "board")) (λ unread. unread ≡ Memory) }
+{
+    match commands::words(alloc)?.try_get_matches_from(words) {
+        Ok(matches) => commands::called(&matches),
+        Err(error) => answered(alloc, &error),
+    }
+}
+
+/// What the reading of the words answers in place of a command: help, the version, what is wrong
+/// with the words, or that memory ran out.
+fn answered<'a>(alloc: Global, error: &Error) -> Result<Request<'a>, Unread>
+    ensures { kind_of error.now ≡ ErrorKind.OutOfMemory → result ≡ Err Memory }
+{
+    if error.kind() == ErrorKind::OutOfMemory {
+        return Err(Unread::Memory);
+    }
+    let text = error.to_string(alloc)?;
+    if error.use_stderr() {
+        Err(Unread::Usage(text))
+    } else {
+        Ok(Request::Show(text))
+    }
+}

@@ -1,0 +1,47 @@
+//! `Request`.
+use crate::collect::Collect;
+use crate::import::Import;
+use crate::record::Record;
+use crate::replay::Replay;
+use crate::summary::Summary;
+use crate::upgrade::Upgrade;
+use crate::verify::Verify;
+
+/// What the words ask for: a command, with what it is given, or a text.
+#[derive(Drop)]
+pub enum Request<'a> {
+    /// The command `board`.
+    Board,
+    /// The command `summary`.
+    Summary(Summary<'a>),
+    /// The command `collect`.
+    Collect(Collect<'a>),
+    /// The command `verify`.
+    Verify(Verify<'a>),
+    /// The command `record`.
+    Record(Record<'a>),
+    /// The command `replay`.
+    Replay(Replay<'a>),
+    /// The command `upgrade`.
+    Upgrade(Upgrade<'a>),
+    /// The command `import`.
+    Import(Import<'a>),
+    /// To show this text, help or the version, of whole lines.
+    Show(String),
+}
+
+impl Request<'_> {
+    /// Whether to say at length what goes wrong.
+    pub fn is_verbose(&self) -> bool {
+        match self {
+            Request::Board | Request::Show(_) => false,
+            Request::Summary(asked) => asked.verbose,
+            Request::Collect(asked) => asked.verbose,
+            Request::Verify(asked) => asked.verbose,
+            Request::Record(asked) => asked.verbose,
+            Request::Replay(asked) => asked.verbose,
+            Request::Upgrade(asked) => asked.verbose,
+            Request::Import(asked) => asked.verbose,
+        }
+    }
+}

@@ -1,4 +1,0 @@
-pub mod Tallying
-pub mod Sweeping
-pub mod Totals
-pub mod CommandLineLemmas
