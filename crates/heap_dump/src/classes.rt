@@ -2,59 +2,10 @@
 ghost use Rattle.std.specs.Prelude.{◌≢◌};
 
 use crate::error::ImportError;
+use crate::extent::Extent;
 use crate::field_type::{FieldType, IdSize};
 use indexmap::IndexMap;
 use std::alloc::{AllocError, Global};
-
-/// How many references and how many bytes of primitive data an object has.
-#[derive(Clone, Copy)]
-pub(crate) struct Extent {
-    pub(crate) references: u64,
-    pub(crate) data_bytes: u64,
-}
-
-impl Extent {
-    pub(crate) const EMPTY: Extent = Extent {
-        references: 0,
-        data_bytes: 0,
-    };
-
-    /// With a value of this type more.
-    pub(crate) fn with(self, field: FieldType) -> Extent {
-        match field {
-            FieldType::Reference => Extent {
-                references: self.references.saturating_add(1),
-                ..self
-            },
-            _ => Extent {
-                data_bytes: self.data_bytes.saturating_add(field.data_bytes() as u64),
-                ..self
-            },
-        }
-    }
-
-    /// Both together.
-    pub(crate) fn plus(self, other: Extent) -> Extent {
-        Extent {
-            references: self.references.saturating_add(other.references),
-            data_bytes: self.data_bytes.saturating_add(other.data_bytes),
-        }
-    }
-
-    /// How many words an object of this extent has in an image: its header, its references, and its data.
-    pub(crate) fn words(self) -> u64 {
-        self.references
-            .saturating_add(self.data_bytes.div_ceil(8))
-            .saturating_add(1)
-    }
-
-    /// How many bytes the values have in a dump with ids of this size.
-    pub(crate) fn bytes(self, ids: IdSize) -> u64 {
-        self.references
-            .saturating_mul(ids.bytes() as u64)
-            .saturating_add(self.data_bytes)
-    }
-}
 
 /// What is known of the fields of a class together with those of the classes above it.
 #[derive(Clone, Copy)]
@@ -160,6 +111,16 @@ impl Classes {
             None => self.table.insert_full(id, Class::named(self.alloc))?.0,
         };
         u32::try_from(number).map_err(|_| ImportError::Memory)
+    }
+
+    /// The number of the class above another, which has this id. There is none where it is null.
+    pub(crate) fn parent_number(&mut self, id: u64) -> Result<Option<u32>, ImportError>
+        ensures { result ≢ Err ImportError.Input }
+    {
+        if id == 0 {
+            return Ok(None);
+        }
+        Ok(Some(self.number_of(id)?))
     }
 
     /// Notes a class as its record tells it.

@@ -1,9 +1,13 @@
 //! `Dump`: a heap dump, record by record.
-ghost use Rattle.std.specs.Prelude.{◌≡◌, ◌≤◌, ◌*◌, None, IsTrue, ◌≢◌};
+ghost use Rattle.std.specs.Prelude.{◌≡◌, None, true, OnOk, IsTrue, ◌≢◌};
 ghost use Rattle.std.specs.Io.KnownBytes.{IsAtEnd};
 
+use crate::class_head::ClassHead;
 use crate::error::{ImportError, Problem};
+use crate::extent::Extent;
 use crate::field_type::{FieldType, IdSize};
+use crate::record::{Instance, Record};
+use crate::record_visitor::RecordVisitor;
 use crate::window::Window;
 use heap_image::Intake;
 
@@ -12,58 +16,6 @@ const HEAD_BYTES: u64 = 31;
 
 /// How many bytes stand before the body of a record: its tag, its time and its length.
 const RECORD_HEAD_BYTES: u64 = 9;
-
-/// A record of the heap. Of those with a body, the head was read and the body follows.
-#[derive(Clone, Copy)]
-pub(crate) enum Record {
-    /// A root, and whatever else its kind tells was passed over.
-    Root { id: u64 },
-    /// A class.
-    Class { id: u64 },
-    /// An instance of a class.
-    Instance(Instance),
-    /// An array of references.
-    References(References),
-    /// An array of primitive values.
-    Primitives(Primitives),
-}
-
-/// The head of an instance.
-#[derive(Clone, Copy)]
-pub(crate) struct Instance {
-    pub(crate) id: u64,
-    /// The id of its class.
-    pub(crate) class: u64,
-    /// How many bytes its fields have.
-    pub(crate) bytes: u32,
-}
-
-/// The head of an array of references.
-#[derive(Clone, Copy)]
-pub(crate) struct References {
-    pub(crate) id: u64,
-    /// How many there are.
-    pub(crate) count: u32,
-}
-
-/// The head of an array of primitive values.
-#[derive(Clone, Copy)]
-pub(crate) struct Primitives {
-    pub(crate) id: u64,
-    /// The type of its elements, which is no reference.
-    pub(crate) element: FieldType,
-    /// How many elements it has.
-    pub(crate) count: u32,
-}
-
-impl Primitives {
-    /// How many bytes the elements have.
-    pub(crate) fn bytes(self) -> u64
-        ensures { result ≤ 8 * self.count }
-    {
-        u64::from(self.count) * self.element.data_bytes() as u64
-    }
-}
 
 /// What the dump has told so far of a heap and its end.
 #[derive(Clone, Copy, PartialEq, Eq)]
@@ -142,9 +94,27 @@ impl Dump {
         }
     }
 
+    /// Has each record of the heap visited, up to the end of the dump.
+    pub(crate) fn visit_records<R: Intake, V: RecordVisitor>(
+        &mut self,
+        source: &mut R,
+        visitor: &mut V,
+    ) -> Result<(), ImportError>
+        ensures end { OnOk result (IsAtEnd (R.left source.new)) }
+        ensures input { result ≡ Err ImportError.Input → IsTrue (R.has_failed source.new) }
+    {
+        for _ in 0..u64::MAX {
+            let Some(record) = self.next(source)? else {
+                return Ok(());
+            };
+            visitor.visit(self, source, record)?;
+        }
+        Err(self.problem(Problem::NoEnd))
+    }
+
     /// The next record of the heap, up to its body, or None at the end of the dump. The body of the record before it was
     /// read.
-    pub(crate) fn next<R: Intake>(&mut self, source: &mut R) -> Result<Option<Record>, ImportError>
+    fn next<R: Intake>(&mut self, source: &mut R) -> Result<Option<Record>, ImportError>
         ensures end { result ≡ Ok None → IsAtEnd (R.left source.new) }
         ensures input { result ≡ Err ImportError.Input → IsTrue (R.has_failed source.new) }
     {
@@ -152,13 +122,24 @@ impl Dump {
             if self.in_heap && self.window.left() > 0 {
                 return Ok(Some(self.heap_record(source)?));
             }
-            if self.window.is_at_end(source)? {
-                self.check_end()?;
+            if self.is_at_end(source)? {
                 return Ok(None);
             }
             self.enter(source)?;
         }
         Err(self.window.problem(Problem::NoEnd))
+    }
+
+    /// Whether the dump ends before the next record. It is wrong where it may not end here.
+    fn is_at_end<R: Intake>(&mut self, source: &mut R) -> Result<bool, ImportError>
+        ensures end { result ≡ Ok true → IsAtEnd (R.left source.new) }
+        ensures input { result ≡ Err ImportError.Input → IsTrue (R.has_failed source.new) }
+    {
+        if self.window.is_at_end(source)? {
+            self.check_end()?;
+            return Ok(true);
+        }
+        Ok(false)
     }
 
     /// Whether the dump may end here.
@@ -228,7 +209,8 @@ impl Dump {
         self.window.skip(source, 4)?;
         let count = self.window.u32(source)?;
         self.id(source)?;
-        Ok(Record::References(References { id, count }))
+        let extent = Extent::of_references(count);
+        Ok(Record::Array { id, extent })
     }
 
     fn primitives<R: Intake>(&mut self, source: &mut R) -> Result<Record, ImportError>
@@ -241,7 +223,8 @@ impl Dump {
         if element.data_bytes() == 0 {
             return Err(self.problem(Problem::NotPrimitive));
         }
-        Ok(Record::Primitives(Primitives { id, element, count }))
+        let extent = Extent::of_data(count, element);
+        Ok(Record::Array { id, extent })
     }
 
     /// Reads a root with this tag.
@@ -258,6 +241,43 @@ impl Dump {
         let id = self.id(source)?;
         self.window.skip(source, more)?;
         Ok(Record::Root { id })
+    }
+
+    /// Reads the head of the class whose body comes next, and goes on behind its constants.
+    pub(crate) fn class_head<R: Intake>(&mut self, source: &mut R) -> Result<ClassHead, ImportError>
+        ensures input { result ≡ Err ImportError.Input → IsTrue (R.has_failed source.new) }
+    {
+        self.skip(source, 4)?;
+        let parent = self.id(source)?;
+        let owners = self.class_owners(source)?;
+        self.skip_constants(source)?;
+        Ok(ClassHead { parent, owners })
+    }
+
+    /// Reads the loader, signers and domain of a class, and goes on behind two ids that are reserved and the size of
+    /// instances.
+    fn class_owners<R: Intake>(&mut self, source: &mut R) -> Result<[u64; 3], ImportError>
+        ensures input { result ≡ Err ImportError.Input → IsTrue (R.has_failed source.new) }
+    {
+        self.window.need(source, 5 * self.ids.bytes() + 4)?;
+        let loader = self.id(source)?;
+        let signers = self.id(source)?;
+        let domain = self.id(source)?;
+        self.skip(source, 2 * self.ids.bytes() as u64 + 4)?;
+        Ok([loader, signers, domain])
+    }
+
+    /// Goes on behind the constants of a class.
+    fn skip_constants<R: Intake>(&mut self, source: &mut R) -> Result<(), ImportError>
+        ensures input { result ≡ Err ImportError.Input → IsTrue (R.has_failed source.new) }
+    {
+        let count = self.u16(source)?;
+        for _ in 0..count {
+            self.skip(source, 2)?;
+            let constant = self.field_type(source)?;
+            self.skip_value(source, constant)?;
+        }
+        Ok(())
     }
 
     /// Reads an id.
@@ -278,7 +298,7 @@ impl Dump {
     }
 
     /// Reads a type.
-    pub(crate) fn field_type<R: Intake>(&mut self, source: &mut R) -> Result<FieldType, ImportError>
+    fn field_type<R: Intake>(&mut self, source: &mut R) -> Result<FieldType, ImportError>
         ensures input { result ≡ Err ImportError.Input → IsTrue (R.has_failed source.new) }
     {
         let offset = self.window.offset();
@@ -287,6 +307,33 @@ impl Dump {
             offset,
             problem: Problem::Type(code),
         })
+    }
+
+    /// Goes on behind the name of a field and reads its type.
+    pub(crate) fn field<R: Intake>(&mut self, source: &mut R) -> Result<FieldType, ImportError>
+        ensures input { result ≡ Err ImportError.Input → IsTrue (R.has_failed source.new) }
+    {
+        self.id(source)?;
+        self.field_type(source)
+    }
+
+    /// Goes on behind a value of this type.
+    pub(crate) fn skip_value<R: Intake>(
+        &mut self,
+        source: &mut R,
+        value: FieldType,
+    ) -> Result<(), ImportError>
+        ensures input { result ≡ Err ImportError.Input → IsTrue (R.has_failed source.new) }
+    {
+        self.skip(source, value.bytes(self.ids) as u64)
+    }
+
+    /// Goes on behind the fields that a class adds to instances.
+    pub(crate) fn skip_fields<R: Intake>(&mut self, source: &mut R) -> Result<(), ImportError>
+        ensures input { result ≡ Err ImportError.Input → IsTrue (R.has_failed source.new) }
+    {
+        let count = u64::from(self.u16(source)?);
+        self.skip(source, count * (self.ids.bytes() as u64 + 1))
     }
 
     /// Goes on behind so many bytes.

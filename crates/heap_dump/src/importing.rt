@@ -6,17 +6,13 @@ ghost use Rattle.heap_dump.specs.Figures.{AreFiguresOf};
 
 use crate::draft::{Draft, Imported};
 use crate::error::ImportError;
-use crate::filling::{Filled, fill};
-use crate::heap::Heap;
-use crate::live::Live;
-use crate::moves::Moved;
+use crate::inventory::Inventory;
 use crate::options::{Options, Regions};
-use crate::survey::Survey;
+use crate::packed::Packed;
+use crate::survivor_heap::SurvivorHeap;
+use crate::transcribed::Transcribed;
 use heap_image::Intake;
 use std::alloc::Global;
-
-/// The region log of a heap that may have more words than an image.
-const LARGEST_REGION_LOG: u32 = 16;
 
 /// Makes an image from a heap dump, which is read twice: `first` and `second` give the same bytes, from the beginning.
 ///
@@ -39,13 +35,13 @@ pub fn import<R: Intake>(
         → IsTrue (R.has_failed first.new) ⊎ IsTrue (R.has_failed second.new) }
 {
     let regions = options.regions()?;
-    let survey = Survey::of(alloc, first)?;
+    let inventory = Inventory::of(alloc, first)?;
     let draft = if options.live_only {
-        live_heap(alloc, survey, second, regions)?
-    } else if survey.measure(true).words() <= regions.most_words() {
-        whole_heap(alloc, survey, second, regions)?
+        live_heap(alloc, inventory, second, regions)?
+    } else if inventory.measure(true).words() <= regions.most_words() {
+        whole_heap(alloc, inventory, second, regions)?
     } else {
-        return Err(refusal(alloc, survey, second, regions));
+        return Err(refusal(alloc, inventory, second, regions));
     };
     draft.into_image(alloc, options.allowance)
 }
@@ -53,57 +49,55 @@ pub fn import<R: Intake>(
 /// The heap with all objects of a dump, and the gaps between them.
 fn whole_heap<R: Intake>(
     alloc: Global,
-    mut survey: Survey,
+    mut inventory: Inventory,
     source: &mut R,
     regions: Regions,
 ) -> Result<Draft, ImportError>
     ensures end { OnOk result (IsAtEnd (R.left source.new)) }
     ensures input { result ≡ Err ImportError.Input → IsTrue (R.has_failed source.new) }
 {
-    let layout = survey.measure(true);
-    let mut heap = Heap::new(alloc, regions.log, layout.words())?;
-    survey.place(true, &mut heap);
-    let Filled {
+    let Transcribed {
         mut heap,
+        arrangement,
+        roots,
         unresolved,
-    } = fill(&survey, heap, source)?;
-    survey.objects.seal(&mut heap);
-    let (roots, missing) = survey.root_addresses(alloc)?;
+    } = Transcribed::of(alloc, &mut inventory, source, regions.log, true)?;
+    inventory.objects.seal(&mut heap);
     Ok(Draft {
         heap,
         roots,
-        objects: survey.objects.len() as u64,
-        dropped_gaps: layout.dropped_gaps(),
-        unresolved: unresolved.saturating_add(missing),
+        objects: inventory.objects.len() as u64,
+        dropped_gaps: arrangement.dropped_gaps(),
+        unresolved,
     })
 }
 
 /// The heap with the reachable objects of a dump, without gaps.
 fn live_heap<R: Intake>(
     alloc: Global,
-    survey: Survey,
+    inventory: Inventory,
     source: &mut R,
     regions: Regions,
 ) -> Result<Draft, ImportError>
     ensures end { OnOk result (IsAtEnd (R.left source.new)) }
     ensures input { result ≡ Err ImportError.Input → IsTrue (R.has_failed source.new) }
 {
-    let packed = Packed::of(alloc, survey, source)?;
-    let (words, most) = (packed.live.words, regions.most_words());
+    let packed = Packed::of(alloc, inventory, source)?;
+    let (words, most) = (packed.survivors.words, regions.most_words());
     if words > most {
         return Err(ImportError::TooManyLiveWords { words, most });
     }
-    let objects = packed.live.addresses.len() as u64;
-    let moved = Moved::of(
+    let objects = packed.survivors.addresses.len() as u64;
+    let alone = SurvivorHeap::of(
         alloc,
         &packed.heap,
-        &packed.live,
+        &packed.survivors,
         regions,
         packed.roots.as_slice(),
     )?;
     Ok(Draft {
-        heap: moved.heap,
-        roots: moved.roots,
+        heap: alone.heap,
+        roots: alone.roots,
         objects,
         dropped_gaps: 0,
         unresolved: packed.unresolved,
@@ -113,55 +107,19 @@ fn live_heap<R: Intake>(
 /// Why a dump with too many words gives no image.
 fn refusal<R: Intake>(
     alloc: Global,
-    survey: Survey,
+    inventory: Inventory,
     source: &mut R,
     regions: Regions,
 ) -> ImportError
     ensures { result ≡ ImportError.Input → IsTrue (R.has_failed source.new) }
 {
-    let words = survey.measure(true).words();
-    match Packed::of(alloc, survey, source) {
+    let words = inventory.measure(true).words();
+    match Packed::of(alloc, inventory, source) {
         Ok(packed) => ImportError::TooManyWords {
             words,
             most: regions.most_words(),
-            live_words: packed.live.words,
+            live_words: packed.survivors.words,
         },
         Err(error) => error,
-    }
-}
-
-/// A heap with all objects of a dump, of any size and without gaps, and which of them live.
-#[derive(Drop)]
-struct Packed {
-    heap: Heap,
-    live: Live,
-    /// The addresses to which roots lead.
-    roots: Vec<u64>,
-    /// How many references and roots lead to no object of the dump.
-    unresolved: u64,
-}
-
-impl Packed {
-    fn of<R: Intake>(
-        alloc: Global,
-        mut survey: Survey,
-        source: &mut R,
-    ) -> Result<Packed, ImportError>
-        ensures end { OnOk result (IsAtEnd (R.left source.new)) }
-        ensures input { result ≡ Err ImportError.Input → IsTrue (R.has_failed source.new) }
-    {
-        let words = survey.measure(false).words();
-        let mut heap = Heap::new(alloc, LARGEST_REGION_LOG, words)?;
-        survey.place(false, &mut heap);
-        let Filled { heap, unresolved } = fill(&survey, heap, source)?;
-        let (roots, missing) = survey.root_addresses(alloc)?;
-        drop(survey);
-        let live = Live::of(alloc, &heap, words, roots.as_slice())?;
-        Ok(Packed {
-            heap,
-            live,
-            roots,
-            unresolved: unresolved.saturating_add(missing),
-        })
     }
 }

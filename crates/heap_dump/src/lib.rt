@@ -8,26 +8,34 @@
 //! references, roots and figures are those of the dump. See the README.
 #![tactic(auto)]
 
+mod arrangement;
+mod class_head;
 mod classes;
 mod draft;
 mod dump;
 mod error;
+mod extent;
 mod field_type;
 mod figures;
-mod filling;
+mod forwarding;
 mod heap;
 mod importing;
-mod layout;
+mod inventory;
 mod limits;
-mod live;
-mod moves;
 mod objects;
 mod options;
+mod packed;
+mod reaching;
+mod record;
+mod record_visitor;
 mod roots;
 mod slots;
-mod survey;
+mod survivor_heap;
+mod survivors;
 #[cfg(test)]
 mod tests;
+mod transcribed;
+mod transcription;
 mod window;
 
 pub use draft::Imported;

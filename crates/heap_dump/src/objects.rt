@@ -1,11 +1,11 @@
 //! `Objects`: the objects of a dump by their ids.
 ghost use Rattle.std.specs.Prelude.{◌≢◌};
 
-use crate::classes::{Classes, Extent};
+use crate::arrangement::Arrangement;
+use crate::classes::Classes;
 use crate::dump::Dump;
 use crate::error::{ImportError, Problem};
 use crate::heap::{Heap, first_word, header, size};
-use crate::layout::Layout;
 use indexmap::IndexMap;
 use std::alloc::Global;
 
@@ -60,23 +60,23 @@ impl Objects {
     }
 
     /// Lays the objects out and answers how far they reach.
-    pub(crate) fn measure(&self, classes: &Classes, keeps_gaps: bool) -> Layout {
-        let mut layout = Layout::new(keeps_gaps);
+    pub(crate) fn measure(&self, classes: &Classes, keeps_gaps: bool) -> Arrangement {
+        let mut arrangement = Arrangement::new(keeps_gaps);
         for (id, object) in self.table.iter() {
-            let _ = layout.place(*id, words_of(classes, *object));
+            let _ = arrangement.place(*id, words_of(classes, *object));
         }
-        layout
+        arrangement
     }
 
     /// Gives each object its place, and notes its size there.
     pub(crate) fn place(&mut self, classes: &Classes, keeps_gaps: bool, heap: &mut Heap) {
-        let mut layout = Layout::new(keeps_gaps);
+        let mut arrangement = Arrangement::new(keeps_gaps);
         for index in 0..self.table.len() {
             let Some((id, object)) = self.table.get_index(index) else {
                 return;
             };
             let words = words_of(classes, *object);
-            let address = layout.place(*id, words);
+            let address = arrangement.place(*id, words);
             heap.put(address, first_word(words, 0));
             if let Some(object) = self.table.get_index_mut(index) {
                 *object = Object::Placed(address);

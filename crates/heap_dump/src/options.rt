@@ -2,7 +2,7 @@
 ghost use Rattle.std.specs.Prelude.{◌≤◌, ◌≢◌};
 
 use crate::error::ImportError;
-use crate::limits::{MOST_REGIONS, MOST_WORDS};
+use crate::limits::{MAX_REGIONS, MAX_WORDS};
 
 /// The region log where none is asked for: with regions of so many words every image that is allowed has few enough.
 const USUAL_REGION_LOG: u32 = 9;
@@ -43,6 +43,6 @@ impl Options {
 impl Regions {
     /// The most words that an image with such regions may have.
     pub(crate) fn most_words(self) -> u64 {
-        MOST_WORDS.min((MOST_REGIONS as u64) << self.log)
+        MAX_WORDS.min((MAX_REGIONS as u64) << self.log)
     }
 }

@@ -1,5 +1,5 @@
 //! The roots of an image.
-ghost use Rattle.std.specs.Prelude.{◌≤◌, All, length, IfOk};
+ghost use Rattle.std.specs.Prelude.{◌≡◌, ◌≤◌, All, length, IfOk};
 
 use std::alloc::{AllocError, Global};
 
@@ -9,12 +9,7 @@ pub(crate) fn roots_to(alloc: Global, addresses: &[u64], words: u64) -> Result<V
     ensures few { IfOk result (λ roots. length roots.items ≤ words) }
     ensures inside { IfOk result (λ roots. All (λ root. root ≤ words) roots.items) }
 {
-    let mut is_root = vec![in alloc; false; words as usize]?;
-    for address in addresses {
-        if *address < words {
-            is_root[*address as usize] = true;
-        }
-    }
+    let is_root = marks_of(alloc, addresses, words)?;
     let mut roots = Vec::new(alloc);
     for address in 0..words {
         if is_root[address as usize] {
@@ -22,4 +17,17 @@ pub(crate) fn roots_to(alloc: Global, addresses: &[u64], words: u64) -> Result<V
         }
     }
     Ok(roots)
+}
+
+/// Of each address of a heap of so many words, whether it is one of these.
+fn marks_of(alloc: Global, addresses: &[u64], words: u64) -> Result<Vec<bool>, AllocError>
+    ensures { IfOk result (λ marks. length marks.items ≡ words) }
+{
+    let mut marks = vec![in alloc; false; words as usize]?;
+    for address in addresses {
+        if *address < words {
+            marks[*address as usize] = true;
+        }
+    }
+    Ok(marks)
 }

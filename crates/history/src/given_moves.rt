@@ -7,7 +7,7 @@ use std::alloc::{AllocError, Global};
 use std::marker::Model;
 
 /// A table has at most so many regions.
-const MOST_REGIONS: usize = 16_384;
+const MAX_REGIONS: usize = 16_384;
 
 /// A table of moves that was handed in. It takes no memory of its own: a count walks the pairs, and a
 /// source is searched for. `IndexedMoves` has both at hand.
@@ -119,7 +119,7 @@ fn is_before(one: (u32, u32), other: (u32, u32)) -> bool
 fn is_move_table(fill: &[bool], pairs: &[(u32, u32)]) -> bool
     ensures { IsTrue result ↔ IsMoveTable (table_of fill.now pairs.now) }
 {
-    if fill.is_empty() || fill.len() > MOST_REGIONS {
+    if fill.is_empty() || fill.len() > MAX_REGIONS {
         return false;
     }
     are_ascending(pairs) && all_slide(fill, pairs) && have_two_readers_at_most(pairs)
@@ -160,7 +160,7 @@ fn have_two_readers_at_most(pairs: &[(u32, u32)]) -> bool
     requires { All (λ pair. pair.1 < 16384) pairs.now }
     ensures { IsTrue result ↔ ((s : ℕ) → count_by (has_source s) pairs.now ≤ 2) }
 {
-    let mut readers = [0u8; MOST_REGIONS];
+    let mut readers = [0u8; MAX_REGIONS];
     for &(_, source) in pairs {
         if readers[source as usize] == 2 {
             return false;

@@ -1,11 +1,8 @@
-use Rattle.std.proofs.Common.{◌≡◌, ◌≤◌, length, All}
+use Rattle.std.proofs.Common.{◌≤◌, length, All}
 use Rattle.heap_dump.proofs.roots.roots_to.Given as goal
 
 abbrev pub invariant-loop-address : goal.invariant-loop-address
-invariant-loop-address l = length l.is_root.items ≡ l.words
-
-abbrev pub invariant-loop-address-2 : goal.invariant-loop-address-2
-invariant-loop-address-2 l = record {
+invariant-loop-address l = record {
   few : length l.roots.items ≤ l.address;
   inside : All (λ root. root ≤ l.words) l.roots.items;
 }

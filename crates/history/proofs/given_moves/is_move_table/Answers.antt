@@ -9,7 +9,7 @@ returns-then-all_slide c = (
       elim c.if-are_ascending.branch [
         | then-are_ascending w ↦ record {
           some = let e = c.is_empty.ensures in let f = c.if-is_empty.false in search rules;
-          few = c.if-fill-gt-MOST_REGIONS.false;
+          few = c.if-fill-gt-MAX_REGIONS.false;
           ascending = c.are_ascending.ensures.0 w.if-are_ascending.true;
           slide = w.all_slide.ensures.0 (sym w.value-is ∙ c.if-all_slide.true);
           two = c.have_two_readers_at_most.ensures.0 two;

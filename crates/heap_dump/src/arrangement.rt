@@ -1,11 +1,11 @@
-//! `Layout`: where the objects of a dump stand in the heap of an image.
+//! `Arrangement`: where the objects of a dump stand in the heap of an image.
 
 /// The widest gap between objects, in words, that stays.
 const WIDEST_GAP: u64 = 512;
 
 /// The places of objects, in the order of their ids.
 #[derive(Clone, Copy)]
-pub(crate) struct Layout {
+pub(crate) struct Arrangement {
     /// Whether gaps stay.
     keeps_gaps: bool,
     /// The address behind the last object.
@@ -16,10 +16,10 @@ pub(crate) struct Layout {
     dropped_gaps: u64,
 }
 
-impl Layout {
+impl Arrangement {
     /// No object has a place yet.
-    pub(crate) fn new(keeps_gaps: bool) -> Layout {
-        Layout {
+    pub(crate) fn new(keeps_gaps: bool) -> Arrangement {
+        Arrangement {
             keeps_gaps,
             next: 0,
             next_id: None,

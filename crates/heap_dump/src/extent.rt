@@ -1,0 +1,68 @@
+//! `Extent`: what an object has besides its header.
+use crate::field_type::{FieldType, IdSize};
+
+/// How many references and how many bytes of primitive data an object has.
+#[derive(Clone, Copy)]
+pub(crate) struct Extent {
+    pub(crate) references: u64,
+    pub(crate) data_bytes: u64,
+}
+
+impl Extent {
+    pub(crate) const EMPTY: Extent = Extent {
+        references: 0,
+        data_bytes: 0,
+    };
+
+    /// The extent of an array of so many references.
+    pub(crate) fn of_references(count: u32) -> Extent {
+        Extent {
+            references: u64::from(count),
+            ..Extent::EMPTY
+        }
+    }
+
+    /// The extent of an array of so many primitive values of this type.
+    pub(crate) fn of_data(count: u32, element: FieldType) -> Extent {
+        Extent {
+            data_bytes: u64::from(count) * element.data_bytes() as u64,
+            ..Extent::EMPTY
+        }
+    }
+
+    /// With a value of this type more.
+    pub(crate) fn with(self, field: FieldType) -> Extent {
+        match field {
+            FieldType::Reference => Extent {
+                references: self.references.saturating_add(1),
+                ..self
+            },
+            _ => Extent {
+                data_bytes: self.data_bytes.saturating_add(field.data_bytes() as u64),
+                ..self
+            },
+        }
+    }
+
+    /// Both together.
+    pub(crate) fn plus(self, other: Extent) -> Extent {
+        Extent {
+            references: self.references.saturating_add(other.references),
+            data_bytes: self.data_bytes.saturating_add(other.data_bytes),
+        }
+    }
+
+    /// How many words an object of this extent has in an image: its header, its references, and its data.
+    pub(crate) fn words(self) -> u64 {
+        self.references
+            .saturating_add(self.data_bytes.div_ceil(8))
+            .saturating_add(1)
+    }
+
+    /// How many bytes the values have in a dump with ids of this size.
+    pub(crate) fn bytes(self, ids: IdSize) -> u64 {
+        self.references
+            .saturating_mul(ids.bytes() as u64)
+            .saturating_add(self.data_bytes)
+    }
+}

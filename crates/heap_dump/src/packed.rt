@@ -1,0 +1,52 @@
+//! `Packed`: all objects of a dump, for what needs more words than an image has.
+ghost use Rattle.std.specs.Prelude.{OnOk, ◌≡◌, IsTrue};
+ghost use Rattle.std.specs.Io.KnownBytes.{IsAtEnd};
+
+use crate::error::ImportError;
+use crate::heap::Heap;
+use crate::inventory::Inventory;
+use crate::survivors::Survivors;
+use crate::transcribed::Transcribed;
+use heap_image::Intake;
+use std::alloc::Global;
+
+/// The region log of a heap that may have more words than an image.
+const LARGEST_REGION_LOG: u32 = 16;
+
+/// A heap with all objects of a dump, of any size and without gaps, and its survivors.
+#[derive(Drop)]
+pub(crate) struct Packed {
+    pub(crate) heap: Heap,
+    pub(crate) survivors: Survivors,
+    /// The addresses to which roots lead.
+    pub(crate) roots: Vec<u64>,
+    /// How many references and roots lead to no object of the dump.
+    pub(crate) unresolved: u64,
+}
+
+impl Packed {
+    /// Reads a dump, whose inventory this is, for the second time.
+    pub(crate) fn of<R: Intake>(
+        alloc: Global,
+        mut inventory: Inventory,
+        source: &mut R,
+    ) -> Result<Packed, ImportError>
+        ensures end { OnOk result (IsAtEnd (R.left source.new)) }
+        ensures input { result ≡ Err ImportError.Input → IsTrue (R.has_failed source.new) }
+    {
+        let Transcribed {
+            heap,
+            arrangement,
+            roots,
+            unresolved,
+        } = Transcribed::of(alloc, &mut inventory, source, LARGEST_REGION_LOG, false)?;
+        drop(inventory);
+        let survivors = Survivors::of(alloc, &heap, arrangement.words(), roots.as_slice())?;
+        Ok(Packed {
+            heap,
+            survivors,
+            roots,
+            unresolved,
+        })
+    }
+}

@@ -1,0 +1,42 @@
+//! `SurvivorHeap`: the survivors of a heap, moved together.
+use crate::forwarding::Forwarding;
+use crate::heap::Heap;
+use crate::options::Regions;
+use crate::survivors::Survivors;
+use std::alloc::{AllocError, Global};
+
+/// The survivors of a heap alone.
+#[derive(Drop)]
+pub(crate) struct SurvivorHeap {
+    pub(crate) heap: Heap,
+    /// The new addresses of what roots lead to.
+    pub(crate) roots: Vec<u64>,
+}
+
+impl SurvivorHeap {
+    /// A heap with the survivors of this one, in their order and without gaps, in such regions. The roots lead to these
+    /// addresses.
+    pub(crate) fn of(
+        alloc: Global,
+        old: &Heap,
+        survivors: &Survivors,
+        regions: Regions,
+        roots: &[u64],
+    ) -> Result<SurvivorHeap, AllocError> {
+        let forwarding = Forwarding::of(alloc, old, survivors.addresses.as_slice())?;
+        let mut heap = Heap::new(alloc, regions.log, survivors.words)?;
+        for (from, to) in survivors.addresses.iter().zip(forwarding.addresses()) {
+            forwarding.copy(old, &mut heap, *from, *to);
+        }
+        let mut new_roots = Vec::new(alloc);
+        for root in roots {
+            if let Some(address) = forwarding.find(*root) {
+                new_roots.push(address)?;
+            }
+        }
+        Ok(SurvivorHeap {
+            heap,
+            roots: new_roots,
+        })
+    }
+}

@@ -1,0 +1,49 @@
+//! `Transcribed`: a heap with all objects of a dump.
+ghost use Rattle.std.specs.Prelude.{◌≤◌, OnOk, ◌≡◌, IsTrue};
+ghost use Rattle.std.specs.Io.KnownBytes.{IsAtEnd};
+
+use crate::arrangement::Arrangement;
+use crate::error::ImportError;
+use crate::heap::Heap;
+use crate::inventory::Inventory;
+use crate::transcription::Transcription;
+use heap_image::Intake;
+use std::alloc::Global;
+
+/// A heap with all objects of a dump and their values.
+#[derive(Drop)]
+pub(crate) struct Transcribed {
+    pub(crate) heap: Heap,
+    /// Where the objects stand.
+    pub(crate) arrangement: Arrangement,
+    /// The addresses to which roots lead.
+    pub(crate) roots: Vec<u64>,
+    /// How many references and roots lead to no object of the dump.
+    pub(crate) unresolved: u64,
+}
+
+impl Transcribed {
+    /// Gives the objects of a dump their places in regions of `2 ^ region_log` words, and reads the dump to its end.
+    pub(crate) fn of<R: Intake>(
+        alloc: Global,
+        inventory: &mut Inventory,
+        source: &mut R,
+        region_log: u32,
+        keeps_gaps: bool,
+    ) -> Result<Transcribed, ImportError>
+        requires low { 3 ≤ region_log }
+        requires high { region_log ≤ 16 }
+        ensures end { OnOk result (IsAtEnd (R.left source.new)) }
+        ensures input { result ≡ Err ImportError.Input → IsTrue (R.has_failed source.new) }
+    {
+        let (heap, arrangement) = inventory.place(alloc, region_log, keeps_gaps)?;
+        let (heap, unresolved) = Transcription::of(inventory, heap, source)?;
+        let (roots, missing) = inventory.root_addresses(alloc)?;
+        Ok(Transcribed {
+            heap,
+            arrangement,
+            roots,
+            unresolved: unresolved.saturating_add(missing),
+        })
+    }
+}
