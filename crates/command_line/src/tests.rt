@@ -26,9 +26,7 @@ fn files_and_workers_are_those_in_the_words(rt: HostRuntime) -> Result<(), Fail>
         &rt,
         &["record", "in", "out", "plan", "--workers", "3", "--verbose"],
     )?;
-    let request = read(rt.alloc(), words.as_slice())?;
-    assert!(rt; request.is_verbose());
-    let Request::Record(asked) = request else {
+    let Request::Record(asked) = read(rt.alloc(), words.as_slice())? else {
         return Err(Fail::new("no record"));
     };
     assert_eq!(rt; asked.image, "in");
@@ -36,6 +34,16 @@ fn files_and_workers_are_those_in_the_words(rt: HostRuntime) -> Result<(), Fail>
     assert_eq!(rt; asked.schedule, "plan");
     assert_eq!(rt; asked.workers, 3);
     assert!(rt; !asked.atomic);
+    assert!(rt; asked.verbose);
+    Ok(())
+}
+
+#[test]
+fn more_is_told_where_that_is_asked_for(rt: HostRuntime) -> Result<(), Fail> {
+    let words = words_of(&rt, &["summary", "in", "--verbose"])?;
+    assert!(rt; read(rt.alloc(), words.as_slice())?.is_verbose());
+    let words = words_of(&rt, &["summary", "in"])?;
+    assert!(rt; !read(rt.alloc(), words.as_slice())?.is_verbose());
     Ok(())
 }
 
