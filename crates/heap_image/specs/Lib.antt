@@ -10,6 +10,7 @@ pub mod Kept
 pub mod Refusals
 pub mod Reading
 pub mod Outgoing
+pub mod Sizes
 pub mod Soundness
 pub mod Reachable
 pub mod Marking

@@ -1,6 +1,6 @@
 -- What is right with the objects of a live list.
 use Rattle.std.specs.Prelude.{◌≡◌, List, ℕ, ◌+◌, ◌*◌, ◌<◌, ◌≤◌, IsTrue, None, length, slice_index}
-use Rattle.heap_image.specs.HeapImage.{HeapImage, HasSoundHeader, heap_words, end_of, references_at, reference_at, is_null_or_live}
+use Rattle.heap_image.specs.HeapImage.{HeapImage, HasSoundHeader, heap_words, size_at, end_of, references_at, reference_at, is_null_or_live}
 use Rattle.heap_image.specs.Bits.{has, room}
 use Rattle.heap_image.specs.ImageText.{unsound_header, dangling}
 
@@ -12,9 +12,10 @@ pub record IsSoundObject (image : HeapImage) (i : ℕ) : Type 0 where
   pub references : (f : ℕ) → f < references_at image (slice_index image.live i)
       → IsTrue (is_null_or_live image (reference_at image (slice_index image.live i) f))
 
--- so are the 64 live objects of this piece, of which the last may have fewer
-abbrev pub IsSoundPiece : HeapImage → ℕ → Type 0
-IsSoundPiece image piece = (i : ℕ) → 64 * piece ≤ i → i < 64 * piece + 64 → i < length image.live → IsSoundObject image i
+-- of the 64 live objects of this piece, of which the last may have fewer, those are sound whose size is noted
+abbrev pub AreNoted : HeapImage → ℕ → List ℕ → Type 0
+AreNoted image piece sizes = (j : ℕ) → j < 64 → 64 * piece + j < length image.live → 0 < slice_index sizes j
+    → IsSoundObject image (64 * piece + j) × (slice_index sizes j ≡ size_at image (slice_index image.live (64 * piece + j)))
 
 -- the bits that are set are those of null and of each reference to a live object
 pub record AreTargets (image : HeapImage) (bits : List ℕ) : Type 0 where

@@ -4,9 +4,11 @@ ghost use Rattle.std.specs.List.{concat, range_with_len};
 ghost use Rattle.heap_image.specs.HeapImage.{HeapImage, IsValid, AreBlocks, AreValidParts, image_of, rooted_image_of, is_null_or_live, roots_of, version_of, heap_words, region_count, region_words, word_at, words_alone, block_of};
 ghost use Rattle.heap_image.specs.ImageText.{with_tail};
 ghost use Rattle.heap_image.specs.Bits.{MarkBegins};
+ghost use Rattle.heap_image.specs.Sizes.{AreSizes};
 
 use crate::bits::Bits;
 use crate::heap::Heap;
+use crate::soundness::PIECE;
 use raw_region::Region;
 use std::marker::Model;
 
@@ -23,6 +25,7 @@ pub struct Image {
     live: Vec<u64>,
     roots: Option<Vec<u64>>,
     begins: Option<Bits>,
+    sizes: Option<Vec<[u32; PIECE]>>,
 }
 
 /// What an [`Image`] is made of.
@@ -49,7 +52,7 @@ impl Model for Image {
 
     ghost view = { λ i. rooted_image_of i.region_log i.allowance i.regions.items i.live.items (option_map (λ v. v.items) i.roots) };
 
-    ghost invariant = { λ i. AreKept i.region_log i.allowance i.regions.items i.live.items (option_map (λ v. v.items) i.roots) i.begins };
+    ghost invariant = { λ i. AreKept i.region_log i.allowance i.regions.items i.live.items (option_map (λ v. v.items) i.roots) i.begins (option_map (λ v. v.items) i.sizes) };
 }
 
 impl Image {
@@ -198,6 +201,17 @@ impl Image {
         self.begins.as_ref()
     }
 
+    /// The sizes in words of the live objects in their order, in pieces of [`PIECE`], where these were seen when the image
+    /// was read. In the last piece zeros may follow.
+    pub fn sizes(&self) -> Option<&[[u32; PIECE]]>
+        ensures { IfSome result (λ sizes. AreSizes self.now sizes.now) }
+    {
+        match &self.sizes {
+            Some(sizes) => Some(sizes.as_slice()),
+            None => None,
+        }
+    }
+
     /// The roots, in any order; none in an image of version 1. Each is 0, which is null, or 1 plus the address of a live
     /// object.
     pub fn roots(&self) -> &[u64]
@@ -238,14 +252,17 @@ impl ImageParts {
         requires valid { IsValid (rooted_image_of self.region_log self.allowance self.regions.items self.live.items (option_map (λ v. v.items) self.roots)) }
         ensures { result ≡ rooted_image_of self.region_log self.allowance self.regions.items self.live.items (option_map (λ v. v.items) self.roots) }
     {
-        self.with_begins(None)
+        self.with_seen(None, None)
     }
 
-    /// The image of these parts, which keeps the addresses of its live objects as bits, where these were seen.
-    pub(crate) fn with_begins(self, begins: Option<Bits>) -> Image
+    /// The image of these parts, which keeps the addresses of its live objects as bits, and their sizes, where these were
+    /// seen.
+    pub(crate) fn with_seen(self, begins: Option<Bits>, sizes: Option<Vec<[u32; PIECE]>>) -> Image
         requires regions { AreBlocks self.region_log self.regions.items }
         requires valid { IsValid (rooted_image_of self.region_log self.allowance self.regions.items self.live.items (option_map (λ v. v.items) self.roots)) }
         requires begins { IfSome begins (MarkBegins self.live.items (length (concat self.regions.items))) }
+        requires sizes { IfSome sizes
+            (λ sizes. AreSizes (image_of self.region_log 0 self.regions.items self.live.items) sizes.items) }
         ensures { result ≡ rooted_image_of self.region_log self.allowance self.regions.items self.live.items (option_map (λ v. v.items) self.roots) }
     {
         let ImageParts {
@@ -262,6 +279,7 @@ impl ImageParts {
             live,
             roots,
             begins,
+            sizes,
         }
     }
 }

@@ -65,5 +65,6 @@ pub use length_cause::LengthCause;
 pub use outlet::{Outlet, ToWrite, give_all};
 pub use reach::mark_from_roots;
 pub use read::{read_image, read_image_by_threads};
+pub use soundness::PIECE;
 pub use upgrading::{upgrade, upgrade_stream};
 pub use write::write_image;

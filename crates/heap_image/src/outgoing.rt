@@ -8,7 +8,7 @@ use crate::numbers::write_all;
 use crate::outlet::{Outlet, give_all};
 
 /// How many numbers are given at a time, at most.
-const ROOM: usize = 8192;
+const ROOM: usize = 32_768;
 
 const ROOM_BYTES: usize = 8 * ROOM;
 
@@ -27,7 +27,7 @@ impl Outgoing {
     /// With no number written.
     pub(crate) fn new() -> Outgoing
         ensures held { held_bytes result ≡ [] }
-        ensures in_range { result.end ≤ 8192 }
+        ensures in_range { result.end ≤ 32768 }
     {
         Outgoing {
             bytes: [0; ROOM_BYTES],
@@ -37,8 +37,8 @@ impl Outgoing {
 
     /// Writes numbers, and gives what there is no room for.
     pub(crate) fn write<W: Outlet>(&mut self, writer: &mut W, words: &[u64]) -> Result<(), Failed>
-        requires { self.old.end ≤ 8192 }
-        ensures in_range { OnOk result (self.new.end ≤ 8192) }
+        requires { self.old.end ≤ 32768 }
+        ensures in_range { OnOk result (self.new.end ≤ 32768) }
         ensures bytes { OnOk result
             (Sends (W.took writer.old) (W.took writer.new) (held_bytes self.old)
             (held_bytes self.new) (numbers words.now)) }
@@ -57,8 +57,8 @@ impl Outgoing {
 
     /// Where there is no room left, gives what is held.
     fn make_room<W: Outlet>(&mut self, writer: &mut W) -> Result<(), Failed>
-        requires { self.old.end ≤ 8192 }
-        ensures room { OnOk result (self.new.end < 8192) }
+        requires { self.old.end ≤ 32768 }
+        ensures room { OnOk result (self.new.end < 32768) }
         ensures bytes { OnOk result
             (Sends (W.took writer.old) (W.took writer.new) (held_bytes self.old)
             (held_bytes self.new) []) }
@@ -74,7 +74,7 @@ impl Outgoing {
 
     /// Gives what is held.
     pub(crate) fn flush<W: Outlet>(&mut self, writer: &mut W) -> Result<(), Failed>
-        requires { self.old.end ≤ 8192 }
+        requires { self.old.end ≤ 32768 }
         ensures empty { OnOk result (self.new.end ≡ 0) }
         ensures bytes { OnOk result
             (Appends (W.took writer.old) (W.took writer.new) (held_bytes self.old)) }
@@ -89,10 +89,10 @@ impl Outgoing {
 
     /// Holds as many of the numbers as there is room for, and answers how many.
     fn hold(&mut self, words: &[u64]) -> usize
-        requires { self.old.end ≤ 8192 }
-        ensures in_range { self.new.end ≤ 8192 }
+        requires { self.old.end ≤ 32768 }
+        ensures in_range { self.new.end ≤ 32768 }
         ensures within { result ≤ length words.now }
-        ensures some { self.old.end < 8192 → 0 < length words.now → 0 < result }
+        ensures some { self.old.end < 32768 → 0 < length words.now → 0 < result }
         ensures bytes { held_bytes self.new
             ≡ held_bytes self.old ++ numbers (take result words.now) }
         ensures room { self.new.end ≡ self.old.end + result }

@@ -6,6 +6,7 @@ ghost use Rattle.heap_image.specs.Device.{is_io};
 ghost use Rattle.heap_image.specs.HeapImage.{FormHeap, IsValid, IsWithinLimits, AreBlocks, image_of};
 ghost use Rattle.heap_image.specs.ImageText.{text, listed_text, front, numbers, front_faults, first_object_fault, first_some};
 ghost use Rattle.heap_image.specs.Reading.{HasFittingNumbers, IsFound, numbers_of};
+ghost use Rattle.heap_image.specs.Sizes.{AreSizes};
 ghost use Rattle.heap_image.specs.Refusals.{IsReason, IsOfReading, IsOfBody, LeavesRest};
 ghost use Rattle.heap_image.specs.Incoming.{IsInRange, FallsShort, expected, known_rest};
 
@@ -13,6 +14,7 @@ use crate::front::{FRONT_BYTES, Front};
 use crate::heap::Heap;
 use crate::incoming::Incoming;
 use crate::intake::{Intake, fill};
+use crate::soundness::PIECE;
 use crate::unchecked::{Found, find_live_objects};
 use crate::{Fault, Image, ImageParts};
 use raw_region::Region;
@@ -45,7 +47,7 @@ pub fn read_image<R: Intake>(alloc: Global, reader: &mut R) -> Result<Image, Fau
 {
     let read = read_unchecked(alloc, reader)?;
     let checked = read.found.check(&read.heap());
-    read.finish(reader, checked)
+    read.finish(reader, checked, None)
 }
 
 /// As [`read_image`]. As many threads as there are processors check the live objects, and the answer does not depend on
@@ -74,8 +76,13 @@ pub fn read_image_by_threads<R: Intake>(
     ensures io { R.has_failed reader.new ≡ is_io result }
 {
     let read = read_unchecked(alloc, reader)?;
-    let checked = read.found.check_by_threads(alloc, &read.heap(), threads);
-    read.finish(reader, checked)
+    let sizes = read.found.sizes_if_sound(alloc, &read.heap(), threads);
+    // Most live objects are sound. Where that wasn't seen, one thread looks for the fault that comes first.
+    let checked = match &sizes {
+        Some(_) => Ok(()),
+        None => read.found.check(&read.heap()),
+    };
+    read.finish(reader, checked, sizes)
 }
 
 /// What was read of an image, up to the end of its body.
@@ -125,10 +132,15 @@ impl Unchecked {
         Heap::new(self.regions.as_slice(), self.front.region_log)
     }
 
-    /// The image, if its live objects were found in order and no byte follows.
+    /// The image, if its live objects were found in order and no byte follows. It keeps their sizes, where these were seen.
     ///
     /// A clause that asks for `before` speaks of a device that had these bytes left before the image was read.
-    fn finish<R: Intake>(self, reader: &mut R, checked: Result<(), Fault>) -> Result<Image, Fault>
+    fn finish<R: Intake>(
+        self,
+        reader: &mut R,
+        checked: Result<(), Fault>,
+        sizes: Option<Vec<[u32; PIECE]>>,
+    ) -> Result<Image, Fault>
         requires fits { HasFittingNumbers (numbers_of self) }
         requires blocks { AreBlocks self.front.region_log self.regions.items }
         requires found { IsFound self }
@@ -136,6 +148,8 @@ impl Unchecked {
             (first_object_fault (image_of self.front.region_log 0 self.regions.items self.found.live.items) ≡ None) }
         requires why { IfErr checked
             (λ fault. first_object_fault (image_of self.front.region_log 0 self.regions.items self.found.live.items) ≡ Some fault) }
+        requires sizes { IfSome sizes
+            (λ sizes. AreSizes (image_of self.front.region_log 0 self.regions.items self.found.live.items) sizes.items) }
         requires works { R.has_failed reader.old ≡ false }
         ensures valid { IfOk result (λ image. IsValid image) }
         ensures text { (before : Option (List ℕ)) → Consumes before (R.left reader.old) (listed_text self.front.rooted (numbers_of self))
@@ -165,7 +179,7 @@ impl Unchecked {
             live: found.live,
             roots: found.roots,
         };
-        Ok(parts.with_begins(Some(found.begins)))
+        Ok(parts.with_seen(Some(found.begins), sizes))
     }
 }
 

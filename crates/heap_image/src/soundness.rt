@@ -1,84 +1,125 @@
-//! Whether the objects of a live list are sound, by several threads.
+//! The sizes of the objects of a live list, if they are sound, by several threads.
 //!
 //! They are looked at in pieces of 64: first their headers are read in a row, since a header is mostly waited for, and then
 //! their references, a row of words at a time. A reference is looked up as it is in bits that are set at null and at each
 //! reference to a live object. What is wrong is gathered and not told apart: whoever wants to know which object is unsound
 //! looks again.
-ghost use Rattle.std.specs.Prelude.{◌≡◌, ◌<◌, ◌≤◌, ◌+◌, ◌*◌, ℕ, All, IsTrue, length, min, slice_index};
-ghost use Rattle.heap_image.specs.HeapImage.{HasLiveList, heap_words, with_live, word_at};
+ghost use Rattle.std.specs.Prelude.{◌≡◌, ◌<◌, ◌≤◌, ◌+◌, ◌*◌, ◌/◌, ◌%◌, ℕ, All, IfSome, IsTrue, OnOk, IfOk, length, [], min, slice_index, slice_index_or};
+ghost use Rattle.heap_image.specs.HeapImage.{HasLiveList, heap_words, size_at, with_live, word_at};
 ghost use Rattle.heap_image.specs.Bits.{MarkBegins, has, room};
-ghost use Rattle.heap_image.specs.Soundness.{AreTargets, IsSoundObject, IsSoundPiece};
+ghost use Rattle.heap_image.specs.Sizes.{AreSizes};
+ghost use Rattle.heap_image.specs.Soundness.{AreNoted, AreTargets, IsSoundObject};
 
 use crate::bits::Bits;
 use crate::check::is_unsound;
 use crate::header;
 use crate::heap::Heap;
-use rayon::prelude::*;
-use std::alloc::Global;
+use rayon::current_num_threads;
+use std::alloc::{AllocError, Global};
+use std::thread;
 use std::thread::Threads;
 
 /// How many objects are a piece.
-const PIECE: usize = 64;
+pub const PIECE: usize = 64;
 
 /// How many pieces are worth a thread of their own.
 const LEAST: usize = 16;
 
-/// Whether nothing is wrong with any live object, whose addresses are marked. As many threads as there are processors
-/// look at the objects, each object once. Where memory is refused for the bits of the references, the answer is no.
-pub(crate) fn are_sound(
+/// The sizes in words of the live objects, whose addresses are marked, if nothing is wrong with any of them. As many
+/// threads as there are processors look at the objects, each object once. Where memory is refused there is no answer.
+pub(crate) fn sizes_if_sound(
     alloc: Global,
     heap: &Heap<'_>,
     live: &[u64],
     begins: &Bits,
     threads: &(impl Threads + Sync),
-) -> bool
+) -> Option<Vec<[u32; PIECE]>>
     requires inside { All (λ a. a < heap_words heap.now) live.now }
     requires bits { MarkBegins live.now (heap_words heap.now) begins.now }
-    ensures { IsTrue result → HasLiveList (with_live heap.now live.now) }
+    ensures sound { IfSome result (λ _. HasLiveList (with_live heap.now live.now)) }
+    ensures sizes { IfSome result (λ sizes. AreSizes (with_live heap.now live.now) sizes.items) }
 {
-    match begins.raised(alloc) {
-        Ok(targets) => are_pieces_sound(heap, live, &targets, threads),
-        Err(_) => false,
+    let Ok(targets) = begins.raised(alloc) else {
+        return None;
+    };
+    let Ok(sizes) = noted_sizes(alloc, heap, live, &targets, threads) else {
+        return None;
+    };
+    if are_all_noted(sizes.as_slice(), live.len()) {
+        Some(sizes)
+    } else {
+        None
     }
 }
 
-/// Whether nothing is wrong with any live object, where the references that are null or lead to one are set.
-fn are_pieces_sound(
+/// The size of each live object that is sound, and 0 for each that isn't, where the references that are null or lead to one are set.
+fn noted_sizes(
+    alloc: Global,
     heap: &Heap<'_>,
     live: &[u64],
     targets: &Bits,
     threads: &(impl Threads + Sync),
-) -> bool
+) -> Result<Vec<[u32; PIECE]>, AllocError>
     requires inside { All (λ a. a < heap_words heap.now) live.now }
     requires targets { AreTargets (with_live heap.now live.now) targets.now }
-    ensures { IsTrue result → HasLiveList (with_live heap.now live.now) }
+    ensures room { IfOk result (λ sizes. length live.now ≤ 64 * length sizes.items) }
+    ensures noted { IfOk result (λ sizes. (p : ℕ) → p < length sizes.items
+        → AreNoted (with_live heap.now live.now) p (slice_index_or sizes.items p [])) }
 {
-    let pieces = (0..live.len().div_ceil(PIECE)).into_par_iter();
-    pieces.with_min_len(LEAST).all(
-        threads,
-        |piece: usize| -> bool
-            requires { All (λ a. a < heap_words heap.now) live.now
-                × AreTargets (with_live heap.now live.now) targets.now × (64 * piece < length live.now) }
-            ensures { IsTrue result → IsSoundPiece (with_live heap.entry.now live.entry.now) piece }
-        { is_piece_sound(heap, live, targets, piece) },
-    )
+    let mut sizes = vec![in alloc; [0u32; PIECE]; live.len().div_ceil(PIECE)]?;
+    let count = current_num_threads(threads).min(sizes.len() / LEAST).max(1);
+    let note = |piece: usize, sizes: &mut [u32; PIECE]|
+        requires { All (λ a. a < heap_words heap.now) live.now
+            × AreTargets (with_live heap.now live.now) targets.now × (64 * piece < length live.now) }
+        ensures { AreNoted (with_live heap.entry.now live.entry.now) piece sizes.new }
+    { note_sizes(heap, live, targets, piece, sizes) };
+    thread::for_each_mut(threads, sizes.as_mut_slice(), count, &note);
+    Ok(sizes)
 }
 
-/// Whether nothing is wrong with the live objects of a piece.
-fn is_piece_sound(heap: &Heap<'_>, live: &[u64], targets: &Bits, piece: usize) -> bool
+/// Notes the sizes of the live objects of a piece that are sound.
+fn note_sizes(heap: &Heap<'_>, live: &[u64], targets: &Bits, piece: usize, sizes: &mut [u32; PIECE])
     requires inside { All (λ a. a < heap_words heap.now) live.now }
     requires targets { AreTargets (with_live heap.now live.now) targets.now }
     requires piece { 64 * piece < length live.now }
-    ensures { IsTrue result → IsSoundPiece (with_live heap.now live.now) piece }
+    ensures { AreNoted (with_live heap.now live.now) piece sizes.new }
 {
     let from = piece * PIECE;
     let to = live.len().min(from + PIECE);
     let headers = headers_of(heap, &live[from..to]);
-    let mut all = true;
     for i in from..to {
-        all &= is_sound(heap, live, targets, i, headers[i - from]);
+        sizes[i - from] = size_if_sound(heap, live, targets, i, headers[i - from]);
+    }
+}
+
+/// Whether as many sizes as there are objects are noted.
+fn are_all_noted(sizes: &[[u32; PIECE]], objects: usize) -> bool
+    requires { objects ≤ 64 * length sizes.now }
+    ensures { IsTrue result → (i : ℕ) → i < objects
+        → 0 < slice_index (slice_index_or sizes.now (i / 64) []) (i % 64) }
+{
+    let mut all = true;
+    for i in 0..objects {
+        all &= sizes[i / PIECE][i % PIECE] > 0;
     }
     all
+}
+
+/// The size of the live object of this index, which has this header, or 0 where it isn't sound.
+#[inline]
+fn size_if_sound(heap: &Heap<'_>, live: &[u64], targets: &Bits, i: usize, header: u64) -> u32
+    requires inside { All (λ a. a < heap_words heap.now) live.now }
+    requires targets { AreTargets (with_live heap.now live.now) targets.now }
+    requires index { i < length live.now }
+    requires header { header ≡ word_at heap.now (slice_index live.now i) }
+    ensures sound { 0 < result → IsSoundObject (with_live heap.now live.now) i }
+    ensures size { 0 < result → result ≡ size_at (with_live heap.now live.now) (slice_index live.now i) }
+{
+    if is_sound(heap, live, targets, i, header) {
+        header::size(header)
+    } else {
+        0
+    }
 }
 
 /// The headers of a few objects, and zeros behind them. Nothing is done here but to read them, so that the processor has

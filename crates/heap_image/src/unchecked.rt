@@ -1,6 +1,7 @@
 //! `Unchecked`: what was read of an image, before its live objects are checked.
-ghost use Rattle.std.specs.Prelude.{◌≡◌, ◌<◌, ◌≤◌, ◌⊎◌, Some, None, All, length, IfOk, OnOk, IfErr, IsTrue, option_map};
+ghost use Rattle.std.specs.Prelude.{◌≡◌, ◌<◌, ◌≤◌, ◌⊎◌, Some, None, All, length, IfOk, IfSome, OnOk, IfErr, IsTrue, option_map};
 ghost use Rattle.heap_image.specs.Bits.{MarkBegins};
+ghost use Rattle.heap_image.specs.Sizes.{AreSizes};
 ghost use Rattle.heap_image.specs.Soundness.{AreWellFormed};
 ghost use Rattle.heap_image.specs.HeapImage.{heap_words, with_live};
 ghost use Rattle.heap_image.specs.ImageText.{from_tail, first_some, first_object_fault, live_list_faults};
@@ -10,7 +11,7 @@ use crate::bits::Bits;
 use crate::check::{check_live, misplaced_index};
 use crate::heap::Heap;
 use crate::reach::{Reached, reached_from_roots};
-use crate::soundness::are_sound;
+use crate::soundness::{PIECE, sizes_if_sound};
 use std::alloc::Global;
 use std::thread::Threads;
 
@@ -94,27 +95,24 @@ impl Found {
         check_live(heap, self.live.as_slice(), &self.begins, self.well_formed)
     }
 
-    /// As [`check`](Found::check). Most live objects are sound, so as many threads as there are processors are asked first
-    /// whether these are. Where they don't say so, one thread looks for the fault that comes first.
-    pub(crate) fn check_by_threads(
+    /// The sizes of the live objects, if it is seen that nothing is wrong with any. As many threads as there are processors
+    /// look at the objects. Nothing is looked at where the objects are known to be well-formed.
+    pub(crate) fn sizes_if_sound(
         &self,
         alloc: Global,
         heap: &Heap<'_>,
         threads: &(impl Threads + Sync),
-    ) -> Result<(), Fault>
+    ) -> Option<Vec<[u32; PIECE]>>
         requires inside { All (λ a. a < heap_words heap.now) self.now.live.items }
         requires begins { MarkBegins self.now.live.items (heap_words heap.now) self.now.begins }
-        requires well_formed { IsTrue self.now.well_formed → AreWellFormed (with_live heap.now self.now.live.items) }
-        ensures ok { OnOk result
-            (first_object_fault (with_live heap.now self.now.live.items) ≡ None) }
-        ensures fault { IfErr result
-            (λ fault. first_object_fault (with_live heap.now self.now.live.items) ≡ Some fault) }
+        ensures ok { IfSome result
+            (λ _. first_object_fault (with_live heap.now self.now.live.items) ≡ None) }
+        ensures sizes { IfSome result
+            (λ sizes. AreSizes (with_live heap.now self.now.live.items) sizes.items) }
     {
-        if !self.well_formed
-            && are_sound(alloc, heap, self.live.as_slice(), &self.begins, threads)
-        {
-            return Ok(());
+        if self.well_formed {
+            return None;
         }
-        self.check(heap)
+        sizes_if_sound(alloc, heap, self.live.as_slice(), &self.begins, threads)
     }
 }

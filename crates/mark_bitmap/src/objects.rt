@@ -1,15 +1,13 @@
 //! The bits of the live objects.
-ghost use Rattle.std.specs.Prelude.{◌≡◌, ℕ, ◌+◌, ◌-◌, ◌*◌, ◌%◌, ◌^◌, ◌<◌, ◌≤◌, ◌==◌, ◌||◌, All, IfOk, length, map, replicate, take};
+ghost use Rattle.std.specs.Prelude.{◌≡◌, ℕ, ◌+◌, ◌-◌, ◌*◌, ◌%◌, ◌^◌, ◌<◌, ◌≤◌, ◌==◌, ◌||◌, All, IfOk, IfSome, length, map, replicate, slice_index, take};
 ghost use Rattle.std.specs.List.{list_any};
 ghost use Rattle.heap_image.specs.HeapImage.{IsValid, HasSoundHeader, heap_words, end_of, size_at, is_live_word};
 ghost use Rattle.heap_image.specs.Bits.{has};
+ghost use Rattle.heap_image.specs.Sizes.{AreSizesOf};
 ghost use Rattle.mark_bitmap.specs.Marks.{HaveMarks, bit_words, is_begin, is_end};
 
-use heap_image::{Bits, Image};
+use heap_image::{Bits, Image, PIECE};
 use std::alloc::{AllocError, Global};
-
-/// How many headers are read in a row.
-const PIECE: usize = 64;
 
 /// The bits of the first words of the live objects. Where they were seen when the image was read, they aren't made again.
 pub(crate) fn begin_bits(alloc: Global, image: &Image) -> Result<Bits, AllocError>
@@ -45,29 +43,56 @@ fn mark_ends(image: &Image, ends: &mut Bits)
     for piece in 0..objects.len().div_ceil(PIECE) {
         let from = piece * PIECE;
         let to = objects.len().min(from + PIECE);
-        mark_ends_of(image, &objects[from..to], ends);
+        mark_ends_of(image, &objects[from..to], sizes_of(image, piece), ends);
     }
 }
 
-/// Sets the bit of the last word of each of a few objects.
-fn mark_ends_of(image: &Image, objects: &[u64], ends: &mut Bits)
+/// The sizes of the objects of a piece of the live list, where they were seen when the image was read.
+fn sizes_of(image: &Image, piece: usize) -> Option<&[u32; PIECE]>
+    requires { 64 * piece < length image.now.live }
+    ensures { IfSome result (λ sizes. (j : ℕ) → j < 64 → 64 * piece + j < length image.now.live
+        → slice_index sizes.now j ≡ size_at image.now (slice_index image.now.live (64 * piece + j))) }
+{
+    match image.sizes() {
+        Some(sizes) => Some(&sizes[piece]),
+        None => None,
+    }
+}
+
+/// Sets the bit of the last word of each of a few objects, whose sizes may be known.
+fn mark_ends_of(image: &Image, objects: &[u64], sizes: Option<&[u32; PIECE]>, ends: &mut Bits)
     requires valid { IsValid image.now }
     requires few { length objects.now ≤ 64 }
     requires sound { All (HasSoundHeader image.now) objects.now }
+    requires sizes { IfSome sizes (λ sizes. AreSizesOf image.now objects.now sizes.now) }
     requires room { length ends.old ≡ bit_words image.now }
     ensures room { length ends.new ≡ length ends.old }
     ensures bits { (k : ℕ) → has ends.new k ≡ (has ends.old k || list_any (λ a. end_of image.now a == k + 1) objects.now) }
 {
-    let lasts = last_words(image, objects);
+    let lasts = last_words(image, objects, sizes);
     ends.insert_all(&lasts[..objects.len()]);
 }
 
-/// The addresses of the last words of a few objects, and zeros behind them.
+/// The addresses of the last words of a few objects, whose sizes may be known, and zeros behind them.
+fn last_words(image: &Image, objects: &[u64], sizes: Option<&[u32; PIECE]>) -> [u64; PIECE]
+    requires valid { IsValid image.now }
+    requires few { length objects.now ≤ 64 }
+    requires sound { All (HasSoundHeader image.now) objects.now }
+    requires sizes { IfSome sizes (λ sizes. AreSizesOf image.now objects.now sizes.now) }
+    ensures { take (length objects.now) result ≡ map (λ a. end_of image.now a - 1) objects.now }
+{
+    match sizes {
+        Some(sizes) => last_words_by(image, objects, sizes),
+        None => last_words_read(image, objects),
+    }
+}
+
+/// The addresses of the last words of a few objects by their headers, and zeros behind them.
 ///
 /// A header is mostly waited for, since it lies in no cache. Nothing is done here but to read the headers, so that the
 /// processor has many of them under way at once.
 #[inline]
-fn last_words(image: &Image, objects: &[u64]) -> [u64; PIECE]
+fn last_words_read(image: &Image, objects: &[u64]) -> [u64; PIECE]
     requires valid { IsValid image.now }
     requires few { length objects.now ≤ 64 }
     requires sound { All (HasSoundHeader image.now) objects.now }
@@ -77,6 +102,23 @@ fn last_words(image: &Image, objects: &[u64]) -> [u64; PIECE]
     let mut lasts = [0; PIECE];
     for (i, &begin) in objects.iter().enumerate() {
         lasts[i] = begin + heap.size_at(begin) - 1;
+    }
+    lasts
+}
+
+/// The addresses of the last words of a few objects of these sizes, and zeros behind them.
+#[inline]
+fn last_words_by(image: &Image, objects: &[u64], sizes: &[u32; PIECE]) -> [u64; PIECE]
+    requires valid { IsValid image.now }
+    requires few { length objects.now ≤ 64 }
+    requires sound { All (HasSoundHeader image.now) objects.now }
+    requires sizes { AreSizesOf image.now objects.now sizes.now }
+    ensures { take (length objects.now) result ≡ map (λ a. end_of image.now a - 1) objects.now }
+{
+    let _valid = image.len();
+    let mut lasts = [0; PIECE];
+    for (i, &begin) in objects.iter().enumerate() {
+        lasts[i] = begin + u64::from(sizes[i]) - 1;
     }
     lasts
 }

@@ -127,7 +127,8 @@ impl<'a, F: OpenFile + Drop> Target<'a, F> {
     }
 
     /// Begins to write it: empties it, or makes the new file beside it. A pipe or a device has nothing
-    /// to be emptied.
+    /// to be emptied, and a file that is empty isn't emptied again: some systems write a file that was
+    /// emptied to the disk when it is closed.
     ///
     /// After fault 13, or 11 for want of memory, it is as it was.
     pub fn begin<H: Files<File = F> + AllocGlobal>(
@@ -137,7 +138,7 @@ impl<'a, F: OpenFile + Drop> Target<'a, F> {
         let Target { word, found, way } = self;
         match way {
             Way::InPlace { file, .. } => {
-                if found.is_some_and(|found: Metadata| found.is_file()) {
+                if found.is_some_and(|found: Metadata| found.is_file() && found.len() > 0) {
                     called(word, Call::Empty, file.set_len(0))?;
                 }
                 Ok(Output {

@@ -76,8 +76,8 @@ returns-then-branch-gt0-clause-left g c = λ before read.
     let more = take c.in_ok-fill.field-0 c.fill.new.buffer in
     trailing_leaves rooted image c.requires.fits before after read sound more (g.R.Intake.left c.fill.new.reader) c.in_ok-fill.ensures.bytes (one_taken c.fill.new.buffer c.in_ok-fill.field-0 c.fill.auto.buffer c.in_ok-fill.ensures.within c.if-branch-gt0.true)
 
-pub with_begins-requires-clause-valid : goal.with_begins-requires-clause-valid
-with_begins-requires-clause-valid g c =
+pub with_seen-requires-clause-valid : goal.with_seen-requires-clause-valid
+with_seen-requires-clause-valid g c =
     let found = c.requires.found in
     let sound = found.ordered ∙ no_fault c.args.checked c.in_ok-checked.field-0 _ c.in_ok-checked.was c.requires.ok in
     subst IsValid (sym (parts_of c.args.self found.live found.roots)) (from_tail-IsValid c.args.self.front.rooted (numbers_of c.args.self) c.requires.fits sound)
@@ -93,6 +93,6 @@ returns-clause-text g c = λ before read.
     let zero_taken : n ≡ 0 = omega arith in
     let none : take n c.fill.new.buffer ≡ [] = ap (λ k. take k c.fill.new.buffer) zero_taken in
     let are = parts_of c.args.self c.requires.found.live c.requires.found.roots in
-    let whole : listed_text rooted image ++ take n c.fill.new.buffer ≡ text c.with_begins.result =
-    ap (λ xs. listed_text rooted image ++ xs) none ∙ append-nil (listed_text rooted image) ∙ sym (text-from_tail rooted image refl) ∙ ap text (sym are ∙ sym c.with_begins.ensures) in
+    let whole : listed_text rooted image ++ take n c.fill.new.buffer ≡ text c.with_seen.result =
+    ap (λ xs. listed_text rooted image ++ xs) none ∙ append-nil (listed_text rooted image) ∙ sym (text-from_tail rooted image refl) ∙ ap text (sym are ∙ sym c.with_seen.ensures) in
     subst (λ bytes. Consumes before end bytes) whole (consumes_more before after end (listed_text rooted image) (take n c.fill.new.buffer) read c.in_ok-fill.ensures.bytes)
