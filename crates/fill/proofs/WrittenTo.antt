@@ -12,13 +12,13 @@ use Rattle.std.proofs.lemmas.Bool.{false_from_ne_true}
 use Rattle.summary.specs.RegionData.{source, destination}
 use Rattle.summary.proofs.Destinations.{destination-live_words}
 use Rattle.summary.proofs.Readers.{source-Some, reads-below, reads-in_range, reads-word, word_reads, same_Bool}
-use Rattle.fill.specs.Splits.{IsSplit, Shows}
+use Rattle.fill.specs.WordBlocks.{IsSplitAt, Shows}
 use Rattle.std.proofs.lemmas.List.{ext_get_or}
 use Rattle.std.specs.Prelude.{map}
 use Rattle.std.proofs.lemmas.List.FromFn.{get_or-map-range_with_len, length-map-range_with_len}
 use Rattle.summary.specs.Compaction.{moved_word}
 use Rattle.summary.specs.RegionData.{addresses}
-use Rattle.fill.specs.Filling.{copied_word, written_to, reaches}
+use Rattle.fill.specs.CopiedWords.{copied_word, written_to, reaches}
 use Rattle.fill.proofs.Slides.{slid-monotone, slid-all, word_by-above}
 use Rattle.std.proofs.lemmas.Nat.{mul-le, div-add-mod'}
 use Rattle.fill.proofs.Writing.{split_skip, split_all, length-part, get_or-part}
@@ -118,7 +118,7 @@ module _ (image : HeapImage) (sound : HasLiveList image) where
 
   -- once all live words are written, so is the region
   pub written_to-all : (start : ℕ) (xs : List ℕ) (p : ℕ) → length xs ≡ R → p ≡ written_to image start (heap_words image)
-      → IsSplit (copied_word image) (word_at image) start xs p → Shows (copied_word image) start xs
+      → IsSplitAt (copied_word image) (word_at image) start xs p → Shows (copied_word image) start xs
   written_to-all start xs p long e h =
       let all = slid-all image sound in
       let skipped = split_skip (copied_word image) (word_at image) start xs p (start + R) h (omega arith) (λ a l m n. sym (word_by-above image (λ _. false) a (omega arith))) in
@@ -185,7 +185,7 @@ module _ (image : HeapImage) (valid : IsValid image) where
   -- a region written up to what its last source gives is written whole
   pub written_to-last : (d from to : ℕ) (xs : List ℕ) → prefix_end image ≤ start_of image d → d < from → from ≤ region_count image
       → ((t : ℕ) → from ≤ t → t < region_count image → reads image d t ≡ false) → to ≡ written_to image (start_of image d) (start_of image from)
-      → length xs ≡ S → IsSplit (copied_word image) (word_at image) (start_of image d) xs to → Shows (copied_word image) (start_of image d) xs
+      → length xs ≡ S → IsSplitAt (copied_word image) (word_at image) (start_of image d) xs to → Shows (copied_word image) (start_of image d) xs
   written_to-last d from to xs l own within last place long h =
       let rest = written_to-between d from (region_count image) l (omega arith) within (omega arith) last ∙ ap (written_to image (start_of image d)) all_regions in
       written_to-all image valid.live_list (start_of image d) xs to long (place ∙ rest) h
