@@ -65,7 +65,7 @@ def rooted(words: list[int], roots: list[int], allowance: int = 0, log: int = 3)
     return model.encode(model.Image(2, log, allowance, words, roots))
 
 
-def head(log: int, count: int, words: int = 4_194_304, magic: bytes = b"PCHEAP01") -> bytes:
+def head(log: int, count: int, words: int = model.MAX_WORDS, magic: bytes = b"PCHEAP01") -> bytes:
     return struct.pack("<8sIIQQ", magic, log, count, words, 0)
 
 

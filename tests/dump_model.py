@@ -7,14 +7,14 @@ import dataclasses
 import itertools
 import struct
 
+from model import MAX_REGIONS, MAX_WORDS
+
 NAMES = (b"JAVA PROFILE 1.0.1\0", b"JAVA PROFILE 1.0.2\0")
 REFERENCE = 2
 DATA_BYTES = {4: 1, 8: 1, 5: 2, 9: 2, 6: 4, 10: 4, 7: 8, 11: 8}
 # What follows the id of a root, in bytes; None is an id.
 ROOTS = {0xFF: 0, 0x01: None, 0x02: 8, 0x03: 8, 0x04: 4, 0x05: 0, 0x06: 4, 0x07: 0, 0x08: 8}
 WIDEST_GAP = 512
-MOST_WORDS = 4_194_304
-MOST_REGIONS = 16_384
 
 
 class Malformed(Exception):
@@ -231,7 +231,7 @@ def places(dump: Dump, ids: list[int], gaps: bool) -> tuple[dict[int, int], int,
 def make(data: bytes, region_log: int = 9, allowance: int = 0, live_only: bool = False) -> Import:
     dump = Dump(data)
     live = reached(dump)
-    most = min(MOST_WORDS, MOST_REGIONS << region_log)
+    most = min(MAX_WORDS, MAX_REGIONS << region_log)
     ids = sorted(live if live_only else dump.objects)
     addresses, end, dropped = places(dump, ids, not live_only)
     if end > most:

@@ -6,7 +6,7 @@ from makers import ImageMaker, LimitMaker, ScheduleMaker, as_version_1, chance_o
 from model import Collection, Fault, Image, decode, encode, upgraded, verdict
 from mutations import ImageSpoiler, ScheduleSpoiler
 from program import Answer, Tried, differs, fault
-from schedule_model import ANY, MOST_WORKERS, Schedule, is_recorded, read, recorded_by_one, replayed
+from schedule_model import ANY, MAX_WORKERS, Schedule, is_recorded, read, recorded_by_one, replayed
 
 # Words of an image for which the model takes long.
 MANY_WORDS = 1 << 14
@@ -24,7 +24,7 @@ def left(flag: str, *names: str) -> dict[str, bytes | None]:
 def try_refused(tried: Tried, said: str, chance: random.Random) -> None:
     """An image that is none, under `summary` and other commands."""
     tried.run("summary image", fault(said))
-    workers, flag = chance.choice([0, 65, *range(1, 9)]), atomic_or_not(chance)
+    workers, flag = chance.choice([0, MAX_WORKERS + 1, *range(1, 9)]), atomic_or_not(chance)
     # The image is read before the schedule, and before workers are counted.
     tried.write("schedule", chance.choice(["", "schedule 1 1\n", "schedule 1 1\n0 claim 0 ?"]))
     commands = [("replay image schedule", {}), ("verify image base", {}), ("verify base image", {}),
@@ -40,15 +40,15 @@ def try_collected(tried: Tried, collection: Collection, chance: random.Random) -
     image = collection.image
     collected = Answer(0, collection.figures(), made={"out": encode(collection.compaction())})
     tried.run("summary image", Answer(0, collection.report()))
-    for workers in (1, chance.choice([2, 3, 4, 8, MOST_WORKERS, chance.randint(2, MOST_WORKERS)])):
+    for workers in (1, chance.choice([2, 3, 4, 8, MAX_WORKERS, chance.randint(2, MAX_WORKERS)])):
         tried.run(f"collect image out --workers {workers}{atomic_or_not(chance)}", collected)
     tried.run("verify image out", Answer(0, "same\n"))
-    try_recorded(tried, collection, collected, chance.choice([*range(2, 9), MOST_WORKERS]))
+    try_recorded(tried, collection, collected, chance.choice([*range(2, 9), MAX_WORKERS]))
     alone = recorded_by_one(collection).text()
     tried.run(f"record image out schedule --workers 1{atomic_or_not(chance)}",
               dataclasses.replace(collected, made=collected.made | {"schedule": alone.encode()}))
     if chance.randrange(8) == 0:
-        workers, flag = chance.choice([0, 65, 2 ** 32 - 1]), atomic_or_not(chance)
+        workers, flag = chance.choice([0, MAX_WORKERS + 1, 2 ** 32 - 1]), atomic_or_not(chance)
         tried.run(f"collect image out --workers {workers}{flag}", fault("12 workers", left(flag, "out")))
         tried.run(f"record image out schedule --workers {workers}{flag}",
                   fault("12 workers", left(flag, "out", "schedule")))

@@ -3,13 +3,13 @@ that the word machine allows."""
 import dataclasses
 import random
 
-from model import FILLER, MOST_REGIONS, MOST_WORDS, Collection, Image, header, references_of
-from schedule_model import ANY, LARGEST_NUMBER, MOST_WORKERS, Line, Machine, Schedule
+from model import FILLER, MAX_REGIONS, MAX_WORDS, Collection, Image, header, references_of
+from schedule_model import ANY, LARGEST_NUMBER, MAX_WORKERS, Line, Machine, Schedule
 
 LARGEST = 2 ** 64 - 1
 SHAPES = ("any", "any", "any", "list", "cycle", "array", "none")
 # Region logs and numbers of regions that are as large as they may be, one or both of them.
-LIMITS = (*[(3, MOST_REGIONS)] * 4, *[(16, 1), (16, 2)] * 2, (16, MOST_WORDS >> 16), (8, MOST_REGIONS))
+LIMITS = (*[(3, MAX_REGIONS)] * 4, *[(16, 1), (16, 2)] * 2, (16, MAX_WORDS >> 16), (8, MAX_REGIONS))
 
 
 def chance_of(chance: random.Random, percent: int, one: object, other: object) -> object:
@@ -117,7 +117,7 @@ class ScheduleMaker:
     def __init__(self, chance: random.Random, collection: Collection):
         self.chance = chance
         self.machine = Machine(collection)
-        self.workers = chance.choice([1, 2, 2, 3, 8, chance.randint(1, MOST_WORKERS)])
+        self.workers = chance.choice([1, 2, 2, 3, 8, chance.randint(1, MAX_WORKERS)])
         self.noise = chance.choice([0, 10, 10, 40])
         self.unknown = chance.choice([0, 0, 30, 100])
         self.largest_copy = chance.choice([1, 3, LARGEST])

@@ -11,8 +11,8 @@ import struct
 OBJECT, FILLER = 1, 2
 MAGICS = {b"PCHEAP01": 1, b"PCHEAP02": 2}
 FRONT = struct.Struct("<8sIIQQ")
-MOST_WORDS = 4_194_304
-MOST_REGIONS = 16_384
+MAX_WORDS = 4_194_304
+MAX_REGIONS = 16_384
 
 
 class Fault(Exception):
@@ -101,7 +101,7 @@ def decode(text: bytes) -> Image:
         raise Fault("2 magic")
     if not 3 <= log <= 16:
         raise Fault("3 region log")
-    if not 0 < length <= MOST_WORDS or length % (1 << log) or length >> log > MOST_REGIONS or count > length:
+    if not 0 < length <= MAX_WORDS or length % (1 << log) or length >> log > MAX_REGIONS or count > length:
         raise Fault("4 length")
     end = FRONT.size + 8 * (length + count)
     if len(text) < end:

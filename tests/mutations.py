@@ -3,8 +3,8 @@ import dataclasses
 import random
 
 from makers import LARGEST
-from model import FRONT, MOST_REGIONS, MOST_WORDS, Image, encode, header, is_sound, references_of, size_of
-from schedule_model import ANY, FORMS, LARGEST_NUMBER, Schedule
+from model import FRONT, MAX_REGIONS, MAX_WORDS, Image, encode, header, is_sound, references_of, size_of
+from schedule_model import ANY, FORMS, LARGEST_NUMBER, MAX_WORKERS, Schedule
 
 
 class ImageSpoiler:
@@ -148,16 +148,16 @@ class ImageSpoiler:
         """A head of as many words, regions or roots as there may be, or a region or a root more, and no such body."""
         magic, _, _, _, allowance = FRONT.unpack_from(text)
         log = self.chance.choice([2, 3, 7, 8, 9, 16, 17])
-        length = min(MOST_REGIONS << log, MOST_WORDS) + self.chance.choice([0, 0, 1 << log])
+        length = min(MAX_REGIONS << log, MAX_WORDS) + self.chance.choice([0, 0, 1 << log])
         count = self.chance.choice([0, 1, length, length + 1])
         return FRONT.pack(magic, log, count, length, allowance) + text[FRONT.size:]
 
     def limits(self, log: int, count: int, length: int, _allowance: int) -> list[list[int]]:
         """Of each number of the head some at its limits."""
         region = 1 << min(log, 16)
-        lengths = [0, region, length + region, length - region, length + 1, length // 2, MOST_WORDS,
-                   MOST_WORDS + region, MOST_REGIONS * region, (MOST_REGIONS + 1) * region, 1 << 32, 1 << 61, 1 << 63]
-        counts = [0, count + 1, length, length + 1, MOST_WORDS, MOST_WORDS + 1, 2 ** 32 - 1]
+        lengths = [0, region, length + region, length - region, length + 1, length // 2, MAX_WORDS,
+                   MAX_WORDS + region, MAX_REGIONS * region, (MAX_REGIONS + 1) * region, 1 << 32, 1 << 61, 1 << 63]
+        counts = [0, count + 1, length, length + 1, MAX_WORDS, MAX_WORDS + 1, 2 ** 32 - 1]
         return [[2, 3, 4, 16, 17, 31, 32, 63, 64, 2 ** 32 - 1], counts, lengths, [0, 1, LARGEST]]
 
 
@@ -251,8 +251,8 @@ class ScheduleSpoiler:
     def change_worker(self) -> None:
         """Another worker, there or not. Sometimes there are as many as there may be."""
         if self.chance.randrange(3) == 0:
-            self.workers = 64
-            self.lines[0] = "schedule 1 64\n"
+            self.workers = MAX_WORKERS
+            self.lines[0] = f"schedule 1 {MAX_WORKERS}\n"
         workers = [*[self.chance.randrange(self.workers)] * 3, self.workers - 1, self.workers, self.workers + 1]
         self.edit(lambda words: [str(self.chance.choice(workers)), *words[1:]])
 
@@ -275,7 +275,8 @@ class ScheduleSpoiler:
         self.edit(change)
 
     def change_first_line(self) -> None:
-        numbers = [0, 1, 2, 3, 64, 65, 65, 66, 100, LARGEST_NUMBER + 2, LARGEST + 2]
+        over = MAX_WORKERS + 1
+        numbers = [0, 1, 2, 3, MAX_WORKERS, over, over, over + 1, 100, LARGEST_NUMBER + 2, LARGEST + 2]
         workers = self.chance.choice([*numbers, "01", "", "1 1"])
         version = self.chance.choice([1, 1, 1, 1, 0, 2, "01"])
         word = self.chance.choice(["schedule"] * 12 + ["Schedule", "schedules", " schedule", "\xef\xbb\xbfschedule"])

@@ -13,7 +13,7 @@ from model import Collection, Fault, references_of, size_of
 NUMBER = re.compile("0|[1-9][0-9]{0,9}")
 LARGEST_NUMBER = 2 ** 32 - 1
 FIRST_LINE = re.compile("schedule 1 ([1-9][0-9]?)")
-MOST_WORKERS = 64
+MAX_WORKERS = 64
 ANY = "?"
 # Of each event how many numbers follow its word, and which replies it has.
 FORMS = {
@@ -60,7 +60,7 @@ def number_of(word: str) -> int | None:
 
 def workers_of(line: str) -> int | None:
     found = FIRST_LINE.fullmatch(line)
-    return int(found[1]) if found and int(found[1]) <= MOST_WORKERS else None
+    return int(found[1]) if found and int(found[1]) <= MAX_WORKERS else None
 
 
 def line_of(text: str, workers: int) -> Line | None:

@@ -2,16 +2,13 @@
 use Rattle.std.proofs.Common.{◌≡◌, ℕ, ◌<◌, List, ◌++◌, length, take, get_or, sym, ap, ◌∙◌, subst, inl, inr, ◌⊎◌, Err}
 use Rattle.std.specs.Prelude.{All, IfErr}
 use Rattle.std.proofs.Math.Seq.{take-append_seam}
+use Rattle.heap_image.specs.HeapImage.{HeapImage}
 use Rattle.heap_image.specs.declared.fault.Fault.{Fault}
 use Rattle.heap_image.specs.declared.fault.Fault.TheVariants.{Overwritten, Gate}
-use Rattle.fill.specs.Drains.{IsOverwritten}
+use Rattle.fill.specs.FillFaults.{IsOverwritten}
 use Rattle.collector.specs.declared.worker.Worker.{Worker}
 use Rattle.collector.specs.declared.worker.Halt.TheVariants.{Failed}
-use Rattle.collector.specs.Halts.{HasCause, MayBeRefused}
-
--- the gate refused one of the regions to one of the workers
-abbrev pub IsRefusedBy : (ℕ → ℕ → Type 0) → ℕ → ℕ → Type 0
-IsRefusedBy may_refuse workers regions = MayBeRefused (λ r. MayBeRefused (λ n. may_refuse n r) workers) regions
+use Rattle.collector.specs.Halts.{HasCause, MayRefuse}
 
 -- a worker that failed has its fault in the list
 abbrev pub HasFailed : {S : Type 0} → List (Worker S) → Fault → Type 0
@@ -29,7 +26,7 @@ cause_of {S = S} may_fail may_refuse regions workers fault causes failed =
     (subst (λ (w : Worker S). IfErr w.end (HasCause may_fail may_refuse regions)) failed.3 (causes failed.0 failed.1 failed.2))
 
 -- where it is the gate's, the gate may refuse
-pub refused_by : (may_refuse : ℕ → ℕ → Type 0) (count regions : ℕ) (fault : Fault) → fault ≡ Gate
-    → IsOverwritten fault ⊎ ((fault ≡ Gate) × IsRefusedBy may_refuse count regions) → IsRefusedBy may_refuse count regions
-refused_by may_refuse count regions fault gate (inl old) = absurd (let f : Gate ≡ Overwritten old.0 = sym gate ∙ old.1 in cc)
-refused_by may_refuse count regions fault gate (inr refused) = refused.1
+pub refused_by : (may_refuse : ℕ → ℕ → Type 0) (workers : ℕ) (image : HeapImage) (fault : Fault) → fault ≡ Gate
+    → IsOverwritten fault ⊎ ((fault ≡ Gate) × MayRefuse may_refuse workers image) → MayRefuse may_refuse workers image
+refused_by may_refuse workers image fault gate (inl old) = absurd (let f : Gate ≡ Overwritten old.0 = sym gate ∙ old.1 in cc)
+refused_by may_refuse workers image fault gate (inr refused) = refused.1

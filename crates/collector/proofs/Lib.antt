@@ -7,5 +7,6 @@ pub mod Passes
 pub mod Settled
 pub mod Failing
 pub mod Reasons
+pub mod Streams
 mod Losses
 mod Upgrades

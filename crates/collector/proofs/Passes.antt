@@ -1,7 +1,8 @@
--- Lists of workers and of passes, one more or one less.
-use Rattle.std.proofs.Common.{◌≡◌, ℕ, zero, suc, ◌+◌, ◌<◌, List, [], ◌∷◌, ◌++◌, length, get_or, sym, ap, ◌∙◌, subst, arith}
+-- Lists of workers and of passes.
+use Rattle.std.proofs.Common.{◌≡◌, ℕ, zero, suc, ◌+◌, ◌<◌, List, [], ◌∷◌, ◌++◌, length, get_or, ap, ◌∙◌, subst, arith}
 use Rattle.std.specs.Prelude.{All}
 use Rattle.std.proofs.lemmas.List.{get_or_append_left, length_push}
+use Rattle.std.proofs.lemmas.List.Elements.{All-head, All-tail}
 use Rattle.std.proofs.Math.Seq.{get_or-append_seam}
 use Rattle.claim_board.specs.declared.pass.Pass.{Pass}
 use Rattle.claim_board.specs.Boards.{board_of, AllOf, ArePassesFrom, ArePasses}
@@ -14,13 +15,10 @@ front_and_last P all front last is each =
       subst P (ap (λ l. get_or l (length front) last) is ∙ get_or-append_seam front last [] last) (each (length front) last (omega arith)),
     )
 
--- one more pass of the board
-pub all_of_more : (board : _) (passes more : List Pass) (p : Pass) → more ≡ passes ++ p ∷ [] → AllOf board passes → board_of p ≡ board → AllOf board more
-all_of_more board passes more p is all one = subst (AllOf board) (sym is) (go passes all)
-  where
-    go : (ps : List Pass) → AllOf board ps → AllOf board (ps ++ p ∷ [])
-    go [] rest = (one, tt)
-    go (q ∷ qs) rest = (rest.0, go qs rest.1)
+-- each pass is of the board, said by recursion
+pub all_of : (board : _) (passes : List Pass) → All (λ p. board_of p ≡ board) passes → AllOf board passes
+all_of board [] all = tt
+all_of board (p ∷ ps) all = (All-head (λ q. board_of q ≡ board) p ps all, all_of board ps (All-tail (λ q. board_of q ≡ board) p ps all))
 
 -- each of the new passes is of the board
 seated : (board : _) (k : ℕ) (passes : List Pass) → ArePassesFrom board k passes → (i : ℕ) (d : Pass) → i < length passes → board_of (get_or passes i d) ≡ board

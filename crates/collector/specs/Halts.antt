@@ -1,8 +1,10 @@
 -- Why workers end before all regions to fill are settled.
 use Rattle.std.specs.Prelude.{◌≡◌, ℕ, ◌<◌, ◌⊎◌}
+use Rattle.heap_image.specs.HeapImage.{HeapImage}
 use Rattle.heap_image.specs.declared.fault.Fault.{Fault}
 use Rattle.heap_image.specs.declared.fault.Fault.TheVariants.{Gate}
-use Rattle.fill.specs.Drains.{IsFaultOf}
+use Rattle.summary.specs.RegionData.{fill_count}
+use Rattle.fill.specs.FillFaults.{IsFaultOf}
 use Rattle.collector.specs.declared.worker.Halt.{Halt}
 use Rattle.collector.specs.declared.worker.Halt.TheVariants.{Stopped, Failed}
 
@@ -10,8 +12,16 @@ use Rattle.collector.specs.declared.worker.Halt.TheVariants.{Stopped, Failed}
 abbrev pub MayBeRefused : (ℕ → Type 0) → ℕ → Type 0
 MayBeRefused may_refuse regions = (r : ℕ) × (r < regions) × may_refuse r
 
+-- one of these workers may be refused one of the regions to fill of the image
+abbrev pub MayRefuse : (ℕ → ℕ → Type 0) → ℕ → HeapImage → Type 0
+MayRefuse may_refuse workers image = MayBeRefused (λ r. MayBeRefused (λ n. may_refuse n r) workers) (fill_count image)
+
 -- A worker is stopped by another's fault, or meets one itself: that of a fill, or the gate's, which may refuse it one of
 -- the first so many regions.
 abbrev pub HasCause : (Fault → Type 0) → (ℕ → Type 0) → ℕ → Halt → Type 0
 HasCause may_fail may_refuse regions Stopped = Unit {0}
 HasCause may_fail may_refuse regions (Failed fault) = IsFaultOf may_fail fault ⊎ ((fault ≡ Gate) × MayBeRefused may_refuse regions)
+
+-- a collection of the image by so many workers meets the fault: that of a fill, or the gate's, which may refuse
+abbrev pub IsLostTo : (Fault → Type 0) → (ℕ → ℕ → Type 0) → ℕ → HeapImage → Fault → Type 0
+IsLostTo may_fail may_refuse workers image fault = IsFaultOf may_fail fault ⊎ ((fault ≡ Gate) × MayRefuse may_refuse workers image)

@@ -2,7 +2,7 @@
 use Rattle.std.specs.Prelude.{◌≡◌, ◌⊎◌, ℕ}
 use Rattle.heap_image.specs.declared.fault.Fault.{Fault}
 use Rattle.heap_image.specs.declared.fault.Fault.TheVariants.{Memory, Schedule, Gate}
-use Rattle.fill.specs.Drains.{IsOverwritten}
+use Rattle.fill.specs.FillFaults.{IsOverwritten}
 
 -- a line of the schedule is at fault
 abbrev pub IsOfSchedule : Fault → Type 0

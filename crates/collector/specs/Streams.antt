@@ -30,14 +30,16 @@ IsOfBytes Trailing = Unit {0}
 IsOfBytes _ = ⊥
 
 -- all of the input was read, which is the text of some image, and a beginning of the text of its compaction was written
-pub record IsBegun (left left' took took' : Option (List ℕ)) : Type 0 where
+pub record IsTextBegun (left left' took took' : Option (List ℕ)) : Type 0 where
   pub image : HeapImage
   pub read : IsRead image left left'
   pub written : TakesBeginning took took' (text (compact image))
 
 -- all of the input was read, which is the text of some image, and the text of its compaction was written
-abbrev pub IsWritten : Option (List ℕ) → Option (List ℕ) → Option (List ℕ) → Option (List ℕ) → Type 0
-IsWritten left left' took took' = (image : HeapImage) × IsRead image left left' × Appends took took' (text (compact image))
+pub record IsTextWritten (left left' took took' : Option (List ℕ)) : Type 0 where
+  pub image : HeapImage
+  pub read : IsRead image left left'
+  pub written : Appends took took' (text (compact image))
 
 -- All of the input was read, which is the text of some image. The text of its compaction was written, and that of a
 -- schedule by which the word machine makes it. These are the figures.

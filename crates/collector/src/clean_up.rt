@@ -3,8 +3,9 @@ ghost use Rattle.std.specs.Prelude.{◌≡◌, IfOk, IfErr, IsTrue, All, Contain
 ghost use Rattle.heap_image.specs.HeapImage.{IsValid, AreBlocks, rooted_image_of, is_null_or_live};
 ghost use Rattle.summary.specs.NewAddresses.{new_address};
 ghost use Rattle.summary.specs.Compaction.{redirected, compact};
-ghost use Rattle.fill.specs.Drains.{IsOverwritten};
+ghost use Rattle.fill.specs.FillFaults.{IsOverwritten};
 
+use crate::valid::planned_image_is_valid;
 use fill::{clear_above, update_deferred};
 use heap_image::{Fault, Image, ImageParts, roots_are_null_or_live};
 use rayon::prelude::*;
@@ -28,7 +29,7 @@ pub(crate) fn clean_up(
 {
     compaction_is_valid();
     let plan = survey.plan();
-    let _regions = plan.regions();
+    planned_image_is_valid(plan);
     let mut parts = cells.into_regions()?;
     update_deferred(parts.regions.as_mut_slice(), survey);
     clear_above(parts.regions.as_mut_slice(), plan.new_top());

@@ -10,6 +10,7 @@ ghost use Rattle.collector.specs.Compared.{AreCompacted, IsFirstOther, IsPlaced,
 ghost use Rattle.collector.specs.Verdict.{IsVerdict, HaveSameShape, root_count, root_at};
 
 use crate::difference::{first_nonzero, first_unlike};
+use crate::valid::image_is_valid;
 use crate::verdict::Verdict;
 use heap_image::{Image, header};
 use summary::Survey;
@@ -88,7 +89,7 @@ impl Comparison<'_> {
             (IsFirstOther self.now.before.now self.now.after.now from to) }
     {
         fillers_by_runs();
-        let _words = self.before.len();
+        image_is_valid(self.before);
         if from == to {
             return None;
         }
@@ -202,7 +203,7 @@ impl Comparison<'_> {
 fn objects_are_placed(image: &Image)
     ensures { AreKnown image.now }
 {
-    let _valid = image.len();
+    image_is_valid(image);
     prefix_end_is_greatest();
     words_of_objects();
     new_address_by_counting();

@@ -4,11 +4,12 @@ ghost use Rattle.summary.specs.RegionData.{fill_count};
 ghost use Rattle.history.specs.ImageMoves.{image_table};
 ghost use Rattle.claim_board.specs.Tickets.{IsUnused, IsTicketOf, IsDoneOf};
 ghost use Rattle.collector.specs.Halts.{HasCause, MayBeRefused};
-ghost use Rattle.fill.specs.Drains.{IsFaultOf};
+ghost use Rattle.fill.specs.FillFaults.{IsFaultOf};
 ghost use Rattle.collector.specs.declared.worker.Halt.TheVariants.{Stopped};
 
 use crate::gate::Gate;
 use crate::ready::Thief;
+use crate::valid::planned_image_is_valid;
 use crate::worker::{Halt, Worker};
 use claim_board::{Desk, Done, Ticket};
 use crossbeam_utils::Backoff;
@@ -116,7 +117,7 @@ impl<'a, D: Desk, G: Gate, W: Wait> Crew<'a, D, G, W> {
     {
         moves_of_images();
         regions_to_fill();
-        let _regions = self.survey.plan().regions();
+        planned_image_is_valid(self.survey.plan());
         match self.desk.claim(&mut worker.seat, region, self.wait)? {
             Some(ticket) => self.settle(number, worker, ticket),
             None => Ok(false),

@@ -3,6 +3,7 @@ ghost use Rattle.std.specs.Prelude.{◌≡◌, ◌+◌, ◌≤◌, MatchOption};
 ghost use Rattle.heap_image.specs.HeapImage.{heap_words, word_at};
 ghost use Rattle.collector.specs.Difference.{AreAlike, IsLeastDifference};
 
+use crate::valid::image_is_valid;
 use heap_image::Image;
 
 /// The index of the first of the `n` words from address `at` on that is not 0.
@@ -11,7 +12,7 @@ pub(crate) fn first_nonzero(image: &Image, at: u64, n: u64) -> Option<u64>
     ensures { MatchOption result (AreAlike (λ _. 0) (λ j. word_at image.now (at + j)) n)
         (IsLeastDifference (λ _. 0) (λ j. word_at image.now (at + j)) n) }
 {
-    let _words = image.len();
+    image_is_valid(image);
     for j in 0..n {
         if image.word(at + j) != 0 {
             return Some(j);
@@ -28,7 +29,8 @@ pub(crate) fn first_unlike(image: &Image, at: u64, wanted: &Image, from: u64, n:
     ensures { MatchOption result (AreAlike (λ j. word_at wanted.now (from + j)) (λ j. word_at image.now (at + j)) n)
         (IsLeastDifference (λ j. word_at wanted.now (from + j)) (λ j. word_at image.now (at + j)) n) }
 {
-    let (_words, _others) = (image.len(), wanted.len());
+    image_is_valid(image);
+    image_is_valid(wanted);
     for j in 0..n {
         if image.word(at + j) != wanted.word(from + j) {
             return Some(j);

@@ -37,11 +37,13 @@
 
 mod clean_up;
 mod collection;
+mod collection_desk;
 #[cfg(test)]
 mod collection_tests;
 mod comparison;
 mod crew;
 mod difference;
+mod equipment;
 mod gate;
 #[cfg(test)]
 mod gate_tests;
@@ -50,6 +52,7 @@ mod laws;
 mod memory_tests;
 mod outcome;
 mod prepared;
+mod reading;
 mod ready;
 mod record_streaming;
 #[cfg(test)]
@@ -61,6 +64,7 @@ mod streaming;
 mod streaming_tests;
 #[cfg(test)]
 mod tests;
+mod valid;
 mod verdict;
 mod verification;
 mod worker;

@@ -1,87 +1,125 @@
-//! `Prepared`: what a collection needs beside the regions, over any desk.
-ghost use Rattle.std.specs.Prelude.{◌≡◌, ◌<◌, ◌≤◌, ℕ, All, vec_len, IfOk, IfErr, IfSome, slice_index_or, length, Err};
+//! `Prepared`: a collection over any desk, before any worker begins.
+ghost use Rattle.std.specs.Prelude.{◌≡◌, ◌<◌, ◌≤◌, ◌↔◌, ◌⊎◌, ℕ, [], All, vec_len, IfOk, IfErr, IfSome, slice_index_or, length, Err};
+ghost use Rattle.std.specs.Vec.{vec_capacity};
 ghost use Rattle.summary.specs.Compaction.{compact};
-ghost use Rattle.summary.specs.RegionData.{fill_count};
-ghost use Rattle.history.specs.ImageMoves.{image_table};
-ghost use Rattle.collector.specs.Halts.{HasCause, MayBeRefused};
-ghost use Rattle.collector.specs.Collections.{figures_of};
+ghost use Rattle.collector.specs.Halts.{IsLostTo};
+ghost use Rattle.collector.specs.Collections.{figures_of, AreNoneOrTooMany};
 ghost use Rattle.collector.specs.declared.worker.Halt.TheVariants.{Failed};
 
 use crate::clean_up::clean_up;
+use crate::collection_desk::CollectionDesk;
 use crate::crew::{Crew, work_all};
+use crate::equipment::Equipment;
 use crate::gate::Gate;
 use crate::outcome::{Figures, Outcome};
 use crate::staff::Staff;
 use crate::worker::{Halt, Worker};
-use claim_board::Desk;
-use heap_image::Fault;
+use heap_image::{Fault, Image};
+use history::MAX_WORKERS;
 use region_cells::Cells;
-use std::alloc::{AllocError, Global};
+use std::alloc::Global;
 use std::sync::Wait;
 use std::sync::atomic::AtomicBool;
 use std::thread::Threads;
 use summary::Survey;
 
-/// What a collection needs beside the regions, made before any worker begins: the survey of an image, a desk of its moves, and 1 to 64 workers, each with a seat of the desk and a queue.
+/// What a collection needs, made before any worker begins: its equipment, and the regions of the image in cells.
 #[derive(Drop)]
-pub(crate) struct Prepared<D: Desk + Drop>
+pub(crate) struct Prepared<D: CollectionDesk + Drop>
 where
     D::Seat: Drop,
 {
-    pub(crate) survey: Survey,
-    pub(crate) desk: D,
-    pub(crate) staff: Staff<D::Seat>,
-    ghost moves: { D.moves desk ≡ image_table survey },
-    ghost some: { 0 < vec_len staff.workers },
-    ghost few: { vec_len staff.workers ≤ 64 },
-    ghost thieves: { vec_len staff.thieves ≡ vec_len staff.workers },
+    pub(crate) equipment: Equipment<D>,
+    cells: Cells,
+    ghost same_cells: { cells ≡ equipment.survey },
 }
 
 /// What a collection leaves whose regions have all moved.
 #[derive(Drop)]
-pub(crate) struct Worked<D: Desk + Drop>
+pub(crate) struct Worked<D: CollectionDesk + Drop>
 where
     D::Seat: Drop,
 {
     pub(crate) outcome: Outcome,
     pub(crate) survey: Survey,
     pub(crate) desk: D,
-    pub(crate) workers: Vec<Worker<D::Seat>>,
+    /// Those of all workers.
+    pub(crate) seats: Vec<D::Seat>,
 }
 
-impl<D: Desk + Drop> Prepared<D>
+impl<D: CollectionDesk + Drop> Worked<D>
 where
     D::Seat: Drop,
 {
-    /// With a worker in each seat. The error is that memory is refused.
-    pub(crate) fn over(
-        alloc: Global,
+    /// The workers' seats are put into a list that has room for them.
+    fn of(
+        outcome: Outcome,
         survey: Survey,
         desk: D,
-        seats: Vec<D::Seat>,
-    ) -> Result<Prepared<D>, AllocError>
-        requires moves { D.moves desk ≡ image_table survey }
-        requires some { 0 < vec_len seats }
-        requires few { vec_len seats ≤ 64 }
-        requires seats { All (D.serves desk) seats.items }
-        ensures survey { IfOk result (λ prepared. prepared.survey ≡ survey) }
-        ensures desk { IfOk result (λ prepared. prepared.desk ≡ desk) }
-        ensures seats { IfOk result (λ prepared. All (λ w. D.serves prepared.desk w.seat) prepared.staff.workers.items) }
-        ensures workers { IfOk result (λ prepared. vec_len prepared.staff.workers ≡ vec_len seats) }
+        mut workers: Vec<Worker<D::Seat>>,
+        mut seats: Vec<D::Seat>,
+    ) -> Worked<D>
+        requires workers { All (λ w. D.serves desk w.seat) workers.items }
+        requires empty { seats.items ≡ [] }
+        requires room { vec_len workers ≤ vec_capacity seats }
+        ensures outcome { result.outcome ≡ outcome }
+        ensures survey { result.survey ≡ survey }
+        ensures desk { result.desk ≡ desk }
+        ensures seats { All (D.serves result.desk) result.seats.items }
     {
-        let staff = Staff::new(alloc, survey.plan(), seats)?;
-        Ok(Prepared {
+        while let Some(worker) = workers.pop() {
+            let Worker {
+                seat,
+                ready: _,
+                end: _,
+            } = worker;
+            seats.push_reserved(seat);
+        }
+        Worked {
+            outcome,
             survey,
             desk,
-            staff,
-        })
+            seats,
+        }
+    }
+}
+
+impl<D: CollectionDesk + Drop> Prepared<D>
+where
+    D::Seat: Drop,
+{
+    /// For this image. Else it is handed back unchanged, with its fault: 12 exactly where the number of workers, which
+    /// is tested first, isn't 1 to 64, and 11 where memory is refused.
+    pub(crate) fn new(
+        alloc: Global,
+        image: Image,
+        workers: u32,
+        threads: &(impl Threads + Sync),
+    ) -> Result<Prepared<D>, (Image, Fault)>
+        ensures survey { IfOk result (λ prepared. prepared.equipment.survey ≡ image) }
+        ensures workers { IfOk result (λ prepared. vec_len prepared.equipment.staff.workers ≡ workers) }
+        ensures seats { IfOk result (λ prepared. All (λ w. D.serves prepared.equipment.desk w.seat)
+            prepared.equipment.staff.workers.items) }
+        ensures kept { IfErr result (λ back. (back.0 ≡ image) × ((back.1 ≡ Fault.Memory) ⊎ (back.1 ≡ Fault.Workers))) }
+        ensures refused { result ≡ Err (image, Fault.Workers) ↔ AreNoneOrTooMany workers }
+    {
+        if workers == 0 || workers > MAX_WORKERS {
+            return Err((image, Fault::Workers));
+        }
+        let equipment = match Equipment::of(alloc, &image, workers, threads) {
+            Ok(equipment) => equipment,
+            Err(fault) => return Err((image, fault)),
+        };
+        match Cells::of(alloc, image, equipment.survey.plan()) {
+            Ok(cells) => Ok(Prepared { equipment, cells }),
+            Err(image) => Err((image, Fault::Memory)),
+        }
     }
 
-    /// Lets all workers work on the cells, and makes the image of what they leave. The fault is that of the lowest worker
-    /// that met one, or 15 where a region has not moved.
+    /// Lets all workers work, and makes the image of what they leave. The fault is that of the lowest worker that met
+    /// one, or 15 where a region has not moved.
     pub(crate) fn work<G: Gate + Sync, T: Threads + Sync, W: Wait + Sync>(
         self,
-        cells: Cells,
         gate: &G,
         threads: &T,
         wait: &W,
@@ -89,26 +127,25 @@ where
     where
         D: Sync,
         D::Seat: Send,
-        requires cells { cells ≡ self.survey }
-        requires seats { All (λ w. D.serves self.desk w.seat) self.staff.workers.items }
-        ensures image { IfOk result (λ worked. worked.outcome.image ≡ compact self.survey) }
-        ensures figures { IfOk result (λ worked. worked.outcome.figures ≡ figures_of self.survey) }
-        ensures survey { IfOk result (λ worked. worked.survey ≡ self.survey) }
-        ensures desk { IfOk result (λ worked. worked.desk ≡ self.desk) }
-        ensures seats { IfOk result (λ worked. All (λ w. D.serves worked.desk w.seat) worked.workers.items) }
-        ensures workers { IfOk result (λ worked. vec_len worked.workers ≡ vec_len self.staff.workers) }
-        ensures fault { IfErr result (λ fault. HasCause D.may_fail
-            (λ r. MayBeRefused (λ n. G.may_refuse gate.now n r) (vec_len self.staff.workers))
-            (fill_count self.survey) (Failed fault)) }
+        requires seats { All (λ w. D.serves self.equipment.desk w.seat) self.equipment.staff.workers.items }
+        ensures image { IfOk result (λ worked. worked.outcome.image ≡ compact self.equipment.survey) }
+        ensures figures { IfOk result (λ worked. worked.outcome.figures ≡ figures_of self.equipment.survey) }
+        ensures survey { IfOk result (λ worked. worked.survey ≡ self.equipment.survey) }
+        ensures desk { IfOk result (λ worked. worked.desk ≡ self.equipment.desk) }
+        ensures seats { IfOk result (λ worked. All (D.serves worked.desk) worked.seats.items) }
+        ensures fault { IfErr result (IsLostTo D.may_fail (G.may_refuse gate.now)
+            (vec_len self.equipment.staff.workers) self.equipment.survey) }
     {
-        let Prepared {
+        let Prepared { equipment, cells } = self;
+        let Equipment {
             survey,
             desk,
             staff,
-        } = self;
+        } = equipment;
         let Staff {
             mut workers,
             thieves,
+            seats,
         } = staff;
         let stop = AtomicBool::new(false);
         let crew = Crew {
@@ -126,12 +163,8 @@ where
         }
         let image = clean_up(cells, &survey, threads)?;
         let figures = Figures::of(survey.plan());
-        Ok(Worked {
-            outcome: Outcome { image, figures },
-            survey,
-            desk,
-            workers,
-        })
+        let outcome = Outcome { image, figures };
+        Ok(Worked::of(outcome, survey, desk, workers, seats))
     }
 }
 

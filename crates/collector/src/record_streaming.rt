@@ -3,15 +3,15 @@ ghost use Rattle.std.specs.Prelude.{◌≡◌, ◌≢◌, ◌⊎◌, IsTrue, IfO
 ghost use Rattle.heap_image.specs.HeapImage.{HeapImage};
 ghost use Rattle.heap_image.specs.ImageText.{first_fault};
 ghost use Rattle.heap_image.specs.Reading.{IsRead};
-ghost use Rattle.summary.specs.RegionData.{fill_count};
 ghost use Rattle.collector.specs.Collections.{AreNoneOrTooMany};
-ghost use Rattle.collector.specs.Halts.{MayBeRefused};
-ghost use Rattle.collector.specs.Streams.{AreRecorded, IsBegun, IsOfBytes, IsWritten};
+ghost use Rattle.collector.specs.Halts.{MayRefuse};
+ghost use Rattle.collector.specs.Streams.{AreRecorded, IsTextBegun, IsOfBytes, IsTextWritten};
 
 use crate::gate::Gate;
 use crate::outcome::Figures;
+use crate::reading::read_whole;
 use crate::recording::record;
-use heap_image::{Fault, Intake, Outlet, give_all, read_image_by_threads, write_image};
+use heap_image::{Fault, Intake, Outlet, give_all, write_image};
 use history::write_schedule;
 use std::alloc::Global;
 use std::sync::Wait;
@@ -45,10 +45,10 @@ pub fn record_stream<
         (O.took writer.old) (O.took writer.new) (L.took lines.old) (L.took lines.new)) }
     // Nothing was written, or the collection had ended well.
     ensures written { OnErr result ((writer.new ≡ writer.old)
-        ⊎ IsBegun (R.left reader.old) (R.left reader.new) (O.took writer.old) (O.took writer.new)) }
+        ⊎ IsTextBegun (R.left reader.old) (R.left reader.new) (O.took writer.old) (O.took writer.new)) }
     // No line was written before the whole compaction.
     ensures lines_last { OnErr result ((lines.new ≡ lines.old)
-        ⊎ IsWritten (R.left reader.old) (R.left reader.new) (O.took writer.old) (O.took writer.new)) }
+        ⊎ IsTextWritten (R.left reader.old) (R.left reader.new) (O.took writer.old) (O.took writer.new)) }
     ensures nothing_yet { IfErr result (λ fault. fault ≢ Fault.Io
         → (writer.new ≡ writer.old) × (lines.new ≡ lines.old)) }
     ensures bytes { IfErr result (λ fault. IsOfBytes fault
@@ -58,9 +58,9 @@ pub fn record_stream<
     ensures workers { result ≡ Err Fault.Workers → AreNoneOrTooMany workers }
     ensures gate { result ≡ Err Fault.Gate → (image : HeapImage)
         × IsRead image (R.left reader.old) (R.left reader.new)
-        × MayBeRefused (λ r. MayBeRefused (λ n. G.may_refuse gate.now n r) workers) (fill_count image) }
+        × MayRefuse (G.may_refuse gate.now) workers image }
 {
-    let image = read_image_by_threads(alloc, reader, threads)?;
+    let image = read_whole(alloc, reader, threads)?;
     match record(alloc, image, workers, gate, threads, wait) {
         Ok((outcome, schedule)) => {
             let text = write_schedule(alloc, &schedule)?;

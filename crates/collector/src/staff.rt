@@ -1,7 +1,9 @@
 //! `Staff`: the workers of a collection, made before any of them begins.
-ghost use Rattle.std.specs.Prelude.{◌≡◌, ◌<◌, ◌≤◌, map, vec_len, IfOk, length};
+ghost use Rattle.std.specs.Prelude.{◌≡◌, ◌<◌, ◌≤◌, [], map, vec_len, IfOk, length};
+ghost use Rattle.std.specs.Vec.{vec_capacity};
 
 use crate::ready::{Ready, Thief};
+use crate::valid::planned_image_is_valid;
 use crate::worker::{Halt, Worker};
 use std::alloc::{AllocError, Global};
 use summary::Plan;
@@ -12,6 +14,11 @@ use summary::laws::region_data::regions_to_fill;
 pub(crate) struct Staff<S> {
     pub(crate) workers: Vec<Worker<S>>,
     pub(crate) thieves: Vec<Thief>,
+    /// Empty, with room for the seat of each worker once all have worked.
+    pub(crate) seats: Vec<S>,
+    ghost handles: { vec_len thieves ≡ vec_len workers },
+    ghost no_seats: { seats.items ≡ [] },
+    ghost room: { vec_len workers ≤ vec_capacity seats },
 }
 
 impl<S: Drop> Staff<S> {
@@ -20,11 +27,11 @@ impl<S: Drop> Staff<S> {
     /// Each queue has room for all regions to fill. The error is that memory is refused.
     pub(crate) fn new(alloc: Global, plan: &Plan, seats: Vec<S>) -> Result<Staff<S>, AllocError>
         ensures seats { IfOk result (λ staff. map (λ w. w.seat) staff.workers.items ≡ seats.items) }
-        ensures thieves { IfOk result (λ staff. vec_len staff.thieves ≡ vec_len seats) }
     {
         let count = seats.len();
         let mut workers = Vec::with_capacity(alloc, count)?;
         let mut thieves = Vec::with_capacity(alloc, count)?;
+        let emptied = Vec::with_capacity(alloc, count)?;
         for seat in seats {
             let ready = first_regions(alloc, plan, workers.len(), count)?;
             thieves.push(ready.thief()?)?;
@@ -34,7 +41,11 @@ impl<S: Drop> Staff<S> {
                 end: Err(Halt::Stopped),
             })?;
         }
-        Ok(Staff { workers, thieves })
+        Ok(Staff {
+            workers,
+            thieves,
+            seats: emptied,
+        })
     }
 }
 
@@ -49,7 +60,7 @@ fn first_regions(
     requires { number < workers }
 {
     regions_to_fill();
-    let _regions = plan.regions();
+    planned_image_is_valid(plan);
     let fill_regions = plan.fill_regions();
     let mut ready = Ready::new(alloc, fill_regions as usize)?;
     let mut place = 0;

@@ -4,16 +4,16 @@ ghost use Rattle.std.specs.Io.KnownBytes.{Appends};
 ghost use Rattle.heap_image.specs.HeapImage.{HeapImage};
 ghost use Rattle.heap_image.specs.ImageText.{text, first_fault};
 ghost use Rattle.summary.specs.Compaction.{compact};
-ghost use Rattle.summary.specs.RegionData.{fill_count};
 ghost use Rattle.collector.specs.Collections.{figures_of, fault_of, AreNoneOrTooMany};
-ghost use Rattle.collector.specs.Halts.{MayBeRefused};
+ghost use Rattle.collector.specs.Halts.{MayRefuse};
 ghost use Rattle.heap_image.specs.Reading.{IsRead};
-ghost use Rattle.collector.specs.Streams.{IsBegun, IsOfBytes};
+ghost use Rattle.collector.specs.Streams.{IsTextBegun, IsOfBytes};
 
 use crate::collection::collect;
 use crate::gate::Gate;
 use crate::outcome::{Figures, Refusal};
-use heap_image::{Fault, Intake, Outlet, read_image_by_threads, write_image};
+use crate::reading::read_whole;
+use heap_image::{Fault, Intake, Outlet, write_image};
 use std::alloc::Global;
 use std::sync::Wait;
 use std::thread::Threads;
@@ -39,7 +39,7 @@ pub fn collect_stream<R: Intake, O: Outlet, G: Gate + Sync, T: Threads + Sync, W
         × (figures ≡ figures_of image)) }
     // Nothing was written, or the collection had ended well.
     ensures written { OnErr result ((writer.new ≡ writer.old)
-        ⊎ IsBegun (R.left reader.old) (R.left reader.new) (O.took writer.old) (O.took writer.new)) }
+        ⊎ IsTextBegun (R.left reader.old) (R.left reader.new) (O.took writer.old) (O.took writer.new)) }
     ensures nothing_yet { IfErr result (λ fault. fault ≢ Fault.Io → writer.new ≡ writer.old) }
     ensures bytes { IfErr result (λ fault. IsOfBytes fault
         → IfSome (R.left reader.old) (λ input. first_fault input ≡ Some fault)) }
@@ -48,10 +48,10 @@ pub fn collect_stream<R: Intake, O: Outlet, G: Gate + Sync, T: Threads + Sync, W
     ensures workers { result ≡ Err Fault.Workers → AreNoneOrTooMany workers }
     ensures gate { result ≡ Err Fault.Gate → (image : HeapImage)
         × IsRead image (R.left reader.old) (R.left reader.new)
-        × MayBeRefused (λ r. MayBeRefused (λ n. G.may_refuse gate.now n r) workers) (fill_count image) }
+        × MayRefuse (G.may_refuse gate.now) workers image }
     ensures schedule { IfErr result (λ fault. (line : ℕ) → fault ≢ Fault.Schedule line) }
 {
-    let image = read_image_by_threads(alloc, reader, threads)?;
+    let image = read_whole(alloc, reader, threads)?;
     match collect(alloc, image, workers, gate, threads, wait) {
         Ok((outcome, _finished)) => {
             write_image(&outcome.image, writer)?;

@@ -8,7 +8,7 @@ use Rattle.std.proofs.Math.ListN.{get_or-map}
 use Rattle.std.proofs.lemmas.List.Folds.{concat-append}
 use Rattle.std.proofs.lemmas.List.{drop-drop, drop-set-lt, take_more_set, append-nil, get_or-drop, length-map, ext_get_or, get_or-take, get_or-append_right, get_or_append_left, get_or-replicate, length-replicate}
 use Rattle.std.proofs.lemmas.List.FromFn.{get_or-map-range_with_len, length-map-range_with_len}
-use Rattle.fill.specs.Heap.{cleared}
+use Rattle.fill.specs.MovedHeap.{cleared}
 
 pub length-cleared : (top : ℕ) (xs : List ℕ) → length (cleared top xs) ≡ length xs
 length-cleared top xs = let zeros : length (replicate {A = ℕ} (length xs - top) 0) ≡ length xs - top = length-replicate (length xs - top) 0 in omega (arith, length-append (take top xs) (replicate (length xs - top) 0), length-take top xs)

@@ -22,7 +22,7 @@ use Rattle.claim_board.specs.declared.drained.Drained.{Drained}
 use Rattle.claim_board.specs.declared.drained.Drained.TheVariants.{Last, NotLast}
 use Rattle.claim_board.specs.Callers.{Caller, Gains, IsSeenLast}
 use Rattle.claim_board.specs.Drains.{reply_of}
-use Rattle.fill.specs.Drains.{SourceDrain, source_drain, is_last, sources_below, sources_of, last_sources, drain_calls, GainsAll, TellsLast, HasDrained, HasFilled}
+use Rattle.fill.specs.SourceDrains.{SourceDrain, source_drain, is_last, other_sources_below, sources_of, last_sources, drain_calls, GainsAll, TellsLast, HasDrained, HasFilled}
 
 -- what a table and its image say of one pair
 module _ (d s : ℕ) (table image : Bool) (is : table ≡ (not (d == s) && image)) where
@@ -58,21 +58,21 @@ module _ (image : HeapImage) (valid : IsValid image) (law : (d s : ℕ) → read
   last_sources_past next h t l = same_reads t ∙ h t l
 
 module _ (m : MoveTable) (d : ℕ) where
-  pub sources_skip : (next s : ℕ) → next ≤ s → ((t : ℕ) → next ≤ t → t < s → reads m d t ≡ false) → sources_below m d s ≡ sources_below m d next
+  pub sources_skip : (next s : ℕ) → next ≤ s → ((t : ℕ) → next ≤ t → t < s → reads m d t ≡ false) → other_sources_below m d s ≡ other_sources_below m d next
   sources_skip next s l unread =
       let k : ℕ = s - next in
       let e : s ≡ next + k = omega arith in
-      ap (sources_below m d) e
+      ap (other_sources_below m d) e
       ∙ ap (filter (reads m d)) (range_with_len-add 0 next k)
       ∙ filter-append (reads m d) (range_with_len 0 next) (range_with_len (0 + next) k)
-      ∙ ap (λ (xs : List ℕ). sources_below m d next ++ xs) (filter-none (reads m d) (0 + next) k (λ t a b. unread t (omega arith) (omega arith)))
-      ∙ append-nil (sources_below m d next)
+      ∙ ap (λ (xs : List ℕ). other_sources_below m d next ++ xs) (filter-none (reads m d) (0 + next) k (λ t a b. unread t (omega arith) (omega arith)))
+      ∙ append-nil (other_sources_below m d next)
 
-  pub sources_more : (s : ℕ) → reads m d s ≡ true → sources_below m d (s + 1) ≡ sources_below m d s ++ s ∷ []
+  pub sources_more : (s : ℕ) → reads m d s ≡ true → other_sources_below m d (s + 1) ≡ other_sources_below m d s ++ s ∷ []
   sources_more s read =
       ap (filter (reads m d)) (range_with_len-add 0 s 1)
       ∙ filter-append (reads m d) (range_with_len 0 s) (range_with_len (0 + s) 1)
-      ∙ ap (λ (xs : List ℕ). sources_below m d s ++ xs) (filter-first (reads m d) (0 + s) 1 0 refl (ap (reads m d) (zero-add s) ∙ read) ∙ ap (λ (c : ℕ). c ∷ []) (zero-add s))
+      ∙ ap (λ (xs : List ℕ). other_sources_below m d s ++ xs) (filter-first (reads m d) (0 + s) 1 0 refl (ap (reads m d) (zero-add s) ∙ read) ∙ ap (λ (c : ℕ). c ∷ []) (zero-add s))
 
 last_append : (xs ys : List SourceDrain) → last_sources (xs ++ ys) ≡ last_sources xs ++ last_sources ys
 last_append xs ys = ap sources_of (filter-append (λ x. is_last x.answer) xs ys) ∙ map-append (λ x. x.source) (filter (λ x. is_last x.answer) xs) (filter (λ x. is_last x.answer) ys)
@@ -109,7 +109,7 @@ module _ {F : Type 0} (step : F → ℕ → F → Type 0) where
 
 module _ {F : Type 0} (step : F → ℕ → F → Type 0) (tells : Type 0) (m : MoveTable) (d : ℕ) where
   -- no source below next
-  pub undrained : (next : ℕ) (old new : Caller) (f : F) → sources_below m d next ≡ [] → (tells → new ≡ old) → HasDrained step tells m d next old new f f
+  pub undrained : (next : ℕ) (old new : Caller) (f : F) → other_sources_below m d next ≡ [] → (tells → new ≡ old) → HasDrained step tells m d next old new f f
   undrained next old new f none same =
       record {
         drains = [];

@@ -10,8 +10,8 @@ use Rattle.summary.specs.Fillers.{filler_word, gap_at}
 use Rattle.summary.proofs.Words.{slid-low, origin-dead}
 use Rattle.summary.proofs.Fillers.{gap_at-run, top-above}
 use Rattle.raw_region.specs.Region.{with_words}
-use Rattle.fill.specs.Splits.{IsSplit}
-use Rattle.fill.specs.Filling.{copied_word}
+use Rattle.fill.specs.WordBlocks.{IsSplitAt}
+use Rattle.fill.specs.CopiedWords.{copied_word}
 use Rattle.fill.proofs.Slides.{word_by-below, copied-slid}
 use Rattle.fill.proofs.Writing.{split_skip, split_more}
 
@@ -47,11 +47,11 @@ module _ (image : HeapImage) (sound : HasLiveList image) where
   copied-behind a b p l dead m n =
       copied-rest p (omega arith) (dead p (omega arith) n) (or_from (eqb p 0) (is_live_word image (p - 1)) (ne_eqb p 0 (λ e. let no : ⊥ = omega arith in no)) (dead (p - 1) (omega arith) (omega arith)))
 
-  pub split_zero : (start : ℕ) (xs : List ℕ) (p n : ℕ) → IsSplit c g start xs p → start ≤ p → p + n ≤ start + length xs → ((q : ℕ) → p ≤ q → q < p + n → c q ≡ 0) → IsSplit c g start (with_words xs (p - start) (replicate n 0)) (p + n)
+  pub split_zero : (start : ℕ) (xs : List ℕ) (p n : ℕ) → IsSplitAt c g start xs p → start ≤ p → p + n ≤ start + length xs → ((q : ℕ) → p ≤ q → q < p + n → c q ≡ 0) → IsSplitAt c g start (with_words xs (p - start) (replicate n 0)) (p + n)
   split_zero start xs p n h low high zeros =
       let long : length (replicate {A = ℕ} n 0) ≡ n = length-replicate n 0 in
       let same : p + length (replicate {A = ℕ} n 0) ≡ p + n = omega arith in
-      subst (IsSplit c g start (with_words xs (p - start) (replicate n 0))) same (split_more c g start xs (replicate n 0) p h low (omega arith) (λ j m. get_or-replicate n j 0 0 (omega arith) ∙ sym (zeros (p + j) (omega arith) (omega arith))))
+      subst (IsSplitAt c g start (with_words xs (p - start) (replicate n 0))) same (split_more c g start xs (replicate n 0) p h low (omega arith) (λ j m. get_or-replicate n j 0 0 (omega arith) ∙ sym (zeros (p + j) (omega arith) (omega arith))))
 
-  pub split_stays : (start : ℕ) (xs : List ℕ) (p q : ℕ) → IsSplit c g start xs p → p ≤ q → q ≤ P → ((r : ℕ) → p ≤ r → r < q → is_live_word image r ≡ true) → IsSplit c g start xs q
+  pub split_stays : (start : ℕ) (xs : List ℕ) (p q : ℕ) → IsSplitAt c g start xs p → p ≤ q → q ≤ P → ((r : ℕ) → p ≤ r → r < q → is_live_word image r ≡ true) → IsSplitAt c g start xs q
   split_stays start xs p q h l up live = split_skip c g start xs p q h l (λ r m n k. sym (copied-stays r (omega arith) (live r m n)))

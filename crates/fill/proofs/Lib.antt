@@ -3,10 +3,10 @@ pub mod Cleared
 pub mod Late
 pub mod Writing
 pub mod Slides
-pub mod Targets
+pub mod WrittenTo
 pub mod Redirects
 pub mod Steps
 pub mod Gaps
 pub mod Draining
 pub mod Reaching
-pub mod Hands
+pub mod Targets

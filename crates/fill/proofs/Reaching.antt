@@ -3,9 +3,9 @@ use Rattle.std.proofs.Common.{◌≡◌, ℕ, ◌-◌, ◌≤◌, ◌<◌, arith
 use Rattle.std.proofs.lemmas.Nat.{mul-le}
 use Rattle.heap_image.specs.HeapImage.{HeapImage, IsValid, region_words, region_count, start_of}
 use Rattle.summary.specs.NewAddresses.{prefix_end}
-use Rattle.fill.specs.Filling.{written_to}
+use Rattle.fill.specs.CopiedWords.{written_to}
 use Rattle.fill.proofs.Slides.{slid-monotone}
-use Rattle.fill.proofs.Targets.{source_behind, region_fits}
+use Rattle.fill.proofs.WrittenTo.{source_behind, region_fits}
 
 pub written_to-more : (image : HeapImage) → IsValid image → (d from next to end : ℕ) → d < region_count image → prefix_end image ≤ start_of image d → d ≤ from → from ≤ next
     → to ≡ written_to image (start_of image d) (start_of image from) → end ≡ written_to image (start_of image d) (start_of image next) → (to ≤ end) × (end - to < 4294967296)

@@ -13,7 +13,7 @@ use Rattle.summary.proofs.Words.{owner, is_live, ends_before, slid-low, slid-hig
 use Rattle.summary.proofs.Regions.{region_is, region_low, region_high, region-le, region_some}
 use Rattle.summary.proofs.Updates.{reference-owner}
 use Rattle.summary.specs.Compaction.{word_by}
-use Rattle.fill.specs.Filling.{copied_word}
+use Rattle.fill.specs.CopiedWords.{copied_word}
 use Rattle.fill.specs.Objects.{IsObject, IsPassed, IsMovedTo, IsBetween}
 use Rattle.fill.proofs.Slides.{slid-run, slid-monotone, word_by-above, word_by-below, word_by-slid, copied-slid}
 

@@ -13,9 +13,9 @@ use Rattle.summary.proofs.Destinations.{count_by-none}
 use Rattle.summary.proofs.Origin.{origin-slid}
 use Rattle.summary.proofs.Words.{live_words-add, live_words-le, slid-high, slid-le, slid-below, live_below}
 use Rattle.raw_region.specs.Region.{part, with_words as put}
-use Rattle.fill.specs.Splits.{IsSplit, Shows}
+use Rattle.fill.specs.WordBlocks.{IsSplitAt, Shows}
 use Rattle.summary.specs.Compaction.{word_by}
-use Rattle.fill.specs.Filling.{copied_word}
+use Rattle.fill.specs.CopiedWords.{copied_word}
 use Rattle.fill.proofs.Writing.{split_more, length-part, get_or-part}
 
 module _ (image : HeapImage) where
@@ -45,6 +45,14 @@ module _ (image : HeapImage) where
 
   pub slid-run : (a n : ℕ) → B ≤ a → ((q : ℕ) → a ≤ q → q < a + n → is_live_word image q ≡ true) → slid image (a + n) ≡ slid image a + n
   slid-run a n l live = let e = slid-from a (a + n) l (omega arith) in let some = live_words-run a n live in omega arith
+
+  -- past the dead words before a run, and past n words of it
+  pub slid-past : (from a n to : ℕ) → B ≤ from → from ≤ a → to ≡ slid image from → ((q : ℕ) → from ≤ q → q < a → is_live_word image q ≡ false)
+      → ((q : ℕ) → a ≤ q → q < a + n → is_live_word image q ≡ true) → (to ≡ slid image a) × (to + n ≡ slid image (a + n))
+  slid-past from a n to l m e dead live =
+      let gap = slid-gap from a l m dead in
+      let run = slid-run a n (omega arith) live in
+      (omega arith, omega arith)
 
   pub slid-monotone : (a b : ℕ) → B ≤ a → a ≤ b → slid image a ≤ slid image b
   slid-monotone a b l m = let e = slid-from a b l m in omega arith
@@ -84,27 +92,27 @@ module _ (image : HeapImage) (sound : HasLiveList image) where
       ap (copied_word image) same ∙ copied-slid (a + j) (live (a + j) (omega arith) (omega arith))
 
   -- a run of live words written at its new place
-  pub split_run : (start : ℕ) (xs zs : List ℕ) (a n p : ℕ) → IsSplit (copied_word image) (word_at image) start xs p → P ≤ a → p ≡ slid image a
+  pub split_run : (start : ℕ) (xs zs : List ℕ) (a n p : ℕ) → IsSplitAt (copied_word image) (word_at image) start xs p → P ≤ a → p ≡ slid image a
       → ((q : ℕ) → a ≤ q → q < a + n → is_live_word image q ≡ true) → start ≤ p → p + n ≤ start + length xs
-      → length zs ≡ n → ((j : ℕ) → j < n → get_or zs j 0 ≡ word_at image (a + j)) → IsSplit (copied_word image) (word_at image) start (put xs (p - start) zs) (p + n)
+      → length zs ≡ n → ((j : ℕ) → j < n → get_or zs j 0 ≡ word_at image (a + j)) → IsSplitAt (copied_word image) (word_at image) start (put xs (p - start) zs) (p + n)
   split_run start xs zs a n p h l e live low high long each =
       let same : p + length zs ≡ p + n = omega arith in
-      subst (IsSplit (copied_word image) (word_at image) start (put xs (p - start) zs)) same
+      subst (IsSplitAt (copied_word image) (word_at image) start (put xs (p - start) zs)) same
       (split_more (copied_word image) (word_at image) start xs zs p h low (omega arith) (λ j m. each j (omega arith) ∙ sym (copied-run a n p l e live j (omega arith))))
 
   -- the same of a part of a source that begins at `first`
-  pub split_copy : (start : ℕ) (xs : List ℕ) (first : ℕ) (ys : List ℕ) (a n p : ℕ) → IsSplit (copied_word image) (word_at image) start xs p → Shows (word_at image) first ys → P ≤ a → p ≡ slid image a
+  pub split_copy : (start : ℕ) (xs : List ℕ) (first : ℕ) (ys : List ℕ) (a n p : ℕ) → IsSplitAt (copied_word image) (word_at image) start xs p → Shows (word_at image) first ys → P ≤ a → p ≡ slid image a
       → ((q : ℕ) → a ≤ q → q < a + n → is_live_word image q ≡ true) → start ≤ p → p + n ≤ start + length xs → first ≤ a → a + n ≤ first + length ys
-      → IsSplit (copied_word image) (word_at image) start (put xs (p - start) (part ys (a - first) n)) (p + n)
+      → IsSplitAt (copied_word image) (word_at image) start (put xs (p - start) (part ys (a - first) n)) (p + n)
   split_copy start xs first ys a n p h shows l e live low high under over =
       split_run start xs (part ys (a - first) n) a n p h l e live low high (length-part ys (a - first) n (omega arith)) (λ j m.
       let same : first + (a - first + j) ≡ a + j = omega arith in
       get_or-part ys (a - first) n j m ∙ shows (a - first + j) (omega arith) ∙ ap (word_at image) same)
 
   -- the same of words of the block itself that are not yet written
-  pub split_slide : (start : ℕ) (xs : List ℕ) (a n p : ℕ) → IsSplit (copied_word image) (word_at image) start xs p → P ≤ a → p ≡ slid image a
+  pub split_slide : (start : ℕ) (xs : List ℕ) (a n p : ℕ) → IsSplitAt (copied_word image) (word_at image) start xs p → P ≤ a → p ≡ slid image a
       → ((q : ℕ) → a ≤ q → q < a + n → is_live_word image q ≡ true) → start ≤ p → a + n ≤ start + length xs
-      → IsSplit (copied_word image) (word_at image) start (put xs (p - start) (part xs (a - start) n)) (p + n)
+      → IsSplitAt (copied_word image) (word_at image) start (put xs (p - start) (part xs (a - start) n)) (p + n)
   split_slide start xs a n p h l e live low over =
       let down = slid-le image a in
       split_run start xs (part xs (a - start) n) a n p h l e live low (omega arith) (length-part xs (a - start) n (omega arith)) (λ j m.

@@ -12,8 +12,8 @@ use Rattle.heap_image.specs.HeapImage.{HeapImage, HasLiveList, start_of, word_at
 use Rattle.summary.specs.NewAddresses.{new_address, new_top}
 use Rattle.summary.specs.WordMoves.{slid}
 use Rattle.summary.specs.Compaction.{moved_word, redirected, is_deferred}
-use Rattle.fill.specs.Splits.{IsSplit, Shows}
-use Rattle.fill.specs.Filling.{copied_word}
+use Rattle.fill.specs.WordBlocks.{IsSplitAt, Shows}
+use Rattle.fill.specs.CopiedWords.{copied_word}
 use Rattle.fill.specs.Objects.{IsObject, IsNextObject, HasNoObject, IsPassed, IsMovedTo}
 use Rattle.fill.proofs.Writing.{split_none, split_skip, split_more, split_all, length-part, get_or-part}
 use Rattle.fill.proofs.Redirects.{slid-ordered, moved-object, moved-header, moved-rest, moved-reference, moved-deferred, moved-between, moved-top, passed-start, new_address-is, object_size}
@@ -47,24 +47,24 @@ module _ (image : HeapImage) (sound : HasLiveList image) where
 
   -- ---- within an object
 
-  pub header-read : (a start at : ℕ) (xs : List ℕ) → IsObject image a → at ≡ new_address image a → start ≤ at → at < start + length xs → IsSplit m c start xs at → get_or xs (at - start) 0 ≡ word_at image a
+  pub header-read : (a start at : ℕ) (xs : List ℕ) → IsObject image a → at ≡ new_address image a → start ≤ at → at < start + length xs → IsSplitAt m c start xs at → get_or xs (at - start) 0 ≡ word_at image a
   header-read a start at xs o e low high h =
       let size = object_size image sound a o in
       let k : start + (at - start) ≡ new_address image a + 0 = omega arith in
       let z : a + 0 ≡ a = omega arith in
       h.above (at - start) (omega arith) (omega arith) ∙ ap c k ∙ word-copied a 0 o size.0 ∙ ap (word_at image) z
 
-  pub header-size : (a start at w n : ℕ) (xs : List ℕ) → IsMovedTo image at a → start ≤ at → at < start + length xs → IsSplit m c start xs at → w ≡ get_or xs (at - start) 0 → n ≡ size_of w → n ≡ size_at image a
+  pub header-size : (a start at w n : ℕ) (xs : List ℕ) → IsMovedTo image at a → start ≤ at → at < start + length xs → IsSplitAt m c start xs at → w ≡ get_or xs (at - start) 0 → n ≡ size_of w → n ≡ size_at image a
   header-size a start at w n xs on low high h e f = f ∙ ap size_of (e ∙ header-read a start at xs on.object on.place low high h)
 
-  pub object-begin : (a start at : ℕ) (xs : List ℕ) → IsObject image a → at ≡ new_address image a → IsSplit m c start xs at → IsSplit m c start xs (at + 1)
+  pub object-begin : (a start at : ℕ) (xs : List ℕ) → IsObject image a → at ≡ new_address image a → IsSplitAt m c start xs at → IsSplitAt m c start xs (at + 1)
   object-begin a start at xs o e h = split_skip m c start xs at (at + 1) h (omega arith) (λ p l n k.
       let same : p ≡ new_address image a = omega arith in
       ap c same ∙ header-same a o ∙ ap m (sym same))
 
   -- a reference of an object that is not redirected yet
   pub reference-read : (a f start at : ℕ) (xs : List ℕ) → IsObject image a → is_deferred image a ≡ false → at ≡ new_address image a → start ≤ at → at + size_at image a ≤ start + length xs → f < references_at image a
-      → IsSplit m c start xs at → get_or xs (at - start + 1 + f) 0 ≡ reference_at image a f
+      → IsSplitAt m c start xs at → get_or xs (at - start + 1 + f) 0 ≡ reference_at image a f
   reference-read a f start at xs o early e low high few h =
       let size = object_size image sound a o in
       let less : references_at image a < size_at image a = size.2 in
@@ -73,7 +73,7 @@ module _ (image : HeapImage) (sound : HasLiveList image) where
 
   -- all references of an object, redirected at once
   pub object-row : (a start at : ℕ) (xs : List ℕ) → IsObject image a → is_deferred image a ≡ false → at ≡ new_address image a → start ≤ at → at + size_at image a ≤ start + length xs
-      → IsSplit m c start xs at → IsSplit m c start (with_words xs (at - start + 1) (map (redirected image) (part xs (at - start + 1) (references_at image a)))) (at + 1 + references_at image a)
+      → IsSplitAt m c start xs at → IsSplitAt m c start (with_words xs (at - start + 1) (map (redirected image) (part xs (at - start + 1) (references_at image a)))) (at + 1 + references_at image a)
   object-row a start at xs o early e low high h =
       let n : ℕ = references_at image a in
       let from : ℕ = at - start + 1 in
@@ -91,9 +91,9 @@ module _ (image : HeapImage) (sound : HasLiveList image) where
       ∙ ap (redirected image) (get_or-part xs from n f few ∙ reference-read a f start at xs o early e low high few h)
       ∙ sym ((reference-moves a f o early few).1) ∙ ap m k) in
       let row = split_more m c start xs zs (at + 1) (object-begin a start at xs o e h) (omega arith) (omega arith) each in
-      subst (IsSplit m c start (with_words xs from zs)) end (subst (λ (j : ℕ). IsSplit m c start (with_words xs j zs) (at + 1 + length zs)) i row)
+      subst (IsSplitAt m c start (with_words xs from zs)) end (subst (λ (j : ℕ). IsSplitAt m c start (with_words xs j zs) (at + 1 + length zs)) i row)
 
-  pub object-done : (a start at : ℕ) (xs : List ℕ) → IsObject image a → at ≡ new_address image a → IsSplit m c start xs (at + 1 + references_at image a) → IsSplit m c start xs (at + size_at image a)
+  pub object-done : (a start at : ℕ) (xs : List ℕ) → IsObject image a → at ≡ new_address image a → IsSplitAt m c start xs (at + 1 + references_at image a) → IsSplitAt m c start xs (at + size_at image a)
   object-done a start at xs o e h =
       let size = object_size image sound a o in
       let less : references_at image a < size_at image a = size.2 in
@@ -102,7 +102,7 @@ module _ (image : HeapImage) (sound : HasLiveList image) where
       let same : p ≡ new_address image a + j = omega arith in
       ap c same ∙ rest-same a j o (omega arith) (omega arith) ∙ ap m (sym same))
 
-  pub object-late : (a start at : ℕ) (xs : List ℕ) → IsObject image a → is_deferred image a ≡ true → at ≡ new_address image a → IsSplit m c start xs at → IsSplit m c start xs (at + size_at image a)
+  pub object-late : (a start at : ℕ) (xs : List ℕ) → IsObject image a → is_deferred image a ≡ true → at ≡ new_address image a → IsSplitAt m c start xs at → IsSplitAt m c start xs (at + size_at image a)
   object-late a start at xs o late e h = split_skip m c start xs at (at + size_at image a) h (omega arith) (λ p l n k.
       let j : ℕ = p - new_address image a in
       let same : p ≡ new_address image a + j = omega arith in
@@ -113,7 +113,7 @@ module _ (image : HeapImage) (sound : HasLiveList image) where
   pub next-place : (from a : ℕ) → IsNextObject image from a → slid image from ≤ new_address image a
   next-place from a n = let to = new_address-is image sound a n.object in let up = slid-ordered image from a n.after in omega arith
 
-  pub region-next : (from a start : ℕ) (xs : List ℕ) → IsPassed image from → IsNextObject image from a → IsSplit m c start xs (slid image from) → IsSplit m c start xs (new_address image a)
+  pub region-next : (from a start : ℕ) (xs : List ℕ) → IsPassed image from → IsNextObject image from a → IsSplitAt m c start xs (slid image from) → IsSplitAt m c start xs (new_address image a)
   region-next from a start xs passed n h = split_skip m c start xs (slid image from) (new_address image a) h (next-place from a n) (λ p l less k. moved-between image sound from p passed (λ b u up.
       let to = new_address-is image sound a n.object in
       let goes = new_address-is image sound b u in
@@ -124,7 +124,7 @@ module _ (image : HeapImage) (sound : HasLiveList image) where
   abbrev pub IsReached : ℕ → ℕ → List ℕ → Type 0
   IsReached to start xs = (p : ℕ) → start ≤ p → p < start + length xs → p < new_top image → p < slid image to
 
-  pub region-last : (from to start : ℕ) (xs : List ℕ) → IsPassed image from → HasNoObject image from to → IsReached to start xs → start ≤ slid image from → IsSplit m c start xs (slid image from) → Shows m start xs
+  pub region-last : (from to start : ℕ) (xs : List ℕ) → IsPassed image from → HasNoObject image from to → IsReached to start xs → start ≤ slid image from → IsSplitAt m c start xs (slid image from) → Shows m start xs
   region-last from to start xs passed none reached low h =
       let end : ℕ = max (slid image from) (start + length xs) in
       split_all m c start xs end (split_skip m c start xs (slid image from) end h (omega arith) (λ p l less k. same p l k)) (omega arith)
@@ -140,20 +140,20 @@ module _ (image : HeapImage) (sound : HasLiveList image) where
       ]
 
   -- the same of a region whose words come from `first` on, before any object is redirected
-  region-begin : (d first : ℕ) (xs : List ℕ) → slid image first ≡ start_of image d → Shows c (start_of image d) xs → IsSplit m c (start_of image d) xs (slid image first)
-  region-begin d first xs e shows = subst (IsSplit m c (start_of image d) xs) (sym e) (split_none m c (start_of image d) xs shows)
+  region-begin : (d first : ℕ) (xs : List ℕ) → slid image first ≡ start_of image d → Shows c (start_of image d) xs → IsSplitAt m c (start_of image d) xs (slid image first)
+  region-begin d first xs e shows = subst (IsSplitAt m c (start_of image d) xs) (sym e) (split_none m c (start_of image d) xs shows)
 
-  pub region-first : (d first a : ℕ) (xs : List ℕ) → slid image first ≡ start_of image d → IsNextObject image first a → Shows c (start_of image d) xs → IsSplit m c (start_of image d) xs (new_address image a)
+  pub region-first : (d first a : ℕ) (xs : List ℕ) → slid image first ≡ start_of image d → IsNextObject image first a → Shows c (start_of image d) xs → IsSplitAt m c (start_of image d) xs (new_address image a)
   region-first d first a xs e n shows = region-next first a (start_of image d) xs (passed-start image sound d first e) n (region-begin d first xs e shows)
 
   pub region-none : (d first to : ℕ) (xs : List ℕ) → slid image first ≡ start_of image d → HasNoObject image first to → IsReached to (start_of image d) xs → Shows c (start_of image d) xs → Shows m (start_of image d) xs
   region-none d first to xs e none reached shows = region-last first to (start_of image d) xs (passed-start image sound d first e) none reached (omega arith) (region-begin d first xs e shows)
 
-  pub region-header : (from a start at : ℕ) (xs : List ℕ) → IsPassed image from → IsNextObject image from a → IsSplit m c start xs (slid image from) → at ≡ new_address image a → start ≤ slid image from → at < start + length xs
-      → IsSplit m c start xs at × (get_or xs (at - start) 0 ≡ word_at image a) × (start ≤ at)
+  pub region-header : (from a start at : ℕ) (xs : List ℕ) → IsPassed image from → IsNextObject image from a → IsSplitAt m c start xs (slid image from) → at ≡ new_address image a → start ≤ slid image from → at < start + length xs
+      → IsSplitAt m c start xs at × (get_or xs (at - start) 0 ≡ word_at image a) × (start ≤ at)
   region-header from a start at xs passed n h e low high =
       let up = next-place from a n in
-      let on = subst (IsSplit m c start xs) (sym e) (region-next from a start xs passed n h) in
+      let on = subst (IsSplitAt m c start xs) (sym e) (region-next from a start xs passed n h) in
       let behind : start ≤ at = omega arith in
       (on, header-read a start at xs n.object e behind high on, behind)
 

@@ -3,7 +3,7 @@ use Rattle.std.proofs.Common.{◌≡◌, ℕ, ◌+◌, ◌-◌, ◌≤◌, ◌<�
 use Rattle.std.proofs.lemmas.Bool.{cases_lt, cases_eq}
 use Rattle.std.proofs.lemmas.List.{length-set, get_or-set_same, get_or-set_other, get_or-drop, get_or-take, get_or-append_right, get_or_append_left}
 use Rattle.raw_region.specs.Region.{with_words, part}
-use Rattle.fill.specs.Splits.{IsSplit, Shows}
+use Rattle.fill.specs.WordBlocks.{IsSplitAt, Shows}
 
 pub length-part : (xs : List ℕ) (from n : ℕ) → from + n ≤ length xs → length (part xs from n) ≡ n
 length-part xs from n h = omega (arith, length-take n (drop from xs), length-drop from xs)
@@ -37,15 +37,15 @@ get_or-written_above xs ys at k h l =
     ∙ ap (λ i. get_or xs i 0) same
 
 module _ (f g : ℕ → ℕ) (start : ℕ) where
-  pub split_none : (xs : List ℕ) → Shows g start xs → IsSplit f g start xs start
+  pub split_none : (xs : List ℕ) → Shows g start xs → IsSplitAt f g start xs start
   split_none xs h = record { below = λ k l m. (let no : ⊥ = omega arith in absurd no); above = λ k l m. h k l }
 
-  pub split_all : (xs : List ℕ) (p : ℕ) → IsSplit f g start xs p → start + length xs ≤ p → Shows f start xs
+  pub split_all : (xs : List ℕ) (p : ℕ) → IsSplitAt f g start xs p → start + length xs ≤ p → Shows f start xs
   split_all xs p h m = λ k l. h.below k l (omega arith)
 
   -- f's words zs with_words at p
-  pub split_more : (xs zs : List ℕ) (p : ℕ) → IsSplit f g start xs p → start ≤ p → p + length zs ≤ start + length xs
-      → ((j : ℕ) → j < length zs → get_or zs j 0 ≡ f (p + j)) → IsSplit f g start (with_words xs (p - start) zs) (p + length zs)
+  pub split_more : (xs zs : List ℕ) (p : ℕ) → IsSplitAt f g start xs p → start ≤ p → p + length zs ≤ start + length xs
+      → ((j : ℕ) → j < length zs → get_or zs j 0 ≡ f (p + j)) → IsSplitAt f g start (with_words xs (p - start) zs) (p + length zs)
   split_more xs zs p h low high each =
       let at : ℕ = p - start in
       let long = length-with_words xs zs at (omega arith) in
@@ -61,7 +61,7 @@ module _ (f g : ℕ → ℕ) (start : ℕ) where
       }
 
   -- one word of f with_words at p
-  pub split_set : (xs : List ℕ) (p w : ℕ) → IsSplit f g start xs p → start ≤ p → p < start + length xs → w ≡ f p → IsSplit f g start (set xs (p - start) w) (p + 1)
+  pub split_set : (xs : List ℕ) (p w : ℕ) → IsSplitAt f g start xs p → start ≤ p → p < start + length xs → w ≡ f p → IsSplitAt f g start (set xs (p - start) w) (p + 1)
   split_set xs p w h low high e =
       let at : ℕ = p - start in
       let long = length-set xs at w in
@@ -76,7 +76,7 @@ module _ (f g : ℕ → ℕ) (start : ℕ) where
       }
 
   -- where f and g agree nothing need be with_words
-  pub split_skip : (xs : List ℕ) (p q : ℕ) → IsSplit f g start xs p → p ≤ q → ((a : ℕ) → p ≤ a → a < q → a < start + length xs → g a ≡ f a) → IsSplit f g start xs q
+  pub split_skip : (xs : List ℕ) (p q : ℕ) → IsSplitAt f g start xs p → p ≤ q → ((a : ℕ) → p ≤ a → a < q → a < start + length xs → g a ≡ f a) → IsSplitAt f g start xs q
   split_skip xs p q h l same = record {
     below = λ k m n. elim (cases_lt (start + k) p) [
       | inl before ↦ h.below k m before

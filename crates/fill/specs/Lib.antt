@@ -1,9 +1,10 @@
-pub mod Heap
-pub mod Splits
-pub mod Filling
+pub mod MovedHeap
+pub mod WordBlocks
+pub mod CopiedWords
 pub mod Runs
 pub mod Objects
-pub mod Hands
-pub mod Sources
-pub mod Tickets
-pub mod Drains
+pub mod Targets
+pub mod SourceRegions
+pub mod FillTickets
+pub mod SourceDrains
+pub mod FillFaults

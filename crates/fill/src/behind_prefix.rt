@@ -4,11 +4,11 @@ ghost use Rattle.heap_image.specs.HeapImage.{region_count, start_of};
 ghost use Rattle.summary.specs.NewAddresses.{prefix_end};
 ghost use Rattle.summary.specs.WordMoves.{reads};
 ghost use Rattle.summary.specs.Compaction.{moved_word};
-ghost use Rattle.fill.specs.Splits.{IsSplit, Shows};
-ghost use Rattle.fill.specs.Filling.{copied_word, reaches};
+ghost use Rattle.fill.specs.WordBlocks.{IsSplitAt, Shows};
+ghost use Rattle.fill.specs.CopiedWords.{copied_word, reaches};
 ghost use Rattle.fill.specs.Objects.{IsBetween};
-ghost use Rattle.fill.specs.Hands.{Becomes, IsBlockOf, IsUnwritten, IsCopied, IsMoved};
-ghost use Rattle.fill.specs.Sources.{IsNextSource, IsReadOf};
+ghost use Rattle.fill.specs.Targets.{Becomes, IsBlockOf, IsUnwritten, IsCopied, IsMoved};
+ghost use Rattle.fill.specs.SourceRegions.{IsNextOtherSource, IsReadOf};
 
 use crate::site::Site;
 use heap_image::header::size;
@@ -34,7 +34,7 @@ impl BehindPrefix<'_> {
         ensures { result ≡ reads self.now.site.guide.now self.now.site.region self.now.site.region }
     {
         let guide = self.site.guide;
-        let _prefix_end = guide.prefix_end();
+        guide.image_is_valid();
         let first = guide.destination(self.site.region);
         let behind = guide.behind(self.site.region);
         reaches(self.site.span.start, self.site.span.end, first, behind)
@@ -47,7 +47,7 @@ impl BehindPrefix<'_> {
     {
         let guide = self.site.guide;
         let span = self.site.span;
-        let _prefix_end = guide.prefix_end();
+        guide.image_is_valid();
         if !self.reads_itself() {
             return span.start;
         }
@@ -74,7 +74,7 @@ impl BehindPrefix<'_> {
         to: u64,
     ) -> u64
         requires source { IsReadOf self.now.site.guide.now s source.now }
-        requires next { (from : ℕ) × IsNextSource self.now.site.guide.now self.now.site.region from s × IsCopied self.now.site.guide.now self.now.site.region from to target.old }
+        requires next { (from : ℕ) × IsNextOtherSource self.now.site.guide.now self.now.site.region from s × IsCopied self.now.site.guide.now self.now.site.region from to target.old }
         ensures { Becomes (IsCopied self.now.site.guide.now self.now.site.region (s + 1) result) target.old target.new }
     {
         let guide = self.site.guide;
@@ -103,7 +103,7 @@ impl BehindPrefix<'_> {
         ensures { Becomes (IsMoved self.now.site.guide.now self.now.site.region) target.old target.new }
     {
         let guide = self.site.guide;
-        let _prefix_end = guide.prefix_end();
+        guide.image_is_valid();
         let s = guide.source(self.site.region);
         let first = guide.first_from(s, self.site.span.start);
         let last = guide.span(from - 1).end;
@@ -118,11 +118,11 @@ impl BehindPrefix<'_> {
         requires low { self.now.site.span.start ≤ at }
         requires between { IsBetween self.now.site.guide.now at }
         requires target { IsBlockOf self.now.site.guide.now target.old }
-        requires split { IsSplit (moved_word self.now.site.guide.now) (copied_word self.now.site.guide.now) self.now.site.span.start target.old.words at }
+        requires split { IsSplitAt (moved_word self.now.site.guide.now) (copied_word self.now.site.guide.now) self.now.site.span.start target.old.words at }
         ensures { Becomes (λ w. Shows (moved_word self.now.site.guide.now) self.now.site.span.start w.words) target.old target.new }
     {
         let span = self.site.span;
-        let _prefix_end = self.site.guide.prefix_end();
+        self.site.guide.image_is_valid();
         let limit = self.site.guide.plan().new_top().min(span.end);
         let mut at = at;
         while at < limit {

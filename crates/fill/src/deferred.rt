@@ -6,9 +6,10 @@ ghost use Rattle.heap_image.specs.HeapImage.{FormHeap, AreBlocks, region_count, 
 ghost use Rattle.summary.specs.NewAddresses.{new_top};
 ghost use Rattle.summary.specs.RegionData.{deferred};
 ghost use Rattle.summary.specs.Compaction.{compact, moved_word};
-ghost use Rattle.fill.specs.Heap.{moved_regions, cleared, words_where, updated_words, is_late_before, is_reference_behind};
+ghost use Rattle.fill.specs.MovedHeap.{moved_regions, cleared, words_where, updated_words, is_late_before, is_reference_behind};
 
 use crate::heap::{set_word, word};
+use crate::valid::planned_image_is_valid;
 use heap_image::header::references;
 use raw_region::Region;
 use summary::laws::compaction::blocks_of_regions;
@@ -38,7 +39,7 @@ fn update_regions(regions: &mut [Region], plan: &Plan)
     ensures updated { concat regions.new ≡ updated_words plan.now }
     ensures compacted { cleared (new_top plan.now) (concat regions.new) ≡ (compact plan.now).words }
 {
-    let _regions = plan.regions();
+    planned_image_is_valid(plan);
     blocks_of_regions();
     regions_to_fill();
     one_deferred_object();
@@ -58,7 +59,7 @@ fn update_region(regions: &mut [Region], plan: &Plan, d: u32)
     ensures words { concat regions.new ≡ words_where plan.now (is_late_before plan.now (d + 1)) }
 {
     let log = plan.region_log();
-    let _regions = plan.regions();
+    planned_image_is_valid(plan);
     if let Some(begin) = plan.deferred(d) {
         late_references(plan, d, begin);
         let first = begin + 1;
@@ -81,7 +82,7 @@ fn late_references(plan: &Plan, d: u32, begin: u64)
     ensures sound { (p : ℕ) → IsTrue (is_reference_behind plan.now begin p)
         → IsTrue (is_null_or_live plan.now (moved_word plan.now p)) }
 {
-    let _regions = plan.regions();
+    planned_image_is_valid(plan);
     moved_objects();
     objects_keep_their_order();
     one_deferred_object();

@@ -3,11 +3,13 @@ ghost use Rattle.std.specs.Prelude.{◌≡◌, ◌≤◌, IfOk, IfErr, OnOk, Err
 ghost use Rattle.summary.specs.RegionData.{fill_count};
 ghost use Rattle.history.specs.ImageMoves.{image_table};
 ghost use Rattle.claim_board.specs.Tickets.{IsUnused, IsTicketOf, IsDoneOf};
-ghost use Rattle.fill.specs.Drains.{HasFilled, IsFaultOf};
+ghost use Rattle.fill.specs.SourceDrains.{HasFilled};
+ghost use Rattle.fill.specs.FillFaults.{IsFaultOf};
 
 use crate::filling::Filling;
 use crate::guide::Guide;
 use crate::site::Site;
+use crate::valid::planned_image_is_valid;
 use claim_board::{Desk, Done, Ticket};
 use heap_image::Fault;
 use history::moves_of_images;
@@ -51,7 +53,7 @@ pub fn fill_region<D: Desk, F: FnMut(u32), W: Wait>(
     moves_of_images();
     regions_to_fill();
     let plan = survey.plan();
-    let _regions = plan.regions();
+    planned_image_is_valid(plan);
     let region = ticket.region();
     if region >= plan.fill_regions() {
         ticket.give_up();

@@ -7,10 +7,11 @@ ghost use Rattle.history.specs.ImageMoves.{image_table};
 ghost use Rattle.claim_board.specs.Callers.{Gains};
 ghost use Rattle.claim_board.specs.Drains.{reply_of};
 ghost use Rattle.claim_board.specs.Tickets.{IsTicketOf, IsClosedOf};
-ghost use Rattle.fill.specs.Hands.{Becomes, IsUnwritten, IsCopied, IsMoved};
-ghost use Rattle.fill.specs.Sources.{IsNextSource};
-ghost use Rattle.fill.specs.Tickets.{IsUnopened, IsSpent};
-ghost use Rattle.fill.specs.Drains.{TellsLast, sources_below, HasDrained, IsOverwritten, IsFaultOf};
+ghost use Rattle.fill.specs.Targets.{Becomes, IsUnwritten, IsCopied, IsMoved};
+ghost use Rattle.fill.specs.SourceRegions.{IsNextOtherSource};
+ghost use Rattle.fill.specs.FillTickets.{IsUnopened, IsSpent};
+ghost use Rattle.fill.specs.SourceDrains.{TellsLast, other_sources_below, HasDrained};
+ghost use Rattle.fill.specs.FillFaults.{IsOverwritten, IsFaultOf};
 
 use crate::site::Site;
 use claim_board::{
@@ -92,7 +93,7 @@ impl<D: Desk, W: Wait> Filling<'_, '_, '_, '_, D, W> {
         requires target { IsUnwritten self.now.site.guide.now self.now.site.region target.old }
         ensures seat { D.serves self.now.desk.now seat.new }
         ensures unchanged { OnOk result (D.tells → D.caller seat.new ≡ D.caller seat.old) }
-        ensures no_source { sources_below (image_table self.now.site.guide.now) self.now.site.region (region_count self.now.site.guide.now) ≡ [] }
+        ensures no_source { other_sources_below (image_table self.now.site.guide.now) self.now.site.region (region_count self.now.site.guide.now) ≡ [] }
         ensures none_left { D.tells → ticket.now.left ≡ 0 }
         ensures moved { Becomes (IsMoved self.now.site.guide.now self.now.site.region) target.old target.new }
         ensures fault { IfErr result D.may_fail }
@@ -100,7 +101,7 @@ impl<D: Desk, W: Wait> Filling<'_, '_, '_, '_, D, W> {
         moves_of_images();
         reads_by_words();
         swept_tickets_have_none_left();
-        let _prefix_end = self.site.guide.prefix_end();
+        self.site.guide.image_is_valid();
         self.site.in_prefix().fill(target);
         let words = self.site.span.end - self.site.span.start;
         self.note(seat, ticket, words)
@@ -116,14 +117,14 @@ impl<D: Desk, W: Wait> Filling<'_, '_, '_, '_, D, W> {
         to: u64,
     ) -> Result<(Closed, u64), Fault>
         requires behind_prefix { prefix_end self.now.site.guide.now ≤ self.now.site.span.start }
-        requires next { IsNextSource self.now.site.guide.now self.now.site.region from opening.source }
+        requires next { IsNextOtherSource self.now.site.guide.now self.now.site.region from opening.source }
         requires copied { IsCopied self.now.site.guide.now self.now.site.region from to target.old }
         ensures closed { IfOk result (λ x. (x.0.destination ≡ opening.destination) × (x.0.source ≡ opening.source) × (x.0.ticket ≡ opening.ticket)) }
         ensures more { IfOk result (λ x. (to ≤ x.1) × (x.1 - to < 2 ^ 32)) }
         ensures copied { IfOk result (λ x. Becomes (IsCopied self.now.site.guide.now self.now.site.region (opening.source + 1) x.1) target.old target.new) }
         ensures fault { IfErr result IsOverwritten }
     {
-        let _prefix_end = self.site.guide.prefix_end();
+        self.site.guide.image_is_valid();
         let place = self.site.behind_prefix();
         let s = opening.source();
         let source = self.cells.read(opening, self.wait)?;

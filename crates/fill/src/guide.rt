@@ -4,12 +4,13 @@ ghost use Rattle.heap_image.specs.HeapImage.{IsValid, heap_words, region_words, 
 ghost use Rattle.summary.specs.NewAddresses.{prefix_end, new_address, new_top};
 ghost use Rattle.summary.specs.WordMoves.{slid};
 ghost use Rattle.summary.specs.RegionData.{source};
-ghost use Rattle.fill.specs.Sources.{IsBehindPrefix};
+ghost use Rattle.fill.specs.SourceRegions.{IsBehindPrefix};
 ghost use Rattle.fill.specs.Runs.{IsNextRun};
 ghost use Rattle.fill.specs.Objects.{IsObject, IsNextObject, HasNoObject};
 
 use crate::runs::Run;
 use crate::span::Span;
+use crate::valid::planned_image_is_valid;
 use mark_bitmap::Marks;
 use std::marker::Model;
 use summary::laws::new_addresses::objects_keep_their_order;
@@ -54,6 +55,14 @@ impl<'a> Guide<'a> {
         self.plan
     }
 
+    /// The image is valid. The method does nothing: its contract is what a plan keeps.
+    #[inline]
+    pub(crate) fn image_is_valid(&self)
+        ensures { IsValid self.now }
+    {
+        planned_image_is_valid(self.plan);
+    }
+
     /// The prefix end.
     #[inline]
     pub(crate) fn prefix_end(&self) -> u64
@@ -84,7 +93,7 @@ impl<'a> Guide<'a> {
         requires { IsBehindPrefix self.now r }
         ensures { result ≡ slid self.now (start_of self.now r) }
     {
-        let _prefix_end = self.plan.prefix_end();
+        planned_image_is_valid(self.plan);
         self.plan.region(r).destination
     }
 
@@ -93,7 +102,7 @@ impl<'a> Guide<'a> {
         requires { IsBehindPrefix self.now r }
         ensures { result ≡ slid self.now (start_of self.now r + region_words self.now) }
     {
-        let _prefix_end = self.plan.prefix_end();
+        planned_image_is_valid(self.plan);
         region_data_by_words();
         let data = self.plan.region(r);
         self.destination(r) + u64::from(data.partial) + u64::from(data.live)
@@ -105,7 +114,7 @@ impl<'a> Guide<'a> {
         requires to_fill { start_of self.now d < new_top self.now }
         ensures { source self.now d ≡ Some result }
     {
-        let _prefix_end = self.plan.prefix_end();
+        planned_image_is_valid(self.plan);
         sources_in_a_row();
         match self.plan.region(d).source {
             Some(s) => s,
@@ -181,7 +190,7 @@ impl<'a> Guide<'a> {
         ensures value { result ≡ new_address self.now a }
         ensures down { result ≤ a }
     {
-        let _prefix_end = self.plan.prefix_end();
+        planned_image_is_valid(self.plan);
         objects_keep_their_order();
         self.plan.new_address(self.marks, a)
     }

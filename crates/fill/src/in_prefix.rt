@@ -3,9 +3,9 @@ ghost use Rattle.std.specs.Prelude.{◌≡◌, ℕ, ◌<◌, ◌≤◌, false};
 ghost use Rattle.heap_image.specs.HeapImage.{start_of, word_at, is_live_word};
 ghost use Rattle.summary.specs.NewAddresses.{prefix_end};
 ghost use Rattle.summary.specs.Compaction.{moved_word};
-ghost use Rattle.fill.specs.Splits.{IsSplit, Shows};
-ghost use Rattle.fill.specs.Filling.{copied_word};
-ghost use Rattle.fill.specs.Hands.{Becomes, IsBlockOf, IsUnwritten, IsMoved};
+ghost use Rattle.fill.specs.WordBlocks.{IsSplitAt, Shows};
+ghost use Rattle.fill.specs.CopiedWords.{copied_word};
+ghost use Rattle.fill.specs.Targets.{Becomes, IsBlockOf, IsUnwritten, IsMoved};
 
 use crate::site::Site;
 use heap_image::header::{filler, size};
@@ -24,7 +24,7 @@ impl InPrefix<'_> {
         requires { IsUnwritten self.now.site.guide.now self.now.site.region target.old }
         ensures { Becomes (IsMoved self.now.site.guide.now self.now.site.region) target.old target.new }
     {
-        let _prefix_end = self.site.guide.prefix_end();
+        self.site.guide.image_is_valid();
         self.write_fillers(target);
         self.redirect_objects(target);
     }
@@ -35,7 +35,7 @@ impl InPrefix<'_> {
         ensures { Becomes (λ w. Shows (copied_word self.now.site.guide.now) self.now.site.span.start w.words) target.old target.new }
     {
         let span = self.site.span;
-        let _prefix_end = self.site.guide.prefix_end();
+        self.site.guide.image_is_valid();
         let mut at = span.start;
         while at < span.end {
             let run = self.site.guide.next_run(at, span.end);
@@ -52,10 +52,10 @@ impl InPrefix<'_> {
         requires high { stop ≤ self.now.site.span.end }
         requires dead { (q : ℕ) → at ≤ q → q < stop → is_live_word self.now.site.guide.now q ≡ false }
         requires target { IsBlockOf self.now.site.guide.now target.old }
-        requires split { IsSplit (copied_word self.now.site.guide.now) (word_at self.now.site.guide.now) self.now.site.span.start target.old.words at }
-        ensures { Becomes (λ w. IsSplit (copied_word self.now.site.guide.now) (word_at self.now.site.guide.now) self.now.site.span.start w.words stop) target.old target.new }
+        requires split { IsSplitAt (copied_word self.now.site.guide.now) (word_at self.now.site.guide.now) self.now.site.span.start target.old.words at }
+        ensures { Becomes (λ w. IsSplitAt (copied_word self.now.site.guide.now) (word_at self.now.site.guide.now) self.now.site.span.start w.words stop) target.old target.new }
     {
-        let _prefix_end = self.site.guide.prefix_end();
+        self.site.guide.image_is_valid();
         if at == stop {
             return;
         }
@@ -77,7 +77,7 @@ impl InPrefix<'_> {
         ensures { Becomes (λ w. Shows (moved_word self.now.site.guide.now) self.now.site.span.start w.words) target.old target.new }
     {
         let span = self.site.span;
-        let _prefix_end = self.site.guide.prefix_end();
+        self.site.guide.image_is_valid();
         let mut from = span.start;
         while let Some(a) = self.site.guide.next_object(from, span.end) {
             let header = target.get((a - span.start) as usize);

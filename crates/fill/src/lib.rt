@@ -30,6 +30,7 @@ mod site;
 mod span;
 #[cfg(test)]
 mod tests;
+mod valid;
 
 pub use clear::clear_above;
 pub use deferred::update_deferred;

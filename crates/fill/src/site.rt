@@ -4,10 +4,10 @@ ghost use Rattle.heap_image.specs.HeapImage.{heap_words, region_words, region_co
 ghost use Rattle.summary.specs.NewAddresses.{prefix_end, new_top};
 ghost use Rattle.summary.specs.RegionData.{fill_count};
 ghost use Rattle.summary.specs.Compaction.{moved_word};
-ghost use Rattle.fill.specs.Splits.{IsSplit};
-ghost use Rattle.fill.specs.Filling.{copied_word};
+ghost use Rattle.fill.specs.WordBlocks.{IsSplitAt};
+ghost use Rattle.fill.specs.CopiedWords.{copied_word};
 ghost use Rattle.fill.specs.Objects.{IsMovedTo, IsEarlyAt};
-ghost use Rattle.fill.specs.Hands.{Becomes, IsBlockOf};
+ghost use Rattle.fill.specs.Targets.{Becomes, IsBlockOf};
 
 use crate::behind_prefix::BehindPrefix;
 use crate::guide::Guide;
@@ -37,7 +37,7 @@ impl<'a> Site<'a> {
         ensures guide { result.guide.now ≡ guide.now }
         ensures region { result.region ≡ region }
     {
-        let _prefix_end = guide.prefix_end();
+        guide.image_is_valid();
         regions_to_fill();
         Site {
             guide,
@@ -68,11 +68,11 @@ impl<'a> Site<'a> {
         requires object { IsEarlyAt self.now.guide.now at self.now.span.end }
         requires low { self.now.span.start ≤ at }
         requires target { IsBlockOf self.now.guide.now target.old }
-        requires split { IsSplit (moved_word self.now.guide.now) (copied_word self.now.guide.now) self.now.span.start target.old.words at }
-        ensures { Becomes (λ w. (a : ℕ) → IsMovedTo self.now.guide.now at a → IsSplit (moved_word self.now.guide.now) (copied_word self.now.guide.now)
+        requires split { IsSplitAt (moved_word self.now.guide.now) (copied_word self.now.guide.now) self.now.span.start target.old.words at }
+        ensures { Becomes (λ w. (a : ℕ) → IsMovedTo self.now.guide.now at a → IsSplitAt (moved_word self.now.guide.now) (copied_word self.now.guide.now)
             self.now.span.start w.words (at + size_at self.now.guide.now a)) target.old target.new }
     {
-        let _prefix_end = self.guide.prefix_end();
+        self.guide.image_is_valid();
         let first = (at - self.span.start) as usize;
         let count = references(target.get(first)) as usize;
         target.redirect(self.guide.plan(), first + 1, count);

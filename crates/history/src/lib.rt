@@ -97,7 +97,7 @@ pub use replay_laws::what_replays_keep;
 pub use replayed::{End, Replayed};
 pub use replaying::replay;
 pub use reply::Reply;
-pub use schedule::Schedule;
+pub use schedule::{MAX_WORKERS, Schedule};
 pub use schedule_reading::read_schedule;
 pub use schedule_text::write_schedule;
 pub use scheduler::Scheduler;

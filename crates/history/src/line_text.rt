@@ -11,6 +11,7 @@ use crate::event_text::event;
 use crate::line::Line;
 use crate::reading::{number_to, word};
 use crate::reply_text::told;
+use crate::schedule::MAX_WORKERS;
 
 /// The line of one of these workers whose text stands in front, and the bytes behind it.
 pub(crate) fn line(workers: u32, bytes: &[u8]) -> Option<(Line, &[u8])>
@@ -68,7 +69,7 @@ pub(crate) fn header(bytes: &[u8]) -> Option<(u32, &[u8])>
         _ => return None,
     };
     let (workers, rest) = number_to(bytes, b'\n')?;
-    if workers >= 1 && workers <= 64 {
+    if workers >= 1 && workers <= MAX_WORKERS {
         Some((workers, rest))
     } else {
         None

@@ -6,6 +6,9 @@ use crate::line::Line;
 use crate::reply::Reply;
 use std::marker::Model;
 
+/// The most workers that a schedule, a scheduler or a collection can have.
+pub const MAX_WORKERS: u32 = 64;
+
 /// A number of workers, 1 to 64, and what they called, oldest first. Each line has a worker below
 /// that number, and a reply that its event may have, or none.
 #[derive(Drop)]

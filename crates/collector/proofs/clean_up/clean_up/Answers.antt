@@ -5,7 +5,7 @@ use Rattle.std.specs.List.{concat}
 use Rattle.heap_image.specs.HeapImage.{HeapImage, IsValid, AreBlocks, rooted_image_of}
 use Rattle.summary.specs.NewAddresses.{new_address, new_top}
 use Rattle.summary.specs.Compaction.{compact, redirected}
-use Rattle.fill.specs.Heap.{cleared}
+use Rattle.fill.specs.MovedHeap.{cleared}
 use Rattle.collector.proofs.Telling.{same_image}
 use Rattle.collector.proofs.clean_up.clean_up.Goals as goal
 
@@ -50,4 +50,4 @@ into_image-requires-clause-valid g c =
     (take parts.live.len (places ++ drop (length places) parts.live.items)) (option_map (λ v. v.items) c.redirected_roots.result) in
     let roots = subst (λ (i : HeapImage). option_map (λ v. v.items) c.redirected_roots.result ≡ option_map (map (redirected i)) i.roots) c.plan-plan.ensures c.redirected_roots.ensures in
     let same : image ≡ compact plan = same_image image (compact plan) log allowed words live roots in
-    subst IsValid (sym same) (c.compaction_is_valid.ensures plan (subst IsValid c.plan-plan.ensures c.regions-regions.ensures.valid))
+    subst IsValid (sym same) (c.compaction_is_valid.ensures plan (subst IsValid c.plan-plan.ensures c.planned_image_is_valid.ensures))

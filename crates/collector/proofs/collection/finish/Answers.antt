@@ -1,9 +1,13 @@
 use Rattle.std.proofs.Common.{sym, refl, subst}
 use Rattle.history.specs.State.{AllAreSettled}
 use Rattle.history.specs.History.{state_of}
-use Rattle.claim_board.specs.Boards.{moves}
+use Rattle.claim_board.specs.Boards.{moves, identity}
+use Rattle.collector.proofs.Passes.{all_of}
 use Rattle.collector.proofs.Settled.{none_left}
 use Rattle.collector.proofs.collection.finish.Goals as goal
+
+pub finish-requires : goal.finish-requires
+finish-requires c = all_of (identity c.args.board) c.args.passes.items c.requires
 
 pub returns-in-Some-clause-settled : goal.returns-in-Some-clause-settled
 returns-in-Some-clause-settled c =

@@ -4,7 +4,7 @@ use Rattle.collector.proofs.comparison.objects_are_placed.Goals as goal
 pub returns : goal.returns
 returns c =
     let image : HeapImage = c.args.image.now in
-    let valid = c.len-valid.ensures.valid in
+    let valid = c.image_is_valid.ensures in
     let list = valid.live_list in
     record {
       valid = valid;

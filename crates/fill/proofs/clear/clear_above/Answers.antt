@@ -1,7 +1,7 @@
 use Rattle.std.proofs.Common.{◌≡◌, ℕ, ◌+◌, ◌-◌, ◌^◌, ◌<◌, List, [], ◌++◌, length, get_or, take, min, sym, ◌∙◌, ap, arith, length-append}
 use Rattle.std.specs.List.{concat}
 use Rattle.std.proofs.lemmas.List.{get_or_default, length-map}
-use Rattle.fill.specs.Heap.{cleared}
+use Rattle.fill.specs.MovedHeap.{cleared}
 use Rattle.fill.proofs.Cleared.{length-cleared, cleared-append, concat_more, concat_more_set, rest_same, drop_more_set, lengths_set, lengths_same}
 use Rattle.fill.proofs.clear.clear_above.Goals as goal
 

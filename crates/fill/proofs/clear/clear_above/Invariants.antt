@@ -1,7 +1,7 @@
 use Rattle.std.proofs.Common.{◌≡◌, length, ◌-◌, take, drop}
 use Rattle.std.specs.Prelude.{map}
 use Rattle.std.specs.List.{concat}
-use Rattle.fill.specs.Heap.{cleared}
+use Rattle.fill.specs.MovedHeap.{cleared}
 use Rattle.fill.proofs.clear.clear_above.Given as goal
 
 abbrev pub invariant-loop-region : goal.invariant-loop-region

@@ -9,7 +9,7 @@ returns c =
     let image = c.args.plan.now in
     let d : ℕ = c.args.d in
     let x : ℕ = c.args.begin in
-    let s : HasLiveList image = c.regions-regions.ensures.valid.live_list in
+    let s : HasLiveList image = c.planned_image_is_valid.ensures.live_list in
     let o = c.one_deferred_object.ensures.object image s d x c.requires.begins in
     let header = c.moved_objects.ensures.header image s o.0 o.1 in
     record {

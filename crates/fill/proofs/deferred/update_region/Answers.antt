@@ -3,7 +3,7 @@ use Rattle.std.specs.List.{concat}
 use Rattle.heap_image.specs.Header.{references_of}
 use Rattle.heap_image.specs.HeapImage.{HeapImage, FormHeap, heap_words, is_null_or_live}
 use Rattle.summary.specs.Compaction.{moved_word, redirected}
-use Rattle.fill.specs.Heap.{is_late_before}
+use Rattle.fill.specs.MovedHeap.{is_late_before}
 use Rattle.fill.proofs.Late.{length-words, words_not, words_same, words_set, late-next, or_false, late_up_to, behind-from, up_to-begin, up_to-other, up_to-here, up_to-not, up_to-end}
 use Rattle.fill.proofs.deferred.update_region.Goals as goal
 use Rattle.fill.proofs.deferred.update_region.Goals.{After-from}
@@ -26,7 +26,7 @@ module _ (c : After-from) where
 pub overflow_add-first : goal.overflow_add-first
 overflow_add-first c =
     let fits = c.late_references.ensures.fits in
-    let few = c.regions-regions.ensures.valid.limits.few_words in
+    let few = c.planned_image_is_valid.ensures.limits.few_words in
     omega arith
 
 pub word-requires-clause-inside : goal.word-requires-clause-inside
@@ -39,7 +39,7 @@ word-requires-clause-inside c =
 pub overflow_add-p-end : goal.overflow_add-p-end
 overflow_add-p-end c =
     let fits = c.late_references.ensures.fits in
-    let few = c.regions-regions.ensures.valid.limits.few_words in
+    let few = c.planned_image_is_valid.ensures.limits.few_words in
     let n = count c in
     omega arith
 

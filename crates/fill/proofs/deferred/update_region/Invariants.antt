@@ -3,7 +3,7 @@ use Rattle.std.specs.List.{concat}
 use Rattle.heap_image.specs.HeapImage.{FormHeap}
 use Rattle.heap_image.specs.Header.{references_of}
 use Rattle.summary.specs.Compaction.{moved_word}
-use Rattle.fill.specs.Heap.{words_where}
+use Rattle.fill.specs.MovedHeap.{words_where}
 use Rattle.fill.proofs.Late.{late_up_to}
 use Rattle.fill.proofs.deferred.update_region.Given as goal
 

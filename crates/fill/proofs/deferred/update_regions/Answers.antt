@@ -7,7 +7,7 @@ use Rattle.summary.specs.NewAddresses.{new_top, new_address}
 use Rattle.summary.specs.Compaction.{moved, moved_word}
 use Rattle.summary.specs.RegionData.{deferred, fill_count}
 use Rattle.summary.specs.Updates.{is_late_reference}
-use Rattle.fill.specs.Heap.{cleared, redirected_where, updated_words, is_late_before}
+use Rattle.fill.specs.MovedHeap.{cleared, redirected_where, updated_words, is_late_before}
 use Rattle.fill.proofs.Blocks.{made_blocks, made_joined}
 use Rattle.fill.proofs.Cleared.{cleared-map}
 use Rattle.fill.proofs.Late.{length-words, words_same, late-all}
@@ -17,7 +17,7 @@ use Rattle.fill.proofs.deferred.update_regions.Goals.{After-loop-d}
 pub loop-d-init : goal.loop-d-init
 loop-d-init c =
     let image : HeapImage = c.args.plan.now in
-    let valid = c.regions-regions.ensures.valid in
+    let valid = c.planned_image_is_valid.ensures in
     let words : concat c.args.regions.now ≡ (moved image).words = ap concat c.requires ∙ made_joined image (moved_word image) ∙ sym (c.blocks_of_regions.ensures.moved_joined image valid) in
     let long : length (concat c.args.regions.now) ≡ heap_words image = ap length words ∙ length-words image (is_late_before image 0) in
     record {
@@ -33,7 +33,7 @@ loop-d-init c =
 is_filled : (c : After-loop-d) → (e y : ℕ) → deferred c.args.plan.now e ≡ Some y → e < c.loop-d.d
 is_filled c e y h =
     let image : HeapImage = c.args.plan.now in
-    let sound : HasLiveList image = c.regions-regions.ensures.valid.live_list in
+    let sound : HasLiveList image = c.planned_image_is_valid.ensures.live_list in
     let o = c.one_deferred_object.ensures.object image sound e y h in
     let end = c.objects_keep_their_order.ensures.below image sound o.0 o.1 in
     let some : 0 < size_at image (get_or image.live o.0 0) = (sound.sound o.0 0 o.1).header in
@@ -48,7 +48,7 @@ is_filled c e y h =
 updated : (c : After-loop-d) → concat c.loop-d.regions ≡ updated_words c.args.plan.now
 updated c =
     let image : HeapImage = c.args.plan.now in
-    let sound : HasLiveList image = c.regions-regions.ensures.valid.live_list in
+    let sound : HasLiveList image = c.planned_image_is_valid.ensures.live_list in
     c.loop-d.invariant.words ∙ words_same image (is_late_before image c.loop-d.d) (is_late_reference image) (λ p l.
     late-all image c.loop-d.d p (c.update_then_clear.ensures.late image sound p) (c.update_then_clear.ensures.told image sound p) (is_filled c))
 
@@ -60,4 +60,4 @@ returns-clause-compacted c =
     let image : HeapImage = c.args.plan.now in
     ap (cleared (new_top image)) (updated c)
     ∙ cleared-map (new_top image) (heap_words image) (redirected_where image (is_late_reference image))
-    ∙ c.update_then_clear.ensures.words image c.regions-regions.ensures.valid.live_list
+    ∙ c.update_then_clear.ensures.words image c.planned_image_is_valid.ensures.live_list

@@ -1,7 +1,7 @@
 use Rattle.std.proofs.Common.{◌≡◌}
 use Rattle.std.specs.List.{concat}
 use Rattle.heap_image.specs.HeapImage.{FormHeap}
-use Rattle.fill.specs.Heap.{words_where, is_late_before}
+use Rattle.fill.specs.MovedHeap.{words_where, is_late_before}
 use Rattle.fill.proofs.deferred.update_regions.Given as goal
 
 abbrev pub invariant-loop-d : goal.invariant-loop-d

@@ -5,7 +5,7 @@ use Rattle.fill.proofs.fill.fill_region.Goals as goal
 
 pub write-requires : goal.write-requires
 write-requires g c =
-    let few = c.regions_to_fill.ensures.few c.plan-plan.result.now c.regions-regions.ensures.valid in
+    let few = c.regions_to_fill.ensures.few c.plan-plan.result.now c.planned_image_is_valid.ensures in
     let same = ap region_count c.plan-plan.ensures in
     let inside = c.if-region-fill_regions.false in
     let region = c.region-region.ensures in

@@ -16,7 +16,7 @@ returns-then-word-filler c =
     let from : ℕ = c.args.from in
     let to : ℕ = c.args.to in
     let some : from < to = apart from to c.requires.ordered c.if-from-to.false in
-    let run = c.fillers_by_runs.ensures.compacted_run before c.len-words.ensures.valid.live_list from to (c.requires.run some) in
+    let run = c.fillers_by_runs.ensures.compacted_run before c.image_is_valid.ensures.live_list from to (c.requires.run some) in
     here before after from to from (omega arith) some (none before after from from (omega arith))
     (λ same. c.if-word-filler.true (c.word.ensures ∙ same ∙ filler_first before from to some run ∙ sym c.filler.ensures))
 
@@ -27,7 +27,7 @@ returns-in_err-j c =
     let from : ℕ = c.args.from in
     let to : ℕ = c.args.to in
     let some : from < to = apart from to c.requires.ordered c.if-from-to.false in
-    let run = c.fillers_by_runs.ensures.compacted_run before c.len-words.ensures.valid.live_list from to (c.requires.run some) in
+    let run = c.fillers_by_runs.ensures.compacted_run before c.image_is_valid.ensures.live_list from to (c.requires.run some) in
     let header : word_at after from ≡ _ = sym c.word.ensures ∙ c.if-word-filler.false ∙ c.filler.ensures ∙ sym (filler_first before from to some run) in
     let end : to ≡ from + 1 + (to - from - 1) = omega (arith, some) in
     subst (λ (r : Option ℕ). MatchOption r (AreCompacted before after from to) (IsFirstOther before after from to)) (sym c.from_residual.ensures)
@@ -41,7 +41,7 @@ returns c =
     let from : ℕ = c.args.from in
     let to : ℕ = c.args.to in
     let some : from < to = apart from to c.requires.ordered c.if-from-to.false in
-    let run = c.fillers_by_runs.ensures.compacted_run before c.len-words.ensures.valid.live_list from to (c.requires.run some) in
+    let run = c.fillers_by_runs.ensures.compacted_run before c.image_is_valid.ensures.live_list from to (c.requires.run some) in
     let header : word_at after from ≡ _ = sym c.word.ensures ∙ c.if-word-filler.false ∙ c.filler.ensures ∙ sym (filler_first before from to some run) in
     let end : to ≡ from + 1 + (to - from - 1) = omega (arith, some) in
     later before after from (from + 1) to to (from + 1 + c.in_ok-j.j) (omega arith) (omega arith) (single before after from (from + 1) refl header)

@@ -1,34 +1,22 @@
 use Rattle.std.proofs.Common.{◌≡◌, ℕ, length, sym, ap, ◌∙◌, subst, arith}
 use Rattle.std.specs.Prelude.{All}
-use Rattle.summary.specs.RegionData.{fill_count}
-use Rattle.collector.specs.declared.worker.Halt.TheVariants.{Failed}
-use Rattle.collector.specs.Halts.{HasCause, MayBeRefused}
+use Rattle.collector.specs.Halts.{IsLostTo, MayBeRefused}
 use Rattle.collector.proofs.Failing.{HasFailed, cause_of, front_of}
+use Rattle.summary.specs.RegionData.{fill_count}
 use Rattle.collector.proofs.prepared.Prepared.work.Goals as goal
 
 pub returns-in-Some-clause-fault : goal.returns-in-Some-clause-fault
 returns-in-Some-clause-fault g c =
-    let may = g.G.Gate.may_refuse c.args.gate.now in
+    let may : ℕ → ℕ → Type 0 = g.G.Gate.may_refuse c.args.gate.now in
     let may_fail = g.D.Desk.may_fail in
-    let regions = fill_count c.args.self.survey in
+    let survey = c.args.self.equipment.survey in
     let fault = c.in-Some.fault in
-    let workers = c.args.self.staff.workers in
+    let workers = c.args.self.equipment.staff.workers in
     let before = c.as_mut_slice.result.now in
     let after = c.work_all.new.workers in
     let count : length before ≡ workers.len = ap length c.as_mut_slice.ensures.value ∙ sym workers.ok.0 in
     let kept : length after ≡ length before = c.work_all.auto.workers in
     let own : workers.len ≡ length after = omega (arith, kept, count) in
     let failed = subst (λ ws. HasFailed ws fault) (c.as_slice-2.ensures.value ∙ front_of workers.len after _ own) c.in-Some.ensures in
-    subst (λ (n : ℕ). HasCause may_fail (λ r. MayBeRefused (λ k. may k r) n) regions (Failed fault)) count
-    (cause_of may_fail (λ r. MayBeRefused (λ k. may k r) (length before)) regions after fault c.work_all.ensures.halts failed)
-
-pub returns-clause-seats : goal.returns-clause-seats
-returns-clause-seats g c =
-    let serves = g.D.Desk.serves c.args.self.desk in
-    let workers = c.args.self.staff.workers in
-    let before = c.as_mut_slice.result.now in
-    let after = c.work_all.new.workers in
-    let count : length before ≡ workers.len = ap length c.as_mut_slice.ensures.value ∙ sym workers.ok.0 in
-    let kept : length after ≡ length before = c.work_all.auto.workers in
-    let own : workers.len ≡ length after = omega (arith, kept, count) in
-    subst (All (λ w. serves w.seat)) (sym (front_of workers.len after _ own)) c.work_all.ensures.seats
+    subst (λ (n : ℕ). IsLostTo may_fail may n survey fault) count
+    (cause_of may_fail (λ r. MayBeRefused (λ k. may k r) (length before)) (fill_count survey) after fault c.work_all.ensures.halts failed)

@@ -1,16 +1,15 @@
-use Rattle.std.proofs.Common.{◌≡◌, ◌+◌, ◌-◌, ◌≤◌, ◌<◌, ℕ, List, length, min, refl, sym, ◌∙◌, ap, subst, arith}
-use Rattle.raw_region.specs.Region.{with_words, part}
+use Rattle.std.proofs.Common.{◌≡◌, ◌+◌, ◌-◌, ◌≤◌, ◌<◌, ℕ, List, length, min, sym, ◌∙◌, ap, subst, arith}
 use Rattle.heap_image.specs.HeapImage.{HeapImage, HasLiveList, word_at, region_words, start_of, block_of}
 use Rattle.summary.specs.NewAddresses.{prefix_end}
 use Rattle.summary.specs.WordMoves.{slid}
 use Rattle.region_cells.specs.Views.{Writing, source_words}
-use Rattle.fill.specs.Splits.{IsSplit, Shows}
-use Rattle.fill.specs.Filling.{copied_word, written_to}
-use Rattle.fill.specs.Hands.{SameHand, Becomes, IsCopied}
-use Rattle.fill.specs.Sources.{IsNextSource}
-use Rattle.fill.proofs.Hands.{same_hand, hand_over, hand_kept, still_block}
-use Rattle.fill.proofs.Slides.{slid-gap, slid-run, slid-monotone, split_copy}
-use Rattle.fill.proofs.Targets.{source_behind, next_start, written_to-read, written_to-between, shows_start, length_start}
+use Rattle.fill.specs.WordBlocks.{IsSplitAt, Shows}
+use Rattle.fill.specs.CopiedWords.{copied_word, written_to}
+use Rattle.fill.specs.Targets.{SameTarget, Becomes, IsCopied}
+use Rattle.fill.specs.SourceRegions.{IsNextOtherSource}
+use Rattle.fill.proofs.Targets.{same_target, still_block, written_on, copied_from}
+use Rattle.fill.proofs.Slides.{slid-past, slid-monotone, split_copy}
+use Rattle.fill.proofs.WrittenTo.{source_behind, written_to-read, written_to-between, shows_start, length_start}
 use Rattle.fill.proofs.behind_prefix.BehindPrefix.copy_source.Goals as goal
 use Rattle.fill.proofs.behind_prefix.BehindPrefix.copy_source.Goals.{After-span-read}
 
@@ -28,7 +27,7 @@ module _ (c : After-span-read) where
   abbrev R : ℕ
   R = region_words image
 
-  next : IsNextSource image d c.requires.next.0 s
+  next : IsNextOtherSource image d c.requires.next.0 s
   next = c.requires.next.1
 
   before : IsCopied image d c.requires.next.0 c.args.to c.args.target.now
@@ -62,17 +61,10 @@ module _ (c : After-span-read) where
   read_long = ap length read_words ∙ length_start image c.span-read.ensures.valid s next.inside
 
   -- once the source or the region is at its end
-  reached : (to : ℕ) (after : Writing) → SameHand c.args.target.now after → IsSplit (copied_word image) (word_at image) c.args.self.now.site.span.start after.words to
+  reached : (to : ℕ) (after : Writing) → SameTarget c.args.target.now after → IsSplitAt (copied_word image) (word_at image) c.args.self.now.site.span.start after.words to
       → to ≡ min c.args.self.now.site.span.end (slid image c.span-read.result.end) → Becomes (IsCopied image d (s + 1) to) c.args.target.now after
-  reached to after hand split end = record {
-    hand = hand;
-    now = record {
-      block = still_block image c.args.target.now after before.block hand;
-      place = end ∙ ap (λ m. min m (slid image c.span-read.result.end)) c.args.self.now.site.end ∙ ap (λ m. min (start_of image d + R) (slid image m)) c.span-read.ensures.end ∙ sym on.2
-          ∙ ap (written_to image (start_of image d)) (next_start image s (s + 1) refl);
-      split = subst (λ (n : ℕ). IsSplit (copied_word image) (word_at image) n after.words to) c.args.self.now.site.start split;
-    };
-  }
+  reached to after same split end = copied_from image d s c.args.self.now.site.span.start to c.args.target.now after c.args.self.now.site.start before.block same split
+      (end ∙ ap (λ m. min m (slid image c.span-read.result.end)) c.args.self.now.site.end ∙ ap (λ m. min (start_of image d + R) (slid image m)) c.span-read.ensures.end ∙ sym on.2)
 
 pub span-read-requires : goal.span-read-requires
 span-read-requires c = c.requires.next.1.inside
@@ -110,8 +102,8 @@ loop-from-init c =
       place = sym from.place;
       low = omega (arith, place at, site.start);
       high = omega (arith, place at, site.start, site.end);
-      split = subst (λ (n : ℕ). IsSplit (copied_word image) (word_at image) n c.args.target.now.words c.args.to) (sym site.start) (before at).split;
-      hand = same_hand c.args.target.now;
+      split = subst (λ (n : ℕ). IsSplitAt (copied_word image) (word_at image) n c.args.target.now.words c.args.to) (sym site.start) (before at).split;
+      same = same_target c.args.target.now;
     }
 
 pub copy_into-requires-clause-source : goal.copy_into-requires-clause-source
@@ -129,7 +121,7 @@ copy_into-requires-clause-room c =
     let at = (goal.at.copy_into-requires-clause-room c).After-span-read in
     let site = c.args.self.now.site in
     let h = c.loop-from.invariant in
-    let same : region_words c.loop-from.target.image ≡ region_words site.guide.now = ap region_words (h.hand.image ∙ (before at).block.image) in
+    let same : region_words c.loop-from.target.image ≡ region_words site.guide.now = ap region_words (h.same.image ∙ (before at).block.image) in
     let n : c.min-n.result ≤ site.span.end - c.loop-from.to = omega arith in
     omega (arith, h.low, h.high, site.start, site.end)
 
@@ -149,23 +141,21 @@ loop-from-preserved c =
     let on : a ≤ c.next_run-run.result.end = r.ordered in
     let far : c.loop-from.from ≤ a = r.after in
     let live = λ (q : ℕ) (l : a ≤ q) (m : q < a + n). (let below : q < c.next_run-run.result.end = omega arith in r.live q l below) in
-    let still = slid-gap image c.loop-from.from a h.behind_prefix far r.dead in
-    let on_run = slid-run image a n (omega arith) live in
-    let goes : c.loop-from.to ≡ slid image a = omega arith in
-    let now = still_block image c.args.target.now c.loop-from.target (before at).block h.hand in
-    let words = ap (λ t. t.words) c.copy_into.ensures.value in
-    let copied_words : List ℕ = with_words c.loop-from.target.words (c.loop-from.to - site.span.start) (part (source_words c.args.source.now) (a - c.span-read.result.start) n) in
+    let past = slid-past image c.loop-from.from a n c.loop-from.to h.behind_prefix far h.place r.dead live in
+    let now = still_block image c.args.target.now c.loop-from.target (before at).block h.same in
+    let written = written_on image (copied_word image) (word_at image) site.span.start (c.loop-from.to + n) c.args.target.now c.loop-from.target c.copy_into.new.target _ (before at).block h.same
+    c.copy_into.ensures.value c.copy_into.ensures.length
+    (split_copy image sound site.span.start c.loop-from.target.words c.span-read.result.start (source_words c.args.source.now) a n c.loop-from.to h.split (read_shows at) (omega arith) past.0 live (omega arith)
+    (omega (arith, now.long, site.start, site.end)) (omega arith) (omega (arith, read_long at, c.span-read.ensures.start, c.span-read.ensures.end))) in
     record {
       after = omega arith;
       inside = omega arith;
       behind_prefix = omega arith;
-      place = omega arith;
+      place = past.1;
       low = omega arith;
       high = omega arith;
-      split = subst (λ (xs : List ℕ). IsSplit (copied_word image) (word_at image) site.span.start xs (c.loop-from.to + n)) (sym words)
-          (split_copy image sound site.span.start c.loop-from.target.words c.span-read.result.start (source_words c.args.source.now) a n c.loop-from.to h.split (read_shows at) (omega arith) goes live (omega arith)
-          (omega (arith, now.long, site.start, site.end)) (omega arith) (omega (arith, read_long at, c.span-read.ensures.start, c.span-read.ensures.end)));
-      hand = hand_over c.args.target.now c.loop-from.target c.copy_into.new.target h.hand (hand_kept image c.loop-from.target c.copy_into.new.target copied_words now c.copy_into.ensures.value c.copy_into.ensures.length);
+      split = written.1;
+      same = written.0;
     }
 
 pub returns-after-loop-from : goal.returns-after-loop-from
@@ -174,10 +164,10 @@ returns-after-loop-from c =
     let image : HeapImage = c.args.self.now.site.guide.now in
     let last : c.loop-from.from ≡ c.span-read.result.end = omega (arith, h.inside) in
     let there : slid image c.loop-from.from ≡ slid image c.span-read.result.end = ap (slid image) last in
-    reached (goal.at.returns-after-loop-from c).After-span-read c.loop-from.to c.loop-from.target h.hand h.split (omega (arith, h.place, h.high))
+    reached (goal.at.returns-after-loop-from c).After-span-read c.loop-from.to c.loop-from.target h.same h.split (omega (arith, h.place, h.high))
 
 pub returns-else-to-write : goal.returns-else-to-write
 returns-else-to-write c =
     let h = c.loop-from.invariant in
     let up = slid-monotone c.args.self.now.site.guide.now c.loop-from.from c.span-read.result.end h.behind_prefix h.inside in
-    reached (goal.at.returns-else-to-write c).After-span-read c.loop-from.to c.loop-from.target h.hand h.split (omega (arith, h.place, h.high))
+    reached (goal.at.returns-else-to-write c).After-span-read c.loop-from.to c.loop-from.target h.same h.split (omega (arith, h.place, h.high))

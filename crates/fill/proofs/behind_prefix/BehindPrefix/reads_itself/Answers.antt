@@ -1,8 +1,8 @@
 use Rattle.std.proofs.Common.{◌+◌, ℕ, ◌∙◌, ap}
 use Rattle.heap_image.specs.HeapImage.{HeapImage, region_words, start_of}
 use Rattle.summary.specs.WordMoves.{slid}
-use Rattle.fill.specs.Filling.{reaches}
-use Rattle.fill.proofs.Targets.{region_fits, reads-is}
+use Rattle.fill.specs.CopiedWords.{reaches}
+use Rattle.fill.proofs.WrittenTo.{region_fits, reads-is}
 use Rattle.fill.proofs.behind_prefix.BehindPrefix.reads_itself.Goals as goal
 
 pub destination-first-requires : goal.destination-first-requires
@@ -15,7 +15,7 @@ pub returns : goal.returns
 returns c =
     let site = c.args.self.now.site in
     let image : HeapImage = site.guide.now in
-    let valid = c.prefix_end-prefix_end.ensures.valid in
+    let valid = c.image_is_valid.ensures in
     let d : ℕ = site.region in
     let s : ℕ = start_of image d in
     let e : ℕ = start_of image d + region_words image in

@@ -3,11 +3,11 @@ use Rattle.heap_image.specs.HeapImage.{HeapImage, start_of, region_words, region
 use Rattle.summary.specs.NewAddresses.{prefix_end, new_top}
 use Rattle.summary.specs.WordMoves.{slid, reads}
 use Rattle.summary.specs.Compaction.{moved_word}
-use Rattle.fill.specs.Splits.{IsSplit, Shows}
-use Rattle.fill.specs.Filling.{copied_word}
+use Rattle.fill.specs.WordBlocks.{IsSplitAt, Shows}
+use Rattle.fill.specs.CopiedWords.{copied_word}
 use Rattle.fill.specs.Objects.{IsBetween}
-use Rattle.fill.proofs.Hands.{same_hand, still_block}
-use Rattle.fill.proofs.Targets.{source_place, source_behind, shows_moved, written_to-last, next_start, reached-last}
+use Rattle.fill.proofs.Targets.{same_target, still_block}
+use Rattle.fill.proofs.WrittenTo.{source_place, source_behind, shows_moved, written_to-last, next_start, reached-last}
 use Rattle.fill.proofs.Redirects.{between-object}
 use Rattle.fill.proofs.Steps.{next-place, region-first, region-none}
 use Rattle.fill.proofs.behind_prefix.BehindPrefix.redirect_objects.Goals as goal
@@ -25,16 +25,16 @@ module _ (c : After-source-s) where
 
   -- the source of the region's first word
   on : (reads image d s ≡ true) × (d ≤ s) × (s < region_count image) × (slid image (start_of image s) ≤ start_of image d) × (start_of image d ≤ slid image (start_of image s + region_words image))
-  on = source_place image c.prefix_end-prefix_end.ensures.valid d s c.args.self.now.behind_prefix c.args.self.now.site.to_fill c.source-s.ensures
+  on = source_place image c.image_is_valid.ensures d s c.args.self.now.behind_prefix c.args.self.now.site.to_fill c.source-s.ensures
 
   behind : prefix_end image ≤ start_of image s
-  behind = source_behind image c.prefix_end-prefix_end.ensures.valid d s ((on).1) c.args.self.now.behind_prefix
+  behind = source_behind image c.image_is_valid.ensures d s ((on).1) c.args.self.now.behind_prefix
 
   -- all that comes to the region is copied
   shows : Shows (copied_word image) (start_of image d) c.args.target.now.words
   shows =
       let r = c.requires in
-      written_to-last image c.prefix_end-prefix_end.ensures.valid d c.args.from c.args.to c.args.target.now.words c.args.self.now.behind_prefix r.own r.within r.last r.copied.place r.copied.block.long r.copied.split
+      written_to-last image c.image_is_valid.ensures d c.args.from c.args.to c.args.target.now.words c.args.self.now.behind_prefix r.own r.within r.last r.copied.place r.copied.block.long r.copied.split
 
 pub source-s-requires-clause-region : goal.source-s-requires-clause-region
 source-s-requires-clause-region c = record { inside = c.args.self.now.site.inside; behind_prefix = c.args.self.now.behind_prefix }
@@ -64,14 +64,14 @@ first_from-first-requires-clause-high c =
 pub redirect_row-requires-clause-low : goal.redirect_row-requires-clause-low
 redirect_row-requires-clause-low c =
     let image : HeapImage = c.args.self.now.site.guide.now in
-    let up = next-place image c.prefix_end-prefix_end.ensures.valid.live_list c.first_from-first.result c.in-Some.a c.in-Some.ensures.first in
+    let up = next-place image c.image_is_valid.ensures.live_list c.first_from-first.result c.in-Some.a c.in-Some.ensures.first in
     let first : slid image c.first_from-first.result ≡ c.args.self.now.site.span.start = c.first_from-first.ensures.place in
     omega (arith, c.new_address.ensures.value)
 
 pub redirect_row-requires-clause-between : goal.redirect_row-requires-clause-between
 redirect_row-requires-clause-between c =
     let image : HeapImage = c.args.self.now.site.guide.now in
-    subst (IsBetween image) (sym c.new_address.ensures.value) (between-object image c.prefix_end-prefix_end.ensures.valid.live_list c.in-Some.a c.in-Some.ensures.first.object)
+    subst (IsBetween image) (sym c.new_address.ensures.value) (between-object image c.image_is_valid.ensures.live_list c.in-Some.a c.in-Some.ensures.first.object)
 
 pub redirect_row-requires-clause-target : goal.redirect_row-requires-clause-target
 redirect_row-requires-clause-target c = c.requires.copied.block
@@ -82,18 +82,18 @@ redirect_row-requires-clause-split c =
     let site = c.args.self.now.site in
     let image : HeapImage = site.guide.now in
     let first : slid image c.first_from-first.result ≡ start_of image site.region = c.first_from-first.ensures.place ∙ site.start in
-    subst (λ (n : ℕ). IsSplit (moved_word image) (copied_word image) n c.args.target.now.words c.new_address.result) (sym site.start)
-    (subst (IsSplit (moved_word image) (copied_word image) (start_of image site.region) c.args.target.now.words) (sym c.new_address.ensures.value)
-    (region-first image c.prefix_end-prefix_end.ensures.valid.live_list site.region c.first_from-first.result c.in-Some.a c.args.target.now.words first c.in-Some.ensures.first (shows at)))
+    subst (λ (n : ℕ). IsSplitAt (moved_word image) (copied_word image) n c.args.target.now.words c.new_address.result) (sym site.start)
+    (subst (IsSplitAt (moved_word image) (copied_word image) (start_of image site.region) c.args.target.now.words) (sym c.new_address.ensures.value)
+    (region-first image c.image_is_valid.ensures.live_list site.region c.first_from-first.result c.in-Some.a c.args.target.now.words first c.in-Some.ensures.first (shows at)))
 
 pub returns-in-Some : goal.returns-in-Some
 returns-in-Some c =
     let site = c.args.self.now.site in
     let image : HeapImage = site.guide.now in
     let e = c.redirect_row.ensures in
-    let block = still_block image c.args.target.now c.redirect_row.new.target c.requires.copied.block e.hand in
+    let block = still_block image c.args.target.now c.redirect_row.new.target c.requires.copied.block e.same in
     let moved = subst (λ (n : ℕ). Shows (moved_word image) n c.redirect_row.new.target.words) site.start e.now in
-    record { hand = e.hand; now = shows_moved image c.prefix_end-prefix_end.ensures.valid site.region c.redirect_row.new.target.words block.long moved }
+    record { same = e.same; now = shows_moved image c.image_is_valid.ensures site.region c.redirect_row.new.target.words block.long moved }
 
 pub returns-in_default : goal.returns-in_default
 returns-in_default c =
@@ -101,7 +101,7 @@ returns-in_default c =
     let site = c.args.self.now.site in
     let image : HeapImage = site.guide.now in
     let d : ℕ = site.region in
-    let valid = c.prefix_end-prefix_end.ensures.valid in
+    let valid = c.image_is_valid.ensures in
     let r = c.requires in
     let long = r.copied.block.long in
     let first : slid image c.first_from-first.result ≡ start_of image d = c.first_from-first.ensures.place ∙ site.start in
@@ -111,7 +111,7 @@ returns-in_default c =
     let reached = λ (p : ℕ) (l : start_of image d ≤ p) (m : p < start_of image d + length c.args.target.now.words) (n : p < new_top image).
     subst (λ (to : ℕ). p < slid image to) end (reached-last image valid d c.args.from p c.args.self.now.behind_prefix r.own r.within r.last l (omega (arith, m, long)) n) in
     record {
-      hand = same_hand c.args.target.now;
+      same = same_target c.args.target.now;
       now = shows_moved image valid d c.args.target.now.words long
           (region-none image valid.live_list d c.first_from-first.result c.span-last.result.end c.args.target.now.words first c.in_default.ensures.first reached (shows at));
     }

@@ -2,11 +2,11 @@ use Rattle.std.proofs.Common.{◌≡◌, ◌+◌, ◌-◌, ◌≤◌, ◌<◌, �
 use Rattle.heap_image.specs.HeapImage.{HeapImage, HasLiveList, region_words, size_at}
 use Rattle.summary.specs.NewAddresses.{new_address, new_top}
 use Rattle.summary.specs.Compaction.{moved_word}
-use Rattle.fill.specs.Splits.{IsSplit}
-use Rattle.fill.specs.Hands.{IsBlockOf}
-use Rattle.fill.specs.Filling.{copied_word}
+use Rattle.fill.specs.WordBlocks.{IsSplitAt}
+use Rattle.fill.specs.Targets.{IsBlockOf}
+use Rattle.fill.specs.CopiedWords.{copied_word}
 use Rattle.fill.specs.Objects.{IsMovedTo, IsBetween}
-use Rattle.fill.proofs.Hands.{same_hand, hand_over, still_block}
+use Rattle.fill.proofs.Targets.{same_target, target_over, still_block}
 use Rattle.fill.proofs.Writing.{split_skip, split_all}
 use Rattle.fill.proofs.Redirects.{object_size, object-at, between-end, moved-top, deferred-not, deferred-over}
 use Rattle.fill.proofs.Steps.{header-size, object-late}
@@ -28,7 +28,7 @@ module _ (c : After-from) where
   at = c.loop-at.at
 
   sound : HasLiveList image
-  sound = c.prefix_end-prefix_end.ensures.valid.live_list
+  sound = c.image_is_valid.ensures.live_list
 
   low : start ≤ at
   low = c.loop-at.invariant.low
@@ -41,7 +41,7 @@ module _ (c : After-from) where
       (omega arith, omega arith)
 
   block : IsBlockOf image c.loop-at.target
-  block = still_block image c.args.target.now c.loop-at.target c.requires.target c.loop-at.invariant.hand
+  block = still_block image c.args.target.now c.loop-at.target c.requires.target c.loop-at.invariant.same
 
   whole : end ≡ start + length c.loop-at.target.words
   whole = omega (arith, block.long, c.args.self.now.site.start, c.args.self.now.site.end)
@@ -59,7 +59,7 @@ module _ (c : After-from) where
   still_between = subst (IsBetween image) behind_object (between-end image sound found.0 found.1.object)
 
 pub loop-at-init : goal.loop-at-init
-loop-at-init c = record { low = c.requires.low; between = c.requires.between; split = c.requires.split; hand = same_hand c.args.target.now }
+loop-at-init c = record { low = c.requires.low; between = c.requires.between; split = c.requires.split; same = same_target c.args.target.now }
 
 pub overflow_sub-at : goal.overflow_sub-at
 overflow_sub-at c = c.loop-at.invariant.low
@@ -67,7 +67,7 @@ overflow_sub-at c = c.loop-at.invariant.low
 pub get-header-requires : goal.get-header-requires
 get-header-requires c =
     let site = c.args.self.now.site in
-    let block = still_block site.guide.now c.args.target.now c.loop-at.target c.requires.target c.loop-at.invariant.hand in
+    let block = still_block site.guide.now c.args.target.now c.loop-at.target c.requires.target c.loop-at.invariant.same in
     let same : region_words c.loop-at.target.image ≡ region_words site.guide.now = ap region_words block.image in
     let limit : c.min-limit.result ≡ min c.new_top.result site.span.end = c.min-limit.ensures in
     let below : c.loop-at.at < c.min-limit.result = c.loop-at-test.true in
@@ -117,8 +117,8 @@ loop-at-preserved-then-next-span c =
     record {
       low = omega (arith, h.low);
       between = still_between read;
-      split = subst (λ (n : ℕ). IsSplit (moved_word site.guide.now) (copied_word site.guide.now) site.span.start c.redirect_object.new.target.words (c.loop-at.at + n)) (sym size) (e.now (found read).0 (found read).1);
-      hand = hand_over c.args.target.now c.loop-at.target c.redirect_object.new.target h.hand e.hand;
+      split = subst (λ (n : ℕ). IsSplitAt (moved_word site.guide.now) (copied_word site.guide.now) site.span.start c.redirect_object.new.target.words (c.loop-at.at + n)) (sym size) (e.now (found read).0 (found read).1);
+      same = target_over c.args.target.now c.loop-at.target c.redirect_object.new.target h.same e.same;
     }
 
 pub loop-at-preserved : goal.loop-at-preserved
@@ -138,21 +138,21 @@ loop-at-preserved c =
     record {
       low = omega (arith, h.low);
       between = still_between read;
-      split = subst (λ (n : ℕ). IsSplit (moved_word image) (copied_word image) site.span.start c.loop-at.target.words (at + n)) (sym size) (object-late image (sound read) a site.span.start at c.loop-at.target.words on.object late goes h.split);
-      hand = h.hand;
+      split = subst (λ (n : ℕ). IsSplitAt (moved_word image) (copied_word image) site.span.start c.loop-at.target.words (at + n)) (sym size) (object-late image (sound read) a site.span.start at c.loop-at.target.words on.object late goes h.split);
+      same = h.same;
     }
 
 pub returns : goal.returns
 returns c =
     let site = c.args.self.now.site in
     let image : HeapImage = site.guide.now in
-    let sound : HasLiveList image = c.prefix_end-prefix_end.ensures.valid.live_list in
+    let sound : HasLiveList image = c.image_is_valid.ensures.live_list in
     let h = c.loop-at.invariant in
-    let block = still_block image c.args.target.now c.loop-at.target c.requires.target h.hand in
+    let block = still_block image c.args.target.now c.loop-at.target c.requires.target h.same in
     let at : ℕ = c.loop-at.at in
     let limit : c.min-limit.result ≡ min c.new_top.result site.span.end = c.min-limit.ensures in
     let past : c.min-limit.result ≤ at = c.loop-at-test.false in
     let top : c.new_top.result ≡ new_top image = c.new_top.ensures ∙ ap new_top c.plan.ensures in
     let end : ℕ = max at (site.span.start + length c.loop-at.target.words) in
     let rest = split_skip (moved_word image) (copied_word image) site.span.start c.loop-at.target.words at end h.split (omega arith) (λ p l less k. moved-top image sound p (omega (arith, block.long, site.start, site.end))) in
-    record { hand = h.hand; now = split_all (moved_word image) (copied_word image) site.span.start c.loop-at.target.words end rest (omega arith) }
+    record { same = h.same; now = split_all (moved_word image) (copied_word image) site.span.start c.loop-at.target.words end rest (omega arith) }

@@ -1,20 +1,19 @@
-use Rattle.std.proofs.Common.{◌≡◌, ◌+◌, ◌-◌, ◌≤◌, ◌<◌, ℕ, List, min, true, false, refl, sym, ◌∙◌, ap, subst, arith}
-use Rattle.raw_region.specs.Region.{with_words, part}
+use Rattle.std.proofs.Common.{◌≡◌, ◌+◌, ◌-◌, ◌≤◌, ◌<◌, ℕ, List, min, true, false, sym, ◌∙◌, ap, subst, arith}
 use Rattle.heap_image.specs.HeapImage.{HeapImage, HasLiveList, word_at, region_words, start_of}
 use Rattle.summary.specs.WordMoves.{slid, reads}
 use Rattle.summary.proofs.Words.{slid-le}
-use Rattle.fill.specs.Splits.{IsSplit, Shows}
-use Rattle.fill.specs.Filling.{copied_word, written_to}
-use Rattle.fill.specs.Hands.{IsBlockOf}
-use Rattle.fill.proofs.Hands.{same_hand, hand_over, hand_kept, still_block, unwritten_block}
-use Rattle.fill.proofs.Slides.{slid-gap, slid-run, split_slide}
-use Rattle.fill.proofs.Targets.{next_start, region_fits, shows_start, written_to-own, written_to-read, written_to-skip}
+use Rattle.fill.specs.WordBlocks.{IsSplitAt, Shows}
+use Rattle.fill.specs.CopiedWords.{copied_word, written_to}
+use Rattle.fill.specs.Targets.{IsBlockOf}
+use Rattle.fill.proofs.Targets.{same_target, still_block, unwritten_block, written_on, copied_from}
+use Rattle.fill.proofs.Slides.{slid-past, split_slide}
+use Rattle.fill.proofs.WrittenTo.{region_fits, shows_start, written_to-own, written_to-read, written_to-skip}
 use Rattle.fill.proofs.Writing.{split_none}
 use Rattle.fill.proofs.behind_prefix.BehindPrefix.slide_own.Goals as goal
-use Rattle.fill.proofs.behind_prefix.BehindPrefix.slide_own.Goals.{After-prefix_end-prefix_end}
+use Rattle.fill.proofs.behind_prefix.BehindPrefix.slide_own.Goals.{After-image_is_valid}
 
 -- the region, as it was at the start
-module _ (c : After-prefix_end-prefix_end) where
+module _ (c : After-image_is_valid) where
   abbrev image : HeapImage
   image = c.args.self.now.site.guide.now
 
@@ -28,33 +27,27 @@ module _ (c : After-prefix_end-prefix_end) where
   words = c.args.target.now.words
 
   block : IsBlockOf image c.args.target.now
-  block = unwritten_block image d c.args.target.now c.prefix_end-prefix_end.ensures.valid c.args.self.now.site.inside c.requires
+  block = unwritten_block image d c.args.target.now c.image_is_valid.ensures c.args.self.now.site.inside c.requires
 
   shows : Shows (word_at image) start words
   shows = subst (λ (n : ℕ). Shows (word_at image) n words) (sym c.args.self.now.site.start)
-      (subst (λ (xs : List ℕ). Shows (word_at image) (start_of image d) xs) (sym c.requires.words) (shows_start image c.prefix_end-prefix_end.ensures.valid d c.args.self.now.site.inside))
+      (subst (λ (xs : List ℕ). Shows (word_at image) (start_of image d) xs) (sym c.requires.words) (shows_start image c.image_is_valid.ensures d c.args.self.now.site.inside))
 
-  split : IsSplit (copied_word image) (word_at image) start words start
+  split : IsSplitAt (copied_word image) (word_at image) start words start
   split = split_none (copied_word image) (word_at image) start words shows
 
 pub returns-then-not-reads_itself : goal.returns-then-not-reads_itself
 returns-then-not-reads_itself c =
-    let at = (goal.at.returns-then-not-reads_itself c).After-prefix_end-prefix_end in
+    let at = (goal.at.returns-then-not-reads_itself c).After-image_is_valid in
     let site = c.args.self.now.site in
     let image : HeapImage = site.guide.now in
-    let valid = c.prefix_end-prefix_end.ensures.valid in
+    let valid = c.image_is_valid.ensures in
     let sound : HasLiveList image = valid.live_list in
     let d : ℕ = site.region in
     let behind = c.args.self.now.behind_prefix in
     let unread : reads image d d ≡ false = sym c.reads_itself.ensures ∙ c.if-not-reads_itself.true in
-    record {
-      hand = same_hand c.args.target.now;
-      now = record {
-        block = block at;
-        place = site.start ∙ sym (written_to-own image sound d) ∙ written_to-skip image sound d d behind behind (region_fits image valid d site.inside) unread ∙ ap (written_to image (start_of image d)) (next_start image d (d + 1) refl);
-        split = subst (λ (n : ℕ). IsSplit (copied_word image) (word_at image) n c.args.target.now.words site.span.start) site.start (split at);
-      };
-    }
+    copied_from image d d site.span.start site.span.start c.args.target.now c.args.target.now site.start (block at) (same_target c.args.target.now) (split at)
+    (site.start ∙ sym (written_to-own image sound d) ∙ written_to-skip image sound d d behind behind (region_fits image valid d site.inside) unread)
 
 pub first_from-from-requires-clause-region : goal.first_from-from-requires-clause-region
 first_from-from-requires-clause-region c = record { inside = c.args.self.now.site.inside; behind_prefix = c.args.self.now.behind_prefix }
@@ -69,7 +62,7 @@ pub first_from-from-requires-clause-high : goal.first_from-from-requires-clause-
 first_from-from-requires-clause-high c =
     let site = c.args.self.now.site in
     let image : HeapImage = site.guide.now in
-    let sound : HasLiveList image = c.prefix_end-prefix_end.ensures.valid.live_list in
+    let sound : HasLiveList image = c.image_is_valid.ensures.live_list in
     let d : ℕ = site.region in
     let read : reads image d d ≡ true = sym c.reads_itself.ensures ∙ c.if-not-reads_itself.false in
     let on = written_to-read image sound d d c.args.self.now.behind_prefix read in
@@ -79,7 +72,7 @@ first_from-from-requires-clause-high c =
 
 pub loop-from-init : goal.loop-from-init
 loop-from-init c =
-    let at = (goal.at.loop-from-init c).After-prefix_end-prefix_end in
+    let at = (goal.at.loop-from-init c).After-image_is_valid in
     let site = c.args.self.now.site in
     let from = c.first_from-from.ensures in
     let behind = c.args.self.now.behind_prefix in
@@ -90,7 +83,7 @@ loop-from-init c =
       place = sym from.place;
       low = omega arith;
       split = split at;
-      hand = same_hand c.args.target.now;
+      same = same_target c.args.target.now;
     }
 
 pub slide-requires-clause-downward : goal.slide-requires-clause-downward
@@ -106,7 +99,7 @@ slide-requires-clause-inside c =
     let site = c.args.self.now.site in
     let h = c.loop-from.invariant in
     let r = c.next_run-run.ensures in
-    let same : region_words c.loop-from.target.image ≡ region_words site.guide.now = ap region_words (h.hand.image ∙ c.requires.image) in
+    let same : region_words c.loop-from.target.image ≡ region_words site.guide.now = ap region_words (h.same.image ∙ c.requires.image) in
     let up : c.next_run-run.result.end ≤ site.span.end = r.within in
     let on : c.next_run-run.result.begin ≤ c.next_run-run.result.end = r.ordered in
     let far : c.loop-from.from ≤ c.next_run-run.result.begin = r.after in
@@ -114,10 +107,10 @@ slide-requires-clause-inside c =
 
 pub loop-from-preserved : goal.loop-from-preserved
 loop-from-preserved c =
-    let at = (goal.at.loop-from-preserved c).After-prefix_end-prefix_end in
+    let at = (goal.at.loop-from-preserved c).After-image_is_valid in
     let site = c.args.self.now.site in
     let image : HeapImage = site.guide.now in
-    let sound : HasLiveList image = c.prefix_end-prefix_end.ensures.valid.live_list in
+    let sound : HasLiveList image = c.image_is_valid.ensures.live_list in
     let h = c.loop-from.invariant in
     let r = c.next_run-run.ensures in
     let a : ℕ = c.next_run-run.result.begin in
@@ -126,32 +119,29 @@ loop-from-preserved c =
     let on : a ≤ c.next_run-run.result.end = r.ordered in
     let far : c.loop-from.from ≤ a = r.after in
     let live = λ (q : ℕ) (l : a ≤ q) (m : q < a + n). (let below : q < c.next_run-run.result.end = omega arith in r.live q l below) in
-    let still = slid-gap image c.loop-from.from a h.behind_prefix far r.dead in
-    let on_run = slid-run image a n (omega arith) live in
     let whole : a + n ≡ c.next_run-run.result.end = omega arith in
-    let end_place : slid image (a + n) ≡ slid image c.next_run-run.result.end = ap (slid image) whole in
-    let place : c.loop-from.to ≡ slid image a = omega arith in
+    let past = slid-past image c.loop-from.from a n c.loop-from.to h.behind_prefix far h.place r.dead live in
     let down = slid-le image a in
-    let now = still_block image c.args.target.now c.loop-from.target (block at) h.hand in
-    let words = ap (λ t. t.words) c.slide.ensures.value in
-    let slid_words : List ℕ = with_words c.loop-from.target.words (c.loop-from.to - site.span.start) (part c.loop-from.target.words (a - site.span.start) n) in
+    let now = still_block image c.args.target.now c.loop-from.target (block at) h.same in
+    let written = written_on image (copied_word image) (word_at image) site.span.start (c.loop-from.to + n) c.args.target.now c.loop-from.target c.slide.new.self _ (block at) h.same
+    c.slide.ensures.value c.slide.ensures.length
+    (split_slide image sound site.span.start c.loop-from.target.words a n c.loop-from.to h.split (omega arith) past.0 live (omega arith) (omega (arith, now.long, site.start, site.end))) in
     record {
       after = omega arith;
       inside = omega arith;
       behind_prefix = omega arith;
-      place = omega arith;
+      place = past.1 ∙ ap (slid image) whole;
       low = omega arith;
-      split = subst (λ (xs : List ℕ). IsSplit (copied_word image) (word_at image) site.span.start xs (c.loop-from.to + n)) (sym words)
-          (split_slide image sound site.span.start c.loop-from.target.words a n c.loop-from.to h.split (omega arith) place live (omega arith) (omega (arith, now.long, site.start, site.end)));
-      hand = hand_over c.args.target.now c.loop-from.target c.slide.new.self h.hand (hand_kept image c.loop-from.target c.slide.new.self slid_words now c.slide.ensures.value c.slide.ensures.length);
+      split = written.1;
+      same = written.0;
     }
 
 pub returns : goal.returns
 returns c =
-    let at = (goal.at.returns c).After-prefix_end-prefix_end in
+    let at = (goal.at.returns c).After-image_is_valid in
     let site = c.args.self.now.site in
     let image : HeapImage = site.guide.now in
-    let sound : HasLiveList image = c.prefix_end-prefix_end.ensures.valid.live_list in
+    let sound : HasLiveList image = c.image_is_valid.ensures.live_list in
     let d : ℕ = site.region in
     let h = c.loop-from.invariant in
     let read : reads image d d ≡ true = sym c.reads_itself.ensures ∙ c.if-not-reads_itself.false in
@@ -162,11 +152,4 @@ returns c =
     let last : c.loop-from.from ≡ start_of image d + region_words image = omega (arith, h.inside, site.end) in
     let end : c.loop-from.to ≡ slid image (start_of image d + region_words image) = h.place ∙ ap (slid image) last in
     let whole : c.loop-from.to ≡ written_to image (start_of image d) (start_of image d + region_words image) = omega arith in
-    record {
-      hand = h.hand;
-      now = record {
-        block = still_block image c.args.target.now c.loop-from.target (block at) h.hand;
-        place = whole ∙ ap (written_to image (start_of image d)) (next_start image d (d + 1) refl);
-        split = subst (λ (n : ℕ). IsSplit (copied_word image) (word_at image) n c.loop-from.target.words c.loop-from.to) site.start h.split;
-      };
-    }
+    copied_from image d d site.span.start c.loop-from.to c.args.target.now c.loop-from.target site.start (block at) h.same h.split whole

@@ -1,7 +1,7 @@
 use Rattle.std.proofs.Common.{◌≡◌, ℕ, ◌+◌, ◌∙◌, ap, sym, subst, arith}
 use Rattle.fill.specs.declared.site.Site.{Site}
-use Rattle.fill.specs.Hands.{Becomes, IsCopied}
-use Rattle.fill.specs.Sources.{IsNextSource}
+use Rattle.fill.specs.Targets.{Becomes, IsCopied}
+use Rattle.fill.specs.SourceRegions.{IsNextOtherSource}
 use Rattle.fill.proofs.Reaching.{written_to-more}
 use Rattle.fill.proofs.filling.Filling.copy_opened.Goals as goal
 
@@ -19,8 +19,8 @@ copy_source-end-requires-clause-source g c =
 pub copy_source-end-requires-clause-next : goal.copy_source-end-requires-clause-next
 copy_source-end-requires-clause-next g c =
     let same : c.behind_prefix-place.result.site ≡ c.args.self.now.site = c.behind_prefix-place.ensures in
-    subst (λ (s : Site). (from : ℕ) × IsNextSource s.guide.now s.region from c.source-s.result × IsCopied s.guide.now s.region from c.args.to c.args.target.now) (sym same)
-    (c.args.from, subst (IsNextSource c.args.self.now.site.guide.now c.args.self.now.site.region c.args.from) (sym c.source-s.ensures) c.requires.next, c.requires.copied)
+    subst (λ (s : Site). (from : ℕ) × IsNextOtherSource s.guide.now s.region from c.source-s.result × IsCopied s.guide.now s.region from c.args.to c.args.target.now) (sym same)
+    (c.args.from, subst (IsNextOtherSource c.args.self.now.site.guide.now c.args.self.now.site.region c.args.from) (sym c.source-s.ensures) c.requires.next, c.requires.copied)
 
 pub returns-clause-more : goal.returns-clause-more
 returns-clause-more g c =
@@ -31,7 +31,7 @@ returns-clause-more g c =
     let ordered = c.requires.next.ordered in
     let copied = subst (λ (s : Site). Becomes (IsCopied s.guide.now s.region (c.source-s.result + 1) c.copy_source-end.result) c.args.target.now c.copy_source-end.new.target) same c.copy_source-end.ensures in
     let number : c.source-s.result ≡ c.args.opening.source = c.source-s.ensures in
-    written_to-more site.guide.now c.prefix_end-prefix_end.ensures.valid site.region c.args.from (c.source-s.result + 1) c.args.to c.copy_source-end.result
+    written_to-more site.guide.now c.image_is_valid.ensures site.region c.args.from (c.source-s.result + 1) c.args.to c.copy_source-end.result
     site.inside (omega (arith, site.start)) (omega arith) (omega arith) c.requires.copied.place copied.now.place
 
 pub returns-clause-copied : goal.returns-clause-copied

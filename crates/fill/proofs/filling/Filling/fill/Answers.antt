@@ -11,9 +11,9 @@ use Rattle.claim_board.specs.Callers.{Gains}
 use Rattle.claim_board.specs.Drains.{reply_of}
 use Rattle.claim_board.specs.Tickets.{IsTicketOf}
 use Rattle.fill.specs.declared.site.Site.{Site}
-use Rattle.fill.specs.Hands.{Becomes, IsUnwritten, IsCopied, IsMoved}
-use Rattle.fill.specs.Drains.{HasDrained, TellsLast, sources_below}
-use Rattle.fill.proofs.Hands.{hand_over}
+use Rattle.fill.specs.Targets.{Becomes, IsUnwritten, IsCopied, IsMoved}
+use Rattle.fill.specs.SourceDrains.{HasDrained, TellsLast, other_sources_below}
+use Rattle.fill.proofs.Targets.{target_over}
 use Rattle.fill.proofs.Draining.{undrained, opened_source, skipped_sources, unread_above, last_sources_past, drained_more, drained_all}
 use Rattle.fill.proofs.filling.Filling.fill.Goals as goal
 use Rattle.fill.proofs.filling.Filling.fill.Goals.{After-slide_own-to}
@@ -80,7 +80,7 @@ loop-opening-init g c =
     let old = g.D.Desk.caller c.args.seat.now in
     let t = c.requires.ticket in
     let first : c.args.ticket.now.next ≡ 0 = t.unopened in
-    let none : sources_below (image_table image) d c.args.ticket.now.next ≡ [] = ap (sources_below (image_table image) d) first in
+    let none : other_sources_below (image_table image) d c.args.ticket.now.next ≡ [] = ap (other_sources_below (image_table image) d) first in
     let own = own_copied g (goal.at.loop-opening-init g c).After-slide_own-to in
     record {
       serves = c.note.ensures.seat;
@@ -93,7 +93,7 @@ loop-opening-init g c =
       inside = omega arith;
       next = omega arith;
       copied = own.now;
-      hand = own.hand;
+      same = own.same;
     }
 
 pub loop-opening-preserved : goal.loop-opening-preserved
@@ -137,7 +137,7 @@ loop-opening-preserved g c =
       inside = omega arith;
       next = omega arith;
       copied = subst (λ (n : ℕ). IsCopied image d (n + 1) c.in_ok-closed.end c.copy_opened.new.target) (sym number) x.copied.now;
-      hand = hand_over c.args.target.now c.loop-opening.target c.copy_opened.new.target i.hand x.copied.hand;
+      same = target_over c.args.target.now c.loop-opening.target c.copy_opened.new.target i.same x.copied.same;
     }
 
 pub returns-clause-ticket : goal.returns-clause-ticket
@@ -183,7 +183,7 @@ redirect_objects-requires-clause-last g c =
 pub returns-clause-moved : goal.returns-clause-moved
 returns-clause-moved g c =
     let moved = subst (λ (s : Site). Becomes (IsMoved s.guide.now s.region) c.loop-opening.target c.redirect_objects.new.target) c.behind_prefix-place.ensures c.redirect_objects.ensures in
-    record { hand = hand_over c.args.target.now c.loop-opening.target c.redirect_objects.new.target c.loop-opening.invariant.hand moved.hand; now = moved.now }
+    record { same = target_over c.args.target.now c.loop-opening.target c.redirect_objects.new.target c.loop-opening.invariant.same moved.same; now = moved.now }
 
 pub returns-clause-drained : goal.returns-clause-drained
 returns-clause-drained g c =

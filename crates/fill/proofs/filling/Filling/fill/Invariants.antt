@@ -2,8 +2,8 @@ use Rattle.std.proofs.Common.{◌≡◌, ◌+◌, ◌-◌, ◌≤◌, max}
 use Rattle.heap_image.specs.HeapImage.{region_count}
 use Rattle.history.specs.ImageMoves.{image_table}
 use Rattle.claim_board.specs.Tickets.{IsTicketOf, IsSwept}
-use Rattle.fill.specs.Hands.{SameHand, IsCopied}
-use Rattle.fill.specs.Drains.{HasDrained}
+use Rattle.fill.specs.Targets.{SameTarget, IsCopied}
+use Rattle.fill.specs.SourceDrains.{HasDrained}
 use Rattle.fill.proofs.filling.Filling.fill.Given as goal
 
 abbrev pub invariant-loop-opening : goal.invariant-loop-opening
@@ -18,7 +18,7 @@ invariant-loop-opening g l = record {
   inside : l.ticket.next ≤ region_count l.self.site.guide.now;
   next : l.from ≡ max l.ticket.next (l.self.site.region + 1);
   copied : IsCopied l.self.site.guide.now l.self.site.region l.from l.to l.target;
-  hand : SameHand l.fn.target l.target;
+  same : SameTarget l.fn.target l.target;
 }
 
 abbrev pub decreases-loop-opening : goal.decreases-loop-opening

@@ -11,7 +11,7 @@ pub returns-clause-no_source : goal.returns-clause-no_source
 returns-clause-no_source g c =
     let site = c.args.self.now.site in
     let image : HeapImage = site.guide.now in
-    let valid : IsValid image = c.prefix_end-prefix_end.ensures.valid in
+    let valid : IsValid image = c.image_is_valid.ensures in
     let d : ℕ = site.region in
     let low : start_of image d < prefix_end image = subst (λ (n : ℕ). n < prefix_end image) site.start c.requires.in_prefix in
     sources_skip (image_table image) d 0 (region_count image) (omega arith) (λ t a b.

@@ -4,7 +4,7 @@ use Rattle.summary.specs.WordMoves.{slid}
 use Rattle.summary.specs.RegionData.{region_data, partial_words, own_words}
 use Rattle.summary.proofs.Words.{slid-le, live_words-le}
 use Rattle.fill.proofs.Slides.{slid-from}
-use Rattle.fill.proofs.Targets.{region_fits}
+use Rattle.fill.proofs.WrittenTo.{region_fits}
 use Rattle.fill.proofs.guide.Guide.behind.Goals as goal
 use Rattle.fill.proofs.guide.Guide.behind.Goals.{After-from-2}
 
@@ -12,7 +12,7 @@ sum_is : (c : After-from-2) → c.destination.result + c.from.result + c.from-2.
 sum_is c =
     let image : HeapImage = c.args.self.now in
     let r : ℕ = c.args.r in
-    let valid : IsValid image = subst IsValid c.self.view_is c.prefix_end-prefix_end.ensures.valid in
+    let valid : IsValid image = subst IsValid c.self.view_is c.planned_image_is_valid.ensures in
     let told = c.region-data.ensures ∙ ap (λ i. region_data i r) c.self.view_is in
     let partial : c.from.result ≡ partial_words image r = c.from.ensures ∙ ap (λ d. d.partial) told in
     let own : c.from-2.result ≡ own_words image r = c.from-2.ensures ∙ ap (λ d. d.live) told in
@@ -25,7 +25,7 @@ pub overflow_add-result : goal.overflow_add-result
 overflow_add-result c =
     let image : HeapImage = c.args.self.now in
     let r : ℕ = c.args.r in
-    let valid : IsValid image = subst IsValid c.self.view_is c.prefix_end-prefix_end.ensures.valid in
+    let valid : IsValid image = subst IsValid c.self.view_is c.planned_image_is_valid.ensures in
     let fits = region_fits image valid r c.requires.inside in
     let few : heap_words image ≤ 4194304 = valid.limits.few_words in
     let down = slid-le image (start_of image r) in
@@ -39,7 +39,7 @@ overflow_add-result c =
 pub overflow_add-result-2 : goal.overflow_add-result-2
 overflow_add-result-2 c =
     let image : HeapImage = c.args.self.now in
-    let valid : IsValid image = subst IsValid c.self.view_is c.prefix_end-prefix_end.ensures.valid in
+    let valid : IsValid image = subst IsValid c.self.view_is c.planned_image_is_valid.ensures in
     let fits = region_fits image valid c.args.r c.requires.inside in
     let few : heap_words image ≤ 4194304 = valid.limits.few_words in
     let down = slid-le image (start_of image c.args.r + region_words image) in

@@ -6,11 +6,11 @@ use Rattle.summary.specs.WordMoves.{slid}
 use Rattle.summary.specs.Compaction.{moved_word}
 use Rattle.summary.proofs.Words.{slid-low}
 use Rattle.summary.proofs.Regions.{prefix_region}
-use Rattle.fill.specs.Splits.{IsSplit}
-use Rattle.fill.specs.Filling.{copied_word}
-use Rattle.fill.specs.Hands.{SameHand, IsBlockOf}
+use Rattle.fill.specs.WordBlocks.{IsSplitAt}
+use Rattle.fill.specs.CopiedWords.{copied_word}
+use Rattle.fill.specs.Targets.{SameTarget, IsBlockOf}
 use Rattle.fill.specs.Objects.{IsNextObject, HasNoObject, IsPassed, IsMovedTo}
-use Rattle.fill.proofs.Hands.{same_hand, hand_over, still_block}
+use Rattle.fill.proofs.Targets.{same_target, target_over, still_block}
 use Rattle.fill.proofs.Writing.{split_none}
 use Rattle.fill.proofs.Redirects.{below-kept, stays, object_size, object_end, passed-object, passed-start, deferred-not, deferred-over}
 use Rattle.fill.proofs.Steps.{header-size, region-header, region-last, object-late}
@@ -38,7 +38,7 @@ module _ (c : In-Some) where
   words = c.loop-a.target.words
 
   sound : HasLiveList image
-  sound = c.prefix_end-prefix_end.ensures.valid.live_list
+  sound = c.image_is_valid.ensures.live_list
 
   next : IsNextObject image c.loop-a.from a
   next = c.in-Some.ensures.first
@@ -50,12 +50,12 @@ module _ (c : In-Some) where
   goes = stays image sound a next.object (omega (arith, kept, c.in-Some.ensures.below))
 
   block : IsBlockOf image c.loop-a.target
-  block = still_block image c.args.target.now c.loop-a.target c.requires.target c.loop-a.invariant.hand
+  block = still_block image c.args.target.now c.loop-a.target c.requires.target c.loop-a.invariant.same
 
   whole : end ≡ start + length words
   whole = omega (arith, block.long, c.args.self.now.site.start, c.args.self.now.site.end)
 
-  on : IsSplit (moved_word image) (copied_word image) start words a × (get_or words (a - start) 0 ≡ word_at image a) × (start ≤ a)
+  on : IsSplitAt (moved_word image) (copied_word image) start words a × (get_or words (a - start) 0 ≡ word_at image a) × (start ≤ a)
   on = region-header image sound c.loop-a.from a start a words c.loop-a.invariant.passed next c.loop-a.invariant.split goes c.loop-a.invariant.low (omega (arith, whole, c.in-Some.ensures.below))
 
   low : start ≤ a
@@ -64,7 +64,7 @@ module _ (c : In-Some) where
 pub loop-a-init : goal.loop-a-init
 loop-a-init c =
     let image : HeapImage = c.args.self.now.site.guide.now in
-    let sound : HasLiveList image = c.prefix_end-prefix_end.ensures.valid.live_list in
+    let sound : HasLiveList image = c.image_is_valid.ensures.live_list in
     let start : ℕ = c.args.self.now.site.span.start in
     let at : start ≡ start_of image c.args.self.now.site.region = c.args.self.now.site.start in
     let place : slid image start ≡ start = slid-low image start (omega (arith, at, c.args.self.now.in_prefix)) in
@@ -72,8 +72,8 @@ loop-a-init c =
       in_heap = omega (arith, c.args.self.now.site.in_heap, at, c.args.self.now.site.end);
       low = omega arith;
       passed = passed-start image sound c.args.self.now.site.region start (place ∙ at);
-      split = subst (IsSplit (moved_word image) (copied_word image) start c.args.target.now.words) (sym place) (split_none (moved_word image) (copied_word image) start c.args.target.now.words c.requires.copied);
-      hand = same_hand c.args.target.now;
+      split = subst (IsSplitAt (moved_word image) (copied_word image) start c.args.target.now.words) (sym place) (split_none (moved_word image) (copied_word image) start c.args.target.now.words c.requires.copied);
+      same = same_target c.args.target.now;
     }
 
 pub overflow_sub-a : goal.overflow_sub-a
@@ -138,38 +138,38 @@ loop-a-preserved c =
     let fits : end_of image a ≤ heap_words image = sizes.1 in
     let end : a + c.from-words.result ≡ end_of image a = ap (λ n. a + n) size in
     let behind : slid image (a + c.from-words.result) ≡ a + size_at image a = ap (slid image) end ∙ object_end image (sound at) a object ∙ ap (λ n. n + size_at image a) (sym (goes at)) in
-    let step : IsSplit (moved_word image) (copied_word image) start c.if-a-words.target.words (a + size_at image a) = elim c.if-a-words.branch [
-      | then-a-words w ↦ subst (λ (xs : List ℕ). IsSplit (moved_word image) (copied_word image) start xs (a + size_at image a)) (sym (ap (λ t. t.words) w.target-is)) (w.redirect_object.ensures.now a (record { object = object; place = goes at }))
+    let step : IsSplitAt (moved_word image) (copied_word image) start c.if-a-words.target.words (a + size_at image a) = elim c.if-a-words.branch [
+      | then-a-words w ↦ subst (λ (xs : List ℕ). IsSplitAt (moved_word image) (copied_word image) start xs (a + size_at image a)) (sym (ap (λ t. t.words) w.target-is)) (w.redirect_object.ensures.now a (record { object = object; place = goes at }))
       | else-a-words w ↦
           let over : site.span.end < a + c.from-words.result = w.if-a-words.false in
           let below : a < site.span.end = c.in-Some.ensures.below in
           let to = goes at in
           let late = deferred-over image (sound at) site.region a object (omega (arith, site.start)) (omega (arith, site.end)) (omega (arith, site.end)) in
-          subst (λ (xs : List ℕ). IsSplit (moved_word image) (copied_word image) start xs (a + size_at image a)) (sym (ap (λ t. t.words) w.target-is)) (object-late image (sound at) a start a c.loop-a.target.words object late to (on at).0)
+          subst (λ (xs : List ℕ). IsSplitAt (moved_word image) (copied_word image) start xs (a + size_at image a)) (sym (ap (λ t. t.words) w.target-is)) (object-late image (sound at) a start a c.loop-a.target.words object late to (on at).0)
     ] in
-    let hand : SameHand c.args.target.now c.if-a-words.target = elim c.if-a-words.branch [
-      | then-a-words w ↦ subst (SameHand c.args.target.now) (sym w.target-is) (hand_over c.args.target.now c.loop-a.target w.redirect_object.new.target h.hand w.redirect_object.ensures.hand)
-      | else-a-words w ↦ subst (SameHand c.args.target.now) (sym w.target-is) h.hand
+    let same : SameTarget c.args.target.now c.if-a-words.target = elim c.if-a-words.branch [
+      | then-a-words w ↦ subst (SameTarget c.args.target.now) (sym w.target-is) (target_over c.args.target.now c.loop-a.target w.redirect_object.new.target h.same w.redirect_object.ensures.same)
+      | else-a-words w ↦ subst (SameTarget c.args.target.now) (sym w.target-is) h.same
     ] in
     record {
       in_heap = omega arith;
       low = omega arith;
       passed = subst (IsPassed image) (sym end) (passed-object image (sound at) a object);
-      split = subst (IsSplit (moved_word image) (copied_word image) start c.if-a-words.target.words) (sym behind) step;
-      hand = hand;
+      split = subst (IsSplitAt (moved_word image) (copied_word image) start c.if-a-words.target.words) (sym behind) step;
+      same = same;
     }
 
 pub returns : goal.returns
 returns c =
     let image : HeapImage = c.args.self.now.site.guide.now in
-    let sound : HasLiveList image = c.prefix_end-prefix_end.ensures.valid.live_list in
+    let sound : HasLiveList image = c.image_is_valid.ensures.live_list in
     let h = c.loop-a.invariant in
     let start : ℕ = c.args.self.now.site.span.start in
     let at : start ≡ start_of image c.args.self.now.site.region = c.args.self.now.site.start in
     let end : c.args.self.now.site.span.end ≡ start_of image c.args.self.now.site.region + region_words image = c.args.self.now.site.end in
     let kept : start_of image c.args.self.now.site.region + region_words image ≤ prefix_end image = prefix_region image c.args.self.now.site.region c.args.self.now.in_prefix in
-    let block = still_block image c.args.target.now c.loop-a.target c.requires.target h.hand in
+    let block = still_block image c.args.target.now c.loop-a.target c.requires.target h.same in
     let long : length c.loop-a.target.words ≡ region_words image = block.long in
     let none : HasNoObject image c.loop-a.from c.args.self.now.site.span.end = c.in_default.ensures.first in
     let reached = λ (p : ℕ) (l : start ≤ p) (m : p < start + length c.loop-a.target.words) (n : p < new_top image). below-kept image p c.args.self.now.site.span.end (omega arith) (omega arith) in
-    record { hand = h.hand; now = region-last image sound c.loop-a.from c.args.self.now.site.span.end start c.loop-a.target.words h.passed none reached h.low h.split }
+    record { same = h.same; now = region-last image sound c.loop-a.from c.args.self.now.site.span.end start c.loop-a.target.words h.passed none reached h.low h.split }

@@ -2,11 +2,11 @@ use Rattle.std.proofs.Common.{◌≡◌, ◌+◌, ◌-◌, ◌≤◌, ◌<◌, �
 use Rattle.std.proofs.lemmas.Bool.{cases_lt}
 use Rattle.heap_image.specs.HeapImage.{HeapImage, HasLiveList, region_words, start_of, word_at}
 use Rattle.summary.proofs.Regions.{prefix_region}
-use Rattle.fill.specs.Splits.{Shows}
-use Rattle.fill.specs.Filling.{copied_word}
-use Rattle.fill.proofs.Hands.{same_hand, hand_over, still_block, unwritten_block}
+use Rattle.fill.specs.WordBlocks.{Shows}
+use Rattle.fill.specs.CopiedWords.{copied_word}
+use Rattle.fill.proofs.Targets.{same_target, target_over, still_block, unwritten_block}
 use Rattle.fill.proofs.Writing.{split_none, split_all}
-use Rattle.fill.proofs.Targets.{shows_start}
+use Rattle.fill.proofs.WrittenTo.{shows_start}
 use Rattle.fill.proofs.Gaps.{split_stays}
 use Rattle.fill.proofs.in_prefix.InPrefix.write_fillers.Goals as goal
 
@@ -17,18 +17,18 @@ loop-at-init c =
     let inside = c.args.self.now.site.inside in
     let shows : Shows (word_at image) (c.args.self.now.site.span.start) c.args.target.now.words =
     subst (λ (m : ℕ). Shows (word_at image) m c.args.target.now.words) (sym at)
-    (subst (λ (xs : List ℕ). Shows (word_at image) (start_of image c.args.self.now.site.region) xs) (sym c.requires.words) (shows_start image c.prefix_end-prefix_end.ensures.valid c.args.self.now.site.region inside)) in
+    (subst (λ (xs : List ℕ). Shows (word_at image) (start_of image c.args.self.now.site.region) xs) (sym c.requires.words) (shows_start image c.image_is_valid.ensures c.args.self.now.site.region inside)) in
     record {
       low = omega arith;
       high = omega arith;
       split = split_none (copied_word image) (word_at image) (c.args.self.now.site.span.start) c.args.target.now.words shows;
-      hand = same_hand c.args.target.now;
+      same = same_target c.args.target.now;
     }
 
 pub write_gap-requires-clause-target : goal.write_gap-requires-clause-target
 write_gap-requires-clause-target c =
     let site = c.args.self.now.site in
-    still_block site.guide.now c.args.target.now c.loop-at.target (unwritten_block site.guide.now site.region c.args.target.now c.prefix_end-prefix_end.ensures.valid site.inside c.requires) c.loop-at.invariant.hand
+    still_block site.guide.now c.args.target.now c.loop-at.target (unwritten_block site.guide.now site.region c.args.target.now c.image_is_valid.ensures site.inside c.requires) c.loop-at.invariant.same
 
 pub loop-at-smaller : goal.loop-at-smaller
 loop-at-smaller c =
@@ -47,7 +47,7 @@ loop-at-smaller c =
 pub loop-at-preserved : goal.loop-at-preserved
 loop-at-preserved c =
     let image : HeapImage = c.args.self.now.site.guide.now in
-    let sound : HasLiveList image = c.prefix_end-prefix_end.ensures.valid.live_list in
+    let sound : HasLiveList image = c.image_is_valid.ensures.live_list in
     let start : ℕ = c.args.self.now.site.span.start in
     let r = c.next_run-run.ensures in
     let h = c.loop-at.invariant in
@@ -61,7 +61,7 @@ loop-at-preserved c =
       low = omega arith;
       high = omega arith;
       split = split_stays image sound start c.write_gap.new.target.words c.next_run-run.result.begin c.next_run-run.result.end c.write_gap.ensures.now up (omega arith) (λ q l m. r.live q l m);
-      hand = hand_over c.args.target.now c.loop-at.target c.write_gap.new.target h.hand c.write_gap.ensures.hand;
+      same = target_over c.args.target.now c.loop-at.target c.write_gap.new.target h.same c.write_gap.ensures.same;
     }
 
 pub returns : goal.returns
@@ -69,6 +69,6 @@ returns c =
     let site = c.args.self.now.site in
     let image : HeapImage = site.guide.now in
     let h = c.loop-at.invariant in
-    let block = still_block image c.args.target.now c.loop-at.target (unwritten_block image site.region c.args.target.now c.prefix_end-prefix_end.ensures.valid site.inside c.requires) h.hand in
+    let block = still_block image c.args.target.now c.loop-at.target (unwritten_block image site.region c.args.target.now c.image_is_valid.ensures site.inside c.requires) h.same in
     let end : site.span.end ≤ c.loop-at.at = c.loop-at-test.false in
-    record { hand = h.hand; now = split_all (copied_word image) (word_at image) site.span.start c.loop-at.target.words c.loop-at.at h.split (omega (arith, block.long, site.start, site.end)) }
+    record { same = h.same; now = split_all (copied_word image) (word_at image) site.span.start c.loop-at.target.words c.loop-at.at h.split (omega (arith, block.long, site.start, site.end)) }

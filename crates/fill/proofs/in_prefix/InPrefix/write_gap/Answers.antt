@@ -6,9 +6,9 @@ use Rattle.summary.specs.NewAddresses.{prefix_end}
 use Rattle.summary.proofs.Addresses.{prefix_end-le}
 use Rattle.summary.proofs.Regions.{prefix_region}
 use Rattle.raw_region.specs.Region.{with_words}
-use Rattle.fill.specs.Splits.{IsSplit}
-use Rattle.fill.specs.Filling.{copied_word}
-use Rattle.fill.proofs.Hands.{same_hand, hand_over, hand_kept, still_block}
+use Rattle.fill.specs.WordBlocks.{IsSplitAt}
+use Rattle.fill.specs.CopiedWords.{copied_word}
+use Rattle.fill.proofs.Targets.{same_target, target_over, target_kept, still_block}
 use Rattle.fill.proofs.Writing.{split_set}
 use Rattle.fill.proofs.Gaps.{copied-first, copied-rest, copied-behind, split_zero}
 use Rattle.fill.proofs.in_prefix.InPrefix.write_gap.Goals as goal
@@ -24,15 +24,15 @@ dead_to_end image at stop end below above q l m = elim (cases_lt q stop) [
 pub overflow_cast-end : goal.overflow_cast-end
 overflow_cast-end c =
     let image : HeapImage = c.args.self.now.site.guide.now in
-    let low = prefix_end-le image c.prefix_end-prefix_end.ensures.valid.live_list in
-    let few : heap_words image ≤ 4194304 = c.prefix_end-prefix_end.ensures.valid.limits.few_words in
+    let low = prefix_end-le image c.image_is_valid.ensures.live_list in
+    let few : heap_words image ≤ 4194304 = c.image_is_valid.ensures.limits.few_words in
     let up : c.gap_end-end.result ≤ prefix_end image = c.gap_end-end.ensures.inside in
     omega arith
 
 pub returns-then-begins_gap : goal.returns-then-begins_gap
 returns-then-begins_gap c =
     let image : HeapImage = c.args.self.now.site.guide.now in
-    let sound : HasLiveList image = c.prefix_end-prefix_end.ensures.valid.live_list in
+    let sound : HasLiveList image = c.image_is_valid.ensures.live_list in
     let r = c.requires in
     let start : ℕ = c.args.self.now.site.span.start in
     let at : ℕ = c.args.at in
@@ -53,18 +53,18 @@ returns-then-begins_gap c =
     let two = split_zero image sound start (set xs (at - start) w) (at + 1) (stop - at - 1) one (omega arith) (omega arith) (λ q l m. copied-behind image sound at end q up dead (omega arith) (omega arith)) in
     let i : at + 1 - start ≡ at - start + 1 = omega arith in
     let p : at + 1 + (stop - at - 1) ≡ stop = omega arith in
-    let now = subst (λ (ys : List ℕ). IsSplit (copied_word image) (word_at image) start ys stop) (sym (ap (λ t. t.words) c.fill.ensures.value ∙ ap (λ (t : List ℕ). with_words t (c.args.at - c.args.self.now.site.span.start + 1) (replicate (c.args.stop - c.args.at - 1) 0)) (ap (λ t. t.words) c.set.ensures.value)))
-    (subst (λ (j : ℕ). IsSplit (copied_word image) (word_at image) start (with_words (set xs (at - start) w) j (replicate (stop - at - 1) 0)) stop) i
-    (subst (IsSplit (copied_word image) (word_at image) start (with_words (set xs (at - start) w) (at + 1 - start) (replicate (stop - at - 1) 0))) p two)) in
-    let header_written = hand_kept image c.args.target.now c.set.new.self (set xs (at - start) w) r.target c.set.ensures.value c.set.ensures.length in
+    let now = subst (λ (ys : List ℕ). IsSplitAt (copied_word image) (word_at image) start ys stop) (sym (ap (λ t. t.words) c.fill.ensures.value ∙ ap (λ (t : List ℕ). with_words t (c.args.at - c.args.self.now.site.span.start + 1) (replicate (c.args.stop - c.args.at - 1) 0)) (ap (λ t. t.words) c.set.ensures.value)))
+    (subst (λ (j : ℕ). IsSplitAt (copied_word image) (word_at image) start (with_words (set xs (at - start) w) j (replicate (stop - at - 1) 0)) stop) i
+    (subst (IsSplitAt (copied_word image) (word_at image) start (with_words (set xs (at - start) w) (at + 1 - start) (replicate (stop - at - 1) 0))) p two)) in
+    let header_written = target_kept image c.args.target.now c.set.new.self (set xs (at - start) w) r.target c.set.ensures.value c.set.ensures.length in
     let block = still_block image c.args.target.now c.set.new.self r.target header_written in
-    let rest_written = hand_kept image c.set.new.self c.fill.new.self (with_words c.set.new.self.words (at - start + 1) (replicate (stop - at - 1) 0)) block c.fill.ensures.value c.fill.ensures.length in
-    record { hand = hand_over c.args.target.now c.set.new.self c.fill.new.self header_written rest_written; now = now }
+    let rest_written = target_kept image c.set.new.self c.fill.new.self (with_words c.set.new.self.words (at - start + 1) (replicate (stop - at - 1) 0)) block c.fill.ensures.value c.fill.ensures.length in
+    record { same = target_over c.args.target.now c.set.new.self c.fill.new.self header_written rest_written; now = now }
 
 pub returns-else-begins_gap : goal.returns-else-begins_gap
 returns-else-begins_gap c =
     let image : HeapImage = c.args.self.now.site.guide.now in
-    let sound : HasLiveList image = c.prefix_end-prefix_end.ensures.valid.live_list in
+    let sound : HasLiveList image = c.image_is_valid.ensures.live_list in
     let r = c.requires in
     let start : ℕ = c.args.self.now.site.span.start in
     let at : ℕ = c.args.at in
@@ -82,20 +82,20 @@ returns-else-begins_gap c =
     ] in out) in
     let two = split_zero image sound start xs at (stop - at) r.split low (omega arith) zeros in
     let p : at + (stop - at) ≡ stop = omega arith in
-    let now = subst (λ (ys : List ℕ). IsSplit (copied_word image) (word_at image) start ys stop) (sym (ap (λ t. t.words) c.fill-else-begins_gap.ensures.value))
-    (subst (IsSplit (copied_word image) (word_at image) start (with_words xs (at - start) (replicate (stop - at) 0))) p two) in
-    record { hand = hand_kept image c.args.target.now c.fill-else-begins_gap.new.self (with_words xs (at - start) (replicate (stop - at) 0)) r.target c.fill-else-begins_gap.ensures.value c.fill-else-begins_gap.ensures.length; now = now }
+    let now = subst (λ (ys : List ℕ). IsSplitAt (copied_word image) (word_at image) start ys stop) (sym (ap (λ t. t.words) c.fill-else-begins_gap.ensures.value))
+    (subst (IsSplitAt (copied_word image) (word_at image) start (with_words xs (at - start) (replicate (stop - at) 0))) p two) in
+    record { same = target_kept image c.args.target.now c.fill-else-begins_gap.new.self (with_words xs (at - start) (replicate (stop - at) 0)) r.target c.fill-else-begins_gap.ensures.value c.fill-else-begins_gap.ensures.length; now = now }
 
 pub begins_gap-requires : goal.begins_gap-requires
 begins_gap-requires c =
-    let low = prefix_end-le c.args.self.now.site.guide.now c.prefix_end-prefix_end.ensures.valid.live_list in
+    let low = prefix_end-le c.args.self.now.site.guide.now c.image_is_valid.ensures.live_list in
     omega (arith, c.args.self.now.site.end, prefix_region c.args.self.now.site.guide.now c.args.self.now.site.region c.args.self.now.in_prefix, c.requires.ordered, c.requires.high)
 
 pub returns-then-at-stop : goal.returns-then-at-stop
 returns-then-at-stop c =
     let image : HeapImage = c.args.self.now.site.guide.now in
     let same : c.args.at ≡ c.args.stop = omega arith in
-    record { hand = same_hand c.args.target.now; now = subst (λ (p : ℕ). IsSplit (copied_word image) (word_at image) c.args.self.now.site.span.start c.args.target.now.words p) same c.requires.split }
+    record { same = same_target c.args.target.now; now = subst (λ (p : ℕ). IsSplitAt (copied_word image) (word_at image) c.args.self.now.site.span.start c.args.target.now.words p) same c.requires.split }
 
 pub gap_end-end-requires : goal.gap_end-end-requires
 gap_end-end-requires c =

@@ -4,10 +4,10 @@ use Rattle.raw_region.specs.Region.{with_words, part}
 use Rattle.heap_image.specs.Header.{references_of}
 use Rattle.heap_image.specs.HeapImage.{HeapImage, HasLiveList, references_at, reference_at, size_at, region_words, is_null_or_live}
 use Rattle.summary.specs.Compaction.{moved_word, redirected}
-use Rattle.fill.specs.Splits.{IsSplit}
-use Rattle.fill.specs.Filling.{copied_word}
+use Rattle.fill.specs.WordBlocks.{IsSplitAt}
+use Rattle.fill.specs.CopiedWords.{copied_word}
 use Rattle.fill.specs.Objects.{IsMovedTo}
-use Rattle.fill.proofs.Hands.{hand_kept}
+use Rattle.fill.proofs.Targets.{target_kept}
 use Rattle.fill.proofs.Redirects.{object_size}
 use Rattle.fill.proofs.Steps.{header-read, reference-read, reference-sound, object-row, object-done}
 use Rattle.fill.proofs.Writing.{get_or-part, length-part}
@@ -21,7 +21,7 @@ get-requires c =
     let a : ℕ = r.object.object.0 in
     let on : IsMovedTo image c.args.at a = r.object.object.1 in
     let ends : c.args.at + size_at image a ≤ c.args.self.now.span.end = r.object.high a on in
-    let size = object_size image c.prefix_end-prefix_end.ensures.valid.live_list a on.object in
+    let size = object_size image c.image_is_valid.ensures.live_list a on.object in
     let some : 0 < size_at image a = size.0 in
     let same : region_words c.args.target.now.image ≡ region_words image = ap region_words r.target.image in
     omega (arith, r.low, ends, c.args.self.now.start, c.args.self.now.end)
@@ -38,7 +38,7 @@ module _ (c : After-references-count) where
   first = c.args.at - c.args.self.now.span.start
 
   sound : HasLiveList image
-  sound = c.prefix_end-prefix_end.ensures.valid.live_list
+  sound = c.image_is_valid.ensures.live_list
 
   -- the object that goes there lies in the words
   fits : (a : ℕ) → IsMovedTo image c.args.at a → c.args.at + size_at image a ≤ c.args.self.now.span.start + length words
@@ -92,7 +92,7 @@ returns c =
     let xs : List ℕ = words read in
     let from : ℕ = first read + 1 in
     record {
-      hand = hand_kept g c.args.target.now c.redirect.new.self (with_words xs from (map (redirected c.args.target.now.image) (part xs from c.references-count.result))) c.requires.target c.redirect.ensures.value c.redirect.ensures.length;
+      same = target_kept g c.args.target.now c.redirect.new.self (with_words xs from (map (redirected c.args.target.now.image) (part xs from c.references-count.result))) c.requires.target c.redirect.ensures.value c.redirect.ensures.length;
       now = λ b is. (
           let written : c.redirect.new.self.words ≡ with_words xs from (map (redirected g) (part xs from (references_at g b))) =
           ap (λ t. t.words) c.redirect.ensures.value
@@ -100,5 +100,5 @@ returns c =
           ∙ ap (λ (n : ℕ). with_words xs from (map (redirected g) (part xs from n))) (count read b is) in
           let row = object-row g (sound read) b start c.args.at xs is.object (c.requires.object.early b is) is.place c.requires.low (fits read b is) c.requires.split in
           object-done g (sound read) b start c.args.at c.redirect.new.self.words is.object is.place
-          (subst (λ (ys : List ℕ). IsSplit (moved_word g) (copied_word g) start ys (c.args.at + 1 + references_at g b)) (sym written) row));
+          (subst (λ (ys : List ℕ). IsSplitAt (moved_word g) (copied_word g) start ys (c.args.at + 1 + references_at g b)) (sym written) row));
     }

@@ -5,15 +5,15 @@ use Rattle.history.specs.MoveTable.{IsMoveTable}
 use Rattle.history.specs.Whole.{HasEachOnce}
 use Rattle.claim_board.specs.Boards.{moves, worker_count}
 use Rattle.claim_board.specs.Finishes.{history}
-use Rattle.collector.proofs.collection.Collection.collect.Goals as goal
+use Rattle.collector.proofs.collection.collected.Goals as goal
 
 pub returns-clause-once : goal.returns-clause-once
 returns-clause-once g c =
-    let prepared = c.args.self.prepared in
+    let equipment = c.args.prepared.equipment in
     let board = c.in_ok-worked.worked.desk in
-    let same : moves board ≡ image_table prepared.survey = ap moves c.in_ok-worked.ensures.desk ∙ prepared.moves in
+    let same : moves board ≡ image_table equipment.survey = ap moves c.in_ok-worked.ensures.desk ∙ equipment.moves in
     let f = c.in_ok-finished.ensures in
     let log = history c.in_ok-finished.finished in
     subst (λ m. HasEachOnce m log) same
     (c.settled_histories_have_each_once.ensures (moves board) (worker_count board) log
-    (subst IsMoveTable (sym same) (subst (λ (i : HeapImage). IsMoveTable (image_table i)) c.plan.ensures c.regions-moves.ensures.lawful)) f.legal f.settled)
+    (subst IsMoveTable (sym same) (subst (λ (i : HeapImage). IsMoveTable (image_table i)) c.plan.ensures c.moves_are_lawful.ensures)) f.legal f.settled)

@@ -3,18 +3,18 @@ use Rattle.std.specs.Prelude.{◌≡◌, ℕ, length}
 use Rattle.heap_image.specs.HeapImage.{HeapImage, region_words, start_of, word_at, block_of}
 use Rattle.region_cells.specs.Views.{Writing}
 use Rattle.region_cells.specs.Blocks.{moved_block}
-use Rattle.fill.specs.Splits.{IsSplit}
-use Rattle.fill.specs.Filling.{copied_word, written_to}
+use Rattle.fill.specs.WordBlocks.{IsSplitAt}
+use Rattle.fill.specs.CopiedWords.{copied_word, written_to}
 
 -- the same region of the same image, written by the same right: its words may differ, but not how many they are
-pub record SameHand (before after : Writing) : Type 0 where
+pub record SameTarget (before after : Writing) : Type 0 where
   pub image : after.image ≡ before.image
   pub right : after.right ≡ before.right
   pub long : length after.words ≡ length before.words
 
 -- the same region, and now its words are so
 pub record Becomes (P : Writing → Type 0) (before after : Writing) : Type 0 where
-  pub hand : SameHand before after
+  pub same : SameTarget before after
   pub now : P after
 
 -- a region of this image, with as many words as each has
@@ -31,7 +31,7 @@ pub record IsUnwritten (heap : HeapImage) (d : ℕ) (w : Writing) : Type 0 where
 pub record IsCopied (heap : HeapImage) (d from to : ℕ) (w : Writing) : Type 0 where
   pub block : IsBlockOf heap w
   pub place : to ≡ written_to heap (start_of heap d) (start_of heap from)
-  pub split : IsSplit (copied_word heap) (word_at heap) (start_of heap d) w.words to
+  pub split : IsSplitAt (copied_word heap) (word_at heap) (start_of heap d) w.words to
 
 -- region d of this image has its moved words
 abbrev pub IsMoved : HeapImage → ℕ → Writing → Type 0

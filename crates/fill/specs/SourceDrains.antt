@@ -1,8 +1,6 @@
 -- What a fill asks of the scheduler, and what it tells.
-use Rattle.std.specs.Prelude.{◌≡◌, ◌⊎◌, ℕ, Bool, true, false, List, [], ◌∷◌, ◌++◌, map, filter}
+use Rattle.std.specs.Prelude.{◌≡◌, ℕ, Bool, true, false, List, [], ◌∷◌, ◌++◌, map, filter}
 use Rattle.std.specs.List.{range_with_len, FoldsTo}
-use Rattle.heap_image.specs.declared.fault.Fault.{Fault}
-use Rattle.heap_image.specs.declared.fault.Fault.TheVariants.{Overwritten}
 use Rattle.history.specs.declared.entry.Entry.{Entry}
 use Rattle.history.specs.declared.event.Event.TheVariants.{Drain, Complete}
 use Rattle.history.specs.declared.reply.Reply.TheVariants.{Done}
@@ -29,8 +27,8 @@ is_last NotLast = false
 abbrev pub other_sources : MoveTable → ℕ → List ℕ
 other_sources m d = filter (reads m d) (range_with_len 0 (region_count m))
 
-abbrev pub sources_below : MoveTable → ℕ → ℕ → List ℕ
-sources_below m d next = filter (reads m d) (range_with_len 0 next)
+abbrev pub other_sources_below : MoveTable → ℕ → ℕ → List ℕ
+other_sources_below m d next = filter (reads m d) (range_with_len 0 next)
 
 abbrev pub sources_of : List SourceDrain → List ℕ
 sources_of drains = map (λ x. x.source) drains
@@ -60,7 +58,7 @@ module _ {F : Type 0} (step : F → ℕ → F → Type 0) (tells : Type 0) (m : 
   -- whose drain answered Last, in this order. The caller, if it tells its calls, made these drains and no other call.
   pub record HasDrained (next : ℕ) (old new : Caller) (f f' : F) : Type 0 where
     pub drains : List SourceDrain
-    pub each : sources_of drains ≡ sources_below m d next
+    pub each : sources_of drains ≡ other_sources_below m d next
     pub told : FoldsTo step f (last_sources drains) f'
     pub gains : tells → GainsAll old new (drain_calls old.worker d drains)
 
@@ -70,11 +68,3 @@ module _ {F : Type 0} (step : F → ℕ → F → Type 0) (tells : Type 0) (m : 
     pub each : sources_of drains ≡ other_sources m d
     pub told : FoldsTo step f (last_sources drains) f'
     pub gains : tells → GainsAll old new (drain_calls old.worker d drains ++ entry old.worker (Complete d) Done ∷ [])
-
--- the fault names some region that was overwritten, or had a writer
-abbrev pub IsOverwritten : Fault → Type 0
-IsOverwritten fault = (r : ℕ) × (fault ≡ Overwritten r)
-
--- a fault of the desk, or one of the cells
-abbrev pub IsFaultOf : (Fault → Type 0) → Fault → Type 0
-IsFaultOf may_fail fault = may_fail fault ⊎ IsOverwritten fault

@@ -11,7 +11,7 @@ pub record IsBehindPrefix (image : HeapImage) (r : ℕ) : Type 0 where
   pub behind_prefix : prefix_end image ≤ start_of image r
 
 -- s is the first region, from `from` on, from which region d takes words; `from` lies behind d
-pub record IsNextSource (image : HeapImage) (d from s : ℕ) : Type 0 where
+pub record IsNextOtherSource (image : HeapImage) (d from s : ℕ) : Type 0 where
   pub own : d < from
   pub ordered : from ≤ s
   pub inside : s < region_count image

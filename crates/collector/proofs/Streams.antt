@@ -1,0 +1,33 @@
+-- A collection from bytes to bytes.
+use Rattle.std.proofs.Common.{◌≡◌, ℕ, List, Option, length, sym, subst}
+use Rattle.std.proofs.Math.Seq.{take-length}
+use Rattle.std.specs.Io.KnownBytes.{Appends}
+use Rattle.heap_image.specs.HeapImage.{HeapImage}
+use Rattle.heap_image.specs.ImageText.{text}
+use Rattle.heap_image.specs.Outgoing.{TakesBeginning}
+use Rattle.heap_image.specs.Reading.{IsRead}
+use Rattle.heap_image.specs.Refusals.{IsOfReading}
+use Rattle.heap_image.specs.declared.fault.Fault.{Fault}
+use Rattle.summary.specs.Compaction.{compact}
+use Rattle.collector.specs.Streams.{IsTextBegun, IsTextWritten}
+
+-- reading answers no other fault than these
+pub no_such_reading : {P : Type 0} (fault other : Fault) → fault ≡ other → (IsOfReading other → ⊥) → IsOfReading fault → P
+no_such_reading fault other same none kind = absurd (none (subst IsOfReading same kind))
+
+-- what was written whole is begun
+pub all_begun : (took took' : Option (List ℕ)) (bytes : List ℕ) → Appends took took' bytes → TakesBeginning took took' bytes
+all_begun took took' bytes whole = (length bytes, subst (λ (xs : List ℕ). Appends took took' xs) (sym (take-length bytes)) whole)
+
+module _ (image moved : HeapImage) (left left' took took' : Option (List ℕ)) (read : IsRead image left left') (same : moved ≡ compact image) where
+  -- what was written is the text of the compaction
+  pub appended : Appends took took' (text moved) → Appends took took' (text (compact image))
+  appended whole = subst (λ (m : HeapImage). Appends took took' (text m)) same whole
+
+  -- a beginning of the text of the image that a collection gave
+  pub text_begun : TakesBeginning took took' (text moved) → IsTextBegun left left' took took'
+  text_begun begun = record { image = image; read = read; written = subst (λ (m : HeapImage). TakesBeginning took took' (text m)) same begun }
+
+  -- all of it
+  pub text_written : Appends took took' (text moved) → IsTextWritten left left' took took'
+  text_written whole = record { image = image; read = read; written = appended whole }

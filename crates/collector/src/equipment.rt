@@ -1,0 +1,55 @@
+//! `Equipment`: what the workers of a collection work with, beside the cells.
+ghost use Rattle.std.specs.Prelude.{◌≡◌, ◌<◌, ◌≤◌, All, vec_len, IfOk, IfErr};
+ghost use Rattle.heap_image.specs.declared.fault.Fault.TheVariants.{Memory};
+ghost use Rattle.history.specs.ImageMoves.{image_table};
+
+use crate::collection_desk::CollectionDesk;
+use crate::staff::Staff;
+use heap_image::{Fault, Image};
+use std::alloc::Global;
+use std::thread::Threads;
+use summary::Survey;
+
+/// The survey of an image, a desk of its moves, and 1 to 64 workers, each with a seat of the desk and a queue.
+#[derive(Drop)]
+pub(crate) struct Equipment<D: CollectionDesk + Drop>
+where
+    D::Seat: Drop,
+{
+    pub(crate) survey: Survey,
+    pub(crate) desk: D,
+    pub(crate) staff: Staff<D::Seat>,
+    ghost moves: { D.moves desk ≡ image_table survey },
+    ghost seats: { D.worker_count desk ≡ vec_len staff.workers },
+    ghost some: { 0 < vec_len staff.workers },
+    ghost few: { vec_len staff.workers ≤ 64 },
+}
+
+impl<D: CollectionDesk + Drop> Equipment<D>
+where
+    D::Seat: Drop,
+{
+    /// For this image, with 1 to 64 workers. The only fault is want of memory.
+    pub(crate) fn of(
+        alloc: Global,
+        image: &Image,
+        workers: u32,
+        threads: &(impl Threads + Sync),
+    ) -> Result<Equipment<D>, Fault>
+        requires some { 0 < workers }
+        requires few { workers ≤ 64 }
+        ensures survey { IfOk result (λ made. made.survey ≡ image.now) }
+        ensures workers { IfOk result (λ made. vec_len made.staff.workers ≡ workers) }
+        ensures seats { IfOk result (λ made. All (λ w. D.serves made.desk w.seat) made.staff.workers.items) }
+        ensures fault { IfErr result (λ fault. fault ≡ Memory) }
+    {
+        let survey = Survey::of(alloc, image, threads)?;
+        let (desk, seats) = D::open(alloc, survey.plan(), workers)?;
+        let staff = Staff::new(alloc, survey.plan(), seats)?;
+        Ok(Equipment {
+            survey,
+            desk,
+            staff,
+        })
+    }
+}

@@ -1,0 +1,25 @@
+//! The image that a stream reads.
+ghost use Rattle.std.specs.Prelude.{◌≡◌, IsTrue, IfOk, IfErr, IfSome, Some, Err};
+ghost use Rattle.heap_image.specs.ImageText.{first_fault};
+ghost use Rattle.heap_image.specs.Reading.{IsRead};
+ghost use Rattle.heap_image.specs.Refusals.{IsOfReading};
+ghost use Rattle.collector.specs.Streams.{IsOfBytes};
+
+use heap_image::{Fault, Image, Intake, read_image_by_threads};
+use std::alloc::Global;
+use std::thread::Threads;
+
+/// The image that the whole input is the text of. A fault is the first of the input, or 11 or 13.
+pub(crate) fn read_whole<R: Intake>(
+    alloc: Global,
+    reader: &mut R,
+    threads: &(impl Threads + Sync),
+) -> Result<Image, Fault>
+    ensures read { IfOk result (λ image. IsRead image (R.left reader.old) (R.left reader.new)) }
+    ensures bytes { IfErr result (λ fault. IsOfBytes fault
+        → IfSome (R.left reader.old) (λ input. first_fault input ≡ Some fault)) }
+    ensures device { result ≡ Err Fault.Io → IsTrue (R.has_failed reader.new) }
+    ensures kind { IfErr result IsOfReading }
+{
+    read_image_by_threads(alloc, reader, threads)
+}
