@@ -8,19 +8,23 @@ ghost use Rattle.fill.specs.FillFaults.{IsOverwritten};
 use crate::valid::planned_image_is_valid;
 use fill::{clear_above, update_deferred};
 use heap_image::{Fault, Image, ImageParts, roots_are_null_or_live};
-use rayon::prelude::*;
 use region_cells::Cells;
+use std::thread;
 use std::thread::Threads;
 use summary::laws::compaction::compaction_is_valid;
 use summary::{Plan, Survey};
 
-/// The compaction of the image of which the cells are.
+/// How many words are worth a thread of their own.
+const LEAST: usize = 16_384;
+
+/// The compaction of the image of which the cells are. So many threads redirect live list and roots at most.
 ///
 /// Fault 15 comes where a region to fill has not moved, or another is not as it was. Beside the threads nothing takes
 /// memory.
 pub(crate) fn clean_up(
     cells: Cells,
     survey: &Survey,
+    workers: usize,
     threads: &(impl Threads + Sync),
 ) -> Result<Image, Fault>
     requires cells { cells ≡ survey.now }
@@ -33,9 +37,9 @@ pub(crate) fn clean_up(
     let mut parts = cells.into_regions()?;
     update_deferred(parts.regions.as_mut_slice(), survey);
     clear_above(parts.regions.as_mut_slice(), plan.new_top());
-    redirect_live(parts.live.as_mut_slice(), survey, threads);
+    redirect_live(parts.live.as_mut_slice(), survey, workers, threads);
     let parts = ImageParts {
-        roots: redirected_roots(parts.roots, plan, threads),
+        roots: redirected_roots(parts.roots, plan, workers, threads),
         ..parts
     };
     Ok(parts.into_image())
@@ -45,6 +49,7 @@ pub(crate) fn clean_up(
 fn redirected_roots(
     roots: Option<Vec<u64>>,
     plan: &Plan,
+    workers: usize,
     threads: &(impl Threads + Sync),
 ) -> Option<Vec<u64>>
     requires valid { IsValid plan.now }
@@ -54,44 +59,47 @@ fn redirected_roots(
     roots_are_null_or_live();
     match roots {
         Some(mut roots) => {
-            redirect_all(roots.as_mut_slice(), plan, threads);
+            redirect_all(roots.as_mut_slice(), plan, workers, threads);
             Some(roots)
         }
         None => None,
     }
 }
 
-/// Redirects each of these references, by as many threads as there are processors.
-fn redirect_all(words: &mut [u64], plan: &Plan, threads: &(impl Threads + Sync))
+/// Redirects each of these references, by so many threads at most.
+fn redirect_all(words: &mut [u64], plan: &Plan, workers: usize, threads: &(impl Threads + Sync))
     requires words { All (λ w. IsTrue (is_null_or_live plan.now w)) words.old }
     ensures { words.new ≡ map (redirected plan.now) words.old }
 {
-    par_for_each_mut(
-        threads,
-        words,
-        |_, w: &mut u64|
-            requires { IsTrue (is_null_or_live plan.now w.old) }
-            ensures { w.new ≡ redirected plan.entry.now w.old }
-        {
-            *w = plan.redirected(*w);
-        },
-    );
+    let count = worth_threads(words.len(), workers);
+    let redirect = |_, w: &mut u64|
+        requires { IsTrue (is_null_or_live plan.now w.old) }
+        ensures { w.new ≡ redirected plan.entry.now w.old }
+    {
+        *w = plan.redirected(*w);
+    };
+    thread::for_each_mut(threads, words, count, &redirect);
 }
 
-/// Puts the new address of each live object in the place of the old one, by as many threads as there are processors.
-fn redirect_live(live: &mut [u64], survey: &Survey, threads: &(impl Threads + Sync))
+/// Puts the new address of each live object in the place of the old one, by so many threads at most.
+fn redirect_live(live: &mut [u64], survey: &Survey, workers: usize, threads: &(impl Threads + Sync))
     requires { live.old ≡ survey.now.live }
     ensures { live.new ≡ map (new_address survey.now) live.old }
 {
     let (plan, marks) = (survey.plan(), survey.marks());
-    par_for_each_mut(
-        threads,
-        live,
-        |_, a: &mut u64|
-            requires { Contains plan.now.live a.old }
-            ensures { a.new ≡ new_address plan.entry.now a.old }
-        {
-            *a = plan.new_address(marks, *a);
-        },
-    );
+    let count = worth_threads(live.len(), workers);
+    let redirect = |_, a: &mut u64|
+        requires { Contains plan.now.live a.old }
+        ensures { a.new ≡ new_address plan.entry.now a.old }
+    {
+        *a = plan.new_address(marks, *a);
+    };
+    thread::for_each_mut(threads, live, count, &redirect);
+}
+
+/// How many threads so many words are worth, of these workers.
+fn worth_threads(words: usize, workers: usize) -> usize
+    ensures { 0 < result }
+{
+    workers.min(words / LEAST).max(1)
 }

@@ -29,7 +29,7 @@ impl<D: CollectionDesk + Drop> Equipment<D>
 where
     D::Seat: Drop,
 {
-    /// For this image, with 1 to 64 workers. The only fault is want of memory.
+    /// For this image, with 1 to 64 workers, by as many threads. The only fault is want of memory.
     pub(crate) fn of(
         alloc: Global,
         image: &Image,
@@ -43,7 +43,7 @@ where
         ensures seats { IfOk result (λ made. All (λ w. D.serves made.desk w.seat) made.staff.workers.items) }
         ensures fault { IfErr result (λ fault. fault ≡ Memory) }
     {
-        let survey = Survey::of(alloc, image, threads)?;
+        let survey = Survey::by_workers(alloc, image, workers as usize, threads)?;
         let (desk, seats) = D::open(alloc, survey.plan(), workers)?;
         let staff = Staff::new(alloc, survey.plan(), seats)?;
         Ok(Equipment {

@@ -158,10 +158,11 @@ where
             stop: &stop,
         };
         work_all(&crew, workers.as_mut_slice(), threads);
+        let count = workers.len();
         if let Some(fault) = first_fault(workers.as_slice()) {
             return Err(fault);
         }
-        let image = clean_up(cells, &survey, threads)?;
+        let image = clean_up(cells, &survey, count, threads)?;
         let figures = Figures::of(survey.plan());
         let outcome = Outcome { image, figures };
         Ok(Worked::of(outcome, survey, desk, workers, seats))

@@ -5,14 +5,16 @@ ghost use Rattle.heap_image.specs.Reading.{IsRead};
 ghost use Rattle.heap_image.specs.Refusals.{IsOfReading};
 ghost use Rattle.collector.specs.Streams.{IsOfBytes};
 
-use heap_image::{Fault, Image, Intake, read_image_by_threads};
+use heap_image::{Fault, Image, Intake, read_image_by_workers};
 use std::alloc::Global;
 use std::thread::Threads;
 
-/// The image that the whole input is the text of. A fault is the first of the input, or 11 or 13.
+/// The image that the whole input is the text of. A fault is the first of the input, or 11 or 13. So many threads
+/// check it at most.
 pub(crate) fn read_whole<R: Intake>(
     alloc: Global,
     reader: &mut R,
+    workers: u32,
     threads: &(impl Threads + Sync),
 ) -> Result<Image, Fault>
     ensures read { IfOk result (λ image. IsRead image (R.left reader.old) (R.left reader.new)) }
@@ -21,5 +23,5 @@ pub(crate) fn read_whole<R: Intake>(
     ensures device { result ≡ Err Fault.Io → IsTrue (R.has_failed reader.new) }
     ensures kind { IfErr result IsOfReading }
 {
-    read_image_by_threads(alloc, reader, threads)
+    read_image_by_workers(alloc, reader, workers as usize, threads)
 }

@@ -60,7 +60,7 @@ pub fn record_stream<
         × IsRead image (R.left reader.old) (R.left reader.new)
         × MayRefuse (G.may_refuse gate.now) workers image }
 {
-    let image = read_whole(alloc, reader, threads)?;
+    let image = read_whole(alloc, reader, workers, threads)?;
     match record(alloc, image, workers, gate, threads, wait) {
         Ok((outcome, schedule)) => {
             let text = write_schedule(alloc, &schedule)?;

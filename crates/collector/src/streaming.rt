@@ -51,7 +51,7 @@ pub fn collect_stream<R: Intake, O: Outlet, G: Gate + Sync, T: Threads + Sync, W
         × MayRefuse (G.may_refuse gate.now) workers image }
     ensures schedule { IfErr result (λ fault. (line : ℕ) → fault ≢ Fault.Schedule line) }
 {
-    let image = read_whole(alloc, reader, threads)?;
+    let image = read_whole(alloc, reader, workers, threads)?;
     match collect(alloc, image, workers, gate, threads, wait) {
         Ok((outcome, _finished)) => {
             write_image(&outcome.image, writer)?;

@@ -11,7 +11,7 @@
 //! [`write_image`] do the same over any [`Intake`] and [`Outlet`], as [`FromRead`] and [`ToWrite`] are over std's. A
 //! text that is none of a valid image is refused with its first [`Fault`]. [`decode_by_threads`] and
 //! [`read_image_by_threads`] give the same answers, and check the live objects by as many threads as there are
-//! processors.
+//! processors; [`read_image_by_workers`] by as many as it is told.
 //!
 //! A [`Heap`] is the words of a heap without what an image tells of them, and a [`Bits`] is a set of addresses.
 //!
@@ -64,7 +64,7 @@ pub use laws::{
 pub use length_cause::LengthCause;
 pub use outlet::{Outlet, ToWrite, give_all};
 pub use reach::mark_from_roots;
-pub use read::{read_image, read_image_by_threads};
+pub use read::{read_image, read_image_by_threads, read_image_by_workers};
 pub use soundness::PIECE;
 pub use upgrading::{upgrade, upgrade_stream};
 pub use write::write_image;

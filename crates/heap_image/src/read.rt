@@ -18,6 +18,7 @@ use crate::soundness::PIECE;
 use crate::unchecked::{Found, find_live_objects};
 use crate::{Fault, Image, ImageParts};
 use raw_region::Region;
+use rayon::current_num_threads;
 use std::alloc::Global;
 use std::thread::Threads;
 
@@ -75,8 +76,39 @@ pub fn read_image_by_threads<R: Intake>(
         (λ input. (32 < length input) × (first_some (front_faults input) ≡ None))) }
     ensures io { R.has_failed reader.new ≡ is_io result }
 {
+    read_image_by_workers(alloc, reader, current_num_threads(threads), threads)
+}
+
+/// As [`read_image`]. So many threads check the live objects at most, the caller's among them; 0 is taken for 1. The answer
+/// does not depend on how many.
+pub fn read_image_by_workers<R: Intake>(
+    alloc: Global,
+    reader: &mut R,
+    workers: usize,
+    threads: &(impl Threads + Sync),
+) -> Result<Image, Fault>
+    ensures valid { IfOk result (λ image. IsValid image) }
+    // The input is the text of the image, all of it.
+    ensures text { IfOk result
+        (λ image. Consumes (R.left reader.old) (R.left reader.new) (text image)) }
+    ensures end { OnOk result (IsAtEnd (R.left reader.new)) }
+    // Memory was refused, the device failed, or it is the first fault of the input.
+    ensures fault { IfErr result
+        (λ fault. IfSome (R.left reader.old) (λ input. IsReason input fault)) }
+    // Also of an input that is not told.
+    ensures kind { IfErr result IsOfReading }
+    ensures left { IfErr result (λ fault. IfSome (R.left reader.old)
+        (λ input. LeavesRest fault input (R.left reader.new))) }
+    // Memory is asked for once a byte behind a front without fault has come.
+    ensures memory { IfErr result
+        (λ fault. fault ≡ Fault.Memory → IfSome (R.left reader.old)
+        (λ input. (32 < length input) × (first_some (front_faults input) ≡ None))) }
+    ensures io { R.has_failed reader.new ≡ is_io result }
+{
     let read = read_unchecked(alloc, reader)?;
-    let sizes = read.found.sizes_if_sound(alloc, &read.heap(), threads);
+    let sizes = read
+        .found
+        .sizes_if_sound(alloc, &read.heap(), workers, threads);
     // Most live objects are sound. Where that wasn't seen, one thread looks for the fault that comes first.
     let checked = match &sizes {
         Some(_) => Ok(()),

@@ -14,7 +14,6 @@ use crate::bits::Bits;
 use crate::check::is_unsound;
 use crate::header;
 use crate::heap::Heap;
-use rayon::current_num_threads;
 use std::alloc::{AllocError, Global};
 use std::thread;
 use std::thread::Threads;
@@ -25,13 +24,14 @@ pub const PIECE: usize = 64;
 /// How many pieces are worth a thread of their own.
 const LEAST: usize = 16;
 
-/// The sizes in words of the live objects, whose addresses are marked, if nothing is wrong with any of them. As many
-/// threads as there are processors look at the objects, each object once. Where memory is refused there is no answer.
+/// The sizes in words of the live objects, whose addresses are marked, if nothing is wrong with any of them. So many
+/// threads look at the objects at most, each object once. Where memory is refused there is no answer.
 pub(crate) fn sizes_if_sound(
     alloc: Global,
     heap: &Heap<'_>,
     live: &[u64],
     begins: &Bits,
+    workers: usize,
     threads: &(impl Threads + Sync),
 ) -> Option<Vec<[u32; PIECE]>>
     requires inside { All (λ a. a < heap_words heap.now) live.now }
@@ -42,7 +42,7 @@ pub(crate) fn sizes_if_sound(
     let Ok(targets) = begins.raised(alloc) else {
         return None;
     };
-    let Ok(sizes) = noted_sizes(alloc, heap, live, &targets, threads) else {
+    let Ok(sizes) = noted_sizes(alloc, heap, live, &targets, workers, threads) else {
         return None;
     };
     if are_all_noted(sizes.as_slice(), live.len()) {
@@ -52,12 +52,14 @@ pub(crate) fn sizes_if_sound(
     }
 }
 
-/// The size of each live object that is sound, and 0 for each that isn't, where the references that are null or lead to one are set.
+/// The size of each live object that is sound, and 0 for each that isn't. The bits of the references that are null
+/// or lead to a live object are set in `targets`.
 fn noted_sizes(
     alloc: Global,
     heap: &Heap<'_>,
     live: &[u64],
     targets: &Bits,
+    workers: usize,
     threads: &(impl Threads + Sync),
 ) -> Result<Vec<[u32; PIECE]>, AllocError>
     requires inside { All (λ a. a < heap_words heap.now) live.now }
@@ -67,7 +69,7 @@ fn noted_sizes(
         → AreNoted (with_live heap.now live.now) p (slice_index_or sizes.items p [])) }
 {
     let mut sizes = vec![in alloc; [0u32; PIECE]; live.len().div_ceil(PIECE)]?;
-    let count = current_num_threads(threads).min(sizes.len() / LEAST).max(1);
+    let count = workers.min(sizes.len() / LEAST).max(1);
     let note = |piece: usize, sizes: &mut [u32; PIECE]|
         requires { All (λ a. a < heap_words heap.now) live.now
             × AreTargets (with_live heap.now live.now) targets.now × (64 * piece < length live.now) }

@@ -95,12 +95,13 @@ impl Found {
         check_live(heap, self.live.as_slice(), &self.begins, self.well_formed)
     }
 
-    /// The sizes of the live objects, if it is seen that nothing is wrong with any. As many threads as there are processors
-    /// look at the objects. Nothing is looked at where the objects are known to be well-formed.
+    /// The sizes of the live objects, if it is seen that nothing is wrong with any. So many threads look at the objects at
+    /// most. Nothing is looked at where the objects are known to be well-formed.
     pub(crate) fn sizes_if_sound(
         &self,
         alloc: Global,
         heap: &Heap<'_>,
+        workers: usize,
         threads: &(impl Threads + Sync),
     ) -> Option<Vec<[u32; PIECE]>>
         requires inside { All (λ a. a < heap_words heap.now) self.now.live.items }
@@ -113,6 +114,7 @@ impl Found {
         if self.well_formed {
             return None;
         }
-        sizes_if_sound(alloc, heap, self.live.as_slice(), &self.begins, threads)
+        let live = self.live.as_slice();
+        sizes_if_sound(alloc, heap, live, &self.begins, workers, threads)
     }
 }

@@ -12,11 +12,15 @@ use rayon::prelude::*;
 use std::alloc::{AllocError, Global};
 use std::thread::Threads;
 
-/// The counts of all regions, by several threads.
+/// How many regions are worth a thread of their own.
+const LEAST: usize = 2048;
+
+/// The counts of all regions, by so many threads at most.
 pub(crate) fn count_regions(
     alloc: Global,
     image: &Image,
     marks: &Marks,
+    workers: usize,
     threads: &(impl Threads + Sync),
 ) -> Result<Vec<RegionCounts>, AllocError>
     requires { marks.now ≡ image.now }
@@ -24,8 +28,10 @@ pub(crate) fn count_regions(
 {
     let starts = own_starts(alloc, image, marks)?;
     let starts = starts.as_slice();
+    let share = starts.len().div_ceil(workers.max(1));
     (0..image.regions())
         .into_par_iter()
+        .with_min_len(share.max(LEAST))
         .map(
             |r: u32| -> RegionCounts
                 requires { (marks.now ≡ image.now) × AreOwnStarts image.now starts.now × (r < region_count image.now) }

@@ -20,6 +20,7 @@ use crate::report_text::report_of_table;
 use heap_image::{Fault, Image};
 use mark_bitmap::Marks;
 use raw_region::Region;
+use rayon::current_num_threads;
 use std::alloc::{AllocError, Global};
 use std::marker::Model;
 use std::thread::Threads;
@@ -59,7 +60,22 @@ impl Plan {
         ensures plan { IfOk result (λ plan. plan ≡ image.now) }
         ensures fault { IfErr result (λ fault. fault ≡ Memory) }
     {
-        let counts = count_regions(alloc, image, marks, threads)?;
+        Plan::by_workers(alloc, image, marks, current_num_threads(threads), threads)
+    }
+
+    /// As [`of`](Plan::of), by so many threads at most, the caller's among them; 0 is taken for 1.
+    pub fn by_workers(
+        alloc: Global,
+        image: &Image,
+        marks: &Marks,
+        workers: usize,
+        threads: &(impl Threads + Sync),
+    ) -> Result<Plan, Fault>
+        requires { marks.now ≡ image.now }
+        ensures plan { IfOk result (λ plan. plan ≡ image.now) }
+        ensures fault { IfErr result (λ fault. fault ≡ Memory) }
+    {
+        let counts = count_regions(alloc, image, marks, workers, threads)?;
         let table = RegionTable::of(alloc, image, counts.as_slice())?;
         let redirections = Redirections::of(alloc, image, marks, table.prefix_end())?;
         let deferred = deferred_addresses(alloc, image, marks, &redirections)?;

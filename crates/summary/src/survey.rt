@@ -5,6 +5,7 @@ ghost use Rattle.heap_image.specs.declared.fault.Fault.TheVariants.{Memory};
 use crate::plan::Plan;
 use heap_image::{Fault, Image};
 use mark_bitmap::Marks;
+use rayon::current_num_threads;
 use std::alloc::Global;
 use std::marker::Model;
 use std::thread::Threads;
@@ -41,8 +42,21 @@ impl Survey {
         ensures survey { IfOk result (λ survey. survey ≡ image.now) }
         ensures fault { IfErr result (λ fault. fault ≡ Memory) }
     {
+        Survey::by_workers(alloc, image, current_num_threads(threads), threads)
+    }
+
+    /// As [`of`](Survey::of), by so many threads at most, the caller's among them; 0 is taken for 1.
+    pub fn by_workers(
+        alloc: Global,
+        image: &Image,
+        workers: usize,
+        threads: &(impl Threads + Sync),
+    ) -> Result<Survey, Fault>
+        ensures survey { IfOk result (λ survey. survey ≡ image.now) }
+        ensures fault { IfErr result (λ fault. fault ≡ Memory) }
+    {
         let marks = Marks::of(alloc, image)?;
-        let plan = Plan::of(alloc, image, &marks, threads)?;
+        let plan = Plan::by_workers(alloc, image, &marks, workers, threads)?;
         Ok(Survey { marks, plan })
     }
 
