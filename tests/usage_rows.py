@@ -59,7 +59,7 @@ Arguments:
   <OUT>    The file for the compacted image
 
 Options:
-      --workers <n>  How many workers share the work, from 1 to 64
+      --workers <n>  How many workers share the work, from 1 to 64; each is a thread
       --atomic       Replaces files only once the command has ended well
       --verbose      Says more of what goes wrong
   -h, --help         Print help
@@ -76,7 +76,7 @@ Arguments:
   <SCHEDULE>  The file for the schedule of the workers
 
 Options:
-      --workers <n>  How many workers share the work, from 1 to 64
+      --workers <n>  How many workers share the work, from 1 to 64; each is a thread
       --atomic       Replaces files only once the command has ended well
       --verbose      Says more of what goes wrong
   -h, --help         Print help

@@ -43,7 +43,7 @@ pub fn workers<'a>(alloc: Global) -> Arg<'a>
         .long("workers")
         .value_name("n")
         .value_parser(value_parser!(u32))
-        .help("How many workers share the work, from 1 to 64")
+        .help("How many workers share the work, from 1 to 64; each is a thread")
         .required(true)
 }
 
