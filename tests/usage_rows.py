@@ -7,15 +7,16 @@ Full collection of a heap image by parallel sliding compaction
 Usage: pcompact <COMMAND>
 
 Commands:
-  board    Schedules two workers over three regions, and counts their claims and completions
-  summary  Prints what a collection of a heap image will do, region by region
-  collect  Collects a heap image, and writes the compacted one
-  verify   Says whether a heap image is the compaction of another, or where they differ
-  record   Collects a heap image, and writes down what each worker did
-  replay   Follows a schedule word by word, and prints it with each reply
-  upgrade  Writes a heap image as one with roots
-  import   Writes the heap dump of a Java virtual machine as a heap image
-  help     Print this message or the help of the given subcommand(s)
+  board     Schedules two workers over three regions, and counts their claims and completions
+  summary   Prints what a collection of a heap image will do, region by region
+  collect   Collects a heap image, and writes the compacted one
+  verify    Says whether a heap image is the compaction of another, or where they differ
+  record    Collects a heap image, and writes down what each worker did
+  replay    Follows a schedule word by word, and prints it with each reply
+  upgrade   Writes a heap image as one with roots
+  import    Writes the heap dump of a Java virtual machine as a heap image
+  generate  Writes a heap image that follows from a seed, for benchmarks and experiments
+  help      Print this message or the help of the given subcommand(s)
 
 Options:
   -h, --help     Print help
@@ -143,9 +144,30 @@ Options:
   -h, --help            Print help
 """
 
+GENERATE_HELP = """\
+Writes a heap image that follows from a seed, for benchmarks and experiments
+
+Usage: pcompact generate [OPTIONS] --words <n> --live <share> --region-log <k> --seed <s> <IMAGE>
+
+Arguments:
+  <IMAGE>  The file for the image
+
+Options:
+      --words <n>       How many words the heap has, a multiple of 2^k and at most 4194304
+      --live <share>    How many of a hundred of these words belong to live objects, 0 to 100
+      --region-log <k>  The image has regions of 2^k words, k from 3 to 16
+      --seed <s>        The same seed gives the same bytes everywhere, a number of 64 bits
+      --refs <share>    How many of a hundred words behind the headers are references, 0 to 100; 25 if not given
+      --version <v>     The version of the image: 1 lists its live objects, 2 has roots; 2 if not given
+      --allowance <m>   How many dead words the dense prefix may keep; 0 if not given
+      --atomic          Replaces files only once the command has ended well
+      --verbose         Says more of what goes wrong
+  -h, --help            Print help
+"""
+
 NO_COMMAND = """\
 error: 'pcompact' requires a subcommand but one was not provided
-  [subcommands: board, summary, collect, verify, record, replay, upgrade, import, help]
+  [subcommands: board, summary, collect, verify, record, replay, upgrade, import, generate, help]
 
 Usage: pcompact <COMMAND>
 
@@ -252,6 +274,7 @@ HELPS = [
     ("verify --help", VERIFY_HELP),
     ("upgrade --help", UPGRADE_HELP),
     ("import --help", IMPORT_HELP),
+    ("generate --help", GENERATE_HELP),
 ]
 
 REFUSED = [

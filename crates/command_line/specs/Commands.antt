@@ -1,6 +1,6 @@
 -- The commands of the program, as the reading of the words sees them.
-use Rattle.std.specs.Prelude.{List, [], ◌∷◌, Some, codes, pos}
-use Rattle.clap.specs.Walk.{Rule}
+use Rattle.std.specs.Prelude.{ℕ, true, List, [], ◌∷◌, Some, codes, pos}
+use Rattle.clap.specs.Walk.{Rule, Text}
 use Rattle.clap.specs.Words.{App, new_app, new_rule, with_rule}
 use Rattle.clap.specs.declared.builder.value_parser.ValueParser.TheVariants.{Signed, Unsigned}
 use Rattle.command_line.specs.Arguments.{atomic_rule, file_rule, flag_rule, verbose_rule, workers_rule}
@@ -65,6 +65,46 @@ import_words =
     (file_rule (codes "DUMP"))) (file_rule (codes "IMAGE"))) region_log_rule) allowance_rule) (flag_rule (codes "live-only")))
     atomic_rule) verbose_rule
 
+-- an option that must be given
+abbrev pub required : Rule → Rule
+required rule = record rule { required = true }
+
+-- an option of this name, which takes a number from one to another
+abbrev pub number_rule : Text → ℕ → ℕ → Rule
+number_rule name low high = record (new_rule name) { long = Some name; value_names = 1; parser = Some (Signed (pos low) (pos high)) }
+
+-- the option `--words`, which must be given and takes a number from 1 to 4194304
+abbrev pub words_rule : Rule
+words_rule = required (number_rule (codes "words") 1 4194304)
+
+-- the option `--live`, which must be given and takes a number from 0 to 100
+abbrev pub live_rule : Rule
+live_rule = required (number_rule (codes "live") 0 100)
+
+-- the option `--seed`, which must be given and takes a number of 64 bits
+abbrev pub seed_rule : Rule
+seed_rule = record (new_rule (codes "seed")) {
+  long = Some (codes "seed");
+  value_names = 1;
+  parser = Some (Unsigned 0 18446744073709551615);
+  required = true;
+}
+
+-- the option `--refs`, which takes a number from 0 to 100
+abbrev pub refs_rule : Rule
+refs_rule = number_rule (codes "refs") 0 100
+
+-- the option `--version` of an image, which takes 1 or 2
+abbrev pub version_rule : Rule
+version_rule = number_rule (codes "version") 1 2
+
+-- the words of `generate`
+abbrev pub generate_words : App
+generate_words =
+    with_rule (with_rule (with_rule (with_rule (with_rule (with_rule (with_rule (with_rule (with_rule (with_rule (new_app (codes "generate"))
+    (file_rule (codes "IMAGE"))) words_rule) live_rule) (required region_log_rule)) seed_rule) refs_rule) version_rule)
+    allowance_rule) atomic_rule) verbose_rule
+
 -- the words of the commands, in the order in which help lists them
 abbrev pub listed : List App
 listed =
@@ -76,4 +116,5 @@ listed =
     ∷ replay_words
     ∷ upgrade_words
     ∷ import_words
+    ∷ generate_words
     ∷ []

@@ -51,8 +51,15 @@ pub fn workers<'a>(alloc: Global) -> Arg<'a>
 pub fn workers_in(given: &ArgMatches<'_>) -> Result<u32, Unread>
     ensures { IfErr result IsNoUsage }
 {
-    match given.get_one("workers") {
-        Some(workers) => Ok(workers),
+    number_in(given, "workers")
+}
+
+/// The number that is given for this option, which must be given.
+pub fn number_in(given: &ArgMatches<'_>, id: &str) -> Result<u32, Unread>
+    ensures { IfErr result IsNoUsage }
+{
+    match given.get_one(id) {
+        Some(number) => Ok(number),
         None => Err(Unread::NoCommand),
     }
 }

@@ -7,6 +7,7 @@ ghost use Rattle.command_line.specs.Request.{IsFor, IsNoUsage};
 ghost use Rattle.command_line.specs.declared.request.Request.TheVariants.{Board};
 
 use crate::collect::Collect;
+use crate::generate::Generate;
 use crate::import::Import;
 use crate::record::Record;
 use crate::replay::Replay;
@@ -15,7 +16,7 @@ use crate::summary::Summary;
 use crate::unread::Unread;
 use crate::upgrade::Upgrade;
 use crate::verify::Verify;
-use crate::{board, collect, import, record, replay, summary, upgrade, verify};
+use crate::{board, collect, generate, import, record, replay, summary, upgrade, verify};
 use clap::{ArgMatches, Command};
 use std::alloc::{AllocError, Global};
 
@@ -39,7 +40,8 @@ pub fn words<'a>(alloc: Global) -> Result<Command<'a>, AllocError>
         .subcommand(record::words(alloc)?)?
         .subcommand(replay::words(alloc)?)?
         .subcommand(upgrade::words(alloc)?)?
-        .subcommand(import::words(alloc)?)
+        .subcommand(import::words(alloc)?)?
+        .subcommand(generate::words(alloc)?)
 }
 
 /// What was called, with what it is given.
@@ -48,15 +50,35 @@ pub fn called<'a>(matches: &ArgMatches<'a>) -> Result<Request<'a>, Unread>
         → MatchResult result (IsFor name) IsNoUsage }
     ensures board { subcommand_name_of matches.now ≡ Some (codes "board") → result ≡ Ok Board }
 {
-    Ok(match matches.subcommand() {
-        Some(("board", _)) => Request::Board,
-        Some(("summary", given)) => Request::Summary(Summary::of(given)?),
-        Some(("collect", given)) => Request::Collect(Collect::of(given)?),
-        Some(("verify", given)) => Request::Verify(Verify::of(given)?),
-        Some(("record", given)) => Request::Record(Record::of(given)?),
-        Some(("replay", given)) => Request::Replay(Replay::of(given)?),
-        Some(("upgrade", given)) => Request::Upgrade(Upgrade::of(given)?),
-        Some(("import", given)) => Request::Import(Import::of(given)?),
+    match matches.subcommand() {
+        Some(("board", _)) => Ok(Request::Board),
+        Some((name, given)) => asked(name, given),
+        None => Err(Unread::NoCommand),
+    }
+}
+
+/// What a command is asked that collects, or tells of collections.
+fn asked<'a>(name: &str, given: &ArgMatches<'a>) -> Result<Request<'a>, Unread>
+    ensures { MatchResult result (IsFor name.now) IsNoUsage }
+{
+    Ok(match name {
+        "summary" => Request::Summary(Summary::of(given)?),
+        "collect" => Request::Collect(Collect::of(given)?),
+        "verify" => Request::Verify(Verify::of(given)?),
+        "record" => Request::Record(Record::of(given)?),
+        "replay" => Request::Replay(Replay::of(given)?),
+        _ => return asked_for_image(name, given),
+    })
+}
+
+/// What a command is asked that makes an image of something else.
+fn asked_for_image<'a>(name: &str, given: &ArgMatches<'a>) -> Result<Request<'a>, Unread>
+    ensures { MatchResult result (IsFor name.now) IsNoUsage }
+{
+    Ok(match name {
+        "upgrade" => Request::Upgrade(Upgrade::of(given)?),
+        "import" => Request::Import(Import::of(given)?),
+        "generate" => Request::Generate(Generate::of(given)?),
         _ => return Err(Unread::NoCommand),
     })
 }

@@ -44,7 +44,7 @@ fn region_log<'a>(alloc: Global) -> Arg<'a>
 }
 
 /// How many dead words may stay.
-fn allowance<'a>(alloc: Global) -> Arg<'a>
+pub fn allowance<'a>(alloc: Global) -> Arg<'a>
     ensures rule { rule_of result ≡ allowance_rule }
     ensures local { result.global ≡ false }
 {

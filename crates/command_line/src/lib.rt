@@ -24,6 +24,7 @@ mod arguments;
 mod board;
 mod collect;
 mod commands;
+mod generate;
 mod import;
 mod reading;
 mod record;
@@ -38,6 +39,7 @@ mod verify;
 
 pub use board::line_calls_board;
 pub use collect::{Collect, lines_call_collect};
+pub use generate::{Generate, lines_call_generate};
 pub use import::{Import, lines_call_import};
 pub use reading::read;
 pub use record::{Record, line_calls_record};

@@ -1,5 +1,6 @@
 //! `Request`.
 use crate::collect::Collect;
+use crate::generate::Generate;
 use crate::import::Import;
 use crate::record::Record;
 use crate::replay::Replay;
@@ -26,6 +27,8 @@ pub enum Request<'a> {
     Upgrade(Upgrade<'a>),
     /// The command `import`.
     Import(Import<'a>),
+    /// The command `generate`.
+    Generate(Generate<'a>),
     /// To show this text, help or the version, of whole lines.
     Show(String),
 }
@@ -42,6 +45,7 @@ impl Request<'_> {
             Request::Replay(asked) => asked.verbose,
             Request::Upgrade(asked) => asked.verbose,
             Request::Import(asked) => asked.verbose,
+            Request::Generate(asked) => asked.verbose,
         }
     }
 }

@@ -75,6 +75,42 @@ fn options_of_an_import_are_those_in_the_words(rt: HostRuntime) -> Result<(), Fa
 }
 
 #[test]
+fn options_of_a_heap_are_those_in_the_words(rt: HostRuntime) -> Result<(), Fail> {
+    let words = words_of(
+        &rt,
+        &[
+            "generate",
+            "out",
+            "--words",
+            "4096",
+            "--live",
+            "30",
+            "--region-log",
+            "12",
+            "--seed",
+            "18446744073709551615",
+            "--version",
+            "1",
+            "--verbose",
+        ],
+    )?;
+    let Request::Generate(asked) = read(rt.alloc(), words.as_slice())? else {
+        return Err(Fail::new("no heap"));
+    };
+    assert_eq!(rt; asked.image, "out");
+    assert_eq!(rt; asked.words, 4096);
+    assert_eq!(rt; asked.live, 30);
+    assert_eq!(rt; asked.region_log, 12);
+    assert_eq!(rt; asked.seed, u64::MAX);
+    assert_eq!(rt; asked.references, 25);
+    assert_eq!(rt; asked.version, 1);
+    assert_eq!(rt; asked.allowance, 0);
+    assert!(rt; !asked.atomic);
+    assert!(rt; asked.verbose);
+    Ok(())
+}
+
+#[test]
 fn the_version_is_shown_and_other_words_are_refused(rt: HostRuntime) -> Result<(), Fail> {
     let words = words_of(&rt, &["--version"])?;
     let Request::Show(text) = read(rt.alloc(), words.as_slice())? else {

@@ -7,6 +7,7 @@ pub mod Record
 pub mod Replay
 pub mod Upgrade
 pub mod Import
+pub mod Generate
 use Rattle.std.specs.Prelude.{ℕ, List, [], ◌∷◌, MatchBool, bytes_eq}
 use Rattle.pcompact.specs.Command.{Command}
 
@@ -21,6 +22,7 @@ listed =
     ∷ Replay.replay_command
     ∷ Upgrade.upgrade_command
     ∷ Import.import_command
+    ∷ Generate.generate_command
     ∷ []
 
 -- the first of these commands that has this name prints such a text

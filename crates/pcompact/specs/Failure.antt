@@ -1,8 +1,9 @@
 use Rattle.std.specs.Prelude.{ℕ}
 use Rattle.heap_dump.specs.declared.error.ImportError.{ImportError}
+use Rattle.heap_maker.specs.declared.error.GenerationError.{GenerationError}
 use Rattle.heap_image.specs.declared.fault.Fault.TheVariants.{Memory, Io}
 use Rattle.pcompact.specs.declared.failure.Failure.{Failure}
-use Rattle.pcompact.specs.declared.failure.Failure.TheVariants.{Usage, Fault, Differs, Dump}
+use Rattle.pcompact.specs.declared.failure.Failure.TheVariants.{Usage, Fault, Differs, Dump, Generation}
 
 -- the exit status of a failure
 abbrev pub status_of : Failure → ℕ
@@ -10,6 +11,8 @@ status_of (Usage text) = 2
 status_of (Fault fault) = 1
 status_of (Differs verdict) = 1
 status_of (Dump error) = 1
+status_of (Generation GenerationError.Defect) = 1
+status_of (Generation error) = 2
 
 -- the failure for want of memory
 abbrev pub out_of_memory : Failure
@@ -24,3 +27,8 @@ abbrev pub failure_of : ImportError → Failure
 failure_of ImportError.Input = failed_device
 failure_of ImportError.Memory = out_of_memory
 failure_of error = Dump error
+
+-- the failure of a heap that can't be made as it is wanted
+abbrev pub generation_failure : GenerationError → Failure
+generation_failure GenerationError.Memory = out_of_memory
+generation_failure error = Generation error

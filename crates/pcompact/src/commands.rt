@@ -8,6 +8,7 @@ ghost use Rattle.pcompact.specs.Failure.{out_of_memory};
 
 mod board;
 mod collect;
+mod generate;
 mod import;
 mod record;
 mod replay;
@@ -41,6 +42,7 @@ pub fn answer<'a, R: Files + AllocGlobal + Threads + Wait + Sync>(
         Request::Replay(asked) => replay::answer(rt, asked),
         Request::Upgrade(asked) => upgrade::answer(rt, asked),
         Request::Import(asked) => import::answer(rt, asked),
+        Request::Generate(asked) => generate::answer(rt, asked),
         Request::Show(text) => Ok(Done::printing(text.into_bytes())),
     }
 }

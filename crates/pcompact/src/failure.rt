@@ -1,12 +1,13 @@
 ghost use Rattle.std.specs.Prelude.{◌≡◌};
 ghost use Rattle.heap_image.specs.declared.fault.Fault.TheVariants.{Memory};
-ghost use Rattle.pcompact.specs.Failure.{failure_of};
+ghost use Rattle.pcompact.specs.Failure.{failure_of, generation_failure};
 ghost use Rattle.pcompact.specs.declared.failure.Failure.TheVariants.{Fault};
 
 use collector::Verdict;
 use command_line::Unread;
 use heap_dump::ImportError;
 use heap_image::Fault;
+use heap_maker::GenerationError;
 use std::alloc::{AllocError, Global};
 
 /// Why the program ends with a status other than 0.
@@ -20,6 +21,8 @@ pub enum Failure {
     Differs(Verdict),
     /// A heap dump gives no image.
     Dump(ImportError),
+    /// No heap is as it is wanted.
+    Generation(GenerationError),
 }
 
 impl Failure {
@@ -44,12 +47,13 @@ impl Failure {
         }
     }
 
-    /// The exit status: 2 for words that are no command, else 1.
+    /// The exit status: 2 for words that are no command or give no heap, else 1.
     pub fn status(&self) -> u8
         ensures { result ≡ status_of self.now }
     {
         match self {
-            Failure::Usage(_) => 2,
+            Failure::Generation(GenerationError::Defect) => 1,
+            Failure::Usage(_) | Failure::Generation(_) => 2,
             Failure::Fault(_) | Failure::Differs(_) | Failure::Dump(_) => 1,
         }
     }
@@ -80,6 +84,18 @@ impl From<ImportError> for Failure {
             ImportError::Input => Failure::Fault(Fault::Io),
             ImportError::Memory => Failure::Fault(Fault::Memory),
             of_dump => Failure::Dump(of_dump),
+        }
+    }
+}
+
+/// Refused memory is fault 11, as everywhere.
+impl From<GenerationError> for Failure {
+    ghost from_gives = { λ error failure. failure ≡ generation_failure error };
+
+    fn from(error: GenerationError) -> Failure {
+        match error {
+            GenerationError::Memory => Failure::Fault(Fault::Memory),
+            of_wish => Failure::Generation(of_wish),
         }
     }
 }

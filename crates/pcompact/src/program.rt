@@ -94,6 +94,7 @@ pub fn tell<B: Write>(trouble: &Trouble<'_>, verbose: bool, err: &mut B) -> u8
         Failure::Fault(fault) => writeln!(err, "pcompact: fault {fault}"),
         Failure::Differs(verdict) => tell_difference(*verdict, err),
         Failure::Dump(error) => writeln!(err, "pcompact: {error}"),
+        Failure::Generation(error) => writeln!(err, "pcompact: {error}"),
     };
     if verbose {
         let _ = trouble.tell_more(err);

@@ -13,4 +13,5 @@ returns c =
     let record' = c.in_ok-subcommand-5.ensures.shape c.in_ok-words-4.ensures.local ∙ ap₂ with_subcommand verify (ap top_is c.in_ok-words-4.ensures.app) in
     let replay = c.in_ok-subcommand-6.ensures.shape c.in_ok-words-5.ensures.local ∙ ap₂ with_subcommand record' (ap top_is c.in_ok-words-5.ensures.app) in
     let upgrade = c.in_ok-subcommand-7.ensures.shape c.in_ok-words-6.ensures.local ∙ ap₂ with_subcommand replay (ap top_is c.in_ok-words-6.ensures.app) in
-    IfOk-weaker c.subcommand-8.result _ _ (λ command added. added.shape c.in_ok-words-7.ensures.local ∙ ap₂ with_subcommand upgrade (ap top_is c.in_ok-words-7.ensures.app)) c.subcommand-8.ensures
+    let import = c.in_ok-subcommand-8.ensures.shape c.in_ok-words-7.ensures.local ∙ ap₂ with_subcommand upgrade (ap top_is c.in_ok-words-7.ensures.app) in
+    IfOk-weaker c.subcommand-9.result _ _ (λ command added. added.shape c.in_ok-words-8.ensures.local ∙ ap₂ with_subcommand import (ap top_is c.in_ok-words-8.ensures.app)) c.subcommand-9.ensures

@@ -1,0 +1,10 @@
+use Rattle.std.proofs.Common.{◌≡◌, ◌+◌, ◌≤◌, length}
+use Rattle.heap_maker.proofs.layout.Layout.of.Given as goal
+
+-- Each object took a word at least, and the next one begins behind them all.
+abbrev pub invariant-loop-room : goal.invariant-loop-room
+invariant-loop-room l = (length l.layout.live.items + (l.room.live + l.room.dead) ≤ l.initial.room.live + l.initial.room.dead)
+    × (l.reference + (l.room.live + l.room.dead) ≡ 1 + (l.initial.room.live + l.initial.room.dead))
+
+abbrev pub decreases-loop-room : goal.decreases-loop-room
+decreases-loop-room l = l.room.live + l.room.dead

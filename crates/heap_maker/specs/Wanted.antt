@@ -1,0 +1,17 @@
+-- What a wish says of the heap that is made.
+use Rattle.std.specs.Prelude.{◌≡◌, ℕ, ◌*◌, ◌/◌, if◌then◌else◌}
+use Rattle.heap_image.specs.HeapImage.{HeapImage, IsValid, heap_words, live_words, version_of}
+use Rattle.heap_maker.specs.declared.wanted.Wanted.{Wanted}
+
+-- how many words belong to live objects: the share that is asked for, rounded down
+abbrev pub live_words_wanted : Wanted → ℕ
+live_words_wanted wanted = wanted.words * wanted.live_percent / 100
+
+-- a valid image with so many words, and so many of them of live objects
+pub record IsAsWanted (wanted : Wanted) (image : HeapImage) : Type 0 where
+  pub valid : IsValid image
+  pub version : version_of image ≡ (if wanted.is_rooted then 2 else 1)
+  pub region_log : image.region_log ≡ wanted.region_log
+  pub words : heap_words image ≡ wanted.words
+  pub allowance : image.allowance ≡ wanted.allowance
+  pub live : live_words image 0 (heap_words image) ≡ live_words_wanted wanted

@@ -1,0 +1,61 @@
+//! `Layout`: which objects a heap has, and where.
+ghost use Rattle.std.specs.Prelude.{◌≡◌, ◌+◌, ◌≤◌, IfOk, length};
+
+use crate::dice::Dice;
+use crate::object::Object;
+use crate::room::Room;
+use std::alloc::{AllocError, Global};
+
+/// The objects of a heap.
+#[derive(Drop)]
+pub(crate) struct Layout {
+    /// All of them, one behind the other from address 0 up.
+    pub(crate) objects: Vec<Object>,
+    /// The reference that leads to each live one, ascending.
+    pub(crate) live: Vec<u64>,
+}
+
+impl Layout {
+    /// Objects that take these words, live and dead ones in a random order.
+    pub(crate) fn of(
+        alloc: Global,
+        mut room: Room,
+        reference_percent: u32,
+        dice: &mut Dice,
+    ) -> Result<Layout, AllocError>
+        requires { reference_percent ≤ 100 }
+        ensures few { IfOk result (λ layout. length layout.live.items ≤ room.live + room.dead) }
+    {
+        let mut layout = Layout {
+            objects: Vec::new(alloc),
+            live: Vec::new(alloc),
+        };
+        let mut reference = 1;
+        while room.words() > 0 {
+            let extent = room.take(dice);
+            let percent = u64::from(reference_percent);
+            let object = Object::new(extent, reference, percent, dice);
+            layout.objects.push(object)?;
+            if extent.is_live {
+                layout.live.push(reference)?;
+            }
+            reference += extent.size;
+        }
+        Ok(layout)
+    }
+    /// The references that lead to the live objects to which no live one before them refers, ascending. `is_kept` tells of
+    /// each live object whether one does.
+    ///
+    /// From these all live objects are reached: each of the others from one that stands before it.
+    pub(crate) fn roots(&self, alloc: Global, is_kept: &[bool]) -> Result<Vec<u64>, AllocError>
+        ensures few { IfOk result (λ roots. length roots.items ≤ length self.now.live.items) }
+    {
+        let mut roots = Vec::new(alloc);
+        for (i, root) in self.live.iter().enumerate() {
+            if !matches!(is_kept.get(i), Some(true)) {
+                roots.push(*root)?;
+            }
+        }
+        Ok(roots)
+    }
+}

@@ -1,0 +1,22 @@
+//! `Limits`: the sizes of an image that may be.
+ghost use Rattle.std.specs.Prelude.{◌≡◌, ◌≤◌, ◌*◌, ◌/◌, ◌^◌};
+ghost use Rattle.heap_image.specs.HeapImage.{IsWithinLimits};
+
+/// The most words that an image may have.
+pub(crate) const MAX_WORDS: u64 = 4_194_304;
+
+/// The most regions that an image may have.
+pub(crate) const MAX_REGIONS: u64 = 16_384;
+
+/// The sizes of an image that may be.
+#[derive(Clone, Copy)]
+pub(crate) struct Limits {
+    /// The logarithm, to base 2, of the number of words of a region.
+    pub(crate) region_log: u32,
+    /// How many regions there are.
+    pub(crate) regions: u64,
+    /// How many words there are.
+    pub(crate) words: u64,
+    ghost allowed: { IsWithinLimits region_log words 0 },
+    ghost whole: { words ≡ regions * 2 ^ region_log },
+}

@@ -1,0 +1,47 @@
+//! `Object`: an object of a heap that is made.
+ghost use Rattle.std.specs.Prelude.{◌<◌, ◌≤◌};
+
+use crate::dice::Dice;
+use crate::room::Extent;
+
+/// An object of a heap that is made.
+#[derive(Clone, Copy)]
+pub(crate) struct Object {
+    /// How many words it has, its header included.
+    pub(crate) size: u32,
+    /// How many of them are references.
+    pub(crate) references: u32,
+    /// The reference that leads to it.
+    pub(crate) reference: u64,
+    /// Whether it is to be reached.
+    pub(crate) is_live: bool,
+    ghost few: { size ≤ 512 },
+    ghost header: { references < size },
+}
+
+impl Object {
+    /// An object to which this reference leads. Of its words behind the header so many in a hundred are references,
+    /// rounded up or down at random.
+    pub(crate) fn new(
+        extent: Extent,
+        reference: u64,
+        reference_percent: u64,
+        dice: &mut Dice,
+    ) -> Object
+        requires { reference_percent ≤ 100 }
+    {
+        let Extent { size, is_live } = extent;
+        let hundredths = (size - 1) * reference_percent + dice.below(100);
+        Object {
+            size: size as u32,
+            references: (hundredths / 100) as u32,
+            reference,
+            is_live,
+        }
+    }
+
+    /// Its header.
+    pub(crate) fn header(self) -> u64 {
+        1 << 56 | u64::from(self.references) << 32 | u64::from(self.size)
+    }
+}

@@ -1,0 +1,82 @@
+//! `Wanted`: which heap is to be made.
+ghost use Rattle.std.specs.Prelude.{◌≡◌, ◌+◌, ◌*◌, ◌/◌, ◌≤◌, ◌≢◌, IfOk, OnOk};
+ghost use Rattle.heap_maker.specs.Wanted.{live_words_wanted};
+
+use crate::error::GenerationError;
+use crate::limits::{Limits, MAX_REGIONS, MAX_WORDS};
+use crate::room::Room;
+
+/// Which heap is to be made.
+#[derive(Debug, Clone, Copy, PartialEq, Eq)]
+pub struct Wanted {
+    /// How many words it has: 1 to 4,194,304, and a multiple of the words of a region.
+    pub words: u64,
+    /// The logarithm, to base 2, of the number of words of a region: 3 to 16.
+    pub region_log: u32,
+    /// How many of a hundred of its words belong to live objects: 0 to 100.
+    pub live_percent: u32,
+    /// How many of a hundred words of an object are references, its header not counted: 0 to 100.
+    pub reference_percent: u32,
+    /// Whether the image is of version 2, with roots. Else it is of version 1, with a live list.
+    pub is_rooted: bool,
+    /// How many dead words the dense prefix may keep.
+    pub allowance: u64,
+    /// The seed of its random numbers.
+    pub seed: u64,
+}
+
+impl Wanted {
+    /// The sizes of the image.
+    pub(crate) fn limits(&self) -> Result<Limits, GenerationError>
+        ensures log { IfOk result (λ limits. limits.region_log ≡ self.now.region_log) }
+        ensures words { IfOk result (λ limits. limits.words ≡ self.now.words) }
+        ensures no_memory { result ≢ Err GenerationError.Memory }
+        ensures no_defect { result ≢ Err GenerationError.Defect }
+    {
+        let (words, region_log) = (self.words, self.region_log);
+        if region_log < 3 || region_log > 16 {
+            return Err(GenerationError::RegionLog(region_log));
+        }
+        if words == 0 || words > MAX_WORDS {
+            return Err(GenerationError::Words(words));
+        }
+        let region_words = 1u64 << region_log;
+        if words % region_words != 0 {
+            return Err(GenerationError::Uneven {
+                words,
+                region_words,
+            });
+        }
+        let regions = words / region_words;
+        if regions > MAX_REGIONS {
+            return Err(GenerationError::Regions { words, regions });
+        }
+        Ok(Limits {
+            region_log,
+            regions,
+            words,
+        })
+    }
+
+    /// The words that its live objects take, and those that its dead ones do.
+    pub(crate) fn room(&self, limits: Limits) -> Result<Room, GenerationError>
+        requires { limits.words ≡ self.now.words }
+        ensures live { IfOk result (λ room. room.live ≡ live_words_wanted self.now) }
+        ensures all { IfOk result (λ room. room.live + room.dead ≡ limits.words) }
+        ensures percent { OnOk result (self.now.reference_percent ≤ 100) }
+        ensures no_memory { result ≢ Err GenerationError.Memory }
+        ensures no_defect { result ≢ Err GenerationError.Defect }
+    {
+        if self.live_percent > 100 {
+            return Err(GenerationError::Percent(self.live_percent));
+        }
+        if self.reference_percent > 100 {
+            return Err(GenerationError::Percent(self.reference_percent));
+        }
+        let live = limits.words * u64::from(self.live_percent) / 100;
+        Ok(Room {
+            live,
+            dead: limits.words - live,
+        })
+    }
+}
