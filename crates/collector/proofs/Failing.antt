@@ -8,7 +8,7 @@ use Rattle.heap_image.specs.declared.fault.Fault.TheVariants.{Overwritten, Gate}
 use Rattle.fill.specs.FillFaults.{IsOverwritten}
 use Rattle.collector.specs.declared.worker.Worker.{Worker}
 use Rattle.collector.specs.declared.worker.Halt.TheVariants.{Failed}
-use Rattle.collector.specs.Halts.{HasCause, MayRefuse}
+use Rattle.collector.specs.Halts.{MayHalt, MayRefuse}
 
 -- a worker that failed has its fault in the list
 abbrev pub HasFailed : {S : Type 0} → List (Worker S) → Fault → Type 0
@@ -20,10 +20,10 @@ front_of n xs rest whole = ap (λ (k : ℕ). take k (xs ++ rest)) whole ∙ take
 
 -- a fault that a worker met has the cause that ends workers have
 pub cause_of : {S : Type 0} (may_fail : Fault → Type 0) (may_refuse : ℕ → Type 0) (regions : ℕ) (workers : List (Worker S)) (fault : Fault)
-    → All (λ w. IfErr w.end (HasCause may_fail may_refuse regions)) workers → HasFailed workers fault → HasCause may_fail may_refuse regions (Failed fault)
+    → All (λ w. IfErr w.end (MayHalt may_fail may_refuse regions)) workers → HasFailed workers fault → MayHalt may_fail may_refuse regions (Failed fault)
 cause_of {S = S} may_fail may_refuse regions workers fault causes failed =
-    subst (λ e. IfErr e (HasCause may_fail may_refuse regions)) failed.4
-    (subst (λ (w : Worker S). IfErr w.end (HasCause may_fail may_refuse regions)) failed.3 (causes failed.0 failed.1 failed.2))
+    subst (λ e. IfErr e (MayHalt may_fail may_refuse regions)) failed.4
+    (subst (λ (w : Worker S). IfErr w.end (MayHalt may_fail may_refuse regions)) failed.3 (causes failed.0 failed.1 failed.2))
 
 -- where it is the gate's, the gate may refuse
 pub refused_by : (may_refuse : ℕ → ℕ → Type 0) (workers : ℕ) (image : HeapImage) (fault : Fault) → fault ≡ Gate

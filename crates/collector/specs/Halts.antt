@@ -18,9 +18,9 @@ MayRefuse may_refuse workers image = MayBeRefused (λ r. MayBeRefused (λ n. may
 
 -- A worker is stopped by another's fault, or meets one itself: that of a fill, or the gate's, which may refuse it one of
 -- the first so many regions.
-abbrev pub HasCause : (Fault → Type 0) → (ℕ → Type 0) → ℕ → Halt → Type 0
-HasCause may_fail may_refuse regions Stopped = Unit {0}
-HasCause may_fail may_refuse regions (Failed fault) = IsFaultOf may_fail fault ⊎ ((fault ≡ Gate) × MayBeRefused may_refuse regions)
+abbrev pub MayHalt : (Fault → Type 0) → (ℕ → Type 0) → ℕ → Halt → Type 0
+MayHalt may_fail may_refuse regions Stopped = Unit {0}
+MayHalt may_fail may_refuse regions (Failed fault) = IsFaultOf may_fail fault ⊎ ((fault ≡ Gate) × MayBeRefused may_refuse regions)
 
 -- a collection of the image by so many workers meets the fault: that of a fill, or the gate's, which may refuse
 abbrev pub IsLostTo : (Fault → Type 0) → (ℕ → ℕ → Type 0) → ℕ → HeapImage → Fault → Type 0

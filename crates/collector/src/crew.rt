@@ -3,7 +3,7 @@ ghost use Rattle.std.specs.Prelude.{◌≡◌, ◌<◌, ◌≤◌, ◌^◌, leng
 ghost use Rattle.summary.specs.RegionData.{fill_count};
 ghost use Rattle.history.specs.ImageMoves.{image_table};
 ghost use Rattle.claim_board.specs.Tickets.{IsUnused, IsTicketOf, IsDoneOf};
-ghost use Rattle.collector.specs.Halts.{HasCause, MayBeRefused};
+ghost use Rattle.collector.specs.Halts.{MayHalt, MayBeRefused};
 ghost use Rattle.fill.specs.FillFaults.{IsFaultOf};
 ghost use Rattle.collector.specs.declared.worker.Halt.TheVariants.{Stopped};
 
@@ -46,7 +46,7 @@ impl<'a, D: Desk, G: Gate, W: Wait> Crew<'a, D, G, W> {
         requires number { number < length self.now.thieves.now }
         requires seat { D.serves self.now.desk.now worker.old.seat }
         ensures seat { D.serves self.now.desk.now worker.new.seat }
-        ensures end { IfErr worker.new.end (HasCause D.may_fail (G.may_refuse self.now.gate.now number) (fill_count self.now.survey.now)) }
+        ensures end { IfErr worker.new.end (MayHalt D.may_fail (G.may_refuse self.now.gate.now number) (fill_count self.now.survey.now)) }
     {
         worker.end = self.fill_regions(number, worker);
         if let Err(Halt::Failed(_)) = worker.end {
@@ -59,7 +59,7 @@ impl<'a, D: Desk, G: Gate, W: Wait> Crew<'a, D, G, W> {
         requires number { number < length self.now.thieves.now }
         requires seat { D.serves self.now.desk.now worker.old.seat }
         ensures seat { D.serves self.now.desk.now worker.new.seat }
-        ensures halt { IfErr result (HasCause D.may_fail (G.may_refuse self.now.gate.now number) (fill_count self.now.survey.now)) }
+        ensures halt { IfErr result (MayHalt D.may_fail (G.may_refuse self.now.gate.now number) (fill_count self.now.survey.now)) }
     {
         let backoff = Backoff::new();
         for _ in self.wait.forever() {
@@ -80,7 +80,7 @@ impl<'a, D: Desk, G: Gate, W: Wait> Crew<'a, D, G, W> {
         requires number { number < length self.now.thieves.now }
         requires seat { D.serves self.now.desk.now worker.old.seat }
         ensures seat { D.serves self.now.desk.now worker.new.seat }
-        ensures halt { IfErr result (HasCause D.may_fail (G.may_refuse self.now.gate.now number) (fill_count self.now.survey.now)) }
+        ensures halt { IfErr result (MayHalt D.may_fail (G.may_refuse self.now.gate.now number) (fill_count self.now.survey.now)) }
     {
         self.go_on()?;
         if let Some(region) = self.next_region(number, worker) {
@@ -113,7 +113,7 @@ impl<'a, D: Desk, G: Gate, W: Wait> Crew<'a, D, G, W> {
         requires seat { D.serves self.now.desk.now worker.old.seat }
         requires region { region < fill_count self.now.survey.now }
         ensures seat { D.serves self.now.desk.now worker.new.seat }
-        ensures halt { IfErr result (HasCause D.may_fail (G.may_refuse self.now.gate.now number) (fill_count self.now.survey.now)) }
+        ensures halt { IfErr result (MayHalt D.may_fail (G.may_refuse self.now.gate.now number) (fill_count self.now.survey.now)) }
     {
         moves_of_images();
         regions_to_fill();
@@ -136,7 +136,7 @@ impl<'a, D: Desk, G: Gate, W: Wait> Crew<'a, D, G, W> {
         requires unused { IsUnused ticket }
         requires ticket { D.tells → IsTicketOf (D.moves self.now.desk.now) (D.caller worker.old.seat) ticket }
         ensures seat { D.serves self.now.desk.now worker.new.seat }
-        ensures halt { IfErr result (HasCause D.may_fail (G.may_refuse self.now.gate.now number) (fill_count self.now.survey.now)) }
+        ensures halt { IfErr result (MayHalt D.may_fail (G.may_refuse self.now.gate.now number) (fill_count self.now.survey.now)) }
     {
         let region = ticket.region();
         if let Err(halt) = self.admit(number, region) {
@@ -151,7 +151,7 @@ impl<'a, D: Desk, G: Gate, W: Wait> Crew<'a, D, G, W> {
     /// Asks the gate, which may have held the worker until another one met a fault.
     fn admit(&self, number: u32, region: u32) -> Result<(), Halt>
         requires { region < fill_count self.now.survey.now }
-        ensures { IfErr result (HasCause D.may_fail (G.may_refuse self.now.gate.now number) (fill_count self.now.survey.now)) }
+        ensures { IfErr result (MayHalt D.may_fail (G.may_refuse self.now.gate.now number) (fill_count self.now.survey.now)) }
     {
         if !self.gate.before_fill(number, region) {
             return Err(Halt::Failed(Fault::Gate));
@@ -238,11 +238,12 @@ where
     requires thieves { length crew.now.thieves.now ≡ length workers.old }
     requires seats { All (λ w. D.serves crew.now.desk.now w.seat) workers.old }
     ensures seats { All (λ w. D.serves crew.now.desk.now w.seat) workers.new }
-    ensures halts { All (λ w. IfErr w.end (HasCause D.may_fail
+    ensures halts { All (λ w. IfErr w.end (MayHalt D.may_fail
         (λ r. MayBeRefused (λ n. G.may_refuse crew.now.gate.now n r) (length workers.old))
         (fill_count crew.now.survey.now))) workers.new }
 {
     let count = workers.len();
+    // The closure holds each part by itself, since of a crew as a whole it isn't proved that threads may share it.
     let (desk, cells, survey) = (crew.desk, crew.cells, crew.survey);
     let (gate, wait, thieves, stop) = (crew.gate, crew.wait, crew.thieves, crew.stop);
     let work = |number: usize, worker: &mut Worker<D::Seat>|

@@ -1,8 +1,6 @@
-use Rattle.std.proofs.Common.{◌≡◌, ℕ, List, subst, inr, ◌∙◌}
+use Rattle.std.proofs.Common.{ℕ, List, subst, inr, ◌∙◌}
 use Rattle.std.specs.Io.KnownBytes.{Appends}
 use Rattle.std.proofs.lemmas.Result.{err_from_is_err_and}
-use Rattle.heap_image.specs.HeapImage.{HeapImage}
-use Rattle.heap_image.specs.ImageText.{text}
 use Rattle.collector.proofs.Streams.{text_begun, text_written, all_begun, appended}
 use Rattle.collector.proofs.record_streaming.record_stream.Goals as goal
 

@@ -1,4 +1,4 @@
-use Rattle.std.proofs.Common.{◌≡◌, Err, ap, inr}
+use Rattle.std.proofs.Common.{Err, ap, inr}
 use Rattle.std.proofs.lemmas.Result.{err_from_is_err_and}
 use Rattle.heap_image.specs.declared.fault.Fault.TheVariants.{Workers, Gate, Schedule}
 use Rattle.collector.proofs.Reasons.{lost_by_gate}

@@ -1,5 +1,4 @@
 use Rattle.std.proofs.Common.{◌≡◌, ℕ, length, sym, ap, ◌∙◌, subst, arith}
-use Rattle.std.specs.Prelude.{All}
 use Rattle.collector.specs.Halts.{IsLostTo, MayBeRefused}
 use Rattle.collector.proofs.Failing.{HasFailed, cause_of, front_of}
 use Rattle.summary.specs.RegionData.{fill_count}
