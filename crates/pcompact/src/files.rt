@@ -33,6 +33,17 @@ pub fn image_and_out<'a, H: Files + AllocGlobal>(
     Ok((image, out.begin(host)?))
 }
 
+/// Two files to read, of which both are opened before one is read.
+pub fn two_inputs<'a, H: Files>(
+    host: &H,
+    one: FileWord<'a>,
+    other: FileWord<'a>,
+) -> Result<(Watched<'a, H::File>, Watched<'a, H::File>), Trouble<'a>> {
+    let one = Watched::open(host, one)?;
+    let other = Watched::open(host, other)?;
+    Ok((one, other))
+}
+
 /// The file to write, where this one is read. They may be one file only where that is replaced.
 pub fn target_beside<'a, H: Files + AllocGlobal>(
     host: &H,
@@ -102,4 +113,15 @@ pub fn failed<'a, H: Files>(
 ) -> Trouble<'a> {
     out.abandon(host);
     trouble
+}
+
+/// Why a command fails that met this trouble while it read an image and wrote another.
+pub fn failed_between<'a, H: Files>(
+    host: &H,
+    trouble: Trouble<'a>,
+    image: &Watched<'a, H::File>,
+    out: Output<'a, H::File>,
+) -> Trouble<'a> {
+    let trouble = trouble.if_image(image).if_failed(&out.file);
+    failed(host, trouble, out)
 }

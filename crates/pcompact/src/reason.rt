@@ -1,7 +1,7 @@
 //! `Reason`.
 use crate::failed_call::FailedCall;
 use heap_image::LengthCause;
-use history::LineCause;
+use history::{LineCause, MAX_WORKERS};
 use std::io;
 use std::io::Write;
 
@@ -35,7 +35,10 @@ impl Reason {
         match self {
             Reason::Length(cause) => writeln!(err, "pcompact: reason {cause}"),
             Reason::Workers(asked) => {
-                writeln!(err, "pcompact: reason {asked} is not from 1 to 64")
+                writeln!(
+                    err,
+                    "pcompact: reason {asked} is not from 1 to {MAX_WORKERS}"
+                )
             }
             Reason::Call(failed) => failed.tell(err),
             Reason::Output(failed) => {

@@ -6,8 +6,7 @@ ghost use Rattle.pcompact.specs.Figures.{IsFigures};
 
 use crate::done::Done;
 use crate::figures::{LINE_ROOM, tell_figures};
-use crate::files::{ended, failed, image_and_out};
-use crate::output::Output;
+use crate::files::{ended, failed_between, image_and_out};
 use crate::trouble::Trouble;
 use collector::{OpenGate, collect_stream};
 use command_line::Collect;
@@ -23,21 +22,18 @@ pub fn answer<'a, R: Files + AllocGlobal + Threads + Wait + Sync>(
 ) -> Result<Done<'a>, Trouble<'a>>
     ensures { IfOk result (λ done. IsFigures done.text.items) }
 {
-    let (image, out) = image_and_out(rt, asked.image, asked.out, asked.atomic)?;
-    let mut image = FromRead::new(image);
-    let Output { file, replacement } = out;
-    let mut written = ToWrite::new(file);
-    let line = collect_into(rt, &mut image, &mut written, asked.workers);
-    let file = written.into_inner();
-    let out = Output { file, replacement };
+    let (mut image, mut out) = image_and_out(rt, asked.image, asked.out, asked.atomic)?;
+    let line = collect_into(
+        rt,
+        &mut FromRead::new(&mut image),
+        &mut ToWrite::new(&mut out.file),
+        asked.workers,
+    );
     match line {
         Ok(line) => ended(rt, line, out),
         Err(fault) => {
-            let trouble = Trouble::from(fault)
-                .if_image(&image.into_inner())
-                .if_failed(&out.file)
-                .if_workers(asked.workers);
-            Err(failed(rt, trouble, out))
+            let trouble = Trouble::from(fault).if_workers(asked.workers);
+            Err(failed_between(rt, trouble, &image, out))
         }
     }
 }

@@ -29,29 +29,19 @@ pub fn answer<'a, R: Files + AllocGlobal + Threads + Wait + Sync>(
 ) -> Result<Done<'a>, Trouble<'a>>
     ensures { IfOk result (λ done. IsFigures done.text.items) }
 {
-    let (image, out, schedule) = image_out_and_schedule(rt, &asked)?;
-    let mut image = FromRead::new(image);
-    let Output { file, replacement } = out;
-    let mut written = ToWrite::new(file);
-    let Output {
-        file,
-        replacement: new_schedule,
-    } = schedule;
-    let mut lines = ToWrite::new(file);
-    let line = record_into(rt, &mut image, &mut written, &mut lines, asked.workers);
-    let out = Output {
-        file: written.into_inner(),
-        replacement,
-    };
-    let schedule = Output {
-        file: lines.into_inner(),
-        replacement: new_schedule,
-    };
+    let (mut image, mut out, mut schedule) = image_out_and_schedule(rt, &asked)?;
+    let line = record_into(
+        rt,
+        &mut FromRead::new(&mut image),
+        &mut ToWrite::new(&mut out.file),
+        &mut ToWrite::new(&mut schedule.file),
+        asked.workers,
+    );
     match line {
         Ok(line) => both_ended(rt, line, out, schedule),
         Err(fault) => {
             let trouble = Trouble::from(fault)
-                .if_image(&image.into_inner())
+                .if_image(&image)
                 .if_failed(&out.file)
                 .if_failed(&schedule.file)
                 .if_workers(asked.workers);

@@ -6,10 +6,9 @@ ghost use Rattle.pcompact.specs.Commands.Replay.{IsReplay, IsReplayOf, end_line}
 
 use crate::done::Done;
 use crate::file_word::{FileWord, Role};
-use crate::files::{must_differ, same_file};
+use crate::files::{must_differ, same_file, two_inputs};
 use crate::reason::LineReason;
 use crate::trouble::Trouble;
-use crate::watched::Watched;
 use command_line::Replay;
 use heap_image::{Fault, FromRead, Intake, read_image_by_threads};
 use history::{End, Schedule, explain, read_schedule, replay, write_schedule};
@@ -29,17 +28,20 @@ pub fn answer<'a, R: Files + AllocGlobal + Threads + Sync>(
     let image = FileWord::new(Role::Image, asked.image);
     let schedule = FileWord::new(Role::Schedule, asked.schedule);
     must_differ(rt.alloc(), image, schedule)?;
-    let image = Watched::open(rt, image)?;
-    let mut schedule = Watched::open(rt, schedule)?;
+    let (mut image, mut schedule) = two_inputs(rt, image, schedule)?;
     if image.id()?.is_same(schedule.id()?) {
         return Err(same_file(rt.alloc(), image.word(), schedule.word())?);
     }
-    let mut image = FromRead::new(image);
-    match replay_text(rt.alloc(), &mut image, &mut schedule, rt) {
+    match replay_text(
+        rt.alloc(),
+        &mut FromRead::new(&mut image),
+        &mut schedule,
+        rt,
+    ) {
         Ok(text) => Ok(Done::printing(text)),
         Err(Unreplayed { fault, line }) => Err(
             Trouble::from(fault)
-                .if_image(&image.into_inner())
+                .if_image(&image)
                 .if_line(&schedule, line),
         ),
     }

@@ -5,8 +5,7 @@ ghost use Rattle.pcompact.specs.Commands.{IsPrintedBy};
 ghost use Rattle.pcompact.specs.Commands.Upgrade.{IsRootCount, IsUpgrading};
 
 use crate::done::Done;
-use crate::files::{ended, failed, image_and_out};
-use crate::output::Output;
+use crate::files::{ended, failed_between, image_and_out};
 use crate::trouble::Trouble;
 use command_line::Upgrade;
 use heap_image::{Fault, FromRead, Intake, Outlet, ToWrite, upgrade_stream};
@@ -23,21 +22,15 @@ pub fn answer<'a, R: Files + AllocGlobal>(
 ) -> Result<Done<'a>, Trouble<'a>>
     ensures { IfOk result (λ done. IsRootCount done.text.items) }
 {
-    let (image, out) = image_and_out(rt, asked.image, asked.out, asked.atomic)?;
-    let mut image = FromRead::new(image);
-    let Output { file, replacement } = out;
-    let mut written = ToWrite::new(file);
-    let line = upgrade_into(rt.alloc(), &mut image, &mut written);
-    let file = written.into_inner();
-    let out = Output { file, replacement };
+    let (mut image, mut out) = image_and_out(rt, asked.image, asked.out, asked.atomic)?;
+    let line = upgrade_into(
+        rt.alloc(),
+        &mut FromRead::new(&mut image),
+        &mut ToWrite::new(&mut out.file),
+    );
     match line {
         Ok(line) => ended(rt, line, out),
-        Err(fault) => {
-            let trouble = Trouble::from(fault)
-                .if_image(&image.into_inner())
-                .if_failed(&out.file);
-            Err(failed(rt, trouble, out))
-        }
+        Err(fault) => Err(failed_between(rt, Trouble::from(fault), &image, out)),
     }
 }
 

@@ -6,8 +6,8 @@ ghost use Rattle.pcompact.specs.Commands.Verify.{IsVerdictOf};
 use crate::done::Done;
 use crate::failure::Failure;
 use crate::file_word::{FileWord, Role};
+use crate::files::two_inputs;
 use crate::trouble::Trouble;
-use crate::watched::Watched;
 use collector::{Verdict, verify};
 use command_line::Verify;
 use heap_image::{Fault, FromRead, Intake, read_image_by_threads};
@@ -36,16 +36,19 @@ fn compared<'a, R: Files + AllocGlobal + Threads + Sync>(
     rt: &R,
     asked: &Verify<'a>,
 ) -> Result<Verdict, Trouble<'a>> {
-    let before = Watched::open(rt, FileWord::new(Role::Before, asked.before))?;
-    let after = Watched::open(rt, FileWord::new(Role::After, asked.after))?;
-    let mut before = FromRead::new(before);
-    let mut after = FromRead::new(after);
-    match verify_images(rt.alloc(), &mut before, &mut after, rt) {
+    let before = FileWord::new(Role::Before, asked.before);
+    let after = FileWord::new(Role::After, asked.after);
+    let (mut before, mut after) = two_inputs(rt, before, after)?;
+    let verdict = verify_images(
+        rt.alloc(),
+        &mut FromRead::new(&mut before),
+        &mut FromRead::new(&mut after),
+        rt,
+    );
+    match verdict {
         Ok(verdict) => Ok(verdict),
-        Err(Unverified::Before(fault)) => {
-            Err(Trouble::from(fault).if_image(&before.into_inner()))
-        }
-        Err(Unverified::After(fault)) => Err(Trouble::from(fault).if_image(&after.into_inner())),
+        Err(Unverified::Before(fault)) => Err(Trouble::from(fault).if_image(&before)),
+        Err(Unverified::After(fault)) => Err(Trouble::from(fault).if_image(&after)),
         Err(Unverified::Neither(fault)) => Err(Trouble::from(fault)),
     }
 }
