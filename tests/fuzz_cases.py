@@ -27,7 +27,7 @@ def try_refused(tried: Tried, said: str, chance: random.Random) -> None:
     workers, flag = chance.choice([0, MAX_WORKERS + 1, *range(1, 9)]), atomic_or_not(chance)
     # The image is read before the schedule, and before workers are counted.
     tried.write("schedule", chance.choice(["", "schedule 1 1\n", "schedule 1 1\n0 claim 0 ?"]))
-    commands = [("replay image schedule", {}), ("verify image base", {}), ("verify base image", {}),
+    commands = [("order image", {}), ("replay image schedule", {}), ("verify image base", {}), ("verify base image", {}),
                 (f"collect image out --workers {workers}{flag}", left(flag, "out")),
                 (f"record image out recorded --workers {workers}{flag}", left(flag, "out", "recorded")),
                 (f"upgrade image out{flag}", left(flag, "out"))]
@@ -40,6 +40,7 @@ def try_collected(tried: Tried, collection: Collection, chance: random.Random) -
     image = collection.image
     collected = Answer(0, collection.figures(), made={"out": encode(collection.compaction())})
     tried.run("summary image", Answer(0, collection.report()))
+    tried.run("order image", Answer(0, collection.order()))
     for workers in (1, chance.choice([2, 3, 4, 8, MAX_WORKERS, chance.randint(2, MAX_WORKERS)])):
         tried.run(f"collect image out --workers {workers}{atomic_or_not(chance)}", collected)
     tried.run("verify image out", Answer(0, "same\n"))
@@ -78,6 +79,7 @@ def try_twin(tried: Tried, twin: Image, recorded: str) -> None:
     collection = Collection(twin)
     tried.write("twin", encode(twin))
     tried.run("summary twin", Answer(0, collection.report()))
+    tried.run("order twin", Answer(0, collection.order()))
     made = {"out": encode(collection.compaction()), "schedule": recorded.encode()}
     tried.run("record twin out schedule --workers 1", Answer(0, collection.figures(), made=made))
     tried.run("verify image out", differs("shape"))

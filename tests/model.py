@@ -5,6 +5,7 @@ set, and counts are counted.
 """
 import collections
 import dataclasses
+import functools
 import itertools
 import struct
 
@@ -208,6 +209,21 @@ class Collection:
         """What `summary` prints."""
         lines = [self.report_line(r) for r in self.regions()]
         return "".join([f"prefix {self.prefix_end} top {self.top}\n", *lines])
+
+    def order(self) -> str:
+        """What `order` prints."""
+        words = {r: min(self.region_words, self.top - r * self.region_words) for r in self.to_fill}
+        waits = {s: [d for d, source in self.reads if source == s != d] for s in self.to_fill}
+
+        @functools.cache
+        def longest_to(s: int) -> int:
+            """The words of the longest chain that ends with a region."""
+            return words[s] + max((longest_to(d) for d in waits[s]), default=0)
+
+        chain = max((longest_to(s) for s in sorted(words)), default=0)
+        hundredths = self.top * 100 // chain if chain else 100
+        workers = next(n for n in itertools.count(1) if self.top <= n * chain)
+        return f"chain {chain} words {self.top} speedup {hundredths // 100}.{hundredths % 100:02} workers {workers}\n"
 
     def report_line(self, r: int) -> str:
         start = r * self.region_words

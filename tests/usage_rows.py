@@ -16,6 +16,7 @@ Commands:
   upgrade   Writes a heap image as one with roots
   import    Writes the heap dump of a Java virtual machine as a heap image
   generate  Writes a heap image that follows from a seed, for benchmarks and experiments
+  order     Prints what parallelism the order of work of a collection allows
   help      Print this message or the help of the given subcommand(s)
 
 Options:
@@ -97,6 +98,19 @@ Options:
   -h, --help     Print help
 """
 
+ORDER_HELP = """\
+Prints what parallelism the order of work of a collection allows
+
+Usage: pcompact order [OPTIONS] <IMAGE>
+
+Arguments:
+  <IMAGE>  A file with a heap image
+
+Options:
+      --verbose  Says more of what goes wrong
+  -h, --help     Print help
+"""
+
 VERIFY_HELP = """\
 Says whether a heap image is the compaction of another, or where they differ
 
@@ -167,7 +181,7 @@ Options:
 
 NO_COMMAND = """\
 error: 'pcompact' requires a subcommand but one was not provided
-  [subcommands: board, summary, collect, verify, record, replay, upgrade, import, generate, help]
+  [subcommands: board, summary, collect, verify, record, replay, upgrade, import, generate, order, help]
 
 Usage: pcompact <COMMAND>
 
@@ -275,6 +289,7 @@ HELPS = [
     ("upgrade --help", UPGRADE_HELP),
     ("import --help", IMPORT_HELP),
     ("generate --help", GENERATE_HELP),
+    ("order --help", ORDER_HELP),
 ]
 
 REFUSED = [

@@ -105,6 +105,11 @@ generate_words =
     (file_rule (codes "IMAGE"))) words_rule) live_rule) (required region_log_rule)) seed_rule) refs_rule) version_rule)
     allowance_rule) atomic_rule) verbose_rule
 
+-- the words of `order`
+abbrev pub order_words : App
+order_words =
+    with_rule (with_rule (new_app (codes "order")) (file_rule (codes "IMAGE"))) verbose_rule
+
 -- the words of the commands, in the order in which help lists them
 abbrev pub listed : List App
 listed =
@@ -117,4 +122,5 @@ listed =
     ∷ upgrade_words
     ∷ import_words
     ∷ generate_words
+    ∷ order_words
     ∷ []

@@ -1,7 +1,7 @@
 use Rattle.std.specs.Prelude.{◌≡◌, ⊤, codes}
 use Rattle.clap.specs.Walk.{Text}
 use Rattle.command_line.specs.declared.request.Request.{Request}
-use Rattle.command_line.specs.declared.request.Request.TheVariants.{Board, Summary, Collect, Verify, Record, Replay, Upgrade, Import, Generate, Show}
+use Rattle.command_line.specs.declared.request.Request.TheVariants.{Board, Summary, Collect, Verify, Record, Replay, Upgrade, Import, Generate, Order, Show}
 use Rattle.command_line.specs.declared.unread.Unread.{Unread}
 use Rattle.command_line.specs.declared.unread.Unread.TheVariants.{Usage, NoCommand, Memory}
 
@@ -16,6 +16,7 @@ IsFor name (Replay asked) = name ≡ codes "replay"
 IsFor name (Upgrade asked) = name ≡ codes "upgrade"
 IsFor name (Import asked) = name ≡ codes "import"
 IsFor name (Generate asked) = name ≡ codes "generate"
+IsFor name (Order asked) = name ≡ codes "order"
 IsFor name (Show text) = ⊥
 
 -- nothing is said of the words to whoever called

@@ -9,6 +9,7 @@ ghost use Rattle.command_line.specs.declared.request.Request.TheVariants.{Board}
 use crate::collect::Collect;
 use crate::generate::Generate;
 use crate::import::Import;
+use crate::order::Order;
 use crate::record::Record;
 use crate::replay::Replay;
 use crate::request::Request;
@@ -16,7 +17,7 @@ use crate::summary::Summary;
 use crate::unread::Unread;
 use crate::upgrade::Upgrade;
 use crate::verify::Verify;
-use crate::{board, collect, generate, import, record, replay, summary, upgrade, verify};
+use crate::{board, collect, generate, import, order, record, replay, summary, upgrade, verify};
 use clap::{ArgMatches, Command};
 use std::alloc::{AllocError, Global};
 
@@ -41,7 +42,8 @@ pub fn words<'a>(alloc: Global) -> Result<Command<'a>, AllocError>
         .subcommand(replay::words(alloc)?)?
         .subcommand(upgrade::words(alloc)?)?
         .subcommand(import::words(alloc)?)?
-        .subcommand(generate::words(alloc)?)
+        .subcommand(generate::words(alloc)?)?
+        .subcommand(order::words(alloc)?)
 }
 
 /// What was called, with what it is given.
@@ -67,6 +69,7 @@ fn asked<'a>(name: &str, given: &ArgMatches<'a>) -> Result<Request<'a>, Unread>
         "verify" => Request::Verify(Verify::of(given)?),
         "record" => Request::Record(Record::of(given)?),
         "replay" => Request::Replay(Replay::of(given)?),
+        "order" => Request::Order(Order::of(given)?),
         _ => return asked_for_image(name, given),
     })
 }

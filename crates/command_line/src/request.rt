@@ -2,6 +2,7 @@
 use crate::collect::Collect;
 use crate::generate::Generate;
 use crate::import::Import;
+use crate::order::Order;
 use crate::record::Record;
 use crate::replay::Replay;
 use crate::summary::Summary;
@@ -29,6 +30,8 @@ pub enum Request<'a> {
     Import(Import<'a>),
     /// The command `generate`.
     Generate(Generate<'a>),
+    /// The command `order`.
+    Order(Order<'a>),
     /// To show this text, help or the version, of whole lines.
     Show(String),
 }
@@ -46,6 +49,7 @@ impl Request<'_> {
             Request::Upgrade(asked) => asked.verbose,
             Request::Import(asked) => asked.verbose,
             Request::Generate(asked) => asked.verbose,
+            Request::Order(asked) => asked.verbose,
         }
     }
 }

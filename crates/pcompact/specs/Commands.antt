@@ -8,6 +8,7 @@ pub mod Replay
 pub mod Upgrade
 pub mod Import
 pub mod Generate
+pub mod Order
 use Rattle.std.specs.Prelude.{ℕ, List, [], ◌∷◌, MatchBool, bytes_eq}
 use Rattle.pcompact.specs.Command.{Command}
 
@@ -23,6 +24,7 @@ listed =
     ∷ Upgrade.upgrade_command
     ∷ Import.import_command
     ∷ Generate.generate_command
+    ∷ Order.order_command
     ∷ []
 
 -- the first of these commands that has this name prints such a text

@@ -10,6 +10,7 @@ mod board;
 mod collect;
 mod generate;
 mod import;
+mod order;
 mod record;
 mod replay;
 mod summarize;
@@ -43,6 +44,7 @@ pub fn answer<'a, R: Files + AllocGlobal + Threads + Wait + Sync>(
         Request::Upgrade(asked) => upgrade::answer(rt, asked),
         Request::Import(asked) => import::answer(rt, asked),
         Request::Generate(asked) => generate::answer(rt, asked),
+        Request::Order(asked) => order::answer(rt, asked),
         Request::Show(text) => Ok(Done::printing(text.into_bytes())),
     }
 }

@@ -14,4 +14,5 @@ returns c =
     let replay = c.in_ok-subcommand-6.ensures.shape c.in_ok-words-5.ensures.local ∙ ap₂ with_subcommand record' (ap top_is c.in_ok-words-5.ensures.app) in
     let upgrade = c.in_ok-subcommand-7.ensures.shape c.in_ok-words-6.ensures.local ∙ ap₂ with_subcommand replay (ap top_is c.in_ok-words-6.ensures.app) in
     let import = c.in_ok-subcommand-8.ensures.shape c.in_ok-words-7.ensures.local ∙ ap₂ with_subcommand upgrade (ap top_is c.in_ok-words-7.ensures.app) in
-    IfOk-weaker c.subcommand-9.result _ _ (λ command added. added.shape c.in_ok-words-8.ensures.local ∙ ap₂ with_subcommand import (ap top_is c.in_ok-words-8.ensures.app)) c.subcommand-9.ensures
+    let generate = c.in_ok-subcommand-9.ensures.shape c.in_ok-words-8.ensures.local ∙ ap₂ with_subcommand import (ap top_is c.in_ok-words-8.ensures.app) in
+    IfOk-weaker c.subcommand-10.result _ _ (λ command added. added.shape c.in_ok-words-9.ensures.local ∙ ap₂ with_subcommand generate (ap top_is c.in_ok-words-9.ensures.app)) c.subcommand-10.ensures

@@ -1,0 +1,50 @@
+//! The words of `order`.
+ghost use Rattle.std.specs.Prelude.{◌≡◌, codes, false, IfErr, IfOk, ◌∷◌, []};
+ghost use Rattle.clap.specs.Words.{app_of};
+ghost use Rattle.clap.specs.declared.builder.command.Command.TheViews.{out-Command as fields_of};
+ghost use Rattle.command_line.specs.CommandLine.{IsCallOf};
+ghost use Rattle.command_line.specs.Request.{IsNoUsage};
+ghost use Rattle.command_line.specs.Commands.{order_words};
+
+use crate::arguments;
+use crate::unread::Unread;
+use clap::{ArgMatches, Command};
+use std::alloc::{AllocError, Global};
+
+/// The words of `order`.
+pub fn words<'a>(alloc: Global) -> Result<Command<'a>, AllocError>
+    ensures app { IfOk result (λ command. app_of command ≡ order_words) }
+    ensures local { IfOk result (λ command. (fields_of command).has_globals ≡ false) }
+{
+    Command::new(alloc, "order")
+        .about("Prints what parallelism the order of work of a collection allows")
+        .arg(arguments::image(alloc))?
+        .arg(arguments::verbose(alloc))
+}
+
+/// What `order` is asked.
+#[derive(Drop)]
+pub struct Order<'a> {
+    /// The file with the image.
+    pub image: &'a str,
+    /// Whether to say at length what goes wrong.
+    pub verbose: bool,
+}
+
+impl<'a> Order<'a> {
+    /// What the words give.
+    pub(crate) fn of(given: &ArgMatches<'a>) -> Result<Order<'a>, Unread>
+        ensures { IfErr result IsNoUsage }
+    {
+        Ok(Order {
+            image: arguments::file_in(given, "IMAGE")?,
+            verbose: arguments::is_verbose(given),
+        })
+    }
+}
+
+/// Lines that call `order`.
+pub fn lines_call_order()
+    ensures line { IsCallOf (codes "order") (codes "order" ∷ codes "heap.pcheap" ∷ []) }
+    ensures options { IsCallOf (codes "order") (codes "order" ∷ codes "--verbose" ∷ codes "heap.pcheap" ∷ []) }
+{}

@@ -1,0 +1,22 @@
+use Rattle.std.proofs.Common.{◌≡◌, ◌∙◌, ◌≤◌, ◌+◌, ◌*◌, ◌++◌, ◌∷◌, [], ℕ, List, ap, sym, subst, length, length-append, arith}
+use Rattle.heap_image.specs.HeapImage.{HeapImage}
+use Rattle.work_order.specs.Chains.{AreLongest, IsLongestFrom, fill_words}
+use Rattle.work_order.proofs.Steps.{longest-from, one-longer}
+use Rattle.work_order.proofs.chains.longest_chains.Goals as goal
+
+pub loop-region-preserved : goal.loop-region-preserved
+loop-region-preserved c =
+    let image : HeapImage = c.args.plan.now in
+    let s = c.loop-region.region in
+    let before : List ℕ = c.loop-region.chains.items in
+    let so_far = c.loop-region.invariant in
+    let behind = c.longest_behind-behind.result in
+    let own = c.fill_words.result in
+    let from : IsLongestFrom image s (own + behind) =
+    subst (λ n. IsLongestFrom image s (n + behind)) (sym c.fill_words.ensures.value) (longest-from image s behind c.longest_behind-behind.ensures.longest) in
+    let few : own + behind ≤ (s + 1) * 65536 = omega (arith, c.fill_words.ensures.few, c.longest_behind-behind.ensures.few) in
+    let are : c.push.new.self.items ≡ before ++ ((own + behind) ∷ []) = c.in_ok-push.ensures.items in
+    record {
+      longest = subst (λ xs. AreLongest image xs) (sym are) (one-longer image s (own + behind) before so_far.longest so_far.all from few);
+      all = ap length are ∙ length-append before ((own + behind) ∷ []) ∙ ap (λ n. n + 1) so_far.all;
+    }
