@@ -3,14 +3,14 @@ ghost use Rattle.std.specs.Prelude.{◌≡◌, ◌++◌, codes, ℕ, List, IfOk,
 ghost use Rattle.heap_image.specs.Refusals.{IsReason};
 ghost use Rattle.work_order.specs.WorkOrder.{order_text};
 ghost use Rattle.pcompact.specs.Commands.{IsPrintedBy};
-ghost use Rattle.pcompact.specs.Commands.Order.{IsOrder, IsOrderOf};
+ghost use Rattle.pcompact.specs.Commands.Order.{IsOrder, IsOrderLine, IsOrderOf};
 
 use crate::done::Done;
 use crate::file_word::{FileWord, Role};
 use crate::trouble::Trouble;
 use crate::watched::Watched;
 use command_line::Order;
-use heap_image::{Fault, FromRead, Intake, read_image_by_threads};
+use heap_image::{Fault, FromRead, Image, Intake, read_image_by_threads};
 use std::alloc::{AllocError, Global};
 use std::rt::Files;
 use std::thread::Threads;
@@ -43,7 +43,19 @@ pub fn order<R: Intake, T: Threads + Sync>(
     ensures fault { IfErr result (λ fault. IfSome (R.left input.old) (λ bytes. IsReason bytes fault)) }
 {
     let image = read_image_by_threads(alloc, input, threads)?;
-    let survey = Survey::of(alloc, &image, threads)?;
+    text_of_image(alloc, &image, threads)
+}
+
+/// The line of the order of work of an image. The only fault is want of memory.
+fn text_of_image(
+    alloc: Global,
+    image: &Image,
+    threads: &(impl Threads + Sync),
+) -> Result<String, Fault>
+    ensures order { IfOk result (λ text. IsOrderLine image.now (string_bytes text)) }
+    ensures fault { IfErr result (λ fault. fault ≡ Fault.Memory) }
+{
+    let survey = Survey::of(alloc, image, threads)?;
     let order = WorkOrder::of(alloc, survey.plan())?;
     Ok(text_of(alloc, order)?)
 }

@@ -9,7 +9,7 @@ use crate::file_word::{FileWord, Role};
 use crate::trouble::Trouble;
 use crate::watched::Watched;
 use command_line::Summary;
-use heap_image::{Fault, FromRead, Intake, read_image_by_threads};
+use heap_image::{Fault, FromRead, Image, Intake, read_image_by_threads};
 use std::alloc::{AllocError, Global};
 use std::rt::Files;
 use std::thread::Threads;
@@ -41,7 +41,19 @@ pub fn summarize<R: Intake, T: Threads + Sync>(
     ensures fault { IfErr result (λ fault. IfSome (R.left input.old) (λ bytes. IsReason bytes fault)) }
 {
     let image = read_image_by_threads(alloc, input, threads)?;
-    let survey = Survey::of(alloc, &image, threads)?;
+    summary_text(alloc, &image, threads)
+}
+
+/// What the plan of an image says. The only fault is want of memory.
+fn summary_text(
+    alloc: Global,
+    image: &Image,
+    threads: &(impl Threads + Sync),
+) -> Result<String, Fault>
+    ensures summary { IfOk result (λ text. string_bytes text ≡ summary_of image.now) }
+    ensures fault { IfErr result (λ fault. fault ≡ Fault.Memory) }
+{
+    let survey = Survey::of(alloc, image, threads)?;
     Ok(text_of(alloc, survey.plan())?)
 }
 

@@ -3,13 +3,13 @@ use Rattle.heap_image.specs.HeapImage.{HeapImage}
 use Rattle.summary.specs.NewAddresses.{new_top}
 use Rattle.work_order.specs.Chains.{IsLongestChain}
 use Rattle.work_order.specs.WorkOrder.{order_text}
-use Rattle.pcompact.proofs.commands.order.order.Goals as goal
+use Rattle.pcompact.proofs.commands.order.text_of_image.Goals as goal
 
 pub returns-clause-order : goal.returns-clause-order
 returns-clause-order g c =
-    let image : HeapImage = c.in_ok-image.image in
+    let image : HeapImage = c.args.image.now in
     let chain = c.in_ok-order.order.chain in
     let of_image : c.plan.result.now ≡ image = c.plan.ensures ∙ c.in_ok-survey.ensures.survey in
     let longest : IsLongestChain image chain = subst (λ (i : HeapImage). IsLongestChain i chain) of_image c.in_ok-order.ensures.chain in
     let words : c.in_ok-order.order.words ≡ new_top image = c.in_ok-order.ensures.words ∙ ap new_top of_image in
-    (image, c.in_ok-image.ensures.valid, c.in_ok-image.ensures.text, (chain, longest, c.in_ok-text_of.ensures ∙ ap (λ n. order_text n chain ++ codes "\n") words))
+    (chain, longest, c.in_ok-text_of.ensures ∙ ap (λ n. order_text n chain ++ codes "\n") words)
