@@ -25,6 +25,7 @@
 
 mod bits;
 mod check;
+mod crowd;
 mod decoding;
 mod encoding;
 mod fault;

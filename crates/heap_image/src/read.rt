@@ -10,6 +10,7 @@ ghost use Rattle.heap_image.specs.Sizes.{AreSizes};
 ghost use Rattle.heap_image.specs.Refusals.{IsReason, IsOfReading, IsOfBody, LeavesRest};
 ghost use Rattle.heap_image.specs.Incoming.{IsInRange, FallsShort, expected, known_rest};
 
+use crate::crowd::Crowd;
 use crate::front::{FRONT_BYTES, Front};
 use crate::heap::Heap;
 use crate::incoming::Incoming;
@@ -106,9 +107,11 @@ pub fn read_image_by_workers<R: Intake>(
     ensures io { R.has_failed reader.new ≡ is_io result }
 {
     let read = read_unchecked(alloc, reader)?;
-    let sizes = read
-        .found
-        .sizes_if_sound(alloc, &read.heap(), workers, threads);
+    let crowd = Crowd {
+        threads,
+        most: workers,
+    };
+    let sizes = read.found.sizes_if_sound(alloc, &read.heap(), &crowd);
     // Most live objects are sound. Where that wasn't seen, one thread looks for the fault that comes first.
     let checked = match &sizes {
         Some(_) => Ok(()),

@@ -12,6 +12,7 @@ ghost use Rattle.heap_image.specs.Soundness.{AreNoted, AreTargets, IsSoundObject
 
 use crate::bits::Bits;
 use crate::check::is_unsound;
+use crate::crowd::Crowd;
 use crate::header;
 use crate::heap::Heap;
 use std::alloc::{AllocError, Global};
@@ -24,15 +25,14 @@ pub const PIECE: usize = 64;
 /// How many pieces are worth a thread of their own.
 const LEAST: usize = 16;
 
-/// The sizes in words of the live objects, whose addresses are marked, if nothing is wrong with any of them. So many
-/// threads look at the objects at most, each object once. Where memory is refused there is no answer.
-pub(crate) fn sizes_if_sound(
+/// The sizes in words of the live objects, whose addresses are marked, if nothing is wrong with any of them. The
+/// crowd looks at the objects, at each object once. Where memory is refused there is no answer.
+pub(crate) fn sizes_if_sound<T: Threads + Sync>(
     alloc: Global,
     heap: &Heap<'_>,
     live: &[u64],
     begins: &Bits,
-    workers: usize,
-    threads: &(impl Threads + Sync),
+    crowd: &Crowd<'_, T>,
 ) -> Option<Vec<[u32; PIECE]>>
     requires inside { All (λ a. a < heap_words heap.now) live.now }
     requires bits { MarkBegins live.now (heap_words heap.now) begins.now }
@@ -42,7 +42,7 @@ pub(crate) fn sizes_if_sound(
     let Ok(targets) = begins.raised(alloc) else {
         return None;
     };
-    let Ok(sizes) = noted_sizes(alloc, heap, live, &targets, workers, threads) else {
+    let Ok(sizes) = noted_sizes(alloc, heap, live, &targets, crowd) else {
         return None;
     };
     if are_all_noted(sizes.as_slice(), live.len()) {
@@ -54,13 +54,12 @@ pub(crate) fn sizes_if_sound(
 
 /// The size of each live object that is sound, and 0 for each that isn't. The bits of the references that are null
 /// or lead to a live object are set in `targets`.
-fn noted_sizes(
+fn noted_sizes<T: Threads + Sync>(
     alloc: Global,
     heap: &Heap<'_>,
     live: &[u64],
     targets: &Bits,
-    workers: usize,
-    threads: &(impl Threads + Sync),
+    crowd: &Crowd<'_, T>,
 ) -> Result<Vec<[u32; PIECE]>, AllocError>
     requires inside { All (λ a. a < heap_words heap.now) live.now }
     requires targets { AreTargets (with_live heap.now live.now) targets.now }
@@ -69,13 +68,13 @@ fn noted_sizes(
         → AreNoted (with_live heap.now live.now) p (slice_index_or sizes.items p [])) }
 {
     let mut sizes = vec![in alloc; [0u32; PIECE]; live.len().div_ceil(PIECE)]?;
-    let count = workers.min(sizes.len() / LEAST).max(1);
+    let count = crowd.most.min(sizes.len() / LEAST).max(1);
     let note = |piece: usize, sizes: &mut [u32; PIECE]|
         requires { All (λ a. a < heap_words heap.now) live.now
             × AreTargets (with_live heap.now live.now) targets.now × (64 * piece < length live.now) }
         ensures { AreNoted (with_live heap.entry.now live.entry.now) piece sizes.new }
     { note_sizes(heap, live, targets, piece, sizes) };
-    thread::for_each_mut(threads, sizes.as_mut_slice(), count, &note);
+    thread::for_each_mut(crowd.threads, sizes.as_mut_slice(), count, &note);
     Ok(sizes)
 }
 

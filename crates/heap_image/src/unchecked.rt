@@ -9,6 +9,7 @@ ghost use Rattle.heap_image.specs.ImageText.{from_tail, first_some, first_object
 use crate::Fault;
 use crate::bits::Bits;
 use crate::check::{check_live, misplaced_index};
+use crate::crowd::Crowd;
 use crate::heap::Heap;
 use crate::reach::{Reached, reached_from_roots};
 use crate::soundness::{PIECE, sizes_if_sound};
@@ -95,14 +96,12 @@ impl Found {
         check_live(heap, self.live.as_slice(), &self.begins, self.well_formed)
     }
 
-    /// The sizes of the live objects, if it is seen that nothing is wrong with any. So many threads look at the objects at
-    /// most. Nothing is looked at where the objects are known to be well-formed.
-    pub(crate) fn sizes_if_sound(
+    /// The sizes of the live objects, if it is seen that nothing is wrong with any. The crowd looks at the objects. Nothing is looked at where the objects are known to be well-formed.
+    pub(crate) fn sizes_if_sound<T: Threads + Sync>(
         &self,
         alloc: Global,
         heap: &Heap<'_>,
-        workers: usize,
-        threads: &(impl Threads + Sync),
+        crowd: &Crowd<'_, T>,
     ) -> Option<Vec<[u32; PIECE]>>
         requires inside { All (λ a. a < heap_words heap.now) self.now.live.items }
         requires begins { MarkBegins self.now.live.items (heap_words heap.now) self.now.begins }
@@ -114,7 +113,6 @@ impl Found {
         if self.well_formed {
             return None;
         }
-        let live = self.live.as_slice();
-        sizes_if_sound(alloc, heap, live, &self.begins, workers, threads)
+        sizes_if_sound(alloc, heap, self.live.as_slice(), &self.begins, crowd)
     }
 }

@@ -13,5 +13,5 @@ then None P Q f h = h
 pub returns-clause-ok : goal.returns-clause-ok
 returns-clause-ok g c =
     let heap = c.args.heap.now in
-    then c.sizes_if_sound.result (HasLiveList (with_live heap c.as_slice-live.result.now)) (first_object_fault (with_live heap c.args.self.now.live.items) ≡ None)
-    (λ sound. first_object_fault-None (with_live heap c.args.self.now.live.items) (subst (λ xs. HasLiveList (with_live heap xs)) c.as_slice-live.ensures.value sound)) c.sizes_if_sound.ensures.sound
+    then c.sizes_if_sound.result (HasLiveList (with_live heap c.as_slice.result.now)) (first_object_fault (with_live heap c.args.self.now.live.items) ≡ None)
+    (λ sound. first_object_fault-None (with_live heap c.args.self.now.live.items) (subst (λ xs. HasLiveList (with_live heap xs)) c.as_slice.ensures.value sound)) c.sizes_if_sound.ensures.sound
