@@ -1,5 +1,6 @@
 // Preloaded into a program, lets one of its calls on files fail, as opens, reads and writes: the one
-// whose number, from 1, the environment gives as FAILED. With ONE set, each read and write moves one
+// whose number, from 1, the environment gives as FAILED. Positioned reads count, and alone, where
+// POSITIONED is set. With ONE set, each read and write moves one
 // byte at most. nth_call.h says how many such calls were made. Files in which the system tells of itself,
 // as how many processors there are, are left alone and not counted: no command names them. Nor is it
 // counted that a file is removed: the program does so only after another fault.
@@ -9,6 +10,7 @@
 #include <fcntl.h>
 #include <stdarg.h>
 #include <stdio.h>
+#include <stdlib.h>
 #include <string.h>
 #include <sys/stat.h>
 
@@ -26,12 +28,16 @@ static int is_left_alone(int file) {
     return file >= 0 && file < FILES && is_systems[file];
 }
 
-static int fails(void) {
-    if (!is_chosen("FAILED")) {
+static int fails_of(int is_positioned) {
+    if (is_positioned != (getenv("POSITIONED") != NULL) || !is_chosen("FAILED")) {
         return 0;
     }
     errno = EIO;
     return 1;
+}
+
+static int fails(void) {
+    return fails_of(0);
 }
 
 static size_t moved(size_t size) {
@@ -64,6 +70,14 @@ ssize_t read(int file, void *bytes, size_t size) {
         return next(file, bytes, size);
     }
     return fails() ? -1 : next(file, bytes, moved(size));
+}
+
+ssize_t pread(int file, void *bytes, size_t size, off_t at) {
+    static ssize_t (*next)(int, void *, size_t, off_t);
+    if (!next) {
+        next = (ssize_t(*)(int, void *, size_t, off_t))dlsym(RTLD_NEXT, "pread");
+    }
+    return fails_of(1) ? -1 : next(file, bytes, size, at);
 }
 
 ssize_t write(int file, const void *bytes, size_t size) {

@@ -1,15 +1,19 @@
 """One case of `tests/fuzz`: an image and schedules through each command, and what the model says of them."""
 import dataclasses
 import random
+import re
 
 from makers import ImageMaker, LimitMaker, ScheduleMaker, as_version_1, chance_of
 from model import Collection, Fault, Image, decode, encode, upgraded, verdict
-from mutations import ImageSpoiler, ScheduleSpoiler
+from mutations import ImageSpoiler, ScheduleSpoiler, TextSpoiler
 from program import Answer, Tried, differs, fault
 from schedule_model import ANY, MAX_WORKERS, Schedule, is_recorded, read, recorded_by_one, replayed
+from text_model import assembled, text_of
 
 # Words of an image for which the model takes long.
 MANY_WORDS = 1 << 14
+# What `assemble` says of a text that is none of a heap.
+NO_TEXT = Answer(1, err=re.compile(r"pcompact: TEXT line [1-9][0-9]*: expected .+\n"), made={"made": None})
 
 
 def atomic_or_not(chance: random.Random) -> str:
@@ -27,7 +31,7 @@ def try_refused(tried: Tried, said: str, chance: random.Random) -> None:
     workers, flag = chance.choice([0, MAX_WORKERS + 1, *range(1, 9)]), atomic_or_not(chance)
     # The image is read before the schedule, and before workers are counted.
     tried.write("schedule", chance.choice(["", "schedule 1 1\n", "schedule 1 1\n0 claim 0 ?"]))
-    commands = [("order image", {}), ("replay image schedule", {}), ("verify image base", {}), ("verify base image", {}),
+    commands = [("order image", {}), ("text image", {}), ("map image --after", {}), (f"map image --svg drawn{flag}", {"drawn": None}), ("replay image schedule", {}), ("verify image base", {}), ("verify base image", {}),
                 (f"collect image out --workers {workers}{flag}", left(flag, "out")),
                 (f"record image out recorded --workers {workers}{flag}", left(flag, "out", "recorded")),
                 (f"upgrade image out{flag}", left(flag, "out"))]
@@ -41,6 +45,9 @@ def try_collected(tried: Tried, collection: Collection, chance: random.Random) -
     collected = Answer(0, collection.figures(), made={"out": encode(collection.compaction())})
     tried.run("summary image", Answer(0, collection.report()))
     tried.run("order image", Answer(0, collection.order()))
+    width = chance.choice([1, 2, 7, 64, 1000, chance.randint(1, 1000)])
+    tried.run(f"map image --letters --width {width}", Answer(0, collection.map(width, False)))
+    tried.run(f"map image --after --letters --width {width}", Answer(0, collection.map(width, True)))
     for workers in (1, chance.choice([2, 3, 4, 8, MAX_WORKERS, chance.randint(2, MAX_WORKERS)])):
         tried.run(f"collect image out --workers {workers}{atomic_or_not(chance)}", collected)
     tried.run("verify image out", Answer(0, "same\n"))
@@ -95,6 +102,24 @@ def try_upgraded(tried: Tried, image: Image) -> None:
     tried.run("upgrade new new --atomic", Answer(0, f"roots {len(new.tail)}\n"))
     made = {"out": encode(collection.compaction())}
     tried.run("collect new out --workers 2", Answer(0, collection.figures(), made=made))
+
+
+def try_text(tried: Tried, image: Image, chance: random.Random) -> str:
+    """The text of a heap both ways, and one that is changed."""
+    text = text_of(image)
+    tried.run("text image", Answer(0, text))
+    tried.write("lines", text)
+    tried.run(f"assemble lines made{atomic_or_not(chance)}", assembly(image))
+    changed = TextSpoiler(chance, text).spoiled()
+    tried.write("lines", changed)
+    found = assembled(changed)
+    tried.run(f"assemble lines made{atomic_or_not(chance)}", assembly(found) if found else NO_TEXT)
+    return "assembled" if found else "refused"
+
+
+def assembly(image: Image) -> Answer:
+    said = f"words {len(image.words)} roots {len(image.roots())} live {len(image.live())}\n"
+    return Answer(0, said, made={"made": encode(image)})
 
 
 def try_verdict(tried: Tried, image: Image, chance: random.Random) -> str:
@@ -159,4 +184,6 @@ def try_case(tried: Tried, chance: random.Random) -> list[str]:
     try_collected(tried, collection, chance)
     replays = try_schedules(tried, collection, chance)
     kinds = [f"version {image.version}", f"verdict {try_verdict(tried, image, chance)}"]
+    if len(image.words) <= MANY_WORDS:
+        kinds.append(f"text {try_text(tried, image, chance)}")
     return kinds + [f"replay {kind}" for kind in replays] + (["at a limit"] if len(image.words) > MANY_WORDS else [])

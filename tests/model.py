@@ -8,6 +8,7 @@ import dataclasses
 import functools
 import itertools
 import struct
+from collections.abc import Iterator
 
 OBJECT, FILLER = 1, 2
 MAGICS = {b"PCHEAP01": 1, b"PCHEAP02": 2}
@@ -224,6 +225,33 @@ class Collection:
         hundredths = self.top * 100 // chain if chain else 100
         workers = next(n for n in itertools.count(1) if self.top <= n * chain)
         return f"chain {chain} words {self.top} speedup {hundredths // 100}.{hundredths % 100:02} workers {workers}\n"
+
+    def map(self, width: int, after: bool) -> str:
+        """What `map` prints in letters and without colours."""
+        last_end = self.image.end(self.live[-1]) if self.live else 0
+        strips = [("before", set(self.owner), last_end)] + [("after ", set(self.origins), self.top)] * after
+        lines = [self.map_line()]
+        for name, living, top in strips:
+            cells = list(self.cells(width, living, top))
+            lines += [f"{name} |{''.join(shade for shade, _ in cells)}|\n", f"       |{''.join(area for _, area in cells)}|\n"]
+        return "".join([*lines, "live: _ none . few : half + most # all\n",
+                        "area: p prefix f prefix with fillers m moving - free x several\n"])
+
+    def map_line(self) -> str:
+        words, live = len(self.image.words), len(self.owner)
+        return f"words {words} live {live} dead {words - live} prefix {self.prefix_end} top {self.top} filled {len(self.to_fill)}\n"
+
+    def cells(self, width: int, living: set[int], top: int) -> Iterator[tuple[str, str]]:
+        """The shade and the area of each cell, where these words live, and none from the top up."""
+        words = len(self.image.words)
+        count = min(width, words)
+        for i in range(count):
+            cell = range(i * words // count, (i + 1) * words // count)
+            live = sum(word in living for word in cell)
+            shade = "_" if live == 0 else "#" if live == len(cell) else ".:+"[3 * live // len(cell)]
+            areas = {"p" if word < self.prefix_end else "-" if word >= top else "m" for word in cell}
+            area = areas.pop() if len(areas) == 1 else "x"
+            yield shade, "f" if area == "p" and live < len(cell) else area
 
     def report_line(self, r: int) -> str:
         start = r * self.region_words

@@ -297,3 +297,68 @@ class ScheduleSpoiler:
         place = self.chance.randrange(len(self.lines[i]) or 1)
         byte = chr(self.chance.choice([0, 13, 32, 63, 127, 128, 255, self.chance.randrange(256)]))
         self.lines[i] = self.lines[i][:place] + byte + self.lines[i][place + 1:]
+
+
+class TextSpoiler:
+    """Makes the text of a heap slightly wrong, mostly."""
+
+    def __init__(self, chance: random.Random, text: str):
+        self.chance = chance
+        self.lines = text.splitlines()
+
+    def spoiled(self) -> str:
+        changes = [self.change_word, self.change_word, self.change_word, self.leave_out_word, self.double_word,
+                   self.leave_out_line, self.double_line, self.exchange_lines, self.change_space]
+        for change in self.chance.choices(changes, k=self.chance.choice([1, 1, 1, 2])):
+            if self.lines:
+                change()
+        text = "".join(f"{line}\n" for line in self.lines)
+        return text[:-1] if self.chance.randrange(20) == 0 else text
+
+    def place(self) -> int:
+        return self.chance.randrange(len(self.lines))
+
+    def words(self, line: int) -> tuple[list[str], int]:
+        """The words of a line, and the place of one of them."""
+        words = self.lines[line].split(" ")
+        return words, self.chance.randrange(len(words))
+
+    def change_word(self) -> None:
+        """Another word: one of this text, a number or an address near by or any, or one that is spelled otherwise."""
+        line = self.place()
+        words, at = self.words(line)
+        others, other = self.words(self.place())
+        number = self.chance.choice([0, 1, 2, 3, 999, self.chance.randrange(64), self.chance.getrandbits(64), 1 << 64])
+        digits = words[at].lstrip("@")
+        near = [str(int(digits) + self.chance.choice([-1, 1]))] if digits.isdecimal() else []
+        words[at] = self.chance.choice([others[other], str(number), f"@{number}", "null", "refs", "data", "of", "words", "dead",
+                                        "object", f"0{words[at]}", f"+{words[at]}", f"@{digits}", digits,
+                                        *near * 6, *(f"@{n}" for n in near * 6)])
+        self.lines[line] = " ".join(words)
+
+    def leave_out_word(self) -> None:
+        line = self.place()
+        words, at = self.words(line)
+        self.lines[line] = " ".join(words[:at] + words[at + 1:])
+
+    def double_word(self) -> None:
+        line = self.place()
+        words, at = self.words(line)
+        self.lines[line] = " ".join(words[:at + 1] + words[at:])
+
+    def leave_out_line(self) -> None:
+        del self.lines[self.place()]
+
+    def double_line(self) -> None:
+        line = self.place()
+        self.lines.insert(line, self.lines[line])
+
+    def exchange_lines(self) -> None:
+        one, other = self.place(), self.place()
+        self.lines[one], self.lines[other] = self.lines[other], self.lines[one]
+
+    def change_space(self) -> None:
+        line = self.place()
+        text = self.lines[line]
+        at = self.chance.randrange(len(text) + 1)
+        self.lines[line] = text[:at] + self.chance.choice([" ", "\t", "\r", "\x00", "é"]) + text[at:]

@@ -1,6 +1,7 @@
 """The built program as its users call it, and what it must answer."""
 import dataclasses
 import pathlib
+import re
 import shutil
 import subprocess
 from collections.abc import Callable
@@ -15,7 +16,8 @@ class Answer:
     status: int
     # Any text where it is None.
     out: str | None = ""
-    err: str = ""
+    # All of it, or what all of it matches.
+    err: str | re.Pattern = ""
     # Of each file that the program makes its bytes, or None where it must not be there.
     made: dict[str, bytes | None] = dataclasses.field(default_factory=dict)
 
@@ -103,5 +105,7 @@ END_OF_USAGE = "\nFor more information, try '--help'.\n"
 
 def is_told(err: str, answer: Answer) -> bool:
     """Whether standard error has the text. A text of usage that is given without its end must begin so."""
+    if isinstance(answer.err, re.Pattern):
+        return answer.err.fullmatch(err) is not None
     is_begun = answer.status == 2 and answer.err.startswith("error: ") and not answer.err.endswith(END_OF_USAGE)
     return err.startswith(answer.err) and err.endswith(END_OF_USAGE) if is_begun else err == answer.err

@@ -17,6 +17,9 @@ Commands:
   import    Writes the heap dump of a Java virtual machine as a heap image
   generate  Writes a heap image that follows from a seed, for benchmarks and experiments
   order     Prints what parallelism the order of work of a collection allows
+  text      Prints a heap image as lines that a person reads
+  assemble  Writes the heap image of a text
+  map       Prints a picture of a heap image, and of what its collection leaves
   help      Print this message or the help of the given subcommand(s)
 
 Options:
@@ -111,6 +114,54 @@ Options:
   -h, --help     Print help
 """
 
+TEXT_HELP = """\
+Prints a heap image as lines that a person reads
+
+Usage: pcompact text [OPTIONS] <IMAGE>
+
+Arguments:
+  <IMAGE>  A file with a heap image
+
+Options:
+      --verbose  Says more of what goes wrong
+  -h, --help     Print help
+"""
+
+ASSEMBLE_HELP = """\
+Writes the heap image of a text
+
+Usage: pcompact assemble [OPTIONS] <TEXT> <IMAGE>
+
+Arguments:
+  <TEXT>   A file with the text of a heap
+  <IMAGE>  The file for the image
+
+Options:
+      --atomic   Replaces files only once the command has ended well
+      --verbose  Says more of what goes wrong
+  -h, --help     Print help
+"""
+
+MAP_HELP = """\
+Prints a picture of a heap image, and of what its collection leaves
+
+Usage: pcompact map [OPTIONS] <IMAGE>
+
+Arguments:
+  <IMAGE>  A file with a heap image
+
+Options:
+      --after       Shows the heap after its collection too
+      --width <n>   Cuts the heap into n cells, 1 to 1000; 64 if not given
+      --svg <FILE>  Writes the picture into this file as SVG, and prints the figures alone
+      --letters     Draws with letters where the locale has blocks too
+      --color       Colours the picture also where standard output is no terminal
+      --no-color    Doesn't colour it on a terminal either
+      --atomic      Replaces files only once the command has ended well
+      --verbose     Says more of what goes wrong
+  -h, --help        Print help
+"""
+
 VERIFY_HELP = """\
 Says whether a heap image is the compaction of another, or where they differ
 
@@ -181,7 +232,7 @@ Options:
 
 NO_COMMAND = """\
 error: 'pcompact' requires a subcommand but one was not provided
-  [subcommands: board, summary, collect, verify, record, replay, upgrade, import, generate, order, help]
+  [subcommands: board, summary, collect, verify, record, replay, upgrade, import, generate, order, text, assemble, map, help]
 
 Usage: pcompact <COMMAND>
 
@@ -290,6 +341,9 @@ HELPS = [
     ("import --help", IMPORT_HELP),
     ("generate --help", GENERATE_HELP),
     ("order --help", ORDER_HELP),
+    ("text --help", TEXT_HELP),
+    ("assemble --help", ASSEMBLE_HELP),
+    ("map --help", MAP_HELP),
 ]
 
 REFUSED = [

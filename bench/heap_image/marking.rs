@@ -6,12 +6,15 @@
 mod header;
 #[path = "../plain/image.rs"]
 mod image;
+#[path = "../plain/laps.rs"]
+mod laps;
 #[path = "../plain/marking.rs"]
 mod marking;
 #[path = "../plain/marks.rs"]
 mod marks;
 
 use image::{mark_from_roots, Fault};
+use laps::Laps;
 use marking::Heap;
 use std::fs::File;
 use std::time::Instant;
@@ -37,7 +40,7 @@ impl Heap for Regions {
 
 fn main() -> Result<(), Fault> {
     for name in std::env::args().skip(1) {
-        let image = image::read(File::open(&name)?)?;
+        let image = image::read(File::open(&name)?, &mut Laps::new())?;
         let log = image.region_log;
         let heap = Regions { log, blocks: image.words.chunks(1 << log).map(Box::from).collect() };
         let roots = image.roots.unwrap_or_default();

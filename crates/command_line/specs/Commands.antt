@@ -110,6 +110,32 @@ abbrev pub order_words : App
 order_words =
     with_rule (with_rule (new_app (codes "order")) (file_rule (codes "IMAGE"))) verbose_rule
 
+-- the words of `text`
+abbrev pub text_words : App
+text_words =
+    with_rule (with_rule (new_app (codes "text")) (file_rule (codes "IMAGE"))) verbose_rule
+
+-- the words of `assemble`
+abbrev pub assemble_words : App
+assemble_words =
+    with_rule (with_rule (with_rule (with_rule (new_app (codes "assemble")) (file_rule (codes "TEXT"))) (file_rule (codes "IMAGE"))) atomic_rule)
+    verbose_rule
+
+-- the option `--width`, which takes a number from 1 to 1000
+abbrev pub width_rule : Rule
+width_rule = number_rule (codes "width") 1 1000
+
+-- the option `--svg`, which takes the name of a file
+abbrev pub svg_rule : Rule
+svg_rule = record (new_rule (codes "svg")) { long = Some (codes "svg"); value_names = 1 }
+
+-- the words of `map`
+abbrev pub map_words : App
+map_words =
+    with_rule (with_rule (with_rule (with_rule (with_rule (with_rule (with_rule (with_rule (with_rule (new_app (codes "map"))
+    (file_rule (codes "IMAGE"))) (flag_rule (codes "after"))) width_rule) svg_rule) (flag_rule (codes "letters")))
+    (flag_rule (codes "color"))) (flag_rule (codes "no-color"))) atomic_rule) verbose_rule
+
 -- the words of the commands, in the order in which help lists them
 abbrev pub listed : List App
 listed =
@@ -123,4 +149,7 @@ listed =
     ∷ import_words
     ∷ generate_words
     ∷ order_words
+    ∷ text_words
+    ∷ assemble_words
+    ∷ map_words
     ∷ []

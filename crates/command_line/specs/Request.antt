@@ -1,12 +1,12 @@
 use Rattle.std.specs.Prelude.{◌≡◌, ⊤, codes}
-use Rattle.clap.specs.Walk.{Text}
+use Rattle.clap.specs.Walk.{Text as Name}
 use Rattle.command_line.specs.declared.request.Request.{Request}
-use Rattle.command_line.specs.declared.request.Request.TheVariants.{Board, Summary, Collect, Verify, Record, Replay, Upgrade, Import, Generate, Order, Show}
+use Rattle.command_line.specs.declared.request.Request.TheVariants.{Board, Summary, Collect, Verify, Record, Replay, Upgrade, Import, Generate, Order, Text, Assemble, Map, Show}
 use Rattle.command_line.specs.declared.unread.Unread.{Unread}
 use Rattle.command_line.specs.declared.unread.Unread.TheVariants.{Usage, NoCommand, Memory}
 
 -- the request is a call of the command of this name
-abbrev pub IsFor : Text → Request → Type 0
+abbrev pub IsFor : Name → Request → Type 0
 IsFor name Board = name ≡ codes "board"
 IsFor name (Summary asked) = name ≡ codes "summary"
 IsFor name (Collect asked) = name ≡ codes "collect"
@@ -17,6 +17,9 @@ IsFor name (Upgrade asked) = name ≡ codes "upgrade"
 IsFor name (Import asked) = name ≡ codes "import"
 IsFor name (Generate asked) = name ≡ codes "generate"
 IsFor name (Order asked) = name ≡ codes "order"
+IsFor name (Text asked) = name ≡ codes "text"
+IsFor name (Assemble asked) = name ≡ codes "assemble"
+IsFor name (Map asked) = name ≡ codes "map"
 IsFor name (Show text) = ⊥
 
 -- nothing is said of the words to whoever called

@@ -6,18 +6,24 @@ ghost use Rattle.command_line.specs.CommandLine.{commands, program_words};
 ghost use Rattle.command_line.specs.Request.{IsFor, IsNoUsage};
 ghost use Rattle.command_line.specs.declared.request.Request.TheVariants.{Board};
 
+use crate::assemble::Assemble;
 use crate::collect::Collect;
 use crate::generate::Generate;
 use crate::import::Import;
+use crate::map::Map;
 use crate::order::Order;
 use crate::record::Record;
 use crate::replay::Replay;
 use crate::request::Request;
 use crate::summary::Summary;
+use crate::text::Text;
 use crate::unread::Unread;
 use crate::upgrade::Upgrade;
 use crate::verify::Verify;
-use crate::{board, collect, generate, import, order, record, replay, summary, upgrade, verify};
+use crate::{
+    assemble, board, collect, generate, import, map, order, record, replay, summary, text, upgrade,
+    verify,
+};
 use clap::{ArgMatches, Command};
 use std::alloc::{AllocError, Global};
 
@@ -43,7 +49,10 @@ pub fn words<'a>(alloc: Global) -> Result<Command<'a>, AllocError>
         .subcommand(upgrade::words(alloc)?)?
         .subcommand(import::words(alloc)?)?
         .subcommand(generate::words(alloc)?)?
-        .subcommand(order::words(alloc)?)
+        .subcommand(order::words(alloc)?)?
+        .subcommand(text::words(alloc)?)?
+        .subcommand(assemble::words(alloc)?)?
+        .subcommand(map::words(alloc)?)
 }
 
 /// What was called, with what it is given.
@@ -59,7 +68,7 @@ pub fn called<'a>(matches: &ArgMatches<'a>) -> Result<Request<'a>, Unread>
     }
 }
 
-/// What a command is asked that collects, or tells of collections.
+/// What a command is asked that collects, or tells of an image or of collections.
 fn asked<'a>(name: &str, given: &ArgMatches<'a>) -> Result<Request<'a>, Unread>
     ensures { MatchResult result (IsFor name.now) IsNoUsage }
 {
@@ -70,6 +79,8 @@ fn asked<'a>(name: &str, given: &ArgMatches<'a>) -> Result<Request<'a>, Unread>
         "record" => Request::Record(Record::of(given)?),
         "replay" => Request::Replay(Replay::of(given)?),
         "order" => Request::Order(Order::of(given)?),
+        "text" => Request::Text(Text::of(given)?),
+        "map" => Request::Map(Map::of(given)?),
         _ => return asked_for_image(name, given),
     })
 }
@@ -82,6 +93,7 @@ fn asked_for_image<'a>(name: &str, given: &ArgMatches<'a>) -> Result<Request<'a>
         "upgrade" => Request::Upgrade(Upgrade::of(given)?),
         "import" => Request::Import(Import::of(given)?),
         "generate" => Request::Generate(Generate::of(given)?),
+        "assemble" => Request::Assemble(Assemble::of(given)?),
         _ => return Err(Unread::NoCommand),
     })
 }

@@ -21,11 +21,13 @@
 #![tactic(auto)]
 
 mod arguments;
+mod assemble;
 mod board;
 mod collect;
 mod commands;
 mod generate;
 mod import;
+mod map;
 mod order;
 mod reading;
 mod record;
@@ -34,20 +36,24 @@ mod request;
 mod summary;
 #[cfg(test)]
 mod tests;
+mod text;
 mod unread;
 mod upgrade;
 mod verify;
 
+pub use assemble::{Assemble, lines_call_assemble};
 pub use board::line_calls_board;
 pub use collect::{Collect, lines_call_collect};
 pub use generate::{Generate, lines_call_generate};
 pub use import::{Import, lines_call_import};
+pub use map::{Look, Map, lines_call_map};
 pub use order::{Order, lines_call_order};
 pub use reading::read;
 pub use record::{Record, line_calls_record};
 pub use replay::{Replay, line_calls_replay};
 pub use request::Request;
 pub use summary::{Summary, lines_call_summary};
+pub use text::{Text, lines_call_text};
 pub use unread::Unread;
 pub use upgrade::{Upgrade, lines_call_upgrade};
 pub use verify::{Verify, line_calls_verify};

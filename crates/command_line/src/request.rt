@@ -1,11 +1,14 @@
 //! `Request`.
+use crate::assemble::Assemble;
 use crate::collect::Collect;
 use crate::generate::Generate;
 use crate::import::Import;
+use crate::map::Map;
 use crate::order::Order;
 use crate::record::Record;
 use crate::replay::Replay;
 use crate::summary::Summary;
+use crate::text::Text;
 use crate::upgrade::Upgrade;
 use crate::verify::Verify;
 
@@ -32,6 +35,12 @@ pub enum Request<'a> {
     Generate(Generate<'a>),
     /// The command `order`.
     Order(Order<'a>),
+    /// The command `text`.
+    Text(Text<'a>),
+    /// The command `assemble`.
+    Assemble(Assemble<'a>),
+    /// The command `map`.
+    Map(Map<'a>),
     /// To show this text, help or the version, of whole lines.
     Show(String),
 }
@@ -50,6 +59,9 @@ impl Request<'_> {
             Request::Import(asked) => asked.verbose,
             Request::Generate(asked) => asked.verbose,
             Request::Order(asked) => asked.verbose,
+            Request::Text(asked) => asked.verbose,
+            Request::Assemble(asked) => asked.verbose,
+            Request::Map(asked) => asked.verbose,
         }
     }
 }

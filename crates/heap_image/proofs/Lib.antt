@@ -1,5 +1,6 @@
 pub mod Known
 pub mod Places
+pub mod Extents
 pub mod Masks
 pub mod Words
 pub mod Counts

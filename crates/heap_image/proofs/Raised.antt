@@ -1,5 +1,5 @@
 -- Bits that are raised by one place each, over the words.
-use Rattle.std.proofs.Common.{◌≡◌, ℕ, zero, suc, ◌+◌, ◌-◌, ◌*◌, ◌/◌, ◌%◌, ◌^◌, ◌≤◌, ◌<◌, inl, inr, max, false, List, [], ◌∷◌, length, get_or, refl, sym, ◌∙◌, ap, arith, eqb, bit_or, add-one, drop, drop-cons, ◌++◌, append_assoc}
+use Rattle.std.proofs.Common.{◌≡◌, ℕ, suc, ◌+◌, ◌-◌, ◌*◌, ◌/◌, ◌%◌, ◌^◌, ◌≤◌, ◌<◌, inl, inr, max, false, List, [], ◌∷◌, length, get_or, refl, sym, ◌∙◌, ap, arith, eqb, bit_or, add-one, drop, drop-cons, ◌++◌, append_assoc}
 use Rattle.std.proofs.lemmas.Bool.{cases_lt}
 use Rattle.std.proofs.lemmas.List.{drop_all}
 use Rattle.std.proofs.lemmas.Nat.Bits.{bit_at_or, bit_at-lt, bit_at-suc, bit_at-zero, bit_at_above, bit_at_lowest, bit_at_cat_low}

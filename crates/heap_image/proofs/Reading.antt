@@ -69,3 +69,9 @@ pub consumes_of_device : (held : List ℕ) (left after : Option (List ℕ)) (rea
 consumes_of_device held None after read e h = tt
 consumes_of_device held (Some xs) None read e h = h
 consumes_of_device held (Some xs) (Some ys) read e h = ap (λ l. l ++ xs) (sym e) ∙ h
+
+-- where some bytes were taken, some were left
+pub some_taken : (before after : Option (List ℕ)) (xs : List ℕ) → 0 < length xs → Consumes before after xs → IfSome before (λ rest. 0 < length rest)
+some_taken None after xs some h = tt
+some_taken (Some all) None xs some h = absurd h
+some_taken (Some all) (Some ys) xs some h = let long = length-append xs ys in let same = ap length h in omega arith

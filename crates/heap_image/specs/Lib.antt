@@ -15,3 +15,4 @@ pub mod Soundness
 pub mod Reachable
 pub mod Marking
 pub mod Upgrade
+pub mod Extents

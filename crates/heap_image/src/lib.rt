@@ -26,6 +26,7 @@
 mod bits;
 mod check;
 mod crowd;
+mod cursor;
 mod decoding;
 mod encoding;
 mod fault;
@@ -44,7 +45,9 @@ mod outgoing;
 mod outlet;
 mod reach;
 mod read;
+mod side_by_side;
 mod soundness;
+mod store;
 #[cfg(test)]
 mod tests;
 mod unchecked;
@@ -66,6 +69,8 @@ pub use length_cause::LengthCause;
 pub use outlet::{Outlet, ToWrite, give_all};
 pub use reach::mark_from_roots;
 pub use read::{read_image, read_image_by_threads, read_image_by_workers};
+pub use side_by_side::{Extent, regions_at};
 pub use soundness::PIECE;
+pub use store::{FileStore, Store};
 pub use upgrading::{upgrade, upgrade_stream};
 pub use write::write_image;

@@ -248,8 +248,59 @@ struct Body {
     tail: Vec<u64>,
 }
 
-/// Reads what stands behind this front, and no byte behind that. It takes no memory before a byte has come.
+/// Reads what stands behind this front, and no byte behind that. The words come at once where the reader
+/// can give them so, and else in order.
 fn read_body<R: Intake>(alloc: Global, reader: &mut R, front: Front) -> Result<Body, Fault>
+    requires { IsWithinLimits front.region_log front.words front.count }
+    ensures bytes { IfOk result
+        (λ body. Consumes (R.left reader.old) (R.left reader.new)
+        (numbers (concat body.regions.items) ++ numbers body.tail.items)) }
+    ensures regions { IfOk result (λ body. AreBlocks front.region_log body.regions.items) }
+    ensures fit { IfOk result (λ body. All (λ w. w < 2 ^ 64) (concat body.regions.items)) }
+    ensures words { IfOk result (λ body. length (concat body.regions.items) ≡ front.words) }
+    ensures tail { IfOk result (λ body. length body.tail.items ≡ front.count) }
+    ensures tail_fit { IfOk result (λ body. All (λ a. a < 2 ^ 64) body.tail.items) }
+    ensures truncated { result ≡ Err Fault.TruncatedBody → FallsShort
+        (R.left reader.old) (R.left reader.new) (front.words + front.count) }
+    ensures memory { result ≡ Err Fault.Memory
+        → IfSome (R.left reader.old) (λ rest. 0 < length rest) }
+    ensures fault { IfErr result IsOfBody }
+    ensures lost { (came : List ℕ) × Consumes (R.left reader.old) (R.left reader.new) came }
+    ensures failed { R.has_failed reader.new ≡ (is_io result || R.has_failed reader.old) }
+{
+    let count = (front.words >> front.region_log) as usize;
+    match reader.take_regions(alloc, front.region_log, count) {
+        Some(regions) => read_behind(alloc, reader, regions, front.count),
+        None => read_body_in_order(alloc, reader, front),
+    }
+}
+
+/// Reads the numbers that stand behind the words, which have been read into these regions, and no byte behind them.
+fn read_behind<R: Intake>(
+    alloc: Global,
+    reader: &mut R,
+    regions: Vec<Region>,
+    count: u32,
+) -> Result<Body, Fault>
+    ensures regions { IfOk result (λ body. body.regions.items ≡ regions.items) }
+    ensures bytes { IfOk result
+        (λ body. Consumes (R.left reader.old) (R.left reader.new) (numbers body.tail.items)) }
+    ensures tail { IfOk result (λ body. length body.tail.items ≡ count) }
+    ensures tail_fit { IfOk result (λ body. All (λ a. a < 2 ^ 64) body.tail.items) }
+    ensures truncated { result ≡ Err Fault.TruncatedBody → FallsShort
+        (R.left reader.old) (R.left reader.new) count }
+    ensures fault { IfErr result IsOfBody }
+    ensures lost { (came : List ℕ) × Consumes (R.left reader.old) (R.left reader.new) came }
+    ensures failed { R.has_failed reader.new ≡ (is_io result || R.has_failed reader.old) }
+{
+    let mut incoming = Incoming::new(count as usize);
+    let mut tail = vec![in alloc; 0u64; count as usize]?;
+    incoming.read(reader, tail.as_mut_slice())?;
+    Ok(Body { regions, tail })
+}
+
+/// Reads what stands behind this front, and no byte behind that. It takes no memory before a byte has come.
+fn read_body_in_order<R: Intake>(alloc: Global, reader: &mut R, front: Front) -> Result<Body, Fault>
     requires { IsWithinLimits front.region_log front.words front.count }
     ensures bytes { IfOk result
         (λ body. Consumes (R.left reader.old) (R.left reader.new)
@@ -269,40 +320,43 @@ fn read_body<R: Intake>(alloc: Global, reader: &mut R, front: Front) -> Result<B
 {
     let mut incoming = Incoming::new(front.words as usize + front.count as usize);
     incoming.top_up(reader)?;
-    let regions = read_regions(alloc, &mut incoming, reader, front)?;
+    let count = (front.words >> front.region_log) as usize;
+    let regions = read_regions(alloc, &mut incoming, reader, front.region_log, count)?;
     let mut tail = vec![in alloc; 0u64; front.count as usize]?;
     incoming.read(reader, tail.as_mut_slice())?;
     Ok(Body { regions, tail })
 }
 
-/// Reads the words of a heap into regions, each a block of its own.
-fn read_regions<R: Intake>(
+/// Reads the words of so many regions, each into a block of its own.
+pub(crate) fn read_regions<R: Intake>(
     alloc: Global,
     incoming: &mut Incoming,
     reader: &mut R,
-    front: Front,
+    region_log: u32,
+    count: usize,
 ) -> Result<Vec<Region>, Fault>
-    requires limits { IsWithinLimits front.region_log front.words front.count }
+    requires log { region_log ≤ 16 }
     requires in_range { IsInRange incoming.old }
-    requires enough { front.words ≤ expected incoming.old }
+    requires enough { count * 2 ^ region_log ≤ expected incoming.old }
     ensures in_range { OnOk result (IsInRange incoming.new) }
     ensures bytes { IfOk result
         (λ regions. Consumes (known_rest incoming.old (R.left reader.old))
         (known_rest incoming.new (R.left reader.new)) (numbers (concat regions.items))) }
-    ensures regions { IfOk result (λ regions. AreBlocks front.region_log regions.items) }
+    ensures regions { IfOk result (λ regions. AreBlocks region_log regions.items) }
+    ensures count { IfOk result (λ regions. length regions.items ≡ count) }
     ensures fit { IfOk result (λ regions. All (λ w. w < 2 ^ 64) (concat regions.items)) }
-    ensures words { IfOk result (λ regions. length (concat regions.items) ≡ front.words) }
-    ensures expected { OnOk result (expected incoming.new + front.words ≡ expected incoming.old) }
+    ensures words { IfOk result (λ regions. length (concat regions.items) ≡ count * 2 ^ region_log) }
+    ensures expected { OnOk result
+        (expected incoming.new + count * 2 ^ region_log ≡ expected incoming.old) }
     ensures truncated { result ≡ Err Fault.TruncatedBody → FallsShort
         (known_rest incoming.old (R.left reader.old)) (R.left reader.new) (expected incoming.old) }
     ensures fault { IfErr result IsOfBody }
     ensures lost { (came : List ℕ) × Consumes (R.left reader.old) (R.left reader.new) came }
     ensures failed { R.has_failed reader.new ≡ (is_io result || R.has_failed reader.old) }
 {
-    let count = (front.words >> front.region_log) as usize;
     let mut regions = Vec::with_capacity(alloc, count)?;
     for _r in 0..count {
-        regions.push(read_region(alloc, incoming, reader, front.region_log)?)?;
+        regions.push(read_region(alloc, incoming, reader, region_log)?)?;
     }
     Ok(regions)
 }

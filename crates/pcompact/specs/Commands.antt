@@ -9,6 +9,9 @@ pub mod Upgrade
 pub mod Import
 pub mod Generate
 pub mod Order
+pub mod Text
+pub mod Assemble
+pub mod Map
 use Rattle.std.specs.Prelude.{ℕ, List, [], ◌∷◌, MatchBool, bytes_eq}
 use Rattle.pcompact.specs.Command.{Command}
 
@@ -25,6 +28,9 @@ listed =
     ∷ Import.import_command
     ∷ Generate.generate_command
     ∷ Order.order_command
+    ∷ Text.text_command
+    ∷ Assemble.assemble_command
+    ∷ Map.map_command
     ∷ []
 
 -- the first of these commands that has this name prints such a text

@@ -1,9 +1,10 @@
 use Rattle.std.specs.Prelude.{ℕ}
 use Rattle.heap_dump.specs.declared.error.ImportError.{ImportError}
 use Rattle.heap_maker.specs.declared.error.GenerationError.{GenerationError}
+use Rattle.heap_text.specs.declared.error.TextError.{TextError}
 use Rattle.heap_image.specs.declared.fault.Fault.TheVariants.{Memory, Io}
 use Rattle.pcompact.specs.declared.failure.Failure.{Failure}
-use Rattle.pcompact.specs.declared.failure.Failure.TheVariants.{Usage, Fault, Differs, Dump, Generation}
+use Rattle.pcompact.specs.declared.failure.Failure.TheVariants.{Usage, Fault, Differs, Dump, Generation, Text}
 
 -- the exit status of a failure
 abbrev pub status_of : Failure → ℕ
@@ -13,6 +14,7 @@ status_of (Differs verdict) = 1
 status_of (Dump error) = 1
 status_of (Generation GenerationError.Defect) = 1
 status_of (Generation error) = 2
+status_of (Text error) = 1
 
 -- the failure for want of memory
 abbrev pub out_of_memory : Failure
@@ -32,3 +34,8 @@ failure_of error = Dump error
 abbrev pub generation_failure : GenerationError → Failure
 generation_failure GenerationError.Memory = out_of_memory
 generation_failure error = Generation error
+
+-- the failure of a text that is none of a heap
+abbrev pub text_failure : TextError → Failure
+text_failure TextError.Memory = out_of_memory
+text_failure error = Text error

@@ -6,29 +6,37 @@ ghost use Rattle.command_line.specs.Request.{IsFor};
 ghost use Rattle.pcompact.specs.Commands.{IsPrintedBy};
 ghost use Rattle.pcompact.specs.Failure.{out_of_memory};
 
+mod assemble;
 mod board;
 mod collect;
 mod generate;
 mod import;
+mod map;
 mod order;
 mod record;
 mod replay;
 mod summarize;
+mod text;
 mod upgrade;
 mod verify;
 
 use crate::done::Done;
+use crate::screen::Screen;
 use crate::trouble::Trouble;
 use command_line::Request;
+use std::os::unix::fs::FileExt;
 use std::rt::Files;
 use std::sync::Wait;
 use std::thread::Threads;
 
-/// Does what is asked for, but for its end.
+/// Does what is asked for, but for its end. A picture is for this screen.
 pub fn answer<'a, R: Files + AllocGlobal + Threads + Wait + Sync>(
     rt: &R,
+    screen: Screen,
     request: Request<'a>,
 ) -> Result<Done<'a>, Trouble<'a>>
+where
+    R::File: FileExt + Sync,
     ensures prints { (name : List ℕ) → IsFor name request.entry
         → IfOk result (λ done. IsPrintedBy name done.text.items) }
     ensures board { IsFor (codes "board") request.entry
@@ -45,6 +53,9 @@ pub fn answer<'a, R: Files + AllocGlobal + Threads + Wait + Sync>(
         Request::Import(asked) => import::answer(rt, asked),
         Request::Generate(asked) => generate::answer(rt, asked),
         Request::Order(asked) => order::answer(rt, asked),
+        Request::Text(asked) => text::answer(rt, asked),
+        Request::Assemble(asked) => assemble::answer(rt, asked),
+        Request::Map(asked) => map::answer(rt, screen, asked),
         Request::Show(text) => Ok(Done::printing(text.into_bytes())),
     }
 }

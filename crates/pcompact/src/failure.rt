@@ -1,6 +1,6 @@
 ghost use Rattle.std.specs.Prelude.{◌≡◌};
 ghost use Rattle.heap_image.specs.declared.fault.Fault.TheVariants.{Memory};
-ghost use Rattle.pcompact.specs.Failure.{failure_of, generation_failure};
+ghost use Rattle.pcompact.specs.Failure.{failure_of, generation_failure, text_failure};
 ghost use Rattle.pcompact.specs.declared.failure.Failure.TheVariants.{Fault};
 
 use collector::Verdict;
@@ -8,6 +8,7 @@ use command_line::Unread;
 use heap_dump::ImportError;
 use heap_image::Fault;
 use heap_maker::GenerationError;
+use heap_text::TextError;
 use std::alloc::{AllocError, Global};
 
 /// Why the program ends with a status other than 0.
@@ -23,6 +24,8 @@ pub enum Failure {
     Dump(ImportError),
     /// No heap is as it is wanted.
     Generation(GenerationError),
+    /// A text is none of a heap.
+    Text(TextError),
 }
 
 impl Failure {
@@ -54,7 +57,7 @@ impl Failure {
         match self {
             Failure::Generation(GenerationError::Defect) => 1,
             Failure::Usage(_) | Failure::Generation(_) => 2,
-            Failure::Fault(_) | Failure::Differs(_) | Failure::Dump(_) => 1,
+            Failure::Fault(_) | Failure::Differs(_) | Failure::Dump(_) | Failure::Text(_) => 1,
         }
     }
 }
@@ -96,6 +99,18 @@ impl From<GenerationError> for Failure {
         match error {
             GenerationError::Memory => Failure::Fault(Fault::Memory),
             of_wish => Failure::Generation(of_wish),
+        }
+    }
+}
+
+/// Refused memory is fault 11, as everywhere.
+impl From<TextError> for Failure {
+    ghost from_gives = { λ error failure. failure ≡ text_failure error };
+
+    fn from(error: TextError) -> Failure {
+        match error {
+            TextError::Memory => Failure::Fault(Fault::Memory),
+            of_line => Failure::Text(of_line),
         }
     }
 }

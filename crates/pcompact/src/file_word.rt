@@ -10,6 +10,8 @@ pub enum Role {
     Before,
     After,
     Dump,
+    Text,
+    Drawing,
 }
 
 impl fmt::Display for Role {
@@ -21,6 +23,8 @@ impl fmt::Display for Role {
             Role::Before => "BEFORE",
             Role::After => "AFTER",
             Role::Dump => "DUMP",
+            Role::Text => "TEXT",
+            Role::Drawing => "FILE",
         })
     }
 }

@@ -10,18 +10,20 @@ use crate::done::Done;
 use crate::failed_call::{Call, FailedCall};
 use crate::failure::Failure;
 use crate::reason::Reason;
+use crate::screen::Screen;
 use crate::trouble::Trouble;
 use collector::Verdict;
 use heap_image::Fault;
 use std::io;
 use std::io::Write;
+use std::os::unix::fs::FileExt;
 use std::rt::Files;
 use std::sync::Wait;
 use std::thread::Threads;
 
 /// Runs the program on the words after its name, and answers the exit status.
 ///
-/// `out` and `err` stand for standard output and standard error. What a command prints is written
+/// `out` and `err` stand for standard output and standard error, and `screen` for what the first shows. What a command prints is written
 /// to `out` whole, once its work is done, and flushed; a write or flush of `out` that fails is
 /// fault 13. Files that are to replace others take their places after that. A failed write to `err`
 /// changes nothing. Where the words ask for it, more lines on `err` follow the one that is owed.
@@ -30,9 +32,12 @@ use std::thread::Threads;
 pub fn run<R: Files + AllocGlobal + Threads + Wait + Sync, A: Write, B: Write>(
     rt: &R,
     words: &[String],
+    screen: Screen,
     out: &mut A,
     err: &mut B,
 ) -> u8
+where
+    R::File: FileExt + Sync,
     ensures status { result ≤ 2 }
     ensures good { result ≡ 0 → err.new ≡ err.old }
     ensures usage { result ≡ 2 → out.new ≡ out.old }
@@ -51,7 +56,7 @@ pub fn run<R: Files + AllocGlobal + Threads + Wait + Sync, A: Write, B: Write>(
         }
     };
     let verbose = request.is_verbose();
-    let done = match commands::answer(rt, request) {
+    let done = match commands::answer(rt, screen, request) {
         Ok(done) => done,
         Err(trouble) => return tell(&trouble, verbose, err),
     };
@@ -95,6 +100,7 @@ pub fn tell<B: Write>(trouble: &Trouble<'_>, verbose: bool, err: &mut B) -> u8
         Failure::Differs(verdict) => tell_difference(*verdict, err),
         Failure::Dump(error) => writeln!(err, "pcompact: {error}"),
         Failure::Generation(error) => writeln!(err, "pcompact: {error}"),
+        Failure::Text(error) => writeln!(err, "pcompact: TEXT {error}"),
     };
     if verbose {
         let _ = trouble.tell_more(err);

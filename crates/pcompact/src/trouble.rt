@@ -103,6 +103,17 @@ impl<'a> Trouble<'a> {
         }
     }
 
+    /// Where a line of a text is none of a heap, or a call on the file failed, it is about the file.
+    pub fn if_text<F: Drop>(self, text: &Watched<'a, F>) -> Trouble<'a>
+        ensures { result.failure ≡ self.entry.failure }
+    {
+        if self.is_of_text() {
+            self.about(text.word())
+        } else {
+            self.if_failed(text)
+        }
+    }
+
     /// Where the number of workers is none that is allowed, this is it.
     pub fn if_workers(self, asked: u32) -> Trouble<'a>
         ensures { result.failure ≡ self.entry.failure }
@@ -152,6 +163,13 @@ impl<'a> Trouble<'a> {
     fn is_of_dump(&self) -> bool {
         match &self.failure {
             Failure::Dump(_) => true,
+            _ => false,
+        }
+    }
+
+    fn is_of_text(&self) -> bool {
+        match &self.failure {
+            Failure::Text(_) => true,
             _ => false,
         }
     }

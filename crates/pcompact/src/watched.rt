@@ -4,7 +4,7 @@ use crate::file_id::FileId;
 use crate::file_word::FileWord;
 use crate::trouble::{Trouble, called};
 use std::fs::{Metadata, OpenFile};
-use std::io::{Read, Write};
+use std::io::{Read, Seek, SeekFrom, Write};
 use std::rt::Files;
 use std::{fs, io};
 
@@ -81,6 +81,26 @@ impl<'a, F: Drop> Watched<'a, F> {
     /// The call on it that failed last.
     pub fn failed(&self) -> Option<FailedCall> {
         self.failed
+    }
+}
+
+impl<F: OpenFile + Drop> Watched<'_, F> {
+    /// How many bytes it has, if it is a regular file and the system tells, and else 0.
+    pub fn regular_len(&self) -> u64 {
+        match self.file.metadata() {
+            Ok(told) if told.is_file() => told.len(),
+            _ => 0,
+        }
+    }
+}
+
+impl<F: Seek + Drop> Watched<'_, F> {
+    /// Passes over the bytes between two places, if the next one that would be read is the first of them. Whether it did.
+    pub fn pass(&mut self, from: u64, to: u64) -> bool {
+        match self.file.stream_position() {
+            Ok(at) if at == from => self.file.seek(SeekFrom::Start(to)).is_ok(),
+            _ => false,
+        }
     }
 }
 

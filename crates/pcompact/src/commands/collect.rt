@@ -7,10 +7,12 @@ ghost use Rattle.pcompact.specs.Figures.{IsFigures};
 use crate::done::Done;
 use crate::figures::{LINE_ROOM, tell_figures};
 use crate::files::{ended, failed_between, image_and_out};
+use crate::image_file::ImageFile;
 use crate::trouble::Trouble;
 use collector::{OpenGate, collect_stream};
 use command_line::Collect;
-use heap_image::{Fault, FromRead, Intake, Outlet, ToWrite};
+use heap_image::{Fault, Intake, Outlet, ToWrite};
+use std::os::unix::fs::FileExt;
 use std::rt::Files;
 use std::sync::Wait;
 use std::thread::Threads;
@@ -20,12 +22,15 @@ pub fn answer<'a, R: Files + AllocGlobal + Threads + Wait + Sync>(
     rt: &R,
     asked: Collect<'a>,
 ) -> Result<Done<'a>, Trouble<'a>>
+where
+    R::File: FileExt + Sync,
     ensures { IfOk result (λ done. IsFigures done.text.items) }
 {
-    let (mut image, mut out) = image_and_out(rt, asked.image, asked.out, asked.atomic)?;
+    let (image, mut out) = image_and_out(rt, asked.image, asked.out, asked.atomic)?;
+    let mut image = ImageFile::read_ahead(rt, image, asked.workers);
     let line = collect_into(
         rt,
-        &mut FromRead::new(&mut image),
+        &mut image,
         &mut ToWrite::new(&mut out.file),
         asked.workers,
     );
@@ -33,7 +38,7 @@ pub fn answer<'a, R: Files + AllocGlobal + Threads + Wait + Sync>(
         Ok(line) => ended(rt, line, out),
         Err(fault) => {
             let trouble = Trouble::from(fault).if_workers(asked.workers);
-            Err(failed_between(rt, trouble, &image, out))
+            Err(failed_between(rt, trouble, &image.into_inner(), out))
         }
     }
 }

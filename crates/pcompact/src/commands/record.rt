@@ -10,13 +10,15 @@ use crate::figures::{LINE_ROOM, tell_figures};
 use crate::file_id::FileId;
 use crate::file_word::{FileWord, Role};
 use crate::files::{failed, must_differ, same_file};
+use crate::image_file::ImageFile;
 use crate::output::Output;
 use crate::target::Target;
 use crate::trouble::Trouble;
 use crate::watched::Watched;
 use collector::{OpenGate, record_stream};
 use command_line::Record;
-use heap_image::{Fault, FromRead, Intake, Outlet, ToWrite};
+use heap_image::{Fault, Intake, Outlet, ToWrite};
+use std::os::unix::fs::FileExt;
 use std::rt::Files;
 use std::sync::Wait;
 use std::thread::Threads;
@@ -27,12 +29,15 @@ pub fn answer<'a, R: Files + AllocGlobal + Threads + Wait + Sync>(
     rt: &R,
     asked: Record<'a>,
 ) -> Result<Done<'a>, Trouble<'a>>
+where
+    R::File: FileExt + Sync,
     ensures { IfOk result (λ done. IsFigures done.text.items) }
 {
-    let (mut image, mut out, mut schedule) = image_out_and_schedule(rt, &asked)?;
+    let (image, mut out, mut schedule) = image_out_and_schedule(rt, &asked)?;
+    let mut image = ImageFile::read_ahead(rt, image, asked.workers);
     let line = record_into(
         rt,
-        &mut FromRead::new(&mut image),
+        &mut image,
         &mut ToWrite::new(&mut out.file),
         &mut ToWrite::new(&mut schedule.file),
         asked.workers,
@@ -41,7 +46,7 @@ pub fn answer<'a, R: Files + AllocGlobal + Threads + Wait + Sync>(
         Ok(line) => both_ended(rt, line, out, schedule),
         Err(fault) => {
             let trouble = Trouble::from(fault)
-                .if_image(&image)
+                .if_image(&image.into_inner())
                 .if_failed(&out.file)
                 .if_failed(&schedule.file)
                 .if_workers(asked.workers);

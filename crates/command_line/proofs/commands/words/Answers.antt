@@ -15,4 +15,7 @@ returns c =
     let upgrade = c.in_ok-subcommand-7.ensures.shape c.in_ok-words-6.ensures.local ∙ ap₂ with_subcommand replay (ap top_is c.in_ok-words-6.ensures.app) in
     let import = c.in_ok-subcommand-8.ensures.shape c.in_ok-words-7.ensures.local ∙ ap₂ with_subcommand upgrade (ap top_is c.in_ok-words-7.ensures.app) in
     let generate = c.in_ok-subcommand-9.ensures.shape c.in_ok-words-8.ensures.local ∙ ap₂ with_subcommand import (ap top_is c.in_ok-words-8.ensures.app) in
-    IfOk-weaker c.subcommand-10.result _ _ (λ command added. added.shape c.in_ok-words-9.ensures.local ∙ ap₂ with_subcommand generate (ap top_is c.in_ok-words-9.ensures.app)) c.subcommand-10.ensures
+    let order = c.in_ok-subcommand-10.ensures.shape c.in_ok-words-9.ensures.local ∙ ap₂ with_subcommand generate (ap top_is c.in_ok-words-9.ensures.app) in
+    let text = c.in_ok-subcommand-11.ensures.shape c.in_ok-words-10.ensures.local ∙ ap₂ with_subcommand order (ap top_is c.in_ok-words-10.ensures.app) in
+    let assemble = c.in_ok-subcommand-12.ensures.shape c.in_ok-words-11.ensures.local ∙ ap₂ with_subcommand text (ap top_is c.in_ok-words-11.ensures.app) in
+    IfOk-weaker c.subcommand-13.result _ _ (λ command added. added.shape c.in_ok-words-12.ensures.local ∙ ap₂ with_subcommand assemble (ap top_is c.in_ok-words-12.ensures.app)) c.subcommand-13.ensures

@@ -1,4 +1,4 @@
-use Rattle.std.proofs.Common.{◌≡◌, ◌<◌, ◌≤◌, ◌+◌, ◌^◌, ℕ, List, length, get_or, ◌∙◌, ap, arith}
+use Rattle.std.proofs.Common.{◌≡◌, ◌+◌, length, ◌∙◌, ap, arith}
 use Rattle.heap_image.specs.Bits.{has}
 use Rattle.heap_image.proofs.Raised.{raised, raised_more, raised_all, length-raised, has_raised, has_raised-zero}
 use Rattle.heap_image.proofs.bits.raised_by_one.Goals as goal

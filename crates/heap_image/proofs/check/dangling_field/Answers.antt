@@ -1,4 +1,4 @@
-use Rattle.std.proofs.Common.{◌≡◌, ◌≤◌, ◌+◌, ℕ, Bool, false, List, not, sym, ◌∙◌, ap, arith, below_more}
+use Rattle.std.proofs.Common.{◌≡◌, ◌≤◌, ℕ, Bool, false, not, sym, ◌∙◌, ap, arith, below_more}
 use Rattle.heap_image.specs.HeapImage.{HeapImage, with_live, is_null_or_live, reference_at}
 use Rattle.heap_image.specs.ImageText.{is_dangling}
 use Rattle.heap_image.proofs.Finds.{find_least_from_zero, find_none_in_range}

@@ -1,7 +1,6 @@
-use Rattle.std.proofs.Common.{◌≡◌, ◌<◌, [], length, inr, ap, ◌∙◌, subst, arith}
+use Rattle.std.proofs.Common.{◌≡◌, ◌<◌, [], inr, subst}
 use Rattle.std.specs.Prelude.{All, filter}
 use Rattle.std.specs.List.{range_with_len}
-use Rattle.heap_image.specs.HeapImage.{image_of}
 use Rattle.heap_image.specs.Bits.{MarkBegins, has}
 use Rattle.heap_image.proofs.Marked.{live_is, live_inside, live_begins, root_fault, no_root_fault}
 use Rattle.heap_image.proofs.WellFormed.{reached_well}

@@ -1,60 +1,50 @@
-use Rattle.std.proofs.Common.{◌≡◌, ◌+◌, ◌*◌, ◌++◌, [], arith}
-use Rattle.std.proofs.lemmas.Result.{err_from_is_err_and}
+use Rattle.std.proofs.Common.{◌≡◌, ℕ, ◌+◌, ◌*◌, ◌/◌, ◌^◌, ◌++◌, List, length, ap, sym, subst, arith}
+use Rattle.std.proofs.lemmas.Result.{IfOk-weaker}
+use Rattle.std.proofs.Math.Nat.{div-add-mod'}
 use Rattle.std.specs.List.{concat}
+use Rattle.heap_image.specs.HeapImage.{AreBlocks, IsWithinLimits}
 use Rattle.heap_image.specs.ImageText.{numbers}
-use Rattle.heap_image.specs.Incoming.{expected, known_rest, held_bytes}
-use Rattle.heap_image.specs.declared.fault.Fault.TheVariants.{TruncatedBody}
-use Rattle.heap_image.proofs.Known.{consumes_more, same_error}
-use Rattle.heap_image.proofs.Reading.{still_short, short_of_device, none_held}
+use Rattle.heap_image.proofs.BlockWords.{length-concat}
+use Rattle.heap_image.proofs.Known.{consumes_more}
+use Rattle.heap_image.proofs.Reading.{some_taken, still_short}
+use Rattle.heap_image.proofs.TextLaws.{length-numbers}
 use Rattle.heap_image.proofs.read.read_body.Goals as goal
 
-pub returns-in_err-regions-clause-memory : goal.returns-in_err-regions-clause-memory
-returns-in_err-regions-clause-memory g c = λ _. let some = c.requires.not_empty in let due = c.new-incoming.ensures.due in c.in_ok-top_up.ensures.came c.new-incoming.ensures.none_held (omega arith)
+-- as many regions as the words fill have these words
+all_words : (log words count : ℕ) (regions : List (List ℕ)) → IsWithinLimits log words count → AreBlocks log regions → length regions ≡ words / 2 ^ log → length (concat regions) ≡ words
+all_words log words count regions limits blocks many =
+    let long = length-concat (2 ^ log) regions blocks in
+    let counted : length regions * 2 ^ log ≡ words / 2 ^ log * 2 ^ log = ap (λ n. n * 2 ^ log) many in
+    let split = div-add-mod' words (2 ^ log) in
+    let none = limits.whole_regions in
+    omega arith
 
-pub returns-in_err-tail-clause-memory : goal.returns-in_err-tail-clause-memory
-returns-in_err-tail-clause-memory g c = λ _. let some = c.requires.not_empty in let due = c.new-incoming.ensures.due in c.in_ok-top_up.ensures.came c.new-incoming.ensures.none_held (omega arith)
+pub returns-in-Some-clause-words : goal.returns-in-Some-clause-words
+returns-in-Some-clause-words g c =
+    let taken = c.in-Some.ensures.taken in
+    let front = c.args.front in
+    let words = all_words front.region_log front.words front.count c.in-Some.regions.items c.requires taken.blocks taken.count in
+    IfOk-weaker c.read_behind.result (λ body. body.regions.items ≡ c.in-Some.regions.items) (λ body. length (concat body.regions.items) ≡ front.words) (λ body e. subst (λ regions. length (concat regions) ≡ front.words) (sym e) words) c.read_behind.ensures.regions
 
-pub returns-in_err-regions-clause-lost : goal.returns-in_err-regions-clause-lost
-returns-in_err-regions-clause-lost g c =
-    let one = c.top_up.ensures.lost in
-    let two = c.read_regions.ensures.lost in
-    (one.0 ++ two.0, consumes_more (g.R.Intake.left c.args.reader.now) (g.R.Intake.left c.top_up.new.reader) (g.R.Intake.left c.read_regions.new.reader) one.0 two.0 one.1 two.1)
+pub returns-in-Some-clause-truncated : goal.returns-in-Some-clause-truncated
+returns-in-Some-clause-truncated g c = λ e.
+    let taken = c.in-Some.ensures.taken in
+    let front = c.args.front in
+    let words = all_words front.region_log front.words front.count c.in-Some.regions.items c.requires taken.blocks taken.count in
+    let short = c.read_behind.ensures.truncated e in
+    (short.0, still_short (g.R.Intake.left c.args.reader.now) (g.R.Intake.left c.take_regions.new.self) (concat c.in-Some.regions.items) (front.words + front.count) front.count taken.bytes (omega arith) short.1)
 
-pub returns-in_err-tail-clause-lost : goal.returns-in_err-tail-clause-lost
-returns-in_err-tail-clause-lost g c =
-    let one = c.top_up.ensures.lost in
-    let two = c.read_regions.ensures.lost in
-    (one.0 ++ two.0, consumes_more (g.R.Intake.left c.args.reader.now) (g.R.Intake.left c.top_up.new.reader) (g.R.Intake.left c.read_regions.new.reader) one.0 two.0 one.1 two.1)
+pub returns-in-Some-clause-memory : goal.returns-in-Some-clause-memory
+returns-in-Some-clause-memory g c = λ _.
+    let taken = c.in-Some.ensures.taken in
+    let front = c.args.front in
+    let words = all_words front.region_log front.words front.count c.in-Some.regions.items c.requires taken.blocks taken.count in
+    let long = length-numbers (concat c.in-Some.regions.items) in
+    let some = c.requires.not_empty in
+    some_taken (g.R.Intake.left c.args.reader.now) (g.R.Intake.left c.take_regions.new.self) (numbers (concat c.in-Some.regions.items)) (omega arith) taken.bytes
 
-pub returns-in_err-read-clause-truncated : goal.returns-in_err-read-clause-truncated
-returns-in_err-read-clause-truncated g c =
-    let p = err_from_is_err_and c.from_residual-in_err-read.result c.from_residual-in_err-read.ensures.1 in
-    let start = known_rest c.new-incoming.result (g.R.Intake.left c.args.reader.now) in
-    let topped = known_rest c.top_up.new.self (g.R.Intake.left c.top_up.new.reader) in
-    let worded = known_rest c.read_regions.new.incoming (g.R.Intake.left c.read_regions.new.reader) in
-    let taken = consumes_more start topped worded [] (numbers (concat c.in_ok-regions.regions.items)) c.in_ok-top_up.ensures.bytes c.in_ok-regions.ensures.bytes in
-    let words = c.in_ok-regions.ensures.words in
-    let fewer = c.in_ok-regions.ensures.expected in
-    let same = c.in_ok-top_up.ensures.expected in
-    let due = c.new-incoming.ensures.due in
-    let none = c.new-incoming.ensures.none_held in
-    rw (p.1, p.2) (λ e. let t = c.in_err-read.ensures.truncated (same_error c.in_err-read.field-0.0 TruncatedBody e) in
-    let short = still_short start worded (concat c.in_ok-regions.regions.items) (expected c.new-incoming.result) (expected c.read_regions.new.incoming) taken (omega arith) t.1 in
-    let wanted : expected c.new-incoming.result ≡ c.args.front.words + c.args.front.count = omega arith in
-    (t.0, rw (← wanted) (short_of_device (held_bytes c.new-incoming.result) (g.R.Intake.left c.args.reader.now) (8 * expected c.new-incoming.result) (none_held c.new-incoming.result.bytes c.new-incoming.result.start c.new-incoming.result.end none) short)))
-
-pub returns-in_err-read-clause-lost : goal.returns-in_err-read-clause-lost
-returns-in_err-read-clause-lost g c =
-    let one = c.top_up.ensures.lost in
-    let two = c.read_regions.ensures.lost in
-    let three = c.read.ensures.lost in
-    let both = consumes_more (g.R.Intake.left c.args.reader.now) (g.R.Intake.left c.top_up.new.reader) (g.R.Intake.left c.read_regions.new.reader) one.0 two.0 one.1 two.1 in
-    ((one.0 ++ two.0) ++ three.0, consumes_more (g.R.Intake.left c.args.reader.now) (g.R.Intake.left c.read_regions.new.reader) (g.R.Intake.left c.read.new.reader) (one.0 ++ two.0) three.0 both three.1)
-
-pub returns-clause-lost : goal.returns-clause-lost
-returns-clause-lost g c =
-    let one = c.top_up.ensures.lost in
-    let two = c.read_regions.ensures.lost in
-    let three = c.read.ensures.lost in
-    let both = consumes_more (g.R.Intake.left c.args.reader.now) (g.R.Intake.left c.top_up.new.reader) (g.R.Intake.left c.read_regions.new.reader) one.0 two.0 one.1 two.1 in
-    ((one.0 ++ two.0) ++ three.0, consumes_more (g.R.Intake.left c.args.reader.now) (g.R.Intake.left c.read_regions.new.reader) (g.R.Intake.left c.read.new.reader) (one.0 ++ two.0) three.0 both three.1)
+pub returns-in-Some-clause-lost : goal.returns-in-Some-clause-lost
+returns-in-Some-clause-lost g c =
+    let taken = c.in-Some.ensures.taken in
+    let more = c.read_behind.ensures.lost in
+    (numbers (concat c.in-Some.regions.items) ++ more.0, consumes_more (g.R.Intake.left c.args.reader.now) (g.R.Intake.left c.take_regions.new.self) (g.R.Intake.left c.read_behind.new.reader) (numbers (concat c.in-Some.regions.items)) more.0 taken.bytes more.1)

@@ -1,4 +1,4 @@
-use Rattle.std.proofs.Common.{◌≡◌, ◌<◌, ◌+◌, ◌*◌, ◌/◌, ◌^◌, ◌++◌, ◌∷◌, [], List, ℕ, length, get_or, ap, sym, subst, ◌∙◌, arith, length-append}
+use Rattle.std.proofs.Common.{◌≡◌, ◌<◌, ◌+◌, ◌*◌, ◌^◌, ◌++◌, ◌∷◌, [], List, ℕ, length, get_or, ap, sym, subst, ◌∙◌, arith, length-append}
 use Rattle.std.proofs.lemmas.Result.{err_from_is_err_and}
 use Rattle.std.proofs.lemmas.List.{append-nil}
 use Rattle.std.proofs.lemmas.List.Elements.{All-push, All-append}
@@ -12,7 +12,6 @@ use Rattle.heap_image.specs.ImageText.{numbers}
 use Rattle.heap_image.specs.Incoming.{expected, known_rest}
 use Rattle.heap_image.proofs.Known.{consumes_more, same_error}
 use Rattle.heap_image.specs.declared.fault.Fault.TheVariants.{TruncatedBody}
-use Rattle.std.proofs.Math.Nat.{div-add-mod'}
 use Rattle.heap_image.proofs.Reading.{still_short}
 use Rattle.heap_image.proofs.BlockWords.{length-concat}
 use Rattle.heap_image.proofs.read.read_regions.Goals as goal
@@ -21,8 +20,8 @@ pub returns-in_err-read_region-clause-truncated : goal.returns-in_err-read_regio
 returns-in_err-read_region-clause-truncated g c =
     let p = err_from_is_err_and c.from_residual-in_err-read_region.result c.from_residual-in_err-read_region.ensures.1 in
     let so_far = c.loop-r.invariant in
-    let long = length-concat (2 ^ c.args.front.region_log) c.loop-r.regions.items so_far.whole in
-    let counted : length c.loop-r.regions.items * 2 ^ c.args.front.region_log ≡ c.loop-r._r * 2 ^ c.args.front.region_log = ap (λ n. n * 2 ^ c.args.front.region_log) so_far.count in
+    let long = length-concat (2 ^ c.args.region_log) c.loop-r.regions.items so_far.whole in
+    let counted : length c.loop-r.regions.items * 2 ^ c.args.region_log ≡ c.loop-r._r * 2 ^ c.args.region_log = ap (λ n. n * 2 ^ c.args.region_log) so_far.count in
     let same = so_far.expected in
     rw (p.1, p.2) (λ e. let t = c.in_err-read_region.ensures.truncated (same_error c.in_err-read_region.field-0.0 TruncatedBody e) in
     (t.0, still_short (known_rest c.args.incoming.now (g.R.Intake.left c.args.reader.now)) (known_rest c.loop-r.incoming (g.R.Intake.left c.loop-r.reader)) (concat c.loop-r.regions.items) (expected c.args.incoming.now) (expected c.loop-r.incoming) so_far.bytes (omega arith) t.1))
@@ -59,7 +58,7 @@ loop-r-preserved g c =
     record {
       in_range = c.in_ok-read_region.ensures.in_range;
       count = omega arith;
-      whole = subst (λ blocks. (k : ℕ) → (d : List ℕ) → k < length blocks → length (get_or blocks k d) ≡ 2 ^ c.args.front.region_log) (sym pushed) (All-push (λ block. length block ≡ 2 ^ c.args.front.region_log) regions region so_far.whole c.in_ok-read_region.ensures.whole);
+      whole = subst (λ blocks. (k : ℕ) → (d : List ℕ) → k < length blocks → length (get_or blocks k d) ≡ 2 ^ c.args.region_log) (sym pushed) (All-push (λ block. length block ≡ 2 ^ c.args.region_log) regions region so_far.whole c.in_ok-read_region.ensures.whole);
       fit = subst (λ ws. All (λ w. w < 2 ^ 64) ws) grown (All-append (λ w. w < 2 ^ 64) (concat regions) region so_far.fit c.in_ok-read_region.ensures.fit);
       expected = omega arith;
       bytes = subst (λ bytes. Consumes before after bytes) joined (consumes_more before (known_rest c.loop-r.incoming (g.R.Intake.left c.loop-r.reader)) after (numbers (concat regions)) (numbers region) so_far.bytes c.in_ok-read_region.ensures.bytes);
@@ -70,13 +69,10 @@ loop-r-preserved g c =
 pub returns-clause-words : goal.returns-clause-words
 returns-clause-words g c =
     let so_far = c.loop-r.invariant in
-    let long = length-concat (2 ^ c.args.front.region_log) c.loop-r.regions.items so_far.whole in
-    let counted : length c.loop-r.regions.items * 2 ^ c.args.front.region_log ≡ c.loop-r._r * 2 ^ c.args.front.region_log = ap (λ n. n * 2 ^ c.args.front.region_log) so_far.count in
-    let limits = c.requires.limits in
+    let long = length-concat (2 ^ c.args.region_log) c.loop-r.regions.items so_far.whole in
+    let counted : length c.loop-r.regions.items * 2 ^ c.args.region_log ≡ c.loop-r._r * 2 ^ c.args.region_log = ap (λ n. n * 2 ^ c.args.region_log) so_far.count in
     let last = c.loop-r-test.false in
     let first = c.loop-r.auto in
-    let is : c.loop-r._r ≡ c.args.front.words / 2 ^ c.args.front.region_log = omega arith in
-    let rows : c.loop-r._r * 2 ^ c.args.front.region_log ≡ c.args.front.words / 2 ^ c.args.front.region_log * 2 ^ c.args.front.region_log = ap (λ n. n * 2 ^ c.args.front.region_log) is in
-    let split = div-add-mod' c.args.front.words (2 ^ c.args.front.region_log) in
-    let none = limits.whole_regions in
+    let is : c.loop-r._r ≡ c.args.count = omega arith in
+    let rows : c.loop-r._r * 2 ^ c.args.region_log ≡ c.args.count * 2 ^ c.args.region_log = ap (λ n. n * 2 ^ c.args.region_log) is in
     omega arith

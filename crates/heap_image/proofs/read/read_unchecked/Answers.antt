@@ -1,7 +1,6 @@
-use Rattle.std.proofs.Common.{◌≡◌, ◌<◌, ◌⊎◌, [], length, ap, sym, subst, ◌∙◌, Some, Err}
+use Rattle.std.proofs.Common.{◌≡◌, ◌<◌, ◌⊎◌, [], ap, sym, subst, ◌∙◌, Some, Err}
 use Rattle.std.proofs.lemmas.Result.{err_from_is_err_and}
 use Rattle.std.specs.Prelude.{All, option_map}
-use Rattle.std.specs.List.{concat}
 use Rattle.std.specs.Io.KnownBytes.{Consumes}
 use Rattle.heap_image.specs.Bits.{MarkBegins}
 use Rattle.heap_image.specs.Soundness.{AreWellFormed}

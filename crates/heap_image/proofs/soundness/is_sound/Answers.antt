@@ -1,4 +1,4 @@
-use Rattle.std.proofs.Common.{◌≡◌, ◌+◌, ◌<◌, ◌≤◌, ℕ, get_or, ◌∙◌, ap, arith}
+use Rattle.std.proofs.Common.{◌≡◌, ◌+◌, ℕ, get_or, ◌∙◌, ap, arith}
 use Rattle.heap_image.specs.Header.{size_of, references_of}
 use Rattle.heap_image.specs.HeapImage.{with_live, reference_at, references_at, size_at}
 use Rattle.heap_image.proofs.LiveListFaults.{sound_header}

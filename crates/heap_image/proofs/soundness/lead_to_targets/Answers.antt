@@ -1,7 +1,7 @@
-use Rattle.std.proofs.Common.{◌≡◌, ◌<◌, ◌≤◌, ◌+◌, ◌-◌, ℕ, inl, inr, min, true, length, get_or, sym, ◌∙◌, ap, arith}
+use Rattle.std.proofs.Common.{◌≡◌, ◌<◌, ◌+◌, ◌-◌, ℕ, inl, inr, min, length, sym, ◌∙◌, ap, arith}
 use Rattle.std.proofs.lemmas.Bool.{and_parts, cases_lt}
 use Rattle.heap_image.specs.Bits.{has}
-use Rattle.heap_image.specs.HeapImage.{heap_words, word_at}
+use Rattle.heap_image.specs.HeapImage.{word_at}
 use Rattle.heap_image.proofs.soundness.lead_to_targets.Goals as goal
 
 pub loop-next-preserved : goal.loop-next-preserved

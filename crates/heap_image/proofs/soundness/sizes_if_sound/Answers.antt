@@ -1,4 +1,4 @@
-use Rattle.std.proofs.Common.{◌≡◌, ◌≤◌, ◌*◌, ap, sym, ◌∙◌, subst, get_or, length, [], ℕ, ◌<◌, ◌/◌, ◌%◌}
+use Rattle.std.proofs.Common.{subst, get_or, length, [], ℕ, ◌<◌, ◌/◌, ◌%◌}
 use Rattle.heap_image.specs.HeapImage.{with_live}
 use Rattle.heap_image.proofs.SoundObjects.{all_sound}
 use Rattle.heap_image.proofs.Targets.{targets_of}

@@ -1,4 +1,4 @@
-use Rattle.std.proofs.Common.{◌≡◌, ◌<◌, [], true, length, refl, sym, ap, ◌∙◌, subst}
+use Rattle.std.proofs.Common.{◌≡◌, ◌<◌, true, refl, sym, ap, ◌∙◌, subst}
 use Rattle.std.specs.Prelude.{All}
 use Rattle.heap_image.specs.HeapImage.{heap_words, with_live, reachable}
 use Rattle.heap_image.specs.ImageText.{first_some, first_object_fault, live_list_faults, from_tail, misplaced_root}

@@ -2,9 +2,8 @@ use Rattle.std.proofs.Common.{◌≡◌, ◌<◌, ◌≤◌, ◌+◌, ◌-◌, �
 use Rattle.std.specs.Prelude.{IsTrue}
 use Rattle.std.specs.Vec.{vec_capacity}
 use Rattle.std.specs.List.{list_any, range_with_len}
-use Rattle.heap_image.specs.HeapImage.{image_of, reference_at, leads_to}
+use Rattle.heap_image.specs.HeapImage.{reference_at, leads_to}
 use Rattle.heap_image.specs.Marking.{IsGrown}
-use Rattle.std.proofs.Common.{[]}
 use Rattle.heap_image.proofs.marking.Marking.follow.Given as goal
 
 -- the first fields are visited

@@ -2,8 +2,7 @@ use Rattle.std.proofs.Common.{◌≡◌, ◌+◌, ◌++◌, ◌<◌, ℕ, List, 
 use Rattle.std.proofs.lemmas.List.{length_push, append-nil, get_or_append_left}
 use Rattle.std.proofs.lemmas.List.Elements.{Contains-push}
 use Rattle.std.specs.Prelude.{All}
-use Rattle.std.specs.List.{concat}
-use Rattle.heap_image.specs.HeapImage.{HeapImage, image_of}
+use Rattle.heap_image.specs.HeapImage.{HeapImage}
 use Rattle.heap_image.specs.Marking.{IsMarking, unmarked, addresses}
 use Rattle.heap_image.specs.declared.marking.Waiting.{Waiting}
 use Rattle.heap_image.proofs.Growth.{all_left}

@@ -1,7 +1,5 @@
-use Rattle.std.proofs.Common.{◌≡◌, ◌+◌, ◌++◌, ◌<◌, ℕ, List, [], length, get_or, All}
-use Rattle.std.specs.List.{concat}
+use Rattle.std.proofs.Common.{◌≡◌, ◌+◌, ◌++◌, ◌<◌, ℕ, List, length, get_or, All}
 use Rattle.std.specs.Vec.{vec_capacity}
-use Rattle.heap_image.specs.HeapImage.{image_of}
 use Rattle.heap_image.specs.Marking.{IsMarking, unmarked, addresses}
 use Rattle.heap_image.proofs.marking.Marking.follow_batch.Given as goal
 

@@ -1,7 +1,7 @@
 use Rattle.std.proofs.Common.{◌≡◌, [], length, sym, ◌∙◌, ap, arith}
 use Rattle.std.proofs.lemmas.Bool.{eqb-true}
 use Rattle.std.specs.Vec.{vec_len}
-use Rattle.heap_image.specs.HeapImage.{HeapImage, image_of}
+use Rattle.heap_image.specs.HeapImage.{HeapImage}
 use Rattle.heap_image.specs.Marking.{addresses, unmarked}
 use Rattle.heap_image.proofs.MarkingSteps.{unmarked_few, none_left, marking_begins, marking_ends, marking_ends-well, batch_inside}
 use Rattle.heap_image.proofs.marking.Marking.mark_reached.Goals as goal

@@ -1,4 +1,4 @@
-use Rattle.std.proofs.Common.{◌≡◌, ℕ, ◌+◌, ◌-◌, ◌<◌, false, sym, ◌∙◌, ap, arith}
+use Rattle.std.proofs.Common.{◌≡◌, ℕ, ◌+◌, ◌-◌, ◌<◌, false, sym, ◌∙◌, arith}
 use Rattle.heap_image.specs.Bits.{has}
 use Rattle.heap_image.proofs.Growth.{unmarked_less, grown_push}
 use Rattle.heap_image.proofs.marking.Marking.visit.Goals as goal

@@ -1,4 +1,4 @@
-use Rattle.std.proofs.Common.{Option, Some, None, ◌≡◌, List, ℕ, sym, subst}
+use Rattle.std.proofs.Common.{Option, Some, None, ◌≡◌, subst}
 use Rattle.std.specs.Prelude.{IfSome}
 use Rattle.heap_image.specs.HeapImage.{HasLiveList, with_live}
 use Rattle.heap_image.specs.ImageText.{first_object_fault}

@@ -1,0 +1,58 @@
+//! The words of `assemble`.
+ghost use Rattle.std.specs.Prelude.{◌≡◌, codes, false, IfErr, IfOk, ◌∷◌, []};
+ghost use Rattle.clap.specs.Words.{app_of};
+ghost use Rattle.clap.specs.declared.builder.command.Command.TheViews.{out-Command as fields_of};
+ghost use Rattle.command_line.specs.CommandLine.{IsCallOf};
+ghost use Rattle.command_line.specs.Request.{IsNoUsage};
+ghost use Rattle.command_line.specs.Commands.{assemble_words};
+
+use crate::arguments;
+use crate::unread::Unread;
+use clap::{ArgMatches, Command};
+use std::alloc::{AllocError, Global};
+
+/// The words of `assemble`.
+pub fn words<'a>(alloc: Global) -> Result<Command<'a>, AllocError>
+    ensures app { IfOk result (λ command. app_of command ≡ assemble_words) }
+    ensures local { IfOk result (λ command. (fields_of command).has_globals ≡ false) }
+{
+    Command::new(alloc, "assemble")
+        .about("Writes the heap image of a text")
+        .arg(arguments::file(alloc, "TEXT", "A file with the text of a heap"))?
+        .arg(arguments::file(alloc, "IMAGE", "The file for the image"))?
+        .arg(arguments::atomic(alloc))?
+        .arg(arguments::verbose(alloc))
+}
+
+/// What `assemble` is asked.
+#[derive(Drop)]
+pub struct Assemble<'a> {
+    /// The file with the text.
+    pub text: &'a str,
+    /// The file for the image.
+    pub image: &'a str,
+    /// Whether what is written takes its place only once all is done.
+    pub atomic: bool,
+    /// Whether to say at length what goes wrong.
+    pub verbose: bool,
+}
+
+impl<'a> Assemble<'a> {
+    /// What the words give.
+    pub(crate) fn of(given: &ArgMatches<'a>) -> Result<Assemble<'a>, Unread>
+        ensures { IfErr result IsNoUsage }
+    {
+        Ok(Assemble {
+            text: arguments::file_in(given, "TEXT")?,
+            image: arguments::file_in(given, "IMAGE")?,
+            atomic: arguments::is_atomic(given),
+            verbose: arguments::is_verbose(given),
+        })
+    }
+}
+
+/// Lines that call `assemble`.
+pub fn lines_call_assemble()
+    ensures line { IsCallOf (codes "assemble") (codes "assemble" ∷ codes "heap.txt" ∷ codes "heap.pcheap" ∷ []) }
+    ensures options { IsCallOf (codes "assemble") (codes "assemble" ∷ codes "heap.txt" ∷ codes "--atomic" ∷ codes "heap.pcheap" ∷ []) }
+{}

@@ -1,0 +1,50 @@
+//! The words of `text`.
+ghost use Rattle.std.specs.Prelude.{◌≡◌, codes, false, IfErr, IfOk, ◌∷◌, []};
+ghost use Rattle.clap.specs.Words.{app_of};
+ghost use Rattle.clap.specs.declared.builder.command.Command.TheViews.{out-Command as fields_of};
+ghost use Rattle.command_line.specs.CommandLine.{IsCallOf};
+ghost use Rattle.command_line.specs.Request.{IsNoUsage};
+ghost use Rattle.command_line.specs.Commands.{text_words};
+
+use crate::arguments;
+use crate::unread::Unread;
+use clap::{ArgMatches, Command};
+use std::alloc::{AllocError, Global};
+
+/// The words of `text`.
+pub fn words<'a>(alloc: Global) -> Result<Command<'a>, AllocError>
+    ensures app { IfOk result (λ command. app_of command ≡ text_words) }
+    ensures local { IfOk result (λ command. (fields_of command).has_globals ≡ false) }
+{
+    Command::new(alloc, "text")
+        .about("Prints a heap image as lines that a person reads")
+        .arg(arguments::image(alloc))?
+        .arg(arguments::verbose(alloc))
+}
+
+/// What `text` is asked.
+#[derive(Drop)]
+pub struct Text<'a> {
+    /// The file with the image.
+    pub image: &'a str,
+    /// Whether to say at length what goes wrong.
+    pub verbose: bool,
+}
+
+impl<'a> Text<'a> {
+    /// What the words give.
+    pub(crate) fn of(given: &ArgMatches<'a>) -> Result<Text<'a>, Unread>
+        ensures { IfErr result IsNoUsage }
+    {
+        Ok(Text {
+            image: arguments::file_in(given, "IMAGE")?,
+            verbose: arguments::is_verbose(given),
+        })
+    }
+}
+
+/// Lines that call `text`.
+pub fn lines_call_text()
+    ensures line { IsCallOf (codes "text") (codes "text" ∷ codes "heap.pcheap" ∷ []) }
+    ensures options { IsCallOf (codes "text") (codes "text" ∷ codes "--verbose" ∷ codes "heap.pcheap" ∷ []) }
+{}

@@ -1,0 +1,182 @@
+//! A picture as SVG.
+ghost use Rattle.std.specs.Prelude.{◌≤◌, length};
+
+use crate::area::Area;
+use crate::cell::Cell;
+use crate::map::Map;
+use crate::patterns::{
+    AREAS, SHADES, cover_of, digit_of, hatching_of, key_of, line_of, name_of, share_of, tint_of,
+};
+use crate::picture::Picture;
+use crate::shade::Shade;
+use std::alloc::{AllocError, Global};
+
+/// How wide a strip is at most, where its cells are wider than 1.
+const STRIP_WIDTH: u64 = 960;
+
+/// Where the strip of the heap as it is stands.
+const BEFORE_AT: u64 = 60;
+
+/// Where the strip of the heap after its collection stands.
+const AFTER_AT: u64 = 150;
+
+/// The picture as SVG.
+pub(crate) fn draw(alloc: Global, picture: &Picture) -> Result<String, AllocError> {
+    let mut svg = String::new(alloc);
+    let legend = match &picture.after {
+        Some(_) => AFTER_AT + 75,
+        None => BEFORE_AT + 75,
+    };
+    begin(&mut svg, picture, legend + 80)?;
+    draw_patterns(&mut svg)?;
+    draw_strip(&mut svg, "before", BEFORE_AT, &picture.before)?;
+    if let Some(after) = &picture.after {
+        draw_strip(&mut svg, "after", AFTER_AT, after)?;
+    }
+    draw_areas(&mut svg, legend)?;
+    draw_shades(&mut svg, legend + 36)?;
+    svg.push_str("</svg>\n")?;
+    Ok(svg)
+}
+
+/// Writes the beginning of the drawing, which is so high, and the figures.
+fn begin(svg: &mut String, picture: &Picture, height: u64) -> Result<(), AllocError> {
+    let figures = picture.figures;
+    svg.push_str("<?xml version=\"1.0\" encoding=\"UTF-8\"?>\n")?;
+    svg.push_str(
+        "<svg xmlns=\"http://www.w3.org/2000/svg\" font-family=\"sans-serif\" font-size=\"14\"",
+    )?;
+    writeln!(
+        svg,
+        " width=\"1020\" height=\"{height}\" viewBox=\"0 0 1020 {height}\">"
+    )?;
+    writeln!(svg, "<title>A heap of {} words</title>", figures.words)?;
+    writeln!(svg, "<desc>{figures}</desc>")?;
+    writeln!(
+        svg,
+        "<rect width=\"1020\" height=\"{height}\" fill=\"#fff\"/>"
+    )?;
+    writeln!(svg, "<text x=\"10\" y=\"24\">{figures}</text>")
+}
+
+/// Writes how each shade of each area looks.
+fn draw_patterns(svg: &mut String) -> Result<(), AllocError> {
+    svg.push_str("<defs>\n")?;
+    for area in AREAS {
+        draw_patterns_of(svg, area)?;
+    }
+    svg.push_str("</defs>\n")
+}
+
+/// Writes how each shade of an area looks.
+fn draw_patterns_of(svg: &mut String, area: Area) -> Result<(), AllocError> {
+    for shade in SHADES {
+        write!(svg, "<pattern id=\"{}{}\"", key_of(area), digit_of(shade))?;
+        svg.push_str(" width=\"8\" height=\"8\" patternUnits=\"userSpaceOnUse\">")?;
+        write!(
+            svg,
+            "<rect width=\"8\" height=\"8\" fill=\"{}\"",
+            tint_of(area)
+        )?;
+        write!(svg, " fill-opacity=\"{}\"/>", cover_of(shade))?;
+        write!(svg, "<path d=\"{}\"", hatching_of(area))?;
+        writeln!(svg, " stroke=\"{}\"/></pattern>", line_of(shade))?;
+    }
+    Ok(())
+}
+
+/// Writes a strip with its name, so far below the top.
+fn draw_strip(svg: &mut String, name: &str, y: u64, map: &Map) -> Result<(), AllocError>
+    requires { 6 ≤ y }
+{
+    writeln!(svg, "<text x=\"10\" y=\"{}\">{name}</text>", y - 6)?;
+    writeln!(svg, "<g transform=\"translate(10,{y})\">")?;
+    draw_cells(svg, map.cells.as_slice())?;
+    let cells = map.cells.len();
+    let width = left_of(cells as u64, width_of(cells));
+    write!(svg, "<rect width=\"{width}\" height=\"48\" fill=\"none\"")?;
+    svg.push_str(" stroke=\"#000\"/>\n</g>\n")
+}
+
+/// How wide a cell is where there are so many.
+fn width_of(cells: usize) -> u64
+    ensures { result ≤ 960 }
+{
+    if cells == 0 {
+        return STRIP_WIDTH;
+    }
+    (STRIP_WIDTH / cells as u64).max(1)
+}
+
+/// Writes the cells of a strip.
+fn draw_cells(svg: &mut String, cells: &[Cell]) -> Result<(), AllocError>
+    requires { length cells.now ≤ 1000 }
+{
+    let width = width_of(cells.len());
+    for (i, cell) in cells.iter().enumerate() {
+        draw_cell(svg, cell, left_of(i as u64, width), width)?;
+    }
+    Ok(())
+}
+
+/// Where cell `i` begins, where cells are so wide.
+fn left_of(i: u64, width: u64) -> u64
+    requires i { i ≤ 1000 }
+    requires width { width ≤ 960 }
+{
+    i * width
+}
+
+/// Writes a cell.
+fn draw_cell(svg: &mut String, cell: &Cell, x: u64, width: u64) -> Result<(), AllocError> {
+    let (key, digit) = (key_of(cell.area), digit_of(Shade::of(cell)));
+    write!(
+        svg,
+        "<rect x=\"{x}\" width=\"{width}\" height=\"48\" fill=\"url(#{key}{digit})\">"
+    )?;
+    write!(
+        svg,
+        "<title>words {} to {}: ",
+        cell.from,
+        cell.to.saturating_sub(1)
+    )?;
+    writeln!(
+        svg,
+        "{} live, {}</title></rect>",
+        cell.live,
+        name_of(cell.area)
+    )
+}
+
+/// Writes what the hatchings mean, so far below the top.
+fn draw_areas(svg: &mut String, y: u64) -> Result<(), AllocError>
+    requires { y ≤ 1000 }
+{
+    for (i, area) in AREAS.iter().enumerate() {
+        draw_sample(svg, *area, Shade::Middle, 10 + 180 * i as u64, y)?;
+        writeln!(svg, "{}</text>", name_of(*area))?;
+    }
+    Ok(())
+}
+
+/// Writes what the shades mean, so far below the top.
+fn draw_shades(svg: &mut String, y: u64) -> Result<(), AllocError>
+    requires { y ≤ 1000 }
+{
+    for (i, shade) in SHADES.iter().enumerate() {
+        draw_sample(svg, Area::Moving, *shade, 10 + 180 * i as u64, y)?;
+        writeln!(svg, "{}</text>", share_of(*shade))?;
+    }
+    Ok(())
+}
+
+/// Writes how an area looks at a shade, and the beginning of a text beside it.
+fn draw_sample(svg: &mut String, area: Area, shade: Shade, x: u64, y: u64) -> Result<(), AllocError>
+    requires x { x ≤ 1000 }
+    requires y { y ≤ 1000 }
+{
+    let (key, digit) = (key_of(area), digit_of(shade));
+    write!(svg, "<rect x=\"{x}\" y=\"{y}\" width=\"24\" height=\"24\"")?;
+    writeln!(svg, " stroke=\"#000\" fill=\"url(#{key}{digit})\"/>")?;
+    write!(svg, "<text x=\"{}\" y=\"{}\">", x + 32, y + 17)
+}

@@ -1,0 +1,89 @@
+//! `Picture`: a heap before its collection and after it.
+ghost use Rattle.std.specs.Prelude.{◌≡◌, ◌≤◌, IfOk, None, Some, option_map, string_bytes};
+ghost use Rattle.heap_map.specs.Cells.{cells_after, cells_before};
+ghost use Rattle.heap_map.specs.Figures.{AreFiguresOf};
+ghost use Rattle.heap_map.specs.Text.{picture_text};
+
+use crate::drawing::draw;
+use crate::figures::Figures;
+use crate::map::Map;
+use crate::strips::{write_legend, write_strip};
+use crate::style::Style;
+use heap_image::Image;
+use std::alloc::{AllocError, Global};
+use summary::Survey;
+
+/// A heap as its image has it, and as its collection will leave it where that is wanted.
+#[derive(Drop)]
+pub struct Picture {
+    /// What there is to tell in numbers.
+    pub figures: Figures,
+    /// The heap as it is.
+    pub before: Map,
+    /// The heap as its collection will leave it.
+    pub after: Option<Map>,
+}
+
+impl Picture {
+    /// That of the heap as it is, in so many cells, or as many as it has words where these are fewer.
+    pub fn of(
+        alloc: Global,
+        image: &Image,
+        survey: &Survey,
+        cells: u32,
+    ) -> Result<Picture, AllocError>
+        requires same { survey.now ≡ image.now }
+        requires some { 1 ≤ cells }
+        requires few { cells ≤ 1000 }
+        ensures figures { IfOk result (λ picture. AreFiguresOf image.now picture.figures) }
+        ensures before { IfOk result (λ picture. picture.before.cells.items ≡ cells_before image.now cells) }
+        ensures after { IfOk result (λ picture. option_map (λ map. map.cells.items) picture.after ≡ None) }
+    {
+        Ok(Picture {
+            figures: Figures::of(survey),
+            before: Map::before(alloc, image, survey, cells)?,
+            after: None,
+        })
+    }
+
+    /// That of the heap as it is and as its collection will leave it.
+    pub fn of_both(
+        alloc: Global,
+        image: &Image,
+        survey: &Survey,
+        cells: u32,
+    ) -> Result<Picture, AllocError>
+        requires same { survey.now ≡ image.now }
+        requires some { 1 ≤ cells }
+        requires few { cells ≤ 1000 }
+        ensures figures { IfOk result (λ picture. AreFiguresOf image.now picture.figures) }
+        ensures before { IfOk result (λ picture. picture.before.cells.items ≡ cells_before image.now cells) }
+        ensures after { IfOk result (λ picture. option_map (λ map. map.cells.items) picture.after ≡ Some (cells_after image.now cells)) }
+    {
+        Ok(Picture {
+            figures: Figures::of(survey),
+            before: Map::before(alloc, image, survey, cells)?,
+            after: Some(Map::after(alloc, image, survey, cells)?),
+        })
+    }
+
+    /// The picture as text.
+    pub fn text(&self, alloc: Global, style: Style) -> Result<String, AllocError>
+        ensures { IfOk result (λ text. string_bytes text
+            ≡ picture_text style self.now.figures self.now.before.cells.items (option_map (λ map. map.cells.items) self.now.after)) }
+    {
+        let mut text = String::new(alloc);
+        writeln!(text, "{}", self.figures)?;
+        write_strip(&mut text, style, "before", self.before.cells.as_slice())?;
+        if let Some(after) = &self.after {
+            write_strip(&mut text, style, "after ", after.cells.as_slice())?;
+        }
+        write_legend(&mut text, style.glyphs)?;
+        Ok(text)
+    }
+
+    /// The picture as SVG, a page's drawing.
+    pub fn svg(&self, alloc: Global) -> Result<String, AllocError> {
+        draw(alloc, self)
+    }
+}

@@ -1,0 +1,156 @@
+//! The strips of a picture, as text.
+ghost use Rattle.std.specs.Prelude.{◌≡◌, ◌++◌, OnOk, codes, flat_map, string_bytes};
+ghost use Rattle.heap_map.specs.Text.{area_letter, area_mark, colour_of, coloured, legend_text, shade_glyph, shade_mark, share_text, strip_text};
+
+use crate::area::Area;
+use crate::cell::Cell;
+use crate::shade::Shade;
+use crate::style::{Glyphs, Style};
+use std::alloc::AllocError;
+
+/// Writes the two rows of a strip, of which the first has this name.
+pub(crate) fn write_strip(
+    text: &mut String,
+    style: Style,
+    name: &str,
+    cells: &[Cell],
+) -> Result<(), AllocError>
+    ensures { OnOk result (string_bytes text.new ≡ string_bytes text.old ++ strip_text style name.now cells.now) }
+{
+    text.push_str(name)?;
+    text.push_str(" |")?;
+    write_shades(text, style, cells)?;
+    text.push_str("|\n       |")?;
+    write_areas(text, style, cells)?;
+    text.push_str("|\n")
+}
+
+/// Writes what the characters mean.
+pub(crate) fn write_legend(text: &mut String, glyphs: Glyphs) -> Result<(), AllocError>
+    ensures { OnOk result (string_bytes text.new ≡ string_bytes text.old ++ legend_text glyphs) }
+{
+    text.push_str("live:")?;
+    write_share(text, glyphs, Shade::Empty, "none")?;
+    write_share(text, glyphs, Shade::Low, "few")?;
+    write_share(text, glyphs, Shade::Middle, "half")?;
+    write_share(text, glyphs, Shade::High, "most")?;
+    write_share(text, glyphs, Shade::Full, "all")?;
+    text.push_str("\narea: p prefix f prefix with fillers m moving - free x several\n")
+}
+
+/// Writes what a shade means.
+fn write_share(
+    text: &mut String,
+    glyphs: Glyphs,
+    shade: Shade,
+    name: &str,
+) -> Result<(), AllocError>
+    ensures { OnOk result (string_bytes text.new ≡ string_bytes text.old ++ share_text glyphs shade name.now) }
+{
+    text.push_str(" ")?;
+    text.push_str(shade_glyph(glyphs, shade))?;
+    text.push_str(" ")?;
+    text.push_str(name)
+}
+
+/// Writes how much of each cell lives.
+fn write_shades(text: &mut String, style: Style, cells: &[Cell]) -> Result<(), AllocError>
+    ensures { OnOk result (string_bytes text.new ≡ string_bytes text.old ++ flat_map (shade_mark style) cells.now) }
+{
+    for cell in cells {
+        let glyph = shade_glyph(style.glyphs, Shade::of(cell));
+        write_coloured(text, style, cell.area, glyph)?;
+    }
+    Ok(())
+}
+
+/// Writes where each cell lies.
+fn write_areas(text: &mut String, style: Style, cells: &[Cell]) -> Result<(), AllocError>
+    ensures { OnOk result (string_bytes text.new ≡ string_bytes text.old ++ flat_map (area_mark style) cells.now) }
+{
+    for cell in cells {
+        write_coloured(text, style, cell.area, area_letter(cell.area))?;
+    }
+    Ok(())
+}
+
+/// Writes a character, in the colour of an area where colours are wanted.
+fn write_coloured(
+    text: &mut String,
+    style: Style,
+    area: Area,
+    glyph: &str,
+) -> Result<(), AllocError>
+    ensures { OnOk result (string_bytes text.new ≡ string_bytes text.old ++ coloured style area glyph.now) }
+{
+    if !style.is_coloured {
+        return text.push_str(glyph);
+    }
+    text.push_str("\x1b[")?;
+    text.push_str(colour_of(area))?;
+    text.push_str("m")?;
+    text.push_str(glyph)?;
+    text.push_str("\x1b[0m")
+}
+
+/// The character of a shade.
+fn shade_glyph(glyphs: Glyphs, shade: Shade) -> &'static str
+    ensures { result.now ≡ shade_glyph glyphs shade }
+{
+    match glyphs {
+        Glyphs::Letters => letter_of_shade(shade),
+        Glyphs::Blocks => block_of_shade(shade),
+    }
+}
+
+/// The letter of a shade.
+fn letter_of_shade(shade: Shade) -> &'static str
+    ensures { result.now ≡ shade_glyph Glyphs.Letters shade }
+{
+    match shade {
+        Shade::Empty => "_",
+        Shade::Low => ".",
+        Shade::Middle => ":",
+        Shade::High => "+",
+        Shade::Full => "#",
+    }
+}
+
+/// The block of a shade.
+fn block_of_shade(shade: Shade) -> &'static str
+    ensures { result.now ≡ shade_glyph Glyphs.Blocks shade }
+{
+    match shade {
+        Shade::Empty => "\u{2581}",
+        Shade::Low => "\u{2591}",
+        Shade::Middle => "\u{2592}",
+        Shade::High => "\u{2593}",
+        Shade::Full => "\u{2588}",
+    }
+}
+
+/// The letter of an area.
+fn area_letter(area: Area) -> &'static str
+    ensures { result.now ≡ area_letter area }
+{
+    match area {
+        Area::Prefix => "p",
+        Area::Fillers => "f",
+        Area::Moving => "m",
+        Area::Free => "-",
+        Area::Mixed => "x",
+    }
+}
+
+/// The number by which terminals know the colour of an area.
+fn colour_of(area: Area) -> &'static str
+    ensures { result.now ≡ colour_of area }
+{
+    match area {
+        Area::Prefix => "34",
+        Area::Fillers => "33",
+        Area::Moving => "32",
+        Area::Free => "36",
+        Area::Mixed => "35",
+    }
+}

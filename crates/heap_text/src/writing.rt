@@ -1,0 +1,166 @@
+//! `write_text`: an image as a text.
+ghost use Rattle.std.specs.Prelude.{◌≡◌, ◌++◌, ◌+◌, ◌-◌, ◌≤◌, ◌<◌, IfOk, OnOk, List, ℕ, IsTrue, codes, string_bytes};
+ghost use Rattle.heap_image.specs.HeapImage.{HasSoundHeader, end_of, heap_words};
+ghost use Rattle.heap_text.specs.Text.{are_equal, dead_text, dead_words_text, front_text, line_text, lines_from, number_text, numbers_text, object_text, reference_text, references_text, roots_line, roots_text, text_of};
+
+use heap_image::{Image, header};
+use std::alloc::{AllocError, Global};
+
+/// The text of an image.
+pub fn write_text(alloc: Global, image: &Image) -> Result<Vec<u8>, AllocError>
+    ensures { IfOk result (λ text. text.items ≡ text_of image.now) }
+{
+    let mut text = String::new(alloc);
+    write_front(&mut text, image)?;
+    write_roots_line(&mut text, image)?;
+    write_lines(&mut text, image)?;
+    Ok(text.into_bytes())
+}
+
+/// Adds the lines before the words, but for that of the roots.
+fn write_front(text: &mut String, image: &Image) -> Result<(), AllocError>
+    ensures { OnOk result (string_bytes text.new ≡ string_bytes text.old ++ front_text image.now) }
+{
+    write_line(text, "heap version", u64::from(image.version()))?;
+    write_line(text, "region-log", u64::from(image.region_log()))?;
+    write_line(text, "words", image.len())?;
+    write_line(text, "allowance", image.allowance())?;
+    Ok(())
+}
+
+/// Adds a line with a number behind its name.
+fn write_line(text: &mut String, name: &str, number: u64) -> Result<(), AllocError>
+    ensures { OnOk result (string_bytes text.new ≡ string_bytes text.old ++ line_text name.now number) }
+{
+    writeln!(text, "{name} {number}")
+}
+
+/// Adds the line of the roots, in version 2.
+fn write_roots_line(text: &mut String, image: &Image) -> Result<(), AllocError>
+    ensures { OnOk result (string_bytes text.new ≡ string_bytes text.old ++ roots_line image.now) }
+{
+    if image.version() == 2 {
+        write_roots(text, image.roots())
+    } else {
+        Ok(())
+    }
+}
+
+/// Adds a line of these roots.
+fn write_roots(text: &mut String, roots: &[u64]) -> Result<(), AllocError>
+    ensures { OnOk result (string_bytes text.new ≡ string_bytes text.old ++ roots_text roots.now) }
+{
+    text.push_str("roots")?;
+    for root in roots {
+        write_reference(text, *root)?;
+    }
+    text.push_str("\n")
+}
+
+/// Adds a line for each object and each run of dead words.
+fn write_lines(text: &mut String, image: &Image) -> Result<(), AllocError>
+    ensures { OnOk result (string_bytes text.new ≡ string_bytes text.old ++ lines_from image.now 0 image.now.live) }
+{
+    let mut from = 0;
+    for place in image.live() {
+        write_dead(text, image, from, *place)?;
+        from = write_object(text, image, *place)?;
+    }
+    write_dead(text, image, from, image.len())
+}
+
+/// Adds the line of an object. Answers the address behind it.
+fn write_object(text: &mut String, image: &Image, place: u64) -> Result<u64, AllocError>
+    requires { HasSoundHeader image.now place }
+    ensures text { OnOk result (string_bytes text.new ≡ string_bytes text.old ++ object_text image.now place) }
+    ensures end { IfOk result (λ end. end ≡ end_of image.now place) }
+{
+    let _words = image.len();
+    let word = image.word(place);
+    let behind = place + 1 + u64::from(header::references(word));
+    let end = place + u64::from(header::size(word));
+    write!(text, "@{place} object {}", header::size(word))?;
+    write_references(text, image, place + 1, behind)?;
+    write_numbers(text, image, "data", behind, end)?;
+    text.push_str("\n")?;
+    Ok(end)
+}
+
+/// Adds the line of the dead words from one address up to another, if there are some.
+fn write_dead(text: &mut String, image: &Image, from: u64, to: u64) -> Result<(), AllocError>
+    requires { to ≤ heap_words image.now }
+    ensures { OnOk result (string_bytes text.new ≡ string_bytes text.old ++ dead_text image.now from to) }
+{
+    if to <= from {
+        return Ok(());
+    }
+    write!(text, "@{from} dead {}", to - from)?;
+    if are_equal(image, from, to) {
+        write!(text, " of {}", image.word(from))?;
+    } else {
+        write_numbers(text, image, "words", from, to)?;
+    }
+    text.push_str("\n")
+}
+
+/// Whether the words from one address up to another are all equal.
+fn are_equal(image: &Image, from: u64, to: u64) -> bool
+    requires some { from < to }
+    requires inside { to ≤ heap_words image.now }
+    ensures { result ≡ are_equal image.now from to }
+{
+    let first = image.word(from);
+    for place in from..to {
+        if image.word(place) != first {
+            return false;
+        }
+    }
+    true
+}
+
+/// Adds the words from one address up to another as references, if there are some.
+fn write_references(text: &mut String, image: &Image, from: u64, to: u64) -> Result<(), AllocError>
+    requires { to ≤ heap_words image.now }
+    ensures { OnOk result (string_bytes text.new ≡ string_bytes text.old ++ references_text image.now from to) }
+{
+    if to <= from {
+        return Ok(());
+    }
+    text.push_str(" refs")?;
+    for place in from..to {
+        write_reference(text, image.word(place))?;
+    }
+    Ok(())
+}
+
+/// Adds the words from one address up to another as numbers behind a name, if there are some.
+fn write_numbers(
+    text: &mut String,
+    image: &Image,
+    name: &str,
+    from: u64,
+    to: u64,
+) -> Result<(), AllocError>
+    requires { to ≤ heap_words image.now }
+    ensures { OnOk result (string_bytes text.new ≡ string_bytes text.old ++ numbers_text image.now (codes " " ++ name.now) from to) }
+{
+    if to <= from {
+        return Ok(());
+    }
+    write!(text, " {name}")?;
+    for place in from..to {
+        write!(text, " {}", image.word(place))?;
+    }
+    Ok(())
+}
+
+/// Adds a reference or a root.
+fn write_reference(text: &mut String, reference: u64) -> Result<(), AllocError>
+    ensures { OnOk result (string_bytes text.new ≡ string_bytes text.old ++ reference_text reference) }
+{
+    if reference == 0 {
+        text.push_str(" null")
+    } else {
+        write!(text, " @{}", reference - 1)
+    }
+}

@@ -1,0 +1,90 @@
+//! `ImageFile`.
+use crate::ahead::Ahead;
+use crate::watched::Watched;
+use heap_image::{Failed, Intake};
+use raw_region::Region;
+use std::alloc::Global;
+use std::fs::OpenFile;
+use std::io::{Read, Seek};
+use std::os::unix::fs::FileExt;
+use std::thread::Threads;
+
+/// The bytes of an image's file, which no contract tells.
+///
+/// Of a large image in a regular file several threads read the words first, side by side. Any other file, as a pipe, is
+/// read in order, and so is all of a regular one where a thread can't read its part: what is then wrong is found as of a
+/// pipe.
+#[derive(Drop)]
+pub struct ImageFile<'a, F: Drop> {
+    watched: Watched<'a, F>,
+    failed: bool,
+    ahead: Option<Ahead>,
+}
+
+impl<'a, F: Drop> ImageFile<'a, F> {
+    /// The bytes of this file, of which so many threads at most have read the words.
+    pub fn read_ahead<H: AllocGlobal + Threads + Sync>(
+        host: &H,
+        watched: Watched<'a, F>,
+        workers: u32,
+    ) -> ImageFile<'a, F>
+    where
+        F: OpenFile + FileExt + Sync,
+    {
+        let len = watched.regular_len();
+        let ahead = Ahead::read(host.alloc(), watched.file(), len, workers, host);
+        ImageFile {
+            watched,
+            failed: false,
+            ahead,
+        }
+    }
+
+    /// The file.
+    pub fn into_inner(self) -> Watched<'a, F> {
+        let ImageFile { watched, .. } = self;
+        watched
+    }
+}
+
+impl<F: Read + Seek + Drop> Intake for ImageFile<'_, F> {
+    ghost use Rattle.std.specs.Prelude.{None};
+
+    ghost left = { λ _. None };
+
+    ghost has_failed = { λ image. image.failed };
+
+    fn take(&mut self, buffer: &mut [u8]) -> Result<usize, Failed> {
+        if self.failed {
+            return Err(Failed);
+        }
+        match self.watched.read(buffer) {
+            Ok(n) => Ok(n),
+            Err(_) => {
+                self.failed = true;
+                Err(Failed)
+            }
+        }
+    }
+
+    fn failed(&self) -> bool {
+        self.failed
+    }
+
+    fn take_regions(
+        &mut self,
+        _alloc: Global,
+        region_log: u32,
+        count: usize,
+    ) -> Option<Vec<Region>> {
+        let Ahead { extent, regions } = self.ahead.take()?;
+        if extent.region_log != region_log || extent.count != count {
+            return None;
+        }
+        if self.watched.pass(extent.at, extent.end()?) {
+            Some(regions)
+        } else {
+            None
+        }
+    }
+}

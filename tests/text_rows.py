@@ -1,0 +1,144 @@
+"""What `tests/commands` runs of `text` and `assemble`: the rows of docs/FORMATS.md, "Heap text"."""
+import pathlib
+
+from cases import BASE
+from heap_model import Wanted, generated
+from model import encode, header
+from program import TOP, Answer, Tried, fault, usage
+
+FULL = pathlib.Path("/dev/full")
+FAULT_13 = "13 input or output"
+ROOTED = (TOP / "examples" / "rooted.pcheap").read_bytes()
+HEAP = """\
+@0 object 3 refs @5 @20
+@3 dead 2 of 999
+@5 object 4 refs @12 data 107 108
+@9 dead 3 of 999
+@12 object 2 refs @0
+@14 dead 6 of 999
+@20 object 10 refs @20 null @5 @12 @0 null @20 @5 data 129
+@30 dead 2 of 999
+"""
+BASE_TEXT = "heap version 1\nregion-log 3\nwords 32\nallowance 0\n" + HEAP
+ROOTED_TEXT = "heap version 2\nregion-log 3\nwords 32\nallowance 0\nroots @20 null\n" + HEAP
+BASE_COUNTS = "words 32 roots 0 live 4\n"
+ROOTED_COUNTS = "words 32 roots 2 live 4\n"
+OLD = b"what stood there before" * 40
+REFERENCE = "`null`, or `@` and an address below 32"
+NUMBER = "a number below 2^64, decimal and without leading zeros"
+
+# In the text of the base heap with roots: what is changed into what, the line that is told, and what it says.
+MISTAKES = [
+    ("heap version 2", "heap version 3", 1, "`heap version 1` or `heap version 2`"),
+    ("region-log 3", "region-log 2", 2, "`region-log K`, where K is 3 to 16"),
+    ("words 32", "words 36", 3, "`words N`, where N is 1 to 4194304 and makes whole regions, 16384 at most"),
+    ("allowance 0", "allowance -1", 4, "`allowance M`, where M is a number below 2^64"),
+    ("roots @20", "root @20", 5, "`roots`, and behind it `null` or `@` and an address for each root"),
+    ("roots @20", "roots 20", 5, REFERENCE),
+    ("null\n", "null" + " null" * 31 + "\n", 5, "32 roots at most"),
+    ("@0 object", "@1 object", 6, "a line that begins with `@0`"),
+    ("@0 object", "@0 thing", 6, "`object` or `dead` behind the address"),
+    ("@0 object 3", "@0 object 33", 6, "the size of the object, header included: 1 to 32"),
+    ("@0 object 3 refs", "@0 object 3 links", 6, "`refs` or `data` behind the size"),
+    ("@0 object 3", "@0 object 4", 6, "3 references and data words in all"),
+    ("refs @5 @20", "refs @5 @32", 6, REFERENCE),
+    ("refs @5 @20", "refs @5  @20", 6, REFERENCE),
+    ("107 108", "107 0108", 8, NUMBER),
+    ("2 of 999\n@5", "1 of 999\n@4 dead 1 of 999\n@5", 8, "an object at @4, since dead words in a row have one line"),
+    ("@3 dead 2", "@3 dead 30", 7, "the number of dead words: 1 to 29"),
+    ("2 of 999", "2 all 999", 7, "`of` and a number, or `words` and numbers, behind the number of dead words"),
+    ("2 of 999", "2 words 999", 7, "2 numbers behind `words`"),
+    ("2 of 999", "2 words 999 999", 7, "`of` and one number, since the words are equal"),
+    ("2 of 999", "2 of 999 999", 7, "the end of the line"),
+    ("@30 dead 2 of 999\n", "", 13, "a line that begins with `@30`"),
+    ("@30 dead 2 of 999\n", "@30 dead 2 of 999", 13, "a newline at the end of the line"),
+    ("@30 dead 2 of 999\n", "@30 dead 2 of 999\n@32 dead 1 of 0\n", 14, "no more lines, since all words are there"),
+    ("refs @0\n", "refs @1\n", 6, "a valid object, where this is fault 7 header at 1"),
+    ("roots @20 null", "roots null", 6, "dead words, since nothing leads to @0 from the roots"),
+]
+
+
+def mistake(line: int, expected: str) -> Answer:
+    return Answer(1, err=f"pcompact: TEXT line {line}: expected {expected}\n", made={"made": None})
+
+
+def try_both_ways(tried: Tried) -> None:
+    for content, text, counts in ((BASE, BASE_TEXT, BASE_COUNTS), (ROOTED, ROOTED_TEXT, ROOTED_COUNTS)):
+        tried.write("heap", content)
+        tried.run("text heap", Answer(0, text))
+        tried.run("text --verbose heap", Answer(0, text))
+        tried.run("text /dev/stdin", Answer(0, text), input=content)
+        tried.write("lines", text)
+        for flags in ("", " --atomic", " --verbose", " --atomic --verbose"):
+            tried.run(f"assemble lines made{flags}", Answer(0, counts, made={"made": content}))
+        tried.run("assemble --atomic lines lines", Answer(0, counts))
+        if tried.read("lines") != content:
+            tried.is_wrong("an image doesn't take the place of its text")
+        tried.run("assemble /dev/stdin made", Answer(0, counts, made={"made": content}), input=text.encode())
+
+
+def try_mistakes(tried: Tried) -> None:
+    for old, new, line, expected in MISTAKES:
+        tried.write("lines", ROOTED_TEXT.replace(old, new, 1))
+        for flags in ("", " --atomic"):
+            tried.run(f"assemble lines made{flags}", mistake(line, expected))
+    tried.write("lines", BASE_TEXT.replace("refs @0\n", "refs @3\n"))
+    tried.run("assemble lines made", mistake(9, "a valid object, where this is fault 9 reference at 12 field 0"))
+    tried.write("lines", ROOTED_TEXT.replace("roots @20", "roots @30").replace("2 of 999\n", f"2 words {header(2, 0)} 5\n"))
+    tried.run("assemble lines made", mistake(6, "dead words, since nothing leads to @0 from the roots"))
+    tried.write("lines", ROOTED_TEXT.replace("null\n", "@30\n", 1).replace("@30 dead 2 of 999", f"@30 dead 2 words {header(2, 0)} 5"))
+    tried.run("assemble lines made", mistake(13, "an object at @30, to which a root or a reference leads"))
+    tried.write("lines", "")
+    tried.run("assemble lines made", mistake(1, "`heap version 1` or `heap version 2`"))
+    tried.write("lines", OLD)
+    tried.run("assemble lines made", mistake(1, "a newline at the end of the line"))
+    told = "pcompact: TEXT line 1: expected a newline at the end of the line\n"
+    tried.run("assemble lines made --verbose", Answer(1, err=f"{told}pcompact: file TEXT lines\n", made={"made": None}))
+    tried.write("kept", OLD)
+    tried.run("assemble lines kept", Answer(1, err=told))
+    if tried.read("kept") != OLD:
+        tried.is_wrong("a refused text changes the file for the image")
+
+
+def try_files(tried: Tried) -> None:
+    tried.write("lines", BASE_TEXT)
+    (tried.folder / "a_folder").mkdir(exist_ok=True)
+    nothing = {"made": None}
+    for name in ("nothing", "a_folder", "/proc/self/mem"):
+        tried.run(f"text {name}", fault(FAULT_13))
+        tried.run(f"assemble {name} made", fault(FAULT_13, nothing))
+    for name in ("a_folder", "nothing/made", "/dev/full"):
+        tried.run(f"assemble lines {name}", fault(FAULT_13))
+    for name in ("lines", "./lines"):
+        tried.run(f"assemble lines {name}", Answer(2, err="pcompact: same file\n"))
+    tried.run("assemble lines a_folder --atomic", Answer(2, err="pcompact: not a regular file\n"))
+    tried.write("heap", BASE + b"\0")
+    tried.run("text heap", fault("10 trailing bytes"))
+    tried.run("text heap --verbose", Answer(1, err="pcompact: fault 10 trailing bytes\npcompact: file IMAGE heap\n"))
+    tried.write("heap", BASE)
+    with FULL.open("wb") as full:
+        tried.run("text heap", fault(FAULT_13), stdout=full)
+        tried.run("assemble lines made", fault(FAULT_13, {"made": BASE}), stdout=full)
+        tried.run("assemble lines made --atomic", fault(FAULT_13, nothing), stdout=full)
+
+
+def try_words(tried: Tried) -> None:
+    missing = "error: the following required arguments were not provided:\n"
+    tried.run("text", usage(f"{missing}  <IMAGE>\n"))
+    tried.run("assemble", usage(f"{missing}  <TEXT>\n  <IMAGE>\n"))
+    tried.run("assemble lines", usage(f"{missing}  <IMAGE>\n"))
+    tried.run("text heap made", usage("error: unexpected argument 'made' found\n"))
+    tried.run("assemble lines made more", usage("error: unexpected argument 'more' found\n"))
+    tried.run("text heap --atomic", usage("error: unexpected argument '--atomic' found\n"))
+
+
+def try_largest(tried: Tried) -> None:
+    """A heap of a million words goes both ways and is the same."""
+    content = encode(generated(Wanted(1 << 20, 16, 50, 25, 2, 7, 3))[0])
+    tried.write("heap", content)
+    with (tried.folder / "lines").open("wb") as lines:
+        tried.run("text heap", Answer(0), stdout=lines)
+    tried.run("assemble lines made", Answer(0, None, made={"made": content}))
+
+
+GROUPS = (try_both_ways, try_mistakes, try_files, try_words, try_largest)
