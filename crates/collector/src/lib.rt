@@ -38,32 +38,22 @@
 mod clean_up;
 mod collection;
 mod collection_desk;
-#[cfg(test)]
-mod collection_tests;
 mod comparison;
 mod crew;
 mod difference;
 mod equipment;
 mod gate;
-#[cfg(test)]
-mod gate_tests;
 mod laws;
-#[cfg(test)]
-mod memory_tests;
 mod outcome;
 mod prepared;
+#[cfg(test)]
+mod prepared_tests;
 mod reading;
 mod ready;
 mod record_streaming;
-#[cfg(test)]
-mod record_tests;
 mod recording;
 mod staff;
 mod streaming;
-#[cfg(test)]
-mod streaming_tests;
-#[cfg(test)]
-mod tests;
 mod valid;
 mod verdict;
 mod verification;

@@ -28,8 +28,6 @@ mod in_prefix;
 mod runs;
 mod site;
 mod span;
-#[cfg(test)]
-mod tests;
 mod valid;
 
 pub use clear::clear_above;

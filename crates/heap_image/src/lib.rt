@@ -48,8 +48,6 @@ mod read;
 mod side_by_side;
 mod soundness;
 mod store;
-#[cfg(test)]
-mod tests;
 mod unchecked;
 mod upgrading;
 mod write;

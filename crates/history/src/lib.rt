@@ -105,7 +105,3 @@ pub use tallies::{count_readers, count_sources};
 pub use text_laws::{malformed_is_no_schedule, one_schedule_a_text};
 pub use whole_histories::settled_histories_have_each_once;
 
-#[cfg(test)]
-mod replay_tests;
-#[cfg(test)]
-mod tests;

@@ -38,8 +38,6 @@ mod region_table;
 mod report_text;
 mod sources;
 mod survey;
-#[cfg(test)]
-mod tests;
 
 pub use plainly::compact_plainly;
 pub use plan::{Plan, report};

@@ -1,0 +1,183 @@
+//! Recorded collections in which a worker is held at each point in turn.
+use super::{Fillers, base, is_of_its_fillers, recorded, replays};
+use collector::Gate;
+use history::{Event, Schedule};
+use std::alloc::Global;
+use std::sync::Wait;
+use std::sync::atomic::{AtomicBool, AtomicU32, Ordering};
+use std::test::Fail;
+use std::thread;
+use std::thread::Threads;
+
+/// How often a held worker looks whether another one calls the gate.
+const TURNS: u32 = 10_000;
+
+/// Each point of each region to fill.
+const POINTS: [(Point, u32); 6] = [
+    (Point::BeforeFill, 0),
+    (Point::BeforeFill, 1),
+    (Point::BeforeFill, 2),
+    (Point::AfterComplete, 0),
+    (Point::AfterComplete, 1),
+    (Point::AfterComplete, 2),
+];
+
+/// At which call of the gate.
+#[derive(Clone, Copy, Debug, PartialEq, Eq)]
+enum Point {
+    BeforeFill,
+    AfterComplete,
+}
+
+/// Holds the worker that comes to one point of one region until another one calls the gate, for so many turns at most.
+#[derive(Drop)]
+struct HoldsAt {
+    point: Point,
+    region: u32,
+    calls: AtomicU32,
+    fillers: Fillers,
+    /// Of each of three regions, which of all calls was made as the fill began and which as it had ended.
+    begun: [AtomicU32; 3],
+    ended: [AtomicU32; 3],
+    middle_may_begin: AtomicBool,
+    last_came_early: AtomicBool,
+}
+
+/// A number of no call.
+const NEVER: u32 = 1_000;
+
+fn never() -> [AtomicU32; 3] {
+    [
+        AtomicU32::new(NEVER),
+        AtomicU32::new(NEVER),
+        AtomicU32::new(NEVER),
+    ]
+}
+
+fn note(calls: &[AtomicU32; 3], region: u32, number: u32) {
+    if let Some(call) = calls.get(region as usize) {
+        call.store(number, Ordering::SeqCst);
+    }
+}
+
+/// The number of the region's call.
+fn number_of(calls: &[AtomicU32; 3], region: u32) -> u32 {
+    match calls.get(region as usize) {
+        Some(call) => call.load(Ordering::SeqCst),
+        None => NEVER,
+    }
+}
+
+impl HoldsAt {
+    fn new(point: Point, region: u32) -> HoldsAt {
+        HoldsAt {
+            point,
+            region,
+            calls: AtomicU32::new(0),
+            fillers: Fillers::unknown(),
+            begun: never(),
+            ended: never(),
+            middle_may_begin: AtomicBool::new(false),
+            last_came_early: AtomicBool::new(false),
+        }
+    }
+
+    /// Counts a call, and holds it where it is at the point. The number of the call.
+    fn hear(&self, point: Point, region: u32) -> u32 {
+        let number = self.calls.fetch_add(1, Ordering::SeqCst);
+        if point == self.point && region == self.region {
+            self.hold(number);
+        }
+        number
+    }
+
+    /// Holds the call of this number until there is a later one.
+    fn hold(&self, number: u32) {
+        let calls_so_far = number.wrapping_add(1);
+        for _ in 0..TURNS {
+            if self.calls.load(Ordering::SeqCst) != calls_so_far {
+                return;
+            }
+            thread::yield_now();
+        }
+    }
+
+    /// Whether the gate heard that the first region was filled before it was asked for the other one.
+    fn heard_in_order(&self, first: u32, other: u32) -> bool {
+        number_of(&self.ended, first) < number_of(&self.begun, other)
+    }
+}
+
+impl Gate for HoldsAt {
+    ghost may_refuse = { λ _ _ _. ⊥ };
+
+    fn before_fill(&self, worker: u32, region: u32) -> bool {
+        self.fillers.note(worker, region);
+        if region == 2 && !self.middle_may_begin.load(Ordering::SeqCst) {
+            self.last_came_early.store(true, Ordering::SeqCst);
+        }
+        let number = self.hear(Point::BeforeFill, region);
+        note(&self.begun, region, number);
+        if region == 1 {
+            self.middle_may_begin.store(true, Ordering::SeqCst);
+        }
+        true
+    }
+
+    fn after_complete(&self, _worker: u32, region: u32) {
+        let number = self.hear(Point::AfterComplete, region);
+        note(&self.ended, region, number);
+    }
+}
+
+/// The place of the event's first line, or of the end.
+pub(super) fn place_of(schedule: &Schedule, event: Event) -> usize {
+    for i in 0..schedule.len() {
+        if schedule.line(i).1 == event {
+            return i;
+        }
+    }
+    schedule.len()
+}
+
+/// Whether the completions of these regions stand in the order that the gate heard of.
+fn is_as_heard(schedule: &Schedule, gate: &HoldsAt, first: u32, other: u32) -> bool {
+    !gate.heard_in_order(first, other)
+        || place_of(schedule, Event::Complete(first)) < place_of(schedule, Event::Complete(other))
+}
+
+/// Whether each two completions stand in the order that the gate heard of.
+fn is_all_as_heard(schedule: &Schedule, gate: &HoldsAt) -> bool {
+    for (first, other) in [(0, 1), (0, 2), (1, 0), (1, 2), (2, 0), (2, 1)] {
+        if !is_as_heard(schedule, gate, first, other) {
+            return false;
+        }
+    }
+    true
+}
+
+/// Whether a schedule is recorded under the gate that replays, and agrees with what the gate heard.
+fn comes_through<R: Threads + Wait + Sync>(
+    alloc: Global,
+    rt: &R,
+    allowance: u64,
+    workers: u32,
+    gate: &HoldsAt,
+) -> Result<bool, Fail> {
+    let schedule = recorded(alloc, rt, allowance, workers, gate)?;
+    let image = base(alloc, allowance, rt)?;
+    let is_replayed = replays(alloc, rt, &image, &schedule)?;
+    let is_heard = is_of_its_fillers(&schedule, &gate.fillers) && is_all_as_heard(&schedule, gate);
+    Ok(is_replayed && is_heard && !gate.last_came_early.load(Ordering::SeqCst))
+}
+
+#[test]
+fn a_worker_held_at_any_point_leaves_a_schedule_that_replays(rt: HostRuntime) -> Result<(), Fail> {
+    for (workers, allowance) in [(2, 0), (2, 2), (3, 0), (3, 2)] {
+        for (point, region) in POINTS {
+            let gate = HoldsAt::new(point, region);
+            assert!(rt; comes_through(rt.alloc(), &rt, allowance, workers, &gate)?);
+        }
+    }
+    Ok(())
+}

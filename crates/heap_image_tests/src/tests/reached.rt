@@ -1,0 +1,269 @@
+//! What roots reach: graphs of some shapes, and thousands of small heaps beside a plain marking program.
+use super::roots::{is_live, object, rooted_text};
+use super::{PAIR, refused};
+use heap_image::{Fault, decode, decode_by_threads, header};
+use std::alloc::{AllocError, Global};
+use std::collections::{BTreeSet, VecDeque};
+use std::process::Abort;
+use std::test::Fail;
+use std::thread::Threads;
+
+#[test]
+fn a_cycle_is_followed_once(rt: HostRuntime) -> Result<(), Fail> {
+    let link = object(2, 1);
+    let words = [link, 5, link, 3, link, 1, link, 7];
+    assert!(rt; is_live(&rt, rt.alloc(), &words, &[1], &[0, 4])?);
+    assert!(rt; is_live(&rt, rt.alloc(), &words, &[3], &[2])?);
+    assert!(rt; is_live(&rt, rt.alloc(), &words, &[5, 7, 3], &[0, 2, 4, 6])?);
+    Ok(())
+}
+
+/// How many objects an array refers to.
+const ELEMENTS: u64 = 65_535;
+
+/// A heap of an array that refers to all other objects, which have no references.
+#[test]
+fn an_array_reaches_all(rt: HostRuntime) -> Result<(), Fail> {
+    let array = ELEMENTS + 1;
+    let mut words = Vec::from_iter(rt.alloc(), (array..array + ELEMENTS).map(|a| a + 1))?;
+    words.insert(0, object(array, ELEMENTS))?;
+    words.resize((array + ELEMENTS) as usize, object(1, 0))?;
+    words.push(999)?;
+    let text = rooted_text(rt.alloc(), 3, &words, &[1])?;
+    let image = decode_by_threads(rt.alloc(), &text, &rt)?;
+    assert_eq!(rt; image.live().len() as u64, ELEMENTS + 1);
+    assert_eq!(rt; image.live().first().copied(), Some(0));
+    assert!(rt;
+        image
+            .live()
+            .iter()
+            .skip(1)
+            .copied()
+            .eq(array..array + ELEMENTS)
+    );
+    Ok(())
+}
+
+/// How many objects a list has.
+const LINKS: u64 = 1 << 20;
+
+/// A list whose objects lie scattered: of each two neighbours in it the addresses are far apart.
+#[test]
+fn a_list_of_a_million_objects_is_reached(rt: HostRuntime) -> Result<(), Fail> {
+    let mut words = Vec::new(rt.alloc());
+    for link in 0..LINKS {
+        let next = link.wrapping_mul(1_103_515_245).wrapping_add(12_345) % LINKS;
+        words.push(object(2, 1))?;
+        words.push(2 * next + 1)?;
+    }
+    let text = rooted_text(rt.alloc(), 16, &words, &[1])?;
+    let image = decode(rt.alloc(), &text)?;
+    assert!(rt;
+        image
+            .live()
+            .iter()
+            .copied()
+            .eq((0..LINKS).map(|link| 2 * link))
+    );
+    Ok(())
+}
+
+/// How many words a small heap has, and how many roots at most.
+const WORDS: u64 = 16;
+
+const ROOTS: u64 = 4;
+
+/// What stands at even addresses: mostly objects of two words with a reference, and some of other sizes.
+const EVEN: [u64; 16] = [
+    PAIR,
+    PAIR,
+    PAIR,
+    PAIR,
+    PAIR,
+    PAIR,
+    PAIR,
+    PAIR,
+    PAIR,
+    0x0100_0000_0000_0002,
+    0x0100_0003_0000_0004,
+    0x0100_0002_0000_0004,
+    0x0100_0001_0000_0003,
+    0x0100_0001_0000_0004,
+    0x0100_0000_0000_0001,
+    0,
+];
+
+/// What stands at odd addresses, and what roots are: mostly references to even addresses, and at times others.
+const ODD: [u64; 16] = [0, 1, 3, 5, 7, 9, 11, 13, 15, 1, 5, 9, 13, 7, 4, 17];
+
+/// One of 16, which looks like chance, for a place of the heap of this number.
+fn choice(heap: u64, place: u64, of: &[u64; 16]) -> u64 {
+    let number = heap.wrapping_mul(32).wrapping_add(place);
+    let mixed = number.wrapping_mul(0x9E37_79B9_7F4A_7C15);
+    let mixed = (mixed ^ mixed >> 32).wrapping_mul(0xD6E8_FEB8_6659_FD93);
+    of[(mixed >> 60) as usize]
+}
+
+fn words_of(alloc: Global, heap: u64) -> Result<Vec<u64>, AllocError> {
+    let mut words = Vec::new(alloc);
+    for a in 0..WORDS {
+        let of = if a % 2 == 0 { &EVEN } else { &ODD };
+        words.push(choice(heap, a, of))?;
+    }
+    Ok(words)
+}
+
+fn roots_of(alloc: Global, heap: u64) -> Result<Vec<u64>, AllocError> {
+    let count = 1 + heap % ROOTS;
+    Vec::from_iter(
+        alloc,
+        (WORDS..WORDS + count).map(|place| choice(heap, place, &ODD)),
+    )
+}
+
+/// A heap, its objects that were found by a plain marking program, and those that were found and not followed yet.
+#[derive(Drop)]
+struct Search<'a> {
+    words: &'a [u64],
+    found: BTreeSet<u64>,
+    queue: VecDeque<u64>,
+}
+
+impl Search<'_> {
+    /// The word at `a`, or 0 behind the heap.
+    fn word(&self, a: u64) -> u64 {
+        self.words.get(a as usize).copied().unwrap_or(0)
+    }
+
+    fn end(&self, a: u64) -> u64 {
+        a.wrapping_add(u64::from(header::size(self.word(a))))
+    }
+
+    /// Whether an object can begin at `a`.
+    fn is_sound(&self, a: u64) -> bool {
+        let word = self.word(a);
+        header::kind(word) == header::OBJECT
+            && header::references(word) < header::size(word)
+            && self.end(a) <= self.words.len() as u64
+    }
+
+    /// The reference of this number of the object at `a`.
+    fn reference(&self, a: u64, field: u32) -> u64 {
+        self.word(a.wrapping_add(u64::from(field)).wrapping_add(1))
+    }
+
+    /// Finds what a root or a reference leads to.
+    fn find(&mut self, reference: u64) -> Result<(), AllocError> {
+        if reference == 0 || reference > self.words.len() as u64 {
+            return Ok(());
+        }
+        if self.found.insert(reference - 1)? {
+            self.queue.push_back(reference - 1)?;
+        }
+        Ok(())
+    }
+
+    /// Finds what the object at `a` refers to.
+    fn follow(&mut self, a: u64) -> Result<(), AllocError> {
+        if self.is_sound(a) {
+            for field in 0..header::references(self.word(a)) {
+                self.find(self.reference(a, field))?;
+            }
+        }
+        Ok(())
+    }
+
+    /// Finds all that these roots reach.
+    fn run(&mut self, roots: &[u64]) -> Result<(), AllocError> {
+        for root in roots {
+            self.find(*root)?;
+        }
+        for _ in 0..self.words.len() {
+            if let Some(a) = self.queue.pop_front() {
+                self.follow(a)?;
+            }
+        }
+        Ok(())
+    }
+
+    /// The first object that is unsound.
+    fn unsound(&self) -> Option<Fault> {
+        let mut found = self.found.iter().copied();
+        found.find(|a| !self.is_sound(*a)).map(Fault::Header)
+    }
+
+    /// The first object that begins before the end of another.
+    fn overlapping(&self) -> Option<Fault> {
+        let mut end = 0;
+        for a in self.found.iter() {
+            if *a < end {
+                return Some(Fault::Overlap(*a));
+            }
+            end = self.end(*a);
+        }
+        None
+    }
+
+    /// The first reference that leads out of the heap.
+    fn beyond(&self) -> Option<Fault> {
+        for a in self.found.iter() {
+            for field in 0..header::references(self.word(*a)) {
+                if self.reference(*a, field) > self.words.len() as u64 {
+                    return Some(Fault::Reference(*a, field));
+                }
+            }
+        }
+        None
+    }
+
+    /// What is first wrong with these roots or what they reach.
+    fn fault(&self, roots: &[u64]) -> Option<Fault> {
+        let outside = roots
+            .iter()
+            .position(|root| *root > self.words.len() as u64);
+        if let Some(index) = outside {
+            return Some(Fault::Root(u32::try_from(index).unwrap_or(u32::MAX)));
+        }
+        let (unsound, overlapping) = (self.unsound(), self.overlapping());
+        unsound.or(overlapping).or_else(|| self.beyond())
+    }
+}
+
+/// What a plain marking program says of a heap, by a queue and a set: its live objects, or what is first wrong.
+fn plainly_marked(
+    alloc: Global,
+    words: &[u64],
+    roots: &[u64],
+) -> Result<Result<Vec<u64>, Fault>, AllocError> {
+    let mut search = Search {
+        words,
+        found: BTreeSet::new(alloc),
+        queue: VecDeque::new(alloc),
+    };
+    search.run(roots)?;
+    match search.fault(roots) {
+        Some(fault) => Ok(Err(fault)),
+        None => Ok(Ok(Vec::from_iter(alloc, search.found.iter().copied())?)),
+    }
+}
+
+/// Whether the small heap of this number is read as the plain program says.
+fn agrees(rt: &(impl Abort + Threads + Sync), alloc: Global, heap: u64) -> Result<bool, Fault> {
+    let words = words_of(alloc, heap)?;
+    let roots = roots_of(alloc, heap)?;
+    match plainly_marked(alloc, &words, &roots)? {
+        Ok(live) => is_live(rt, alloc, &words, &roots, &live),
+        Err(fault) => {
+            let text = rooted_text(alloc, 3, &words, &roots)?;
+            Ok(refused(rt, decode_by_threads(alloc, &text, rt)) == fault)
+        }
+    }
+}
+
+#[test]
+fn small_heaps_are_read_as_a_plain_program_marks_them(rt: HostRuntime) -> Result<(), Fail> {
+    for heap in 0..6_000 {
+        assert!(rt; agrees(&rt, rt.alloc(), heap)?, "heap {heap}");
+    }
+    Ok(())
+}

@@ -1,0 +1,329 @@
+//! Heaps made from seeds, whose plans are compared with plain counts over their live words.
+ghost use Rattle.std.specs.Prelude.{◌≡◌, ◌<◌};
+ghost use Rattle.heap_image.specs.HeapImage.{region_count};
+
+use crate::tests::{Object, image_of};
+use summary::{Plan, RegionData, compact_plainly};
+use heap_image::Image;
+use mark_bitmap::Marks;
+use std::alloc::{AllocError, Global};
+use std::test::Fail;
+use std::thread::Threads;
+
+/// Numbers that look like chance, the same in each run.
+#[derive(Drop)]
+struct Seed(u64);
+
+impl Seed {
+    fn below(&mut self, bound: u64) -> u64 {
+        self.0 = self
+            .0
+            .wrapping_mul(6_364_136_223_846_793_005)
+            .wrapping_add(1_442_695_040_888_963_407);
+        (self.0 >> 33).checked_rem(bound).unwrap_or(0)
+    }
+
+    /// How many dead words come next: mostly none, at times those of some regions.
+    fn gap(&mut self, region_words: u64) -> u64 {
+        match self.below(6) {
+            0 => self.below(region_words.wrapping_mul(3)),
+            1 | 2 => self.below(4),
+            _ => 0,
+        }
+    }
+
+    /// How many words the next object has: often one, at times those of some regions.
+    fn size(&mut self, region_words: u64) -> u64 {
+        let behind = match self.below(6) {
+            0 => self.below(region_words.wrapping_mul(3)),
+            1 | 2 => 0,
+            _ => self.below(region_words),
+        };
+        behind.wrapping_add(1)
+    }
+}
+
+/// The objects of a heap of so many words.
+fn seeded_objects(
+    alloc: Global,
+    mut seed: Seed,
+    region_words: u64,
+    len: u64,
+) -> Result<Vec<Object>, AllocError> {
+    let mut objects = Vec::new(alloc);
+    let mut end: u64 = 0;
+    for _ in 0..len {
+        let begin = end.wrapping_add(seed.gap(region_words));
+        let size = seed.size(region_words);
+        end = begin.wrapping_add(size);
+        if end > len {
+            break;
+        }
+        objects.push((begin, size))?;
+    }
+    Ok(objects)
+}
+
+/// A live word: where its object begins, where it is, and where it goes.
+#[derive(Clone, Copy)]
+struct LiveWord {
+    object: u64,
+    from: u64,
+    to: u64,
+}
+
+/// The live words of these objects, which go to these addresses.
+fn live_words(
+    alloc: Global,
+    objects: &[Object],
+    new_live: &[u64],
+) -> Result<Vec<LiveWord>, AllocError> {
+    let mut words = Vec::new(alloc);
+    for ((begin, size), place) in objects.iter().zip(new_live) {
+        for i in 0..*size {
+            words.push(LiveWord {
+                object: *begin,
+                from: begin.wrapping_add(i),
+                to: place.wrapping_add(i),
+            })?;
+        }
+    }
+    Ok(words)
+}
+
+/// The live words of a heap, and its sizes.
+#[derive(Drop)]
+struct Heap<'a> {
+    words: &'a [LiveWord],
+    region_words: u64,
+    regions: u64,
+    prefix_end: u64,
+}
+
+impl Heap<'_> {
+    fn region_of(&self, a: u64) -> u64 {
+        a.checked_div(self.region_words).unwrap_or(0)
+    }
+
+    fn start_of(&self, r: u64) -> u64 {
+        r.wrapping_mul(self.region_words)
+    }
+
+    /// How many live words stand from address `a` on and before region `r`.
+    fn words_between(&self, a: u64, r: u64) -> u64 {
+        let words = self.words.iter();
+        words
+            .filter(|word| a <= word.from && self.region_of(word.from) < r)
+            .count() as u64
+    }
+
+    /// How many live words of region `r` are of an object begun further left.
+    fn partial(&self, r: u64) -> u64 {
+        let words = self.words.iter();
+        words
+            .filter(|word| self.region_of(word.from) == r && self.region_of(word.object) < r)
+            .count() as u64
+    }
+
+    fn destination(&self, r: u64) -> u64 {
+        if self.start_of(r) < self.prefix_end {
+            self.start_of(r)
+        } else {
+            self.prefix_end
+                .wrapping_add(self.words_between(self.prefix_end, r))
+        }
+    }
+
+    /// Whether a number is null, or 1 plus the address of a word that lies in the dense prefix or is live.
+    fn is_counted(&self, x: u64) -> bool {
+        let mut words = self.words.iter();
+        x <= self.prefix_end || words.any(|word| word.from.wrapping_add(1) == x)
+    }
+
+    /// How many such numbers lie below this one.
+    fn counted_below(&self, x: u64) -> u64 {
+        (0..x).filter(|y| self.is_counted(*y)).count() as u64
+    }
+
+    /// Whether a word goes from region `s` to region `d`.
+    fn reads(&self, d: u64, s: u64) -> bool {
+        let mut words = self.words.iter();
+        words.any(|word| self.region_of(word.from) == s && self.region_of(word.to) == d)
+    }
+
+    fn readers(&self, s: u64) -> u64 {
+        (0..self.regions)
+            .filter(|d| *d != s && self.reads(*d, s))
+            .count() as u64
+    }
+
+    /// The region whose word goes to the start of region `d`, if `d` lies behind the dense prefix.
+    fn source(&self, d: u64) -> Option<u64> {
+        if self.start_of(d) < self.prefix_end {
+            return None;
+        }
+        let first = self.words.iter().find(|word| word.to == self.start_of(d))?;
+        Some(self.region_of(first.from))
+    }
+
+    /// Whether a word of the object goes behind region `d`.
+    fn crosses(&self, object: u64, d: u64) -> bool {
+        let mut words = self.words.iter();
+        words.any(|word| word.object == object && self.region_of(word.to) > d)
+    }
+
+    /// The new address of the object that begins in region `d` and crosses its end.
+    fn deferred(&self, d: u64) -> Option<u64> {
+        let first = self.words.iter().find(|word| {
+            word.from == word.object && self.region_of(word.to) == d && self.crosses(word.object, d)
+        })?;
+        Some(first.to)
+    }
+}
+
+/// The last region start that the last live word's end doesn't lie below, with at most so many dead words below it.
+fn prefix_end(words: &[LiveWord], region_words: u64, allowance: u64) -> u64 {
+    let end = words.last().map_or(0, |word| word.from.wrapping_add(1));
+    let mut prefix_end = 0;
+    for b in 0..=end {
+        let live = words.iter().filter(|word| word.from < b).count() as u64;
+        if b.checked_rem(region_words) == Some(0) && b.wrapping_sub(live) <= allowance {
+            prefix_end = b;
+        }
+    }
+    prefix_end
+}
+
+/// Whether the plan tells of region `r` what is counted.
+fn region_agrees(plan: &Plan, heap: &Heap<'_>, r: u32) -> bool
+    requires { r < region_count plan.now }
+{
+    let data = plan.region(r);
+    let r64 = u64::from(r);
+    let all = heap.words_between(heap.start_of(r64), r64.wrapping_add(1));
+    u64::from(data.partial) == heap.partial(r64)
+        && u64::from(data.partial) + u64::from(data.live) == all
+        && data.destination == heap.destination(r64)
+        && u64::from(data.count) == heap.readers(r64)
+        && data.source.map(u64::from) == heap.source(r64)
+        && plan.deferred(r) == heap.deferred(r64)
+}
+
+/// Whether region `d` reads the regions that are counted.
+fn reads_agree(plan: &Plan, heap: &Heap<'_>, d: u32) -> bool
+    requires { d < region_count plan.now }
+{
+    let d64 = u64::from(d);
+    let read = (0..heap.regions).filter(|s| heap.reads(d64, *s));
+    plan.reads(d).map(u64::from).eq(read)
+}
+
+fn regions_agree(plan: &Plan, heap: &Heap<'_>) -> bool {
+    for r in 0..plan.regions() {
+        if !region_agrees(plan, heap, r) || !reads_agree(plan, heap, r) {
+            return false;
+        }
+    }
+    true
+}
+
+/// Whether each object goes where its first word goes.
+fn addresses_agree(image: &Image, marks: &Marks, plan: &Plan, heap: &Heap<'_>) -> bool
+    requires marks { marks.now ≡ image.now }
+    requires plan { plan.now ≡ image.now }
+{
+    for a in image.live() {
+        let place = heap
+            .words
+            .iter()
+            .find(|word| word.from == *a)
+            .map(|word| word.to);
+        if Some(plan.new_address(marks, *a)) != place {
+            return false;
+        }
+    }
+    true
+}
+
+/// Whether null stays null, and a reference to each object becomes what is counted.
+fn references_agree(image: &Image, plan: &Plan, heap: &Heap<'_>) -> bool
+    requires { plan.now ≡ image.now }
+{
+    for a in image.live() {
+        if plan.redirected(*a + 1) != heap.counted_below(a.wrapping_add(1)) {
+            return false;
+        }
+    }
+    plan.redirected(0) == 0
+}
+
+/// Whether the plan has the ends that are counted.
+fn ends_agree(plan: &Plan, heap: &Heap<'_>) -> bool {
+    let top = heap.words.last().map_or(0, |word| word.to.wrapping_add(1));
+    let filled = (0..heap.regions)
+        .filter(|r| heap.start_of(*r) < top)
+        .count();
+    plan.prefix_end() == heap.prefix_end
+        && plan.new_top() == top
+        && plan.fill_regions() as usize == filled
+        && u64::from(plan.regions()) == heap.regions
+}
+
+/// Whether the plan of an image whose live words are these is the one that is counted.
+fn plan_agrees(
+    threads: &(impl Threads + Sync),
+    alloc: Global,
+    image: &Image,
+    words: &[LiveWord],
+    region_words: u64,
+) -> Result<bool, Fail> {
+    let marks = Marks::of(alloc, image)?;
+    let plan = Plan::of(alloc, image, &marks, threads)?;
+    let heap = Heap {
+        words,
+        region_words,
+        regions: image.len().checked_div(region_words).unwrap_or(0),
+        prefix_end: prefix_end(words, region_words, image.allowance()),
+    };
+    Ok(
+        ends_agree(&plan, &heap)
+            && addresses_agree(image, &marks, &plan, &heap)
+            && references_agree(image, &plan, &heap)
+            && regions_agree(&plan, &heap),
+    )
+}
+
+/// Whether the plan of the heap that this seed makes, of eight regions, is the one that is counted.
+fn seed_agrees(
+    threads: &(impl Threads + Sync),
+    alloc: Global,
+    seed: u64,
+    (region_log, region_words): (u64, u64),
+) -> Result<bool, Fail> {
+    let len = region_words.wrapping_mul(8);
+    let allowance = (seed % 6).wrapping_mul(region_words / 2);
+    let objects = seeded_objects(alloc, Seed(seed), region_words, len)?;
+    let image = image_of(
+        threads,
+        alloc,
+        (region_log, len, allowance),
+        objects.as_slice(),
+    )?;
+    let new = compact_plainly(alloc, &image)?;
+    let words = live_words(alloc, objects.as_slice(), new.live())?;
+    plan_agrees(threads, alloc, &image, words.as_slice(), region_words)
+}
+
+#[test]
+fn seeded_heaps_have_the_plans_that_are_counted(rt: HostRuntime) -> Result<(), Fail> {
+    for seed in 0..60 {
+        assert!(rt; seed_agrees(&rt, rt.alloc(), seed, (3, 8))?, "seed {seed}");
+    }
+    for seed in 0..6 {
+        assert!(rt;
+            seed_agrees(&rt, rt.alloc(), seed, (8, 256))?,
+            "seed {seed}"
+        );
+    }
+    Ok(())
+}
