@@ -7,8 +7,8 @@ mod overwritten;
 mod recorded;
 mod seeded;
 
-use fill::{clear_above, fill_region, update_deferred};
 use claim_board::{Board, Pass};
+use fill::{clear_above, fill_region, update_deferred};
 use heap_image::{Fault, Image, decode_by_threads};
 use history::moves_of_images;
 use raw_region::Region;

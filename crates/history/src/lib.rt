@@ -104,4 +104,3 @@ pub use scheduler::Scheduler;
 pub use tallies::{count_readers, count_sources};
 pub use text_laws::{malformed_is_no_schedule, one_schedule_a_text};
 pub use whole_histories::settled_histories_have_each_once;
-

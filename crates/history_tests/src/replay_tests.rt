@@ -2,13 +2,8 @@
 mod causes;
 mod rooted;
 
-use history::check;
-use history::{End, Replayed};
-use history::replay;
-use history::Schedule;
-use history::read_schedule;
-use history::write_schedule;
 use heap_image::{Fault, decode_by_threads, encode};
+use history::{End, Replayed, Schedule, check, read_schedule, replay, write_schedule};
 use mark_bitmap::Marks;
 use std::alloc::{AllocError, Global};
 use std::test::Fail;

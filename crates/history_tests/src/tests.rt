@@ -1,16 +1,9 @@
 //! Worked rows, with replies known from outside, and each public call once.
-use history::Book;
-use history::CallFault;
-use history::{Event, Illegal};
-use history::GivenMoves;
-use history::IndexedMoves;
-use history::LockedBoard;
-use history::Moves;
-use history::Reply;
-use history::read_schedule;
-use history::write_schedule;
-use history::Scheduler;
 use heap_image::Fault;
+use history::{
+    Book, CallFault, Event, GivenMoves, Illegal, IndexedMoves, LockedBoard, Moves, Reply,
+    Scheduler, read_schedule, write_schedule,
+};
 use std::alloc::{AllocError, Global};
 use std::sync::Wait;
 use std::test::Fail;

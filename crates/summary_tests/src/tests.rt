@@ -4,13 +4,13 @@ ghost use Rattle.std.specs.Prelude.{◌≡◌};
 mod rooted;
 mod seeded;
 
-use summary::{Plan, Survey};
 use heap_image::{Image, decode_by_threads};
 use mark_bitmap::Marks;
 use raw_region::Region;
 use std::alloc::{AllocError, Global};
 use std::test::Fail;
 use std::thread::Threads;
+use summary::{Plan, Survey};
 
 /// A word of no live object.
 const DEAD: u64 = 999;

@@ -4,9 +4,9 @@ ghost use Rattle.history.specs.ImageMoves.{image_table};
 ghost use Rattle.claim_board.specs.Recorders.{moves as moves_of, worker_count};
 ghost use Rattle.claim_board.specs.Tickets.{IsUnused};
 
-use fill::fill_region;
 use crate::tests::{BASE, BASE_LIVE, image_of};
 use claim_board::{Desk, Done, Recorder, Ticket};
+use fill::fill_region;
 use heap_image::{Fault, Image};
 use history::{GivenMoves, Moves, moves_of_images, write_schedule};
 use region_cells::Cells;

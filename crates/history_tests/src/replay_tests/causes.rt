@@ -1,10 +1,6 @@
 //! Tests of why a line is refused.
 use super::{BASE, LINES, plan_of, schedule_of};
-use history::explain;
-use history::LineCause;
-use history::RefusedLine;
-use history::Reply;
-use history::read_schedule;
+use history::{LineCause, RefusedLine, Reply, explain, read_schedule};
 use std::test::Fail;
 
 #[test]

@@ -2,9 +2,8 @@
 use crate::replay_tests::{
     BASE, BY_TWO, COMPACTED, LINES, WITH_PREFIX, is_finished, replayed, schedule_of, with_allowance,
 };
-use history::Schedule;
-use history::read_schedule;
 use heap_image::Fault;
+use history::{Schedule, read_schedule};
 use std::alloc::{AllocError, Global};
 use std::test::Fail;
 use std::thread::Threads;

@@ -1,11 +1,11 @@
 //! Heaps with roots: what they reach is compacted, and each root follows its object.
 use crate::tests::{BASE, SLID_REPORT, decoded};
-use summary::{Plan, compact_plainly};
 use heap_image::Image;
 use mark_bitmap::Marks;
 use std::alloc::Global;
 use std::test::Fail;
 use std::thread::Threads;
+use summary::{Plan, compact_plainly};
 
 /// The first eight bytes of an image with roots.
 const MAGIC: u64 = 0x3230_5041_4548_4350;

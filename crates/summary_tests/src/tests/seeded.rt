@@ -3,12 +3,12 @@ ghost use Rattle.std.specs.Prelude.{◌≡◌, ◌<◌};
 ghost use Rattle.heap_image.specs.HeapImage.{region_count};
 
 use crate::tests::{Object, image_of};
-use summary::{Plan, RegionData, compact_plainly};
 use heap_image::Image;
 use mark_bitmap::Marks;
 use std::alloc::{AllocError, Global};
 use std::test::Fail;
 use std::thread::Threads;
+use summary::{Plan, RegionData, compact_plainly};
 
 /// Numbers that look like chance, the same in each run.
 #[derive(Drop)]
