@@ -34,8 +34,6 @@ mod record;
 mod replay;
 mod request;
 mod summary;
-#[cfg(test)]
-mod tests;
 mod text;
 mod unread;
 mod upgrade;

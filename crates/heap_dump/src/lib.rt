@@ -32,8 +32,6 @@ mod roots;
 mod slots;
 mod survivor_heap;
 mod survivors;
-#[cfg(test)]
-mod tests;
 mod transcribed;
 mod transcription;
 mod window;

@@ -21,8 +21,6 @@ mod limits;
 mod object;
 mod regions;
 mod room;
-#[cfg(test)]
-mod tests;
 mod wanted;
 
 pub use error::GenerationError;

@@ -24,8 +24,6 @@ mod picture;
 mod shade;
 mod strips;
 mod style;
-#[cfg(test)]
-mod tests;
 
 pub use area::Area;
 pub use cell::Cell;

@@ -22,8 +22,6 @@ mod parts;
 mod reader;
 mod reading;
 mod stop;
-#[cfg(test)]
-mod tests;
 mod words;
 mod writing;
 

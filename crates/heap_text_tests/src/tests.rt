@@ -1,7 +1,7 @@
 //! Tests of what no clause says: that the worked texts are taken, which line each mistake is told of, and the texts of the
 //! errors. `tests/fuzz` takes many more texts both ways.
-use crate::{Expected, TextError, assemble, write_text};
 use heap_image::{Fault, Image, decode, encode};
+use heap_text::{Expected, TextError, assemble, write_text};
 use std::alloc::{AllocError, Global};
 use std::test::Fail;
 

@@ -1,7 +1,7 @@
 //! Tests of what no clause says: which words a seed gives, and the texts of the errors. `tests/commands` compares larger
 //! heaps with a model.
-use crate::{Figures, Generated, GenerationError, Wanted, generate};
 use heap_image::{Image, encode};
+use heap_maker::{Figures, Generated, GenerationError, Wanted, generate};
 use std::alloc::{AllocError, Global};
 use std::test::Fail;
 

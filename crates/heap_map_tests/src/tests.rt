@@ -1,7 +1,7 @@
 //! Tests of what no clause says: that calls succeed, and how a picture looks. `tests/fuzz` compares many more heaps with
 //! a model.
-use crate::{Area, Cell, Glyphs, MAX_CELLS, Picture, Shade, Style};
 use heap_image::{Image, decode};
+use heap_map::{Area, Cell, Glyphs, MAX_CELLS, Picture, Shade, Style};
 use std::alloc::Global;
 use std::test::Fail;
 use std::thread::Threads;

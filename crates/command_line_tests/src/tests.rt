@@ -1,5 +1,5 @@
 //! What words ask for.
-use crate::{Request, Unread, read};
+use command_line::{Request, Unread, read};
 use std::test::Fail;
 
 /// These texts as words.

@@ -1,6 +1,6 @@
 //! Tests of what no clause says: which words a dump gives, the figures, the texts of the errors, and devices that give a
 //! byte at a time or fail.
-use crate::{Figures, ImportError, Imported, Options, Problem, import};
+use heap_dump::{Figures, ImportError, Imported, Options, Problem, import};
 use heap_image::{FromRead, Image, Intake};
 use std::alloc::{AllocError, Global};
 use std::io;
