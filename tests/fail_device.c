@@ -13,6 +13,7 @@
 #include <stdlib.h>
 #include <string.h>
 #include <sys/stat.h>
+#include <unistd.h>
 
 #include "nth_call.h"
 
@@ -97,6 +98,14 @@ int statx(int folder, const char *name, int flags, unsigned mask, struct statx *
         return next(folder, name, flags, mask, told);
     }
     return fails() ? -1 : next(folder, name, flags, mask, told);
+}
+
+off_t lseek(int file, off_t offset, int from) {
+    static off_t (*next)(int, off_t, int);
+    if (!next) {
+        next = (off_t(*)(int, off_t, int))dlsym(RTLD_NEXT, "lseek");
+    }
+    return fails() ? -1 : next(file, offset, from);
 }
 
 int ftruncate(int file, off_t length) {

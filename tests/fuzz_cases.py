@@ -9,9 +9,12 @@ from mutations import ImageSpoiler, ScheduleSpoiler, TextSpoiler
 from program import Answer, Tried, differs, fault
 from schedule_model import ANY, MAX_WORKERS, Schedule, is_recorded, read, recorded_by_one, replayed
 from text_model import assembled, text_of
+from timeline_model import Timeline
 
 # Words of an image for which the model takes long.
 MANY_WORDS = 1 << 14
+# Lines of a schedule for which the model takes long.
+MANY_LINES = 400
 # What `assemble` says of a text that is none of a heap.
 NO_TEXT = Answer(1, err=re.compile(r"pcompact: TEXT line [1-9][0-9]*: expected .+\n"), made={"made": None})
 
@@ -31,7 +34,7 @@ def try_refused(tried: Tried, said: str, chance: random.Random) -> None:
     workers, flag = chance.choice([0, MAX_WORKERS + 1, *range(1, 9)]), atomic_or_not(chance)
     # The image is read before the schedule, and before workers are counted.
     tried.write("schedule", chance.choice(["", "schedule 1 1\n", "schedule 1 1\n0 claim 0 ?"]))
-    commands = [("order image", {}), ("text image", {}), ("map image --after", {}), (f"map image --svg drawn{flag}", {"drawn": None}), ("replay image schedule", {}), ("verify image base", {}), ("verify base image", {}),
+    commands = [("order image", {}), ("text image", {}), ("map image --after", {}), (f"map image --svg drawn{flag}", {"drawn": None}), ("replay image schedule", {}), ("timeline image schedule", {}), (f"timeline image schedule --html drawn{flag}", {"drawn": None}), ("verify image base", {}), ("verify base image", {}),
                 (f"collect image out --workers {workers}{flag}", left(flag, "out")),
                 (f"record image out recorded --workers {workers}{flag}", left(flag, "out", "recorded")),
                 (f"upgrade image out{flag}", left(flag, "out"))]
@@ -147,9 +150,20 @@ def try_replay(tried: Tried, collection: Collection, name: str, text: bytes) -> 
         said = replayed(collection, schedule)
     except Fault as first:
         tried.run(f"replay image {name}", fault(str(first)))
+        tried.run(f"timeline image {name}", fault(str(first)))
         return "refused"
     tried.run(f"replay image {name}", Answer(0, said))
+    try_timeline(tried, name, said)
     return said.split()[-1]
+
+
+def try_timeline(tried: Tried, name: str, said: str) -> None:
+    """The lanes of a schedule, of which `replay` said this, where that isn't too long for the model."""
+    *lines, end = said.splitlines(True)
+    if len(lines) <= MANY_LINES:
+        timeline, width = Timeline(read("".join(lines).encode()), end.strip()), len(said) % 100 + 1
+        tried.run(f"timeline image {name} --letters --width {width}", Answer(0, timeline.text(width)))
+        tried.run(f"timeline image {name} --html drawn", Answer(0, timeline.figures()))
 
 
 def try_schedules(tried: Tried, collection: Collection, chance: random.Random) -> list[str]:

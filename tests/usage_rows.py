@@ -20,6 +20,7 @@ Commands:
   text      Prints a heap image as lines that a person reads
   assemble  Writes the heap image of a text
   map       Prints a picture of a heap image, and of what its collection leaves
+  timeline  Shows which worker had which region in hand, line by line of a schedule
   help      Print this message or the help of the given subcommand(s)
 
 Options:
@@ -66,6 +67,7 @@ Arguments:
 Options:
       --workers <n>  How many workers share the work, from 1 to 64; each is a thread
       --atomic       Replaces files only once the command has ended well
+      --stats        Tells on standard error what the work took
       --verbose      Says more of what goes wrong
   -h, --help         Print help
 """
@@ -83,6 +85,7 @@ Arguments:
 Options:
       --workers <n>  How many workers share the work, from 1 to 64; each is a thread
       --atomic       Replaces files only once the command has ended well
+      --stats        Tells on standard error what the work took
       --verbose      Says more of what goes wrong
   -h, --help         Print help
 """
@@ -162,6 +165,31 @@ Options:
   -h, --help        Print help
 """
 
+TIMELINE_HELP = """\
+Shows which worker had which region in hand, line by line of a schedule
+
+Usage: pcompact timeline [OPTIONS] <IMAGE> <SCHEDULE>
+
+Arguments:
+  <IMAGE>     A file with a heap image
+  <SCHEDULE>  A file with a schedule
+
+Options:
+      --width <n>    Cuts the lines into n cells, 1 to 1000; 64 if not given
+      --svg <FILE>   Writes the lanes into this file as SVG, and prints the figures alone
+      --html <FILE>  Writes a page into this file that goes through the lines, and prints the figures alone
+      --letters      Draws with letters where the locale has blocks too
+      --color        Colours the lanes also where standard output is no terminal
+      --no-color     Doesn't colour them on a terminal either
+      --atomic       Replaces files only once the command has ended well
+      --verbose      Says more of what goes wrong
+  -h, --help         Print help
+
+Example:
+  pcompact record heap.pcheap out.pcheap schedule --workers 4
+  pcompact timeline heap.pcheap schedule --html timeline.html
+"""
+
 VERIFY_HELP = """\
 Says whether a heap image is the compaction of another, or where they differ
 
@@ -172,6 +200,7 @@ Arguments:
   <AFTER>   A file with the image that should be its compaction
 
 Options:
+      --stats    Tells on standard error what the work took
       --verbose  Says more of what goes wrong
   -h, --help     Print help
 """
@@ -232,7 +261,7 @@ Options:
 
 NO_COMMAND = """\
 error: 'pcompact' requires a subcommand but one was not provided
-  [subcommands: board, summary, collect, verify, record, replay, upgrade, import, generate, order, text, assemble, map, help]
+  [subcommands: board, summary, collect, verify, record, replay, upgrade, import, generate, order, text, assemble, map, timeline, help]
 
 Usage: pcompact <COMMAND>
 
@@ -344,6 +373,7 @@ HELPS = [
     ("text --help", TEXT_HELP),
     ("assemble --help", ASSEMBLE_HELP),
     ("map --help", MAP_HELP),
+    ("timeline --help", TIMELINE_HELP),
 ]
 
 REFUSED = [

@@ -5,6 +5,8 @@ use crate::laps::Laps;
 use crate::marking::Heap;
 use crate::marks::{Bits, Ranks};
 use std::fs::File;
+use std::hint::black_box;
+use std::time::Instant;
 
 /// Shorter rows of words are moved word by word.
 const LONG: usize = 16;
@@ -18,6 +20,21 @@ pub fn run(from: &str, to: &str) -> Result<Laps, Fault> {
     laps.end("write");
     println!("prefix {prefix} top {top} filled {}", top.div_ceil(image.region_words()));
     Ok(laps)
+}
+
+/// Collects copies of an image in memory, one a round, and tells the nanoseconds of each. The last one is written.
+pub fn run_in_memory(from: &str, to: &str, rounds: usize) -> Result<(), Fault> {
+    let read = image::read(File::open(from)?, &mut Laps::new())?;
+    for round in 1..=rounds {
+        let mut image = read.clone();
+        let start = Instant::now();
+        black_box(collect(&mut image, &mut Laps::new()));
+        println!("{}", start.elapsed().as_nanos());
+        if round == rounds {
+            image::write(&image, File::create(to)?)?;
+        }
+    }
+    Ok(())
 }
 
 /// Collects in place, and tells the prefix end and the new top.

@@ -32,6 +32,7 @@ impl From<io::Error> for Fault {
     }
 }
 
+#[derive(Clone)]
 pub struct Image {
     pub region_log: u32,
     pub allowance: u64,

@@ -19,8 +19,10 @@ use std::time::Instant;
 const USAGE: &str = "usage:
   plain generate OUT --mib n --live percent --log n --references percent
                      [--shape graph|list|array|object|last] [--version 1|2]
+  plain tell IMAGE
   plain collect IMAGE OUT
   plain phases IMAGE OUT
+  plain memory IMAGE OUT ROUNDS
   plain copy IMAGE OUT
   plain move WORDS
   plain measure PROGRAM WORD ..";
@@ -58,6 +60,17 @@ fn asked_or<T: FromStr>(words: &[String], name: &str, other: T) -> Option<T> {
     }
 }
 
+/// Tells how many live objects, live words, references and roots an image has.
+fn tell(image: &image::Image) {
+    let roots = image.roots.as_ref().map_or(0, Vec::len);
+    println!("{} {} {} {roots}", image.live.len(), image.live_words(), image.references());
+}
+
+fn tell_file(from: &str) -> Result<(), image::Fault> {
+    tell(&image::read(File::open(from)?, &mut laps::Laps::new())?);
+    Ok(())
+}
+
 fn generate(out: &str, words: &[String]) -> Option<Result<(), image::Fault>> {
     let wanted = generator::Asked {
         words: asked::<usize>(words, "--mib")? << 17,
@@ -68,16 +81,19 @@ fn generate(out: &str, words: &[String]) -> Option<Result<(), image::Fault>> {
         is_rooted: asked_or(words, "--version", 1)? == 2,
     };
     let image = generator::generate(&wanted);
-    let roots = image.roots.as_ref().map_or(0, Vec::len);
-    println!("{} {} {} {roots}", image.live.len(), image.live_words(), image.references());
+    tell(&image);
     Some(File::create(out).map_err(image::Fault::from).and_then(|file| image::write(&image, file)))
 }
 
 fn run(words: &[String]) -> Option<Result<(), image::Fault>> {
     match words {
         [command, out, rest @ ..] if command == "generate" => generate(out, rest),
+        [command, from] if command == "tell" => Some(tell_file(from)),
         [command, from, to] if command == "collect" => Some(collection::run(from, to).map(drop)),
         [command, from, to] if command == "phases" => Some(collection::run(from, to).map(|laps| laps.tell())),
+        [command, from, to, rounds] if command == "memory" => {
+            Some(collection::run_in_memory(from, to, rounds.parse().ok()?))
+        }
         [command, from, to] if command == "copy" => Some(copy(from, to).map_err(image::Fault::from)),
         [command, count] if command == "move" => Some(Ok(move_words(count.parse().ok()?))),
         [command, program, rest @ ..] if command == "measure" => Some(process::measure(program, rest)),

@@ -8,7 +8,7 @@ use Rattle.history.specs.State.{State, opening, state_after}
 use Rattle.history.specs.History.{AreSteps, IsLegal, calls_by, is_grant}
 use Rattle.board_sweep.specs.declared.tally.Tally.{Tally}
 use Rattle.board_sweep.specs.Tallies.{AreTallies, claims_in, completions_in, completes}
-use Rattle.board_sweep.specs.Report.{lines_of, line_of}
+use Rattle.board_sweep.specs.Report.{lines_of, sweep_line}
 
 -- the first or the second
 either : (n : ℕ) → n < 2 → (n ≡ 0) ⊎ (n ≡ 1)
@@ -49,7 +49,7 @@ pub same-lines : (n : ℕ) (claims claims' completions completions' : ℕ → �
 same-lines zero claims claims' completions completions' one other = refl
 same-lines (suc n) claims claims' completions completions' one other =
     let before = same-lines n claims claims' completions completions' (λ r lt. one r (omega arith)) (λ r lt. other r (omega arith)) in
-    λ j. before j ++ line_of n (one n (omega arith) j) (other n (omega arith) j)
+    λ j. before j ++ sweep_line n (one n (omega arith) j) (other n (omega arith) j)
 
 -- the lines by the tallies of both are those by the counts of the history
 pub lines-of_both : (m : MoveTable) (log one other : List Entry) (first second : List Tally) → IsLegal m 2 log → calls_by 0 log ≡ one → calls_by 1 log ≡ other

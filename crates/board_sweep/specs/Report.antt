@@ -7,15 +7,15 @@ use Rattle.history.specs.History.{IsLegal, is_grant, state_of}
 use Rattle.board_sweep.specs.Tallies.{completes}
 
 -- the line of a region that was claimed and completed so often
-abbrev pub line_of : ℕ → ℕ → ℕ → List ℕ
-line_of region claims completions =
+abbrev pub sweep_line : ℕ → ℕ → ℕ → List ℕ
+sweep_line region claims completions =
     codes "region " ++ (decimal region ++ (codes " claims " ++ (decimal claims
     ++ (codes " completions " ++ (decimal completions ++ codes "\n")))))
 
 -- the lines of the first regions, by how often each was claimed and completed
 abbrev pub lines_of : ℕ → (ℕ → ℕ) → (ℕ → ℕ) → List ℕ
 lines_of zero claims completions = []
-lines_of (suc r) claims completions = lines_of r claims completions ++ line_of r (claims r) (completions r)
+lines_of (suc r) claims completions = lines_of r claims completions ++ sweep_line r (claims r) (completions r)
 
 -- a line for each region, and whether all regions to be filled are settled
 abbrev pub report_of : MoveTable → List Entry → List ℕ

@@ -21,5 +21,5 @@ abbrev pub IsRefusal : ℕ → Fault → Type 0
 IsRefusal region fault = (fault ≡ Memory) ⊎ (fault ≡ Overwritten region)
 
 -- a call for some region was not taken
-abbrev pub IsRefused : Fault → Type 0
-IsRefused fault = (fault ≡ Memory) ⊎ ((region : ℕ) × (fault ≡ Overwritten region))
+abbrev pub IsSomeRefusal : Fault → Type 0
+IsSomeRefusal fault = (fault ≡ Memory) ⊎ ((region : ℕ) × (fault ≡ Overwritten region))

@@ -14,11 +14,11 @@ use Rattle.claim_board.specs.Views.{worker_of}
 use Rattle.claim_board.specs.Callers.{Caller, own}
 
 -- the board that granted the ticket, and the worker that claimed it. A recorder's ticket tells neither
-abbrev pub board_of : Ticket → Option TableId
-board_of t = option_map (λ place. place.value.table_id) t.from
+abbrev pub ticket_board : Ticket → Option TableId
+ticket_board t = option_map (λ place. place.value.table_id) t.from
 
-abbrev pub claimant_of : Ticket → Option ℕ
-claimant_of t = option_map (λ place. worker_of place.value.me.0) t.from
+abbrev pub ticket_claimant : Ticket → Option ℕ
+ticket_claimant t = option_map (λ place. worker_of place.value.me.0) t.from
 
 -- nothing was opened from it, and its right isn't out
 abbrev pub IsUnused : Ticket → Type 0
@@ -26,8 +26,8 @@ IsUnused t = (t.next ≡ 0) × (t.right_is_out ≡ false)
 
 -- The caller claimed the ticket's region, and hasn't completed it. No source from `next` on is drained for it, and `left` counts the sources that aren't.
 pub record IsTicketOf (m : MoveTable) (c : Caller) (t : Ticket) : Type 0 where
-  pub board : board_of t ≡ Some c.board
-  pub worker : claimant_of t ≡ Some c.worker
+  pub board : ticket_board t ≡ Some c.board
+  pub worker : ticket_claimant t ≡ Some c.worker
   pub inside : t.region < region_count m
   pub filling : IsFilling (own c) c.worker t.region
   pub unsettled : (own c).settled t.region ≡ false
@@ -36,16 +36,16 @@ pub record IsTicketOf (m : MoveTable) (c : Caller) (t : Ticket) : Type 0 where
 
 -- The reading came from the ticket, which counts its pair as undrained.
 pub record IsClosedOf (m : MoveTable) (c : Caller) (t : Ticket) (x : Closed) : Type 0 where
-  pub board : board_of x.ticket.value ≡ board_of t
-  pub worker : claimant_of x.ticket.value ≡ claimant_of t
+  pub board : ticket_board x.ticket.value ≡ ticket_board t
+  pub worker : ticket_claimant x.ticket.value ≡ ticket_claimant t
   pub destination : x.destination ≡ t.region
   pub opened : x.source < t.next
   pub undrained : IsTrue (is_pending m (own c) x.destination x.source)
 
 -- the right came from the ticket
 pub record IsWrittenOf (t : Ticket) (x : Written) : Type 0 where
-  pub board : board_of x.ticket.value ≡ board_of t
-  pub worker : claimant_of x.ticket.value ≡ claimant_of t
+  pub board : ticket_board x.ticket.value ≡ ticket_board t
+  pub worker : ticket_claimant x.ticket.value ≡ ticket_claimant t
   pub region : x.region ≡ t.region
 
 -- The caller has completed the region, and not settled it.

@@ -1,6 +1,6 @@
 ghost use Rattle.std.specs.Prelude.{◌≡◌, ◌<◌, suc};
 ghost use Rattle.history.specs.MoveTable.{IsMoveTable, region_count};
-ghost use Rattle.history.specs.Scheduler.{AreTallies};
+ghost use Rattle.history.specs.Scheduler.{ArePairCounts};
 
 use crate::key::Key;
 use crate::rule::Law;
@@ -23,5 +23,5 @@ pub struct Board {
     ghost same: { moves ≡ table.shared.key.moves },
     ghost lawful: { IsMoveTable table.shared.key.moves },
     ghost sized: { table.shared.table_id.words ≡ suc (region_count table.shared.key.moves) },
-    ghost counted: { AreTallies table.shared.key.moves (λ pair. pair.0) table.shared.key.moves.pairs sources.items },
+    ghost counted: { ArePairCounts table.shared.key.moves (λ pair. pair.0) table.shared.key.moves.pairs sources.items },
 }

@@ -1,6 +1,6 @@
 //! A board under a lock that keeps its calls.
 ghost use Rattle.history.specs.Schedule.{IsHistory};
-ghost use Rattle.history.specs.Scheduler.{AreTallies};
+ghost use Rattle.history.specs.Scheduler.{ArePairCounts};
 
 use crate::key::Key;
 use history::{LockedBoard, Schedule};
@@ -15,7 +15,7 @@ pub struct Recorder {
     pub(crate) sources: Vec<usize>,
     /// The moves and the number of workers, for proofs alone.
     pub(crate) key: Snapshot<Key>,
-    ghost counted: { AreTallies key.value.moves (λ pair. pair.0) key.value.moves.pairs sources.items },
+    ghost counted: { ArePairCounts key.value.moves (λ pair. pair.0) key.value.moves.pairs sources.items },
 }
 
 impl Recorder {

@@ -1,6 +1,6 @@
 //! How a recorder is made, and a recorder as a desk.
 ghost use Rattle.std.specs.Prelude.{◌≡◌, ◌==◌, ◌-◌, count_by, ℕ, ◌<◌, ◌≤◌, IsOk, IfOk, IfErr, IfSome, OnOk, is_some, if◌then◌else◌};
-ghost use Rattle.claim_board.specs.Recorders.{moves as moves_of, worker_count, anybody, IsRefusal, IsRefused};
+ghost use Rattle.claim_board.specs.Recorders.{moves as moves_of, worker_count, anybody, IsRefusal, IsSomeRefusal};
 ghost use Rattle.claim_board.specs.Faults.{NamesNoOther};
 
 use crate::closed::Closed;
@@ -68,7 +68,7 @@ impl Recorder {
 /// as it was, and gives up what was handed in.
 impl Desk for Recorder {
     ghost use Rattle.std.specs.Prelude.{◌≡◌, ◌<◌};
-    ghost use Rattle.claim_board.specs.Recorders.{moves as moves_of, worker_count, anybody, IsRefused};
+    ghost use Rattle.claim_board.specs.Recorders.{moves as moves_of, worker_count, anybody, IsSomeRefusal};
 
     type Seat = u32;
 
@@ -80,7 +80,7 @@ impl Desk for Recorder {
 
     ghost caller = { anybody };
 
-    ghost may_fail = { IsRefused };
+    ghost may_fail = { IsSomeRefusal };
 
     fn claim<W: Wait>(
         &self,

@@ -2,6 +2,7 @@
 //! is no image, and what is written before a collection has ended well.
 ghost use Rattle.std.specs.Prelude.{◌≤◌, length};
 
+mod holes;
 mod recorded;
 mod rooted;
 

@@ -26,6 +26,10 @@ flag_rule name = record (new_rule name) { long = Some name; action = Some SetTru
 abbrev pub verbose_rule : Rule
 verbose_rule = flag_rule (codes "verbose")
 
+-- the option by which a command tells what its work took
+abbrev pub stats_rule : Rule
+stats_rule = flag_rule (codes "stats")
+
 -- the option by which files are replaced only once all is done
 abbrev pub atomic_rule : Rule
 atomic_rule = flag_rule (codes "atomic")

@@ -1,4 +1,4 @@
-use Rattle.std.specs.Prelude.{◌≡◌, ℕ, true, List, [], ◌∷◌, map, String, codes, option_map, Some, string_bytes}
+use Rattle.std.specs.Prelude.{◌≡◌, ℕ, Contains, true, List, [], ◌∷◌, map, String, codes, option_map, Some, string_bytes}
 use Rattle.clap.specs.Walk.{Text}
 use Rattle.clap.specs.Words.{App, new_app, subcommand_of, takes, with_subcommand}
 use Rattle.command_line.specs.Commands.{listed}
@@ -7,6 +7,11 @@ module _ {A : Type 0} where
   -- the words have these texts
   abbrev pub AreWords : List (String A) → List (List ℕ) → Type 0
   AreWords words texts = map string_bytes words ≡ texts
+
+module _ {A : Type 0} where
+  -- one of the words has this text
+  abbrev pub HaveWord : List ℕ → List (String A) → Type 0
+  HaveWord text words = Contains (map string_bytes words) text
 
 -- the program with no command yet: its first word is no program's name, and a command is required
 abbrev pub program_words : App

@@ -3,7 +3,7 @@ use Rattle.std.specs.Prelude.{ℕ, true, List, [], ◌∷◌, Some, codes, pos}
 use Rattle.clap.specs.Walk.{Rule, Text}
 use Rattle.clap.specs.Words.{App, new_app, new_rule, with_rule}
 use Rattle.clap.specs.declared.builder.value_parser.ValueParser.TheVariants.{Signed, Unsigned}
-use Rattle.command_line.specs.Arguments.{atomic_rule, file_rule, flag_rule, verbose_rule, workers_rule}
+use Rattle.command_line.specs.Arguments.{atomic_rule, file_rule, flag_rule, stats_rule, verbose_rule, workers_rule}
 
 -- the words of `board`
 abbrev pub board_words : App
@@ -17,19 +17,20 @@ summary_words =
 -- the words of `collect`
 abbrev pub collect_words : App
 collect_words =
-    with_rule (with_rule (with_rule (with_rule (with_rule (new_app (codes "collect")) (file_rule (codes "IMAGE"))) (file_rule (codes "OUT")))
-    workers_rule) atomic_rule) verbose_rule
+    with_rule (with_rule (with_rule (with_rule (with_rule (with_rule (new_app (codes "collect")) (file_rule (codes "IMAGE"))) (file_rule (codes "OUT")))
+    workers_rule) atomic_rule) stats_rule) verbose_rule
 
 -- the words of `verify`
 abbrev pub verify_words : App
 verify_words =
-    with_rule (with_rule (with_rule (new_app (codes "verify")) (file_rule (codes "BEFORE"))) (file_rule (codes "AFTER"))) verbose_rule
+    with_rule (with_rule (with_rule (with_rule (new_app (codes "verify")) (file_rule (codes "BEFORE"))) (file_rule (codes "AFTER"))) stats_rule)
+    verbose_rule
 
 -- the words of `record`
 abbrev pub record_words : App
 record_words =
-    with_rule (with_rule (with_rule (with_rule (with_rule (with_rule (new_app (codes "record")) (file_rule (codes "IMAGE"))) (file_rule (codes "OUT")))
-    (file_rule (codes "SCHEDULE"))) workers_rule) atomic_rule) verbose_rule
+    with_rule (with_rule (with_rule (with_rule (with_rule (with_rule (with_rule (new_app (codes "record")) (file_rule (codes "IMAGE")))
+    (file_rule (codes "OUT"))) (file_rule (codes "SCHEDULE"))) workers_rule) atomic_rule) stats_rule) verbose_rule
 
 -- the words of `replay`
 abbrev pub replay_words : App
@@ -136,6 +137,17 @@ map_words =
     (file_rule (codes "IMAGE"))) (flag_rule (codes "after"))) width_rule) svg_rule) (flag_rule (codes "letters")))
     (flag_rule (codes "color"))) (flag_rule (codes "no-color"))) atomic_rule) verbose_rule
 
+-- the option `--html`, which takes the name of a file
+abbrev pub html_rule : Rule
+html_rule = record (new_rule (codes "html")) { long = Some (codes "html"); value_names = 1 }
+
+-- the words of `timeline`
+abbrev pub timeline_words : App
+timeline_words =
+    with_rule (with_rule (with_rule (with_rule (with_rule (with_rule (with_rule (with_rule (with_rule (with_rule (new_app (codes "timeline"))
+    (file_rule (codes "IMAGE"))) (file_rule (codes "SCHEDULE"))) width_rule) svg_rule) html_rule) (flag_rule (codes "letters")))
+    (flag_rule (codes "color"))) (flag_rule (codes "no-color"))) atomic_rule) verbose_rule
+
 -- the words of the commands, in the order in which help lists them
 abbrev pub listed : List App
 listed =
@@ -152,4 +164,5 @@ listed =
     ∷ text_words
     ∷ assemble_words
     ∷ map_words
+    ∷ timeline_words
     ∷ []

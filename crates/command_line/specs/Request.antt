@@ -1,7 +1,7 @@
-use Rattle.std.specs.Prelude.{◌≡◌, ⊤, codes}
+use Rattle.std.specs.Prelude.{◌≡◌, ⊤, Bool, codes, false}
 use Rattle.clap.specs.Walk.{Text as Name}
 use Rattle.command_line.specs.declared.request.Request.{Request}
-use Rattle.command_line.specs.declared.request.Request.TheVariants.{Board, Summary, Collect, Verify, Record, Replay, Upgrade, Import, Generate, Order, Text, Assemble, Map, Show}
+use Rattle.command_line.specs.declared.request.Request.TheVariants.{Board, Summary, Collect, Verify, Record, Replay, Upgrade, Import, Generate, Order, Text, Assemble, Map, Timeline, Show}
 use Rattle.command_line.specs.declared.unread.Unread.{Unread}
 use Rattle.command_line.specs.declared.unread.Unread.TheVariants.{Usage, NoCommand, Memory}
 
@@ -20,7 +20,15 @@ IsFor name (Order asked) = name ≡ codes "order"
 IsFor name (Text asked) = name ≡ codes "text"
 IsFor name (Assemble asked) = name ≡ codes "assemble"
 IsFor name (Map asked) = name ≡ codes "map"
+IsFor name (Timeline asked) = name ≡ codes "timeline"
 IsFor name (Show text) = ⊥
+
+-- the request asks to be told what its work took
+abbrev pub asks_stats : Request → Bool
+asks_stats (Collect asked) = asked.stats
+asks_stats (Verify asked) = asked.stats
+asks_stats (Record asked) = asked.stats
+asks_stats request = false
 
 -- nothing is said of the words to whoever called
 abbrev pub IsNoUsage : Unread → Type 0

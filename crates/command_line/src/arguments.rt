@@ -81,6 +81,19 @@ pub fn is_atomic(given: &ArgMatches<'_>) -> bool {
     given.get_flag("atomic")
 }
 
+/// Whether to tell what the work took.
+pub fn stats<'a>(alloc: Global) -> Arg<'a>
+    ensures rule { rule_of result ≡ flag_rule (codes "stats") }
+    ensures local { result.global ≡ false }
+{
+    flag(alloc, "stats", "Tells on standard error what the work took")
+}
+
+/// Whether `--stats` is given.
+pub fn asks_stats(given: &ArgMatches<'_>) -> bool {
+    given.get_flag("stats")
+}
+
 /// Whether to say at length what goes wrong.
 pub fn verbose<'a>(alloc: Global) -> Arg<'a>
     ensures rule { rule_of result ≡ flag_rule (codes "verbose") }

@@ -22,6 +22,7 @@ pub fn words<'a>(alloc: Global) -> Result<Command<'a>, AllocError>
         .arg(arguments::file(alloc, "OUT", "The file for the compacted image"))?
         .arg(arguments::workers(alloc))?
         .arg(arguments::atomic(alloc))?
+        .arg(arguments::stats(alloc))?
         .arg(arguments::verbose(alloc))
 }
 
@@ -36,6 +37,8 @@ pub struct Collect<'a> {
     pub workers: u32,
     /// Whether what is written takes its place only once all is done.
     pub atomic: bool,
+    /// Whether to tell what the work took.
+    pub stats: bool,
     /// Whether to say at length what goes wrong.
     pub verbose: bool,
 }
@@ -50,6 +53,7 @@ impl<'a> Collect<'a> {
             out: arguments::file_in(given, "OUT")?,
             workers: arguments::workers_in(given)?,
             atomic: arguments::is_atomic(given),
+            stats: arguments::asks_stats(given),
             verbose: arguments::is_verbose(given),
         })
     }
@@ -58,5 +62,5 @@ impl<'a> Collect<'a> {
 /// Lines that call `collect`.
 pub fn lines_call_collect()
     ensures line { IsCallOf (codes "collect") (codes "collect" ∷ codes "heap.pcheap" ∷ codes "out.pcheap" ∷ codes "--workers" ∷ codes "2" ∷ []) }
-    ensures options { IsCallOf (codes "collect") (codes "collect" ∷ codes "heap.pcheap" ∷ codes "heap.pcheap" ∷ codes "--workers" ∷ codes "2" ∷ codes "--atomic" ∷ codes "--verbose" ∷ []) }
+    ensures options { IsCallOf (codes "collect") (codes "collect" ∷ codes "heap.pcheap" ∷ codes "heap.pcheap" ∷ codes "--workers" ∷ codes "2" ∷ codes "--atomic" ∷ codes "--stats" ∷ codes "--verbose" ∷ []) }
 {}

@@ -17,12 +17,13 @@ use crate::replay::Replay;
 use crate::request::Request;
 use crate::summary::Summary;
 use crate::text::Text;
+use crate::timeline::Timeline;
 use crate::unread::Unread;
 use crate::upgrade::Upgrade;
 use crate::verify::Verify;
 use crate::{
-    assemble, board, collect, generate, import, map, order, record, replay, summary, text, upgrade,
-    verify,
+    assemble, board, collect, generate, import, map, order, record, replay, summary, text,
+    timeline, upgrade, verify,
 };
 use clap::{ArgMatches, Command};
 use std::alloc::{AllocError, Global};
@@ -52,7 +53,8 @@ pub fn words<'a>(alloc: Global) -> Result<Command<'a>, AllocError>
         .subcommand(order::words(alloc)?)?
         .subcommand(text::words(alloc)?)?
         .subcommand(assemble::words(alloc)?)?
-        .subcommand(map::words(alloc)?)
+        .subcommand(map::words(alloc)?)?
+        .subcommand(timeline::words(alloc)?)
 }
 
 /// What was called, with what it is given.
@@ -81,6 +83,7 @@ fn asked<'a>(name: &str, given: &ArgMatches<'a>) -> Result<Request<'a>, Unread>
         "order" => Request::Order(Order::of(given)?),
         "text" => Request::Text(Text::of(given)?),
         "map" => Request::Map(Map::of(given)?),
+        "timeline" => Request::Timeline(Timeline::of(given)?),
         _ => return asked_for_image(name, given),
     })
 }

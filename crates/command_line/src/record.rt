@@ -27,6 +27,7 @@ pub fn words<'a>(alloc: Global) -> Result<Command<'a>, AllocError>
         ))?
         .arg(arguments::workers(alloc))?
         .arg(arguments::atomic(alloc))?
+        .arg(arguments::stats(alloc))?
         .arg(arguments::verbose(alloc))
 }
 
@@ -43,6 +44,8 @@ pub struct Record<'a> {
     pub workers: u32,
     /// Whether what is written takes its place only once all is done.
     pub atomic: bool,
+    /// Whether to tell what the work took.
+    pub stats: bool,
     /// Whether to say at length what goes wrong.
     pub verbose: bool,
 }
@@ -58,12 +61,14 @@ impl<'a> Record<'a> {
             schedule: arguments::file_in(given, "SCHEDULE")?,
             workers: arguments::workers_in(given)?,
             atomic: arguments::is_atomic(given),
+            stats: arguments::asks_stats(given),
             verbose: arguments::is_verbose(given),
         })
     }
 }
 
-/// A line that calls `record`.
+/// Lines that call `record`.
 pub fn line_calls_record()
-    ensures { IsCallOf (codes "record") (codes "record" ∷ codes "heap.pcheap" ∷ codes "out.pcheap" ∷ codes "schedule" ∷ codes "--workers=2" ∷ []) }
+    ensures line { IsCallOf (codes "record") (codes "record" ∷ codes "heap.pcheap" ∷ codes "out.pcheap" ∷ codes "schedule" ∷ codes "--workers=2" ∷ []) }
+    ensures options { IsCallOf (codes "record") (codes "record" ∷ codes "heap.pcheap" ∷ codes "out.pcheap" ∷ codes "schedule" ∷ codes "--workers=2" ∷ codes "--stats" ∷ []) }
 {}

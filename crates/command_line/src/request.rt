@@ -9,6 +9,7 @@ use crate::record::Record;
 use crate::replay::Replay;
 use crate::summary::Summary;
 use crate::text::Text;
+use crate::timeline::Timeline;
 use crate::upgrade::Upgrade;
 use crate::verify::Verify;
 
@@ -41,11 +42,28 @@ pub enum Request<'a> {
     Assemble(Assemble<'a>),
     /// The command `map`.
     Map(Map<'a>),
+    /// The command `timeline`.
+    Timeline(Timeline<'a>),
     /// To show this text, help or the version, of whole lines.
     Show(String),
 }
 
 impl Request<'_> {
+    ghost use Rattle.std.specs.Prelude.{◌≡◌};
+    ghost use Rattle.command_line.specs.Request.{asks_stats};
+
+    /// Whether to tell what the work took. Of a command that doesn't take `--stats` the answer is no.
+    pub fn asks_stats(&self) -> bool
+        ensures { result ≡ asks_stats self.now }
+    {
+        match self {
+            Request::Collect(asked) => asked.stats,
+            Request::Verify(asked) => asked.stats,
+            Request::Record(asked) => asked.stats,
+            _ => false,
+        }
+    }
+
     /// Whether to say at length what goes wrong.
     pub fn is_verbose(&self) -> bool {
         match self {
@@ -62,6 +80,7 @@ impl Request<'_> {
             Request::Text(asked) => asked.verbose,
             Request::Assemble(asked) => asked.verbose,
             Request::Map(asked) => asked.verbose,
+            Request::Timeline(asked) => asked.verbose,
         }
     }
 }

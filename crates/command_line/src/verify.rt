@@ -24,6 +24,7 @@ pub fn words<'a>(alloc: Global) -> Result<Command<'a>, AllocError>
             "AFTER",
             "A file with the image that should be its compaction",
         ))?
+        .arg(arguments::stats(alloc))?
         .arg(arguments::verbose(alloc))
 }
 
@@ -34,6 +35,8 @@ pub struct Verify<'a> {
     pub before: &'a str,
     /// The file with the image that should be its compaction.
     pub after: &'a str,
+    /// Whether to tell what the work took.
+    pub stats: bool,
     /// Whether to say at length what goes wrong.
     pub verbose: bool,
 }
@@ -46,12 +49,14 @@ impl<'a> Verify<'a> {
         Ok(Verify {
             before: arguments::file_in(given, "BEFORE")?,
             after: arguments::file_in(given, "AFTER")?,
+            stats: arguments::asks_stats(given),
             verbose: arguments::is_verbose(given),
         })
     }
 }
 
-/// A line that calls `verify`.
+/// Lines that call `verify`.
 pub fn line_calls_verify()
-    ensures { IsCallOf (codes "verify") (codes "verify" ∷ codes "heap.pcheap" ∷ codes "out.pcheap" ∷ []) }
+    ensures line { IsCallOf (codes "verify") (codes "verify" ∷ codes "heap.pcheap" ∷ codes "out.pcheap" ∷ []) }
+    ensures options { IsCallOf (codes "verify") (codes "verify" ∷ codes "heap.pcheap" ∷ codes "out.pcheap" ∷ codes "--stats" ∷ []) }
 {}

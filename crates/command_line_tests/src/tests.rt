@@ -48,6 +48,20 @@ fn more_is_told_where_that_is_asked_for(rt: HostRuntime) -> Result<(), Fail> {
 }
 
 #[test]
+fn what_the_work_took_is_told_where_that_is_asked_for(rt: HostRuntime) -> Result<(), Fail> {
+    for (line, is_asked) in [
+        (["collect", "in", "out", "--workers=2", "--stats"], true),
+        (["collect", "--workers=2", "--", "in", "--stats"], false),
+        (["record", "in", "out", "plan", "--workers=2"], false),
+        (["verify", "in", "out", "--verbose", "--stats"], true),
+    ] {
+        let words = words_of(&rt, &line)?;
+        assert_eq!(rt; read(rt.alloc(), words.as_slice())?.asks_stats(), is_asked);
+    }
+    Ok(())
+}
+
+#[test]
 fn options_of_an_import_are_those_in_the_words(rt: HostRuntime) -> Result<(), Fail> {
     let words = words_of(
         &rt,

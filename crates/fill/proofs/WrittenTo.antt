@@ -17,7 +17,7 @@ use Rattle.std.proofs.lemmas.List.{ext_get_or}
 use Rattle.std.specs.Prelude.{map}
 use Rattle.std.proofs.lemmas.List.FromFn.{get_or-map-range_with_len, length-map-range_with_len}
 use Rattle.summary.specs.Compaction.{moved_word}
-use Rattle.summary.specs.RegionData.{addresses}
+use Rattle.summary.specs.RegionData.{region_addresses}
 use Rattle.fill.specs.CopiedWords.{copied_word, written_to, reaches}
 use Rattle.fill.proofs.Slides.{slid-monotone, slid-all, word_by-above}
 use Rattle.std.proofs.lemmas.Nat.{mul-le, div-add-mod'}
@@ -148,10 +148,10 @@ module _ (image : HeapImage) (valid : IsValid image) where
   length_start d l = length-part image.words (start_of image d) S (region_fits d l)
 
   -- a region that shows the moved words has its moved words
-  pub shows_moved : (d : ℕ) (xs : List ℕ) → length xs ≡ S → Shows (moved_word image) (start_of image d) xs → xs ≡ map (moved_word image) (addresses image d)
+  pub shows_moved : (d : ℕ) (xs : List ℕ) → length xs ≡ S → Shows (moved_word image) (start_of image d) xs → xs ≡ map (moved_word image) (region_addresses image d)
   shows_moved d xs long h =
       let all = length-map-range_with_len (moved_word image) (start_of image d) S in
-      ext_get_or 0 xs (map (moved_word image) (addresses image d)) (long ∙ sym all) (λ k m.
+      ext_get_or 0 xs (map (moved_word image) (region_addresses image d)) (long ∙ sym all) (λ k m.
       h k m ∙ sym (get_or-map-range_with_len (moved_word image) (start_of image d) S k (start_of image d + k) 0 (omega arith) refl))
 
   pub to_fill-inside : (d : ℕ) → start_of image d < new_top image → d < region_count image

@@ -4,7 +4,7 @@ use Rattle.std.specs.List.{list_any, range_with_len}
 use Rattle.heap_image.specs.Header.{references_of}
 use Rattle.heap_image.specs.HeapImage.{HeapImage, heap_words, region_count}
 use Rattle.summary.specs.Compaction.{moved_word, redirected}
-use Rattle.summary.specs.RegionData.{addresses, deferred}
+use Rattle.summary.specs.RegionData.{region_addresses, deferred}
 use Rattle.summary.specs.Updates.{is_late_reference}
 
 -- the words, with 0 from this address up
@@ -14,7 +14,7 @@ cleared top words = take top words ++ replicate (length words - top) 0
 module _ (image : HeapImage) where
   -- the regions of the heap, each with its moved words
   abbrev pub moved_regions : List (List ℕ)
-  moved_regions = map (λ r. map (moved_word image) (addresses image r)) (range_with_len 0 (region_count image))
+  moved_regions = map (λ r. map (moved_word image) (region_addresses image r)) (range_with_len 0 (region_count image))
 
   -- the moved words, with the references redirected that the test passes
   abbrev pub redirected_where : (ℕ → Bool) → ℕ → ℕ

@@ -5,13 +5,8 @@ ghost use Rattle.heap_image.specs.HeapImage.{AreBlocks, IsWithinLimits};
 
 use crate::error::ImportError;
 use heap_image::Fault;
+use heap_image::limits::{MAX_HEAP_WORDS, MAX_REGIONS};
 use raw_region::Region;
-
-/// The most words that an image may have.
-pub(crate) const MAX_WORDS: u64 = 4_194_304;
-
-/// The most regions that an image may have.
-pub(crate) const MAX_REGIONS: usize = 16_384;
 
 /// How many words these regions of `2 ^ region_log` words have, where an image may have so many.
 pub(crate) fn words_within_limits(region_log: u32, regions: &[Region]) -> Result<u64, ImportError>
@@ -23,11 +18,11 @@ pub(crate) fn words_within_limits(region_log: u32, regions: &[Region]) -> Result
     ensures fit { OnOk result (All (λ w. w < 2 ^ 64) (concat regions.now)) }
     ensures no_device { result ≢ Err ImportError.Input }
 {
-    if regions.len() > MAX_REGIONS {
+    if regions.len() as u64 > MAX_REGIONS {
         return Err(ImportError::NoHeap(Fault::Length));
     }
     let words = words_of(regions);
-    if words == 0 || words > MAX_WORDS {
+    if words == 0 || words > MAX_HEAP_WORDS {
         return Err(ImportError::NoHeap(Fault::Length));
     }
     Ok(words)

@@ -2,7 +2,7 @@
 ghost use Rattle.std.specs.Prelude.{◌≤◌, ◌≢◌};
 
 use crate::error::ImportError;
-use crate::limits::{MAX_REGIONS, MAX_WORDS};
+use heap_image::limits::{MAX_HEAP_WORDS, MAX_REGION_LOG, MAX_REGIONS, MIN_REGION_LOG};
 
 /// The region log where none is asked for: with regions of so many words every image that is allowed has few enough.
 const USUAL_REGION_LOG: u32 = 9;
@@ -33,7 +33,7 @@ impl Options {
         ensures { result ≢ Err ImportError.Input }
     {
         let log = self.region_log.unwrap_or(USUAL_REGION_LOG);
-        if log < 3 || log > 16 {
+        if log < MIN_REGION_LOG || log > MAX_REGION_LOG {
             return Err(ImportError::RegionLog(log));
         }
         Ok(Regions { log })
@@ -43,6 +43,6 @@ impl Options {
 impl Regions {
     /// The most words that an image with such regions may have.
     pub(crate) fn most_words(self) -> u64 {
-        MAX_WORDS.min((MAX_REGIONS as u64) << self.log)
+        MAX_HEAP_WORDS.min(MAX_REGIONS << self.log)
     }
 }

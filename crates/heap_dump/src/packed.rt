@@ -8,10 +8,8 @@ use crate::inventory::Inventory;
 use crate::survivors::Survivors;
 use crate::transcribed::Transcribed;
 use heap_image::Intake;
+use heap_image::limits::MAX_REGION_LOG;
 use std::alloc::Global;
-
-/// The region log of a heap that may have more words than an image.
-const LARGEST_REGION_LOG: u32 = 16;
 
 /// A heap with all objects of a dump, of any size and without gaps, and its survivors.
 #[derive(Drop)]
@@ -39,7 +37,7 @@ impl Packed {
             arrangement,
             roots,
             unresolved,
-        } = Transcribed::of(alloc, &mut inventory, source, LARGEST_REGION_LOG, false)?;
+        } = Transcribed::of(alloc, &mut inventory, source, MAX_REGION_LOG, false)?;
         drop(inventory);
         let survivors = Survivors::of(alloc, &heap, arrangement.words(), roots.as_slice())?;
         Ok(Packed {

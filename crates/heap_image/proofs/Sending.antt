@@ -1,8 +1,9 @@
 -- Bytes that are held and given, over several calls.
-use Rattle.std.proofs.Common.{◌≡◌, ℕ, ◌+◌, ◌*◌, ◌/◌, Bool, true, false, cond, eqb, List, [], ◌++◌, length, take, drop, refl, sym, ◌∙◌, ap, subst, arith, append_assoc, length-take, Option}
-use Rattle.std.proofs.lemmas.List.{append-nil, take-append-le, take-append-drop, take-take, take_all}
+use Rattle.std.proofs.Common.{◌≡◌, ℕ, zero, suc, ◌+◌, ◌*◌, ◌/◌, Bool, true, false, cond, eqb, List, [], ◌++◌, length, take, drop, replicate, refl, sym, ◌∙◌, ap, subst, arith, append_assoc, length-take, Option, Result, Ok, Err}
+use Rattle.std.proofs.lemmas.List.{append-nil, replicate-append-replicate, take-append-le, take-append-drop, take-take, take_all}
 use Rattle.std.proofs.lemmas.List.Concat.{flat_map-append}
 use Rattle.std.specs.Option.{is_some}
+use Rattle.std.specs.Result.{OnErr}
 use Rattle.std.specs.Int.{w64, to_le_bytes}
 use Rattle.heap_image.specs.ImageText.{front, numbers, text, with_tail}
 use Rattle.heap_image.specs.HeapImage.{HeapImage, IsValid, heap_words, region_words, region_count, block_of, version_of}
@@ -112,3 +113,35 @@ pub front_is : (image : HeapImage) (version log : ℕ) (behind : List ℕ) (word
     → bytes ≡ front (eqb version 2) log (length behind) words allowance → bytes ≡ first image
 front_is image version log behind words allowance bytes v a b c d e =
     e ∙ ap (λ n. front (eqb n 2) log (length behind) words allowance) v ∙ ap (λ r. front r log (length behind) words allowance) (is_two (is_some image.roots)) ∙ ap (λ n. front (is_some image.roots) n (length behind) words allowance) a ∙ ap (λ xs. front (is_some image.roots) image.region_log (length xs) words allowance) b ∙ ap (λ n. front (is_some image.roots) image.region_log (length (with_tail image).live) n allowance) c ∙ ap (λ n. front (is_some image.roots) image.region_log (length (with_tail image).live) (heap_words image) n) d
+
+-- the bytes of zeros are zeros, eight for each
+pub numbers_of_zeros : (n : ℕ) → numbers (replicate n 0) ≡ replicate (8 * n) 0
+numbers_of_zeros zero = refl
+numbers_of_zeros (suc n) =
+    let more : 8 + 8 * n ≡ 8 * suc n = omega arith in
+    ap (λ bytes. replicate 8 0 ++ bytes) (numbers_of_zeros n) ∙ replicate-append-replicate 8 (8 * n) 0 ∙ ap (λ k. replicate {A = ℕ} k 0) more
+
+-- the bytes of words that are all zeros
+pub zeros_of : (words : List ℕ) → words ≡ replicate (length words) 0 → replicate (8 * length words) 0 ≡ numbers words
+zeros_of words e = sym (numbers_of_zeros (length words)) ∙ ap numbers (sym e)
+
+-- what was held went out, and then the bytes of words that are all zeros
+pub sends_zeros : (a b c : Option (List ℕ)) (held holds words : List ℕ) → Appends a b held → holds ≡ [] → words ≡ replicate (length words) 0 → Appends b c (replicate (8 * length words) 0) → Sends a c held holds (numbers words)
+sends_zeros a b c held holds words h none e zeros = (
+  held ++ numbers words,
+  appends_more a b c held (numbers words) h (subst (λ bytes. Appends b c bytes) (zeros_of words e) zeros),
+  ap (λ l. (held ++ numbers words) ++ l) none ∙ append-nil (held ++ numbers words),
+)
+
+-- what was held went out, and then some of the zeros
+pub beginning_of_zeros : (a b c : Option (List ℕ)) (held words : List ℕ) → Appends a b held → words ≡ replicate (length words) 0 → TakesBeginning b c (replicate (8 * length words) 0) → TakesBeginning a c (held ++ numbers words)
+beginning_of_zeros a b c held words h e t = beginning_after a b c held [] [] (numbers words) (held, h, refl) (subst (λ bytes. TakesBeginning b c bytes) (zeros_of words e) t)
+
+-- none is held
+pub none_held : (end : ℕ) (bytes : List ℕ) → end ≡ 0 → take (8 * end) bytes ≡ []
+none_held end bytes e = ap (λ n. take (8 * n) bytes) e
+
+-- what holds in any case
+pub on_err_of : {T E P : Type 0} (r : Result T E) → P → OnErr r P
+on_err_of (Ok _) p = tt
+on_err_of (Err _) p = p

@@ -9,8 +9,8 @@ pub record IsInRange (i : Incoming) : Type 0 where
   pub within : i.end ≤ 8192
 
 -- the bytes that have come and were not read
-abbrev pub held_bytes : Incoming → List ℕ
-held_bytes i = slice_range i.bytes (8 * i.start) (8 * i.end)
+abbrev pub unread_bytes : Incoming → List ℕ
+unread_bytes i = slice_range i.bytes (8 * i.start) (8 * i.end)
 
 -- how many numbers are still to be read
 abbrev pub expected : Incoming → ℕ
@@ -18,7 +18,7 @@ expected i = i.end - i.start + i.due
 
 -- the known bytes that are still to be read, of which the device has these left
 abbrev pub known_rest : Incoming → Option (List ℕ) → Option (List ℕ)
-known_rest i left = prepend_known (held_bytes i) left
+known_rest i left = prepend_known (unread_bytes i) left
 
 -- the device is at its end, and what was known to come has fewer bytes than so many numbers
 abbrev pub FallsShort : Option (List ℕ) → Option (List ℕ) → ℕ → Type 0

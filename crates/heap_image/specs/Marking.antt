@@ -1,4 +1,4 @@
--- Marks while they grow, and the addresses whose references are still to be followed.
+-- Marks while they grow, and the waiting_addresses whose references are still to be followed.
 use Rattle.std.specs.Prelude.{◌≡◌, ◌⊎◌, ℕ, ◌+◌, ◌/◌, ◌<◌, ◌≤◌, Bool, true, false, not, IsTrue, List, All, Contains, length, count_by, map}
 use Rattle.std.specs.List.{list_any, range_with_len}
 use Rattle.heap_image.specs.HeapImage.{HeapImage, heap_words, references_at, reference_at, is_unsound, leads_to, refers_to, reachable}
@@ -6,15 +6,15 @@ use Rattle.heap_image.specs.Bits.{has}
 use Rattle.heap_image.specs.Reachable.{is_listed}
 use Rattle.heap_image.specs.declared.marking.Waiting.{Waiting}
 
--- how many of the addresses below a number are not marked
+-- how many of the waiting_addresses below a number are not marked
 abbrev pub unmarked : ℕ → List ℕ → ℕ
 unmarked words bits = count_by (λ a. not (has bits a)) (range_with_len 0 words)
 
--- the addresses of objects that wait
-abbrev pub addresses : List Waiting → List ℕ
-addresses batch = map (λ w. w.address) batch
+-- the waiting_addresses of objects that wait
+abbrev pub waiting_addresses : List Waiting → List ℕ
+waiting_addresses batch = map (λ w. w.address) batch
 
--- the addresses on the stack are below the number of words, and marked
+-- the waiting_addresses on the stack are below the number of words, and marked
 abbrev pub AreStacked : ℕ → List ℕ → List ℕ → Type 0
 AreStacked words bits stack = All (λ a. (a < words) × (has bits a ≡ true)) stack
 
@@ -47,7 +47,7 @@ pub record IsMarking (image : HeapImage) (roots bits stack : List ℕ) (well_for
       → Contains stack a ⊎ ((b : ℕ) → b < heap_words image → refers_to image a b ≡ true → has bits b ≡ true)
   pub formed : IsTrue well_formed → (a : ℕ) → a < heap_words image → has bits a ≡ true → Contains stack a ⊎ IsWellFormed image a
 
--- the marked addresses are the reachable ones
+-- the marked waiting_addresses are the reachable ones
 pub record AreReached (image : HeapImage) (roots bits : List ℕ) : Type 0 where
   pub room : length bits ≡ heap_words image / 64 + 1
   pub marked : (a : ℕ) → a < heap_words image → has bits a ≡ is_listed (reachable image roots) a

@@ -4,8 +4,8 @@ use Rattle.std.specs.Io.KnownBytes.{Appends}
 use Rattle.heap_image.specs.declared.outgoing.Outgoing.{Outgoing}
 
 -- the bytes of the numbers that are held
-abbrev pub held_bytes : Outgoing → List ℕ
-held_bytes o = take (8 * o.end) o.bytes
+abbrev pub unsent_bytes : Outgoing → List ℕ
+unsent_bytes o = take (8 * o.end) o.bytes
 
 -- a device took bytes, which with those that are held now are those that were held and what was written
 abbrev pub Sends : Option (List ℕ) → Option (List ℕ) → List ℕ → List ℕ → List ℕ → Type 0

@@ -32,6 +32,13 @@ impl Bits {
         Ok(Bits { words })
     }
 
+    /// The set whose bits stand in these words.
+    pub fn from_words(words: Vec<u64>) -> Bits
+        ensures { result ≡ words.items }
+    {
+        Bits { words }
+    }
+
     /// The set of these addresses, with room for those up to `len`, itself included.
     pub fn of(alloc: Global, addresses: &[u64], len: u64) -> Result<Bits, AllocError>
         requires { All (λ a. a < len) addresses.now }

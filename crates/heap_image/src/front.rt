@@ -5,6 +5,7 @@ ghost use Rattle.heap_image.specs.HeapImage.{IsWithinLimits};
 ghost use Rattle.heap_image.specs.LengthCause.{length_causes, first_length_cause};
 ghost use Rattle.heap_image.specs.Refusals.{IsOfFront};
 
+use crate::limits::{MAX_HEAP_WORDS, MAX_REGION_LOG, MAX_REGIONS, MIN_REGION_LOG};
 use crate::numbers::{u32_at, u64_at};
 use crate::{Fault, LengthCause};
 use byteorder::{ByteOrder, LittleEndian};
@@ -16,15 +17,7 @@ const MAGIC: [u8; 8] = *b"PCHEAP01";
 const ROOTED_MAGIC: [u8; 8] = *b"PCHEAP02";
 
 /// The bytes of a front.
-pub(crate) const FRONT_BYTES: usize = 32;
-
-const MIN_REGION_LOG: u32 = 3;
-
-const MAX_REGION_LOG: u32 = 16;
-
-const MAX_WORDS: u64 = 4_194_304;
-
-const MAX_REGIONS: u64 = 16_384;
+pub const FRONT_BYTES: usize = 32;
 
 /// What the first 32 bytes of a text tell, within the limits of the format.
 #[derive(Clone, Copy)]
@@ -130,7 +123,7 @@ impl Front {
         if self.words & ((1 << self.region_log) - 1) != 0 {
             return Some(LengthCause::PartialRegion);
         }
-        if self.words > MAX_WORDS {
+        if self.words > MAX_HEAP_WORDS {
             return Some(LengthCause::TooManyWords);
         }
         if self.words >> self.region_log > MAX_REGIONS {

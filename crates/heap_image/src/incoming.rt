@@ -26,7 +26,7 @@ pub(crate) struct Incoming {
 }
 
 impl Incoming {
-    ghost use Rattle.heap_image.specs.Incoming.{IsInRange, FallsShort, expected, held_bytes, known_rest};
+    ghost use Rattle.heap_image.specs.Incoming.{IsInRange, FallsShort, expected, unread_bytes, known_rest};
 
     /// So many numbers will come.
     pub(crate) fn new(due: usize) -> Incoming
@@ -106,8 +106,8 @@ impl Incoming {
         ensures in_range { IsInRange self.new }
         ensures within { result ≤ length words.new }
         ensures some { self.old.start < self.old.end → 0 < length words.new → 0 < result }
-        ensures bytes { held_bytes self.old
-            ≡ numbers (take result words.new) ++ held_bytes self.new }
+        ensures bytes { unread_bytes self.old
+            ≡ numbers (take result words.new) ++ unread_bytes self.new }
         ensures expected { expected self.new + result ≡ expected self.old }
     {
         let n = (self.end - self.start).min(words.len());

@@ -4,7 +4,7 @@ ghost use Rattle.std.specs.List.{list_any};
 ghost use Rattle.std.specs.Vec.{vec_capacity};
 ghost use Rattle.heap_image.specs.HeapImage.{heap_words, word_at, leads_to, refers_to};
 ghost use Rattle.heap_image.specs.Bits.{has};
-ghost use Rattle.heap_image.specs.Marking.{IsGrown, IsMarking, IsWellFormed, AreReached, AreReachedWell, AreStacked, unmarked, addresses};
+ghost use Rattle.heap_image.specs.Marking.{IsGrown, IsMarking, IsWellFormed, AreReached, AreReachedWell, AreStacked, unmarked, waiting_addresses};
 
 use crate::bits::Bits;
 use crate::check::is_unsound;
@@ -118,7 +118,7 @@ impl Marking {
         requires room { 64 ≤ vec_capacity batch.old }
         ensures marking { (roots : List ℕ) → let image = heap.now in
             IsMarking image roots self.old.bits self.old.stack.items self.old.well_formed
-            → IsMarking image roots self.new.bits (self.new.stack.items ++ addresses batch.new.items) self.new.well_formed }
+            → IsMarking image roots self.new.bits (self.new.stack.items ++ waiting_addresses batch.new.items) self.new.well_formed }
         ensures fetched { All (λ w. w.header ≡ word_at heap.now w.address) batch.new.items }
         ensures total { length self.new.stack.items + length batch.new.items ≡ length self.old.stack.items }
         ensures some { 0 < length self.old.stack.items → 0 < length batch.new.items }
@@ -141,10 +141,10 @@ impl Marking {
         requires words { self.old.words ≡ heap_words heap.now }
         requires bits { self.old.words / 64 < length self.old.bits }
         requires room { length self.old.stack.items + unmarked self.old.words self.old.bits ≤ vec_capacity self.old.stack }
-        requires inside { All (λ a. a < self.old.words) (addresses batch.old.items) }
+        requires inside { All (λ a. a < self.old.words) (waiting_addresses batch.old.items) }
         requires fetched { All (λ w. w.header ≡ word_at heap.now w.address) batch.old.items }
         ensures marking { (roots : List ℕ) → let image = heap.now in
-            IsMarking image roots self.old.bits (self.old.stack.items ++ addresses batch.old.items) self.old.well_formed
+            IsMarking image roots self.old.bits (self.old.stack.items ++ waiting_addresses batch.old.items) self.old.well_formed
             → IsMarking image roots self.new.bits self.new.stack.items self.new.well_formed }
         ensures total { length self.new.stack.items + unmarked self.new.words self.new.bits
             ≡ length self.old.stack.items + unmarked self.old.words self.old.bits }

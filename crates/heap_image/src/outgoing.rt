@@ -5,7 +5,8 @@ ghost use Rattle.heap_image.specs.ImageText.{numbers};
 
 use crate::intake::Failed;
 use crate::numbers::write_all;
-use crate::outlet::{Outlet, give_all};
+use crate::outlet::{Outlet, give_all, give_zeros};
+use raw_region::Region;
 
 /// How many numbers are given at a time, at most.
 const ROOM: usize = 32_768;
@@ -22,11 +23,11 @@ pub(crate) struct Outgoing {
 }
 
 impl Outgoing {
-    ghost use Rattle.heap_image.specs.Outgoing.{held_bytes, Sends, TakesBeginning};
+    ghost use Rattle.heap_image.specs.Outgoing.{unsent_bytes, Sends, TakesBeginning};
 
     /// With no number written.
     pub(crate) fn new() -> Outgoing
-        ensures held { held_bytes result ≡ [] }
+        ensures held { unsent_bytes result ≡ [] }
         ensures in_range { result.end ≤ 32768 }
     {
         Outgoing {
@@ -40,11 +41,11 @@ impl Outgoing {
         requires { self.old.end ≤ 32768 }
         ensures in_range { OnOk result (self.new.end ≤ 32768) }
         ensures bytes { OnOk result
-            (Sends (W.took writer.old) (W.took writer.new) (held_bytes self.old)
-            (held_bytes self.new) (numbers words.now)) }
+            (Sends (W.took writer.old) (W.took writer.new) (unsent_bytes self.old)
+            (unsent_bytes self.new) (numbers words.now)) }
         ensures beginning { OnErr result
             (TakesBeginning (W.took writer.old) (W.took writer.new)
-            (held_bytes self.old ++ numbers words.now)) }
+            (unsent_bytes self.old ++ numbers words.now)) }
         ensures failed { W.has_failed writer.new ≡ (is_err result || W.has_failed writer.old) }
     {
         let mut done = 0;
@@ -55,15 +56,39 @@ impl Outgoing {
         Ok(())
     }
 
+    /// Writes the words of a region. Those of one that was cleared are not looked at: after what is held, the writer is given
+    /// as many zeros.
+    pub(crate) fn write_region<W: Outlet>(
+        &mut self,
+        writer: &mut W,
+        region: &Region,
+    ) -> Result<(), Failed>
+        requires { self.old.end ≤ 32768 }
+        ensures in_range { OnOk result (self.new.end ≤ 32768) }
+        ensures bytes { OnOk result
+            (Sends (W.took writer.old) (W.took writer.new) (unsent_bytes self.old)
+            (unsent_bytes self.new) (numbers region.now)) }
+        ensures beginning { OnErr result
+            (TakesBeginning (W.took writer.old) (W.took writer.new)
+            (unsent_bytes self.old ++ numbers region.now)) }
+        ensures failed { W.has_failed writer.new ≡ (is_err result || W.has_failed writer.old) }
+    {
+        if !region.is_cleared() {
+            return self.write(writer, region.words());
+        }
+        self.flush(writer)?;
+        give_zeros(writer, 8 * region.len())
+    }
+
     /// Where there is no room left, gives what is held.
     fn make_room<W: Outlet>(&mut self, writer: &mut W) -> Result<(), Failed>
         requires { self.old.end ≤ 32768 }
         ensures room { OnOk result (self.new.end < 32768) }
         ensures bytes { OnOk result
-            (Sends (W.took writer.old) (W.took writer.new) (held_bytes self.old)
-            (held_bytes self.new) []) }
+            (Sends (W.took writer.old) (W.took writer.new) (unsent_bytes self.old)
+            (unsent_bytes self.new) []) }
         ensures beginning { OnErr result
-            (TakesBeginning (W.took writer.old) (W.took writer.new) (held_bytes self.old)) }
+            (TakesBeginning (W.took writer.old) (W.took writer.new) (unsent_bytes self.old)) }
         ensures failed { W.has_failed writer.new ≡ (is_err result || W.has_failed writer.old) }
     {
         if self.end < ROOM {
@@ -77,9 +102,9 @@ impl Outgoing {
         requires { self.old.end ≤ 32768 }
         ensures empty { OnOk result (self.new.end ≡ 0) }
         ensures bytes { OnOk result
-            (Appends (W.took writer.old) (W.took writer.new) (held_bytes self.old)) }
+            (Appends (W.took writer.old) (W.took writer.new) (unsent_bytes self.old)) }
         ensures beginning { OnErr result
-            (TakesBeginning (W.took writer.old) (W.took writer.new) (held_bytes self.old)) }
+            (TakesBeginning (W.took writer.old) (W.took writer.new) (unsent_bytes self.old)) }
         ensures failed { W.has_failed writer.new ≡ (is_err result || W.has_failed writer.old) }
     {
         give_all(writer, &self.bytes[..8 * self.end])?;
@@ -93,8 +118,8 @@ impl Outgoing {
         ensures in_range { self.new.end ≤ 32768 }
         ensures within { result ≤ length words.now }
         ensures some { self.old.end < 32768 → 0 < length words.now → 0 < result }
-        ensures bytes { held_bytes self.new
-            ≡ held_bytes self.old ++ numbers (take result words.now) }
+        ensures bytes { unsent_bytes self.new
+            ≡ unsent_bytes self.old ++ numbers (take result words.now) }
         ensures room { self.new.end ≡ self.old.end + result }
     {
         let n = (ROOM - self.end).min(words.len());

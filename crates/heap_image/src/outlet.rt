@@ -1,5 +1,5 @@
 //! `Outlet`: where the bytes of an image go.
-ghost use Rattle.std.specs.Prelude.{◌≡◌, ◌<◌, ◌≤◌, ◌||◌, ℕ, List, Bool, Option, length, take, IsTrue, IfOk, OnOk, IsErr, is_err};
+ghost use Rattle.std.specs.Prelude.{◌≡◌, ◌<◌, ◌≤◌, ◌||◌, ℕ, List, Bool, Option, length, take, replicate, IsTrue, IfOk, OnOk, IsErr, is_err, false};
 ghost use Rattle.std.specs.Io.KnownBytes.{Appends, WriteAppends};
 
 use crate::intake::Failed;
@@ -25,6 +25,51 @@ pub trait Outlet {
     /// Whether a call has answered [`Failed`].
     fn failed(&self) -> bool
         ensures { result ≡ has_failed self.now };
+
+    /// Takes so many zeros without being given them, where the device can leave them out: a file may have holes. A device
+    /// that can't, as one that leaves this method out, answers false and takes nothing.
+    fn leave_out_zeros(&mut self, _count: usize) -> bool
+        ensures zeros { IsTrue result
+            → Appends (took self.old) (took self.new) (replicate _count 0) }
+        ensures none { result ≡ false → took self.new ≡ took self.old }
+        ensures failed { has_failed self.new ≡ has_failed self.old }
+    {
+        false
+    }
+}
+
+/// How many zeros are given at a time, at most.
+const ROOM: usize = 65_536;
+
+static ZEROS: [u8; ROOM] = [0; ROOM];
+
+/// Gives the device so many zeros, unless it leaves them out. After [`Failed`] it took some of them.
+pub(crate) fn give_zeros<W: Outlet>(writer: &mut W, count: usize) -> Result<(), Failed>
+    ensures zeros { OnOk result
+        (Appends (W.took writer.old) (W.took writer.new) (replicate count 0)) }
+    ensures beginning { (n : ℕ)
+        × Appends (W.took writer.old) (W.took writer.new) (take n (replicate count 0)) }
+    ensures failed { W.has_failed writer.new ≡ (is_err result || W.has_failed writer.old) }
+{
+    if writer.leave_out_zeros(count) {
+        return Ok(());
+    }
+    give_each_zero(writer, count)
+}
+
+/// Gives the device so many zeros. After [`Failed`] it took some of them.
+fn give_each_zero<W: Outlet>(writer: &mut W, count: usize) -> Result<(), Failed>
+    ensures zeros { OnOk result
+        (Appends (W.took writer.old) (W.took writer.new) (replicate count 0)) }
+    ensures beginning { (n : ℕ)
+        × Appends (W.took writer.old) (W.took writer.new) (take n (replicate count 0)) }
+    ensures failed { W.has_failed writer.new ≡ (is_err result || W.has_failed writer.old) }
+{
+    let mut given = 0;
+    while given < count {
+        given += writer.give(&ZEROS[..ROOM.min(count - given)])?;
+    }
+    Ok(())
 }
 
 /// Gives the device all of the bytes. After [`Failed`] it took a beginning of them.

@@ -29,7 +29,7 @@ pub fn write_image<W: Outlet>(image: &Image, writer: &mut W) -> Result<(), Fault
     give_all(writer, &front.to_bytes())?;
     let mut outgoing = Outgoing::new();
     for r in 0..image.regions() {
-        outgoing.write(writer, image.region(r).words())?;
+        outgoing.write_region(writer, image.region(r))?;
     }
     outgoing.write(writer, image.tail())?;
     outgoing.flush(writer)?;

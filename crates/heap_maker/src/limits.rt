@@ -2,12 +2,6 @@
 ghost use Rattle.std.specs.Prelude.{◌≡◌, ◌≤◌, ◌*◌, ◌/◌, ◌^◌};
 ghost use Rattle.heap_image.specs.HeapImage.{IsWithinLimits};
 
-/// The most words that an image may have.
-pub(crate) const MAX_WORDS: u64 = 4_194_304;
-
-/// The most regions that an image may have.
-pub(crate) const MAX_REGIONS: u64 = 16_384;
-
 /// The sizes of an image that may be.
 #[derive(Clone, Copy)]
 pub(crate) struct Limits {

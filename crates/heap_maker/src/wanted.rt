@@ -3,8 +3,9 @@ ghost use Rattle.std.specs.Prelude.{◌≡◌, ◌+◌, ◌*◌, ◌/◌, ◌≤
 ghost use Rattle.heap_maker.specs.Wanted.{live_words_wanted};
 
 use crate::error::GenerationError;
-use crate::limits::{Limits, MAX_REGIONS, MAX_WORDS};
+use crate::limits::Limits;
 use crate::room::Room;
+use heap_image::limits::{MAX_HEAP_WORDS, MAX_REGION_LOG, MAX_REGIONS, MIN_REGION_LOG};
 
 /// Which heap is to be made.
 #[derive(Debug, Clone, Copy, PartialEq, Eq)]
@@ -34,10 +35,10 @@ impl Wanted {
         ensures no_defect { result ≢ Err GenerationError.Defect }
     {
         let (words, region_log) = (self.words, self.region_log);
-        if region_log < 3 || region_log > 16 {
+        if region_log < MIN_REGION_LOG || region_log > MAX_REGION_LOG {
             return Err(GenerationError::RegionLog(region_log));
         }
-        if words == 0 || words > MAX_WORDS {
+        if words == 0 || words > MAX_HEAP_WORDS {
             return Err(GenerationError::Words(words));
         }
         let region_words = 1u64 << region_log;

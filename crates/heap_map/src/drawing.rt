@@ -5,7 +5,8 @@ use crate::area::Area;
 use crate::cell::Cell;
 use crate::map::Map;
 use crate::patterns::{
-    AREAS, SHADES, cover_of, digit_of, hatching_of, key_of, line_of, name_of, share_of, tint_of,
+    AREAS, SHADES, cover_of, digit_of, hatching_colour, hatching_of, key_of, name_of, share_of,
+    tint_of,
 };
 use crate::picture::Picture;
 use crate::shade::Shade;
@@ -80,7 +81,7 @@ fn draw_patterns_of(svg: &mut String, area: Area) -> Result<(), AllocError> {
         )?;
         write!(svg, " fill-opacity=\"{}\"/>", cover_of(shade))?;
         write!(svg, "<path d=\"{}\"", hatching_of(area))?;
-        writeln!(svg, " stroke=\"{}\"/></pattern>", line_of(shade))?;
+        writeln!(svg, " stroke=\"{}\"/></pattern>", hatching_colour(shade))?;
     }
     Ok(())
 }

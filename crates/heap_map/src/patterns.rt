@@ -98,7 +98,7 @@ pub(crate) fn cover_of(shade: Shade) -> &'static str {
 }
 
 /// The colour of hatching that is seen on a shade.
-pub(crate) fn line_of(shade: Shade) -> &'static str {
+pub(crate) fn hatching_colour(shade: Shade) -> &'static str {
     match shade {
         Shade::Empty | Shade::Low | Shade::Middle => "#000",
         Shade::High | Shade::Full => "#fff",

@@ -4,30 +4,30 @@ use Rattle.std.specs.Prelude.{flat_map}
 use Rattle.std.specs.List.{list_all, range_with_len}
 use Rattle.std.proofs.lemmas.List.Concat.{flat_map-cons}
 use Rattle.std.proofs.lemmas.List.Sums.{count_by_more_yes, sum_by-take-drop, sum_by-take-le}
-use Rattle.heap_text.specs.Text.{addresses, line_text}
+use Rattle.heap_text.specs.Text.{addresses_between, line_text}
 use Rattle.heap_text.specs.TextLines.{ended_lines}
 
--- the first of the addresses, and the others
-pub addresses-cons : (i to : ℕ) → i < to → addresses i to ≡ i ∷ addresses (i + 1) to
-addresses-cons i to less =
+-- the first of the addresses_between, and the others
+pub addresses_between-cons : (i to : ℕ) → i < to → addresses_between i to ≡ i ∷ addresses_between (i + 1) to
+addresses_between-cons i to less =
     let e : to - i ≡ suc (to - (i + 1)) = omega arith in
     ap (λ n. range_with_len i n) e
 
 -- one word more is told, and the whole stays
-pub told_more : (f : ℕ → List ℕ) (told new whole : List ℕ) (i to : ℕ) → i < to → told ++ flat_map f (addresses i to) ≡ whole
-    → new ≡ told ++ f i → new ++ flat_map f (addresses (i + 1) to) ≡ whole
+pub told_more : (f : ℕ → List ℕ) (told new whole : List ℕ) (i to : ℕ) → i < to → told ++ flat_map f (addresses_between i to) ≡ whole
+    → new ≡ told ++ f i → new ++ flat_map f (addresses_between (i + 1) to) ≡ whole
 told_more f told new whole i to less all is =
-    let rest = flat_map f (addresses (i + 1) to) in
+    let rest = flat_map f (addresses_between (i + 1) to) in
     ap (λ t. t ++ rest) is
     ∙ (append_assoc told (f i) rest
-    ∙ (ap (λ xs. told ++ xs) (sym (flat_map-cons f i (addresses (i + 1) to)))
-    ∙ (ap (λ xs. told ++ flat_map f xs) (sym (addresses-cons i to less)) ∙ all)))
+    ∙ (ap (λ xs. told ++ xs) (sym (flat_map-cons f i (addresses_between (i + 1) to)))
+    ∙ (ap (λ xs. told ++ flat_map f xs) (sym (addresses_between-cons i to less)) ∙ all)))
 
--- what holds of the first of the addresses is left to the others
+-- what holds of the first of the addresses_between is left to the others
 pub all_but_first : (p : ℕ → Bool) (i to : ℕ) → i < to → p i ≡ true
-    → list_all p (addresses i to) ≡ list_all p (addresses (i + 1) to)
+    → list_all p (addresses_between i to) ≡ list_all p (addresses_between (i + 1) to)
 all_but_first p i to less holds =
-    ap (list_all p) (addresses-cons i to less) ∙ ap (λ b. b && list_all p (addresses (i + 1) to)) holds
+    ap (list_all p) (addresses_between-cons i to less) ∙ ap (λ b. b && list_all p (addresses_between (i + 1) to)) holds
 
 -- behind a newline there is a line less
 pub behind_newline : (i n : ℕ) (bytes : List ℕ) → i < length bytes → slice_index bytes i ≡ 10

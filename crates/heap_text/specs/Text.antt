@@ -3,9 +3,9 @@ use Rattle.std.specs.Prelude.{ℕ, ◌+◌, ◌-◌, nat_le, ◌==◌, Bool, if�
 use Rattle.std.specs.List.{range_with_len, list_all}
 use Rattle.heap_image.specs.HeapImage.{HeapImage, version_of, roots_of, heap_words, word_at, size_at, references_at, end_of}
 
--- the words from one address up to another stand at these addresses
-abbrev pub addresses : ℕ → ℕ → List ℕ
-addresses from to = range_with_len from (to - from)
+-- the words from one address up to another stand at these addresses_between
+abbrev pub addresses_between : ℕ → ℕ → List ℕ
+addresses_between from to = range_with_len from (to - from)
 
 -- where a reference or a root leads, behind a space
 abbrev pub reference_text : ℕ → List ℕ
@@ -36,12 +36,12 @@ module _ (image : HeapImage) where
   -- the words from one address up to another as references, behind their name, where there are some
   abbrev pub references_text : ℕ → ℕ → List ℕ
   references_text from to =
-      if nat_le to from then [] else codes " refs" ++ flat_map (λ a. reference_text (word_at image a)) (addresses from to)
+      if nat_le to from then [] else codes " refs" ++ flat_map (λ a. reference_text (word_at image a)) (addresses_between from to)
 
   -- the words from one address up to another as numbers, behind this name, where there are some
   abbrev pub numbers_text : List ℕ → ℕ → ℕ → List ℕ
   numbers_text name from to =
-      if nat_le to from then [] else name ++ flat_map (λ a. number_text (word_at image a)) (addresses from to)
+      if nat_le to from then [] else name ++ flat_map (λ a. number_text (word_at image a)) (addresses_between from to)
 
   -- the line of the object at an address: its size, its references, and the words behind them
   abbrev pub object_text : ℕ → List ℕ
@@ -52,7 +52,7 @@ module _ (image : HeapImage) where
 
   -- the words from one address up to another are all equal
   abbrev pub are_equal : ℕ → ℕ → Bool
-  are_equal from to = list_all (λ a. word_at image a == word_at image from) (addresses from to)
+  are_equal from to = list_all (λ a. word_at image a == word_at image from) (addresses_between from to)
 
   -- the words of a dead run: one of them where they are equal, and else each
   abbrev pub dead_words_text : ℕ → ℕ → List ℕ

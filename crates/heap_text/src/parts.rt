@@ -1,8 +1,6 @@
 //! `Parts`: what a text says, before it is known to be a heap.
+use heap_image::FRONT_BYTES;
 use std::alloc::{AllocError, Global};
-
-/// How many bytes an image has before its words.
-const FRONT_BYTES: usize = 32;
 
 /// What a text says, before it is known to be a heap.
 #[derive(Drop)]

@@ -6,13 +6,8 @@ use crate::expected::Expected;
 use crate::parts::Parts;
 use crate::stop::Stop;
 use crate::words::{Words, address, labelled, reference};
+use heap_image::limits::{MAX_HEAP_WORDS, MAX_REGION_LOG, MAX_REGIONS, MIN_REGION_LOG};
 use std::alloc::Global;
-
-/// The most words that an image may have.
-const MAX_WORDS: u64 = 4_194_304;
-
-/// The most regions that an image may have.
-const MAX_REGIONS: u64 = 16_384;
 
 /// Takes a text line by line, each without its newline.
 #[derive(Drop)]
@@ -85,7 +80,7 @@ impl Reader {
 
     fn take_region_log(&mut self, line: &[u8]) -> Result<(), Stop> {
         match labelled(line, b"region-log ".as_slice()) {
-            Some(log) if 3 <= log && log <= 16 => self.parts.region_log = log as u32,
+            Some(log) if is_region_log(log) => self.parts.region_log = log as u32,
             _ => return Err(Stop::Expected(Expected::RegionLog)),
         }
         self.awaited = Awaited::Words;
@@ -105,8 +100,11 @@ impl Reader {
     fn has_regions(&self, len: u64) -> bool
         ensures { IsTrue result → len ≤ 4194304 }
     {
-        let region_words = 1u64 << self.parts.region_log.min(16);
-        1 <= len && len <= MAX_WORDS && len % region_words == 0 && len / region_words <= MAX_REGIONS
+        let region_words = 1u64 << self.parts.region_log.min(MAX_REGION_LOG);
+        1 <= len
+            && len <= MAX_HEAP_WORDS
+            && len % region_words == 0
+            && len / region_words <= MAX_REGIONS
     }
 
     fn take_allowance(&mut self, line: &[u8]) -> Result<(), Stop> {
@@ -177,4 +175,11 @@ impl Reader {
         self.is_behind_dead = true;
         Ok(())
     }
+}
+
+/// Whether a region may have 2 to this power words.
+fn is_region_log(log: u64) -> bool
+    ensures { IsTrue result → log ≤ 16 }
+{
+    u64::from(MIN_REGION_LOG) <= log && log <= u64::from(MAX_REGION_LOG)
 }

@@ -15,7 +15,7 @@ use Rattle.history.specs.Schedule.{ScheduleView, IsSchedule, is_line, line_of}
 use Rattle.history.specs.Slide.{Slide, IsSlideOf, Machine, next_place, write_words, word_for, words_of, AllowsWords, machine_after, copied}
 use Rattle.history.specs.ImageMoves.{image_table}
 use Rattle.history.specs.WordMachine.{image_slide, machine_start, machine_of}
-use Rattle.history.specs.Replay.{IsCallOf, IsReplay}
+use Rattle.history.specs.Replay.{IsCallOfLine, IsReplay}
 use Rattle.history.specs.Replayed.{Holds, IsCarriedOut, IsReplayed, IsEndOf, places_of}
 use Rattle.history.specs.Ledger.{IsLedger, Tells, Leads}
 use Rattle.history.specs.declared.entry.Entry.{Entry}
@@ -149,7 +149,7 @@ first_way image v ledger lines heap kept tells none same =
 
 module _ (image : HeapImage) (valid : IsValid image) (v : ScheduleView) (items : List Line) (number : ℕ) (old new : Ledger) (lines : List Line) (heap : List ℕ) (r : Reply)
     (same : items ≡ v.lines) (way : IsUnderWay image v number old lines heap) (inside : number < length items)
-    (call : IsCallOf (get_or items number no_line) (entry (get_or items number no_line).worker (get_or items number no_line).event r))
+    (call : IsCallOfLine (get_or items number no_line) (entry (get_or items number no_line).worker (get_or items number no_line).event r))
     (leads : Leads image old.scheduler.workers old (entry (get_or items number no_line).worker (get_or items number no_line).event r) new) where
   abbrev line : Line
   line = get_or items number no_line

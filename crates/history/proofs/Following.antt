@@ -13,7 +13,7 @@ use Rattle.history.specs.Schedule.{ScheduleView}
 use Rattle.history.specs.declared.event.Event.TheVariants.{Claim}
 use Rattle.history.specs.History.{entry}
 use Rattle.history.specs.WordMachine.{machine_start, machine_of}
-use Rattle.history.specs.Replay.{IsCallOf, IsReplay, IsRefusedAt, IsChecked}
+use Rattle.history.specs.Replay.{IsCallOfLine, IsReplay, IsRefusedAt, IsChecked}
 use Rattle.history.specs.LineCause.{IsExplained}
 use Rattle.history.specs.Ledger.{IsLedger, Tells, Leads, RefusesLine, HasCause}
 use Rattle.history.specs.declared.entry.Entry.{Entry}
@@ -34,7 +34,7 @@ followed_first image v ledger kept tells = record { kept = kept; log = []; taken
 
 -- one line more
 unfoldable pub followed_more : (image : HeapImage) (v : ScheduleView) (number : ℕ) (old new : Ledger) (line : Line) (e : Entry) → IsFollowed image v number old
-    → take (suc number) v.lines ≡ take number v.lines ++ line ∷ [] → IsCallOf line e → Leads image v.workers old e new → IsLedger image v.workers new → IsFollowed image v (suc number) new
+    → take (suc number) v.lines ≡ take number v.lines ++ line ∷ [] → IsCallOfLine line e → Leads image v.workers old e new → IsLedger image v.workers new → IsFollowed image v (suc number) new
 followed_more image v number old new line e followed more call leads kept =
     let steps = leads (machine_of image followed.log) followed.tells in
     record {
@@ -86,7 +86,7 @@ explained_at image v items number ledger cause same followed inside refuses has 
 
 -- a line that the ledger takes
 unfoldable pub followed_by : (image : HeapImage) (v : ScheduleView) (items : List Line) (number : ℕ) (old new : Ledger) (r : Reply) → items ≡ v.lines → IsFollowed image v number old → number < length items
-    → IsCallOf (get_or items number no_line) (entry (get_or items number no_line).worker (get_or items number no_line).event r)
+    → IsCallOfLine (get_or items number no_line) (entry (get_or items number no_line).worker (get_or items number no_line).event r)
     → Leads image old.scheduler.workers old (entry (get_or items number no_line).worker (get_or items number no_line).event r) new
     → IsLedger image old.scheduler.workers new
     → IsFollowed image v (suc number) new

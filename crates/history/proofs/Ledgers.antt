@@ -14,7 +14,7 @@ use Rattle.history.specs.Scheduler.{state_in}
 use Rattle.history.specs.Slide.{Slide, Machine, words_of, write_words, copied, AllowsWords, IsMachineStep}
 use Rattle.history.specs.ImageMoves.{image_table}
 use Rattle.history.specs.WordMachine.{image_slide}
-use Rattle.history.specs.Replay.{IsCallOf}
+use Rattle.history.specs.Replay.{IsCallOfLine}
 use Rattle.history.specs.Ledger.{IsLedger, Tells, Leads, RefusesLine, HasCause, AreNoted}
 use Rattle.history.specs.declared.entry.Entry.{Entry}
 use Rattle.history.specs.declared.event.Event.{Event}
@@ -121,7 +121,7 @@ scheduler_refuses image workers old worker event kept not w tells reply step =
     not (subst (λ (t : MoveTable). Allows t (state_in old.scheduler) worker event) (sym kept.moves) (subst (λ (k : State). Allows (image_table image) k worker event) tells.known step.1.allowed))
 
 -- the call of a line is told by its reply
-call_is : (line : Line) (e : Entry) → IsCallOf line e → e ≡ entry line.worker line.event e.reply
+call_is : (line : Line) (e : Entry) → IsCallOfLine line e → e ≡ entry line.worker line.event e.reply
 call_is line e is = let a = is.worker in let b = is.event in go e.worker line.worker e.event line.event a b
   where
     go : (x y : ℕ) (f g : Event) → x ≡ y → f ≡ g → entry x f e.reply ≡ entry y g e.reply

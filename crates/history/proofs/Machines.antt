@@ -6,7 +6,7 @@ use Rattle.history.specs.History.{state_from, AreSteps}
 use Rattle.history.specs.Slide.{Slide, Machine, machine_after, machine_from, IsMachineStep, AreMachineSteps}
 use Rattle.history.specs.ImageMoves.{image_table}
 use Rattle.history.specs.WordMachine.{image_slide, machine_start, machine_of}
-use Rattle.history.specs.Replay.{IsCallOf, AreCallsOf, IsReplay}
+use Rattle.history.specs.Replay.{IsCallOfLine, AreCallsOf, IsReplay}
 use Rattle.history.specs.declared.entry.Entry.{Entry}
 use Rattle.history.specs.declared.line.Line.{Line}
 
@@ -29,7 +29,7 @@ pub known-machine_from : (p : Slide) (w : Machine) (log : List Entry) → (machi
 known-machine_from p w [] = refl
 known-machine_from p w (e ∷ es) = known-machine_from p (machine_after p w e) es
 
-AreCallsOf-push : (lines : List Line) (log : List Entry) (line : Line) (e : Entry) → AreCallsOf lines log → IsCallOf line e → AreCallsOf (lines ++ line ∷ []) (log ++ e ∷ [])
+AreCallsOf-push : (lines : List Line) (log : List Entry) (line : Line) (e : Entry) → AreCallsOf lines log → IsCallOfLine line e → AreCallsOf (lines ++ line ∷ []) (log ++ e ∷ [])
 AreCallsOf-push [] [] line e calls is = (is, tt)
 AreCallsOf-push (l ∷ ls) (f ∷ es) line e calls is = (calls.0, AreCallsOf-push ls es line e calls.1 is)
 AreCallsOf-push [] (f ∷ es) line e calls is = absurd calls
@@ -39,7 +39,7 @@ AreCallsOf-push (l ∷ ls) [] line e calls is = absurd calls
 pub machine_of-push : (image : HeapImage) (log : List Entry) (e : Entry) → machine_of image (log ++ e ∷ []) ≡ machine_after (image_slide image) (machine_of image log) e
 machine_of-push image log e = machine_from-append (image_slide image) (machine_start image) log (e ∷ [])
 
-pub replay_more : (image : HeapImage) (workers : ℕ) (lines : List Line) (log : List Entry) (line : Line) (e : Entry) → IsReplay image workers lines log → IsCallOf line e
+pub replay_more : (image : HeapImage) (workers : ℕ) (lines : List Line) (log : List Entry) (line : Line) (e : Entry) → IsReplay image workers lines log → IsCallOfLine line e
     → IsMachineStep (image_table image) (image_slide image) workers (machine_of image log) e → IsReplay image workers (lines ++ line ∷ []) (log ++ e ∷ [])
 replay_more image workers lines log line e taken is step =
     record {

@@ -10,7 +10,7 @@ use Rattle.std.proofs.lemmas.List.Sums.{count_by-le-length}
 use Rattle.history.specs.MoveTable.{MoveTable, IsMoveTable, region_count, to_fill}
 use Rattle.history.specs.State.{State, opening, readers_left, unsettled}
 use Rattle.history.specs.Progress.{claimant_of, is_filled, is_settled}
-use Rattle.history.specs.Scheduler.{SchedulerView, state_in, sources_left, IsKept, AreTallies}
+use Rattle.history.specs.Scheduler.{SchedulerView, state_in, sources_left, IsKept, ArePairCounts}
 use Rattle.history.specs.declared.progress.Progress.{Progress}
 use Rattle.history.specs.declared.progress.Progress.TheVariants.{Unclaimed}
 use Rattle.history.proofs.Counting.{count_by_same, count_by-map, and_true}
@@ -18,21 +18,21 @@ use Rattle.history.proofs.Flags.{is_flagged-none}
 use Rattle.history.proofs.Pairs.{one_more_counted}
 
 -- one pair more is counted
-pub AreTallies-more : (m : MoveTable) (end_of : ℕ × ℕ → ℕ) (ps : List (ℕ × ℕ)) (i : ℕ) (d : ℕ × ℕ) (counts : List ℕ) → i < length ps → end_of (get_or ps i d) < region_count m → AreTallies m end_of (take i ps) counts
-    → AreTallies m end_of (take (i + 1) ps) (slice_set counts (end_of (get_or ps i d)) (slice_index counts (end_of (get_or ps i d)) + 1))
-AreTallies-more m end_of ps i d counts lt inside before =
+pub ArePairCounts-more : (m : MoveTable) (end_of : ℕ × ℕ → ℕ) (ps : List (ℕ × ℕ)) (i : ℕ) (d : ℕ × ℕ) (counts : List ℕ) → i < length ps → end_of (get_or ps i d) < region_count m → ArePairCounts m end_of (take i ps) counts
+    → ArePairCounts m end_of (take (i + 1) ps) (slice_set counts (end_of (get_or ps i d)) (slice_index counts (end_of (get_or ps i d)) + 1))
+ArePairCounts-more m end_of ps i d counts lt inside before =
     let more = one_more_counted (region_count m) end_of ps i d counts lt inside (record { room = before.all; each = before.each }) in
     record { all = more.room; each = more.each }
 
-pub AreTallies-none : (m : MoveTable) (end_of : ℕ × ℕ → ℕ) (counts : List ℕ) → counts ≡ replicate (region_count m) 0 → AreTallies m end_of [] counts
-AreTallies-none m end_of counts is =
+pub ArePairCounts-none : (m : MoveTable) (end_of : ℕ × ℕ → ℕ) (counts : List ℕ) → counts ≡ replicate (region_count m) 0 → ArePairCounts m end_of [] counts
+ArePairCounts-none m end_of counts is =
     record {
       all = rw is (length-replicate (region_count m) 0);
       each = λ r lt. rw is (get_or-replicate (region_count m) r 0 0 lt);
     }
 
 -- no count passes the number of pairs
-pub tally_le : (m : MoveTable) (end_of : ℕ × ℕ → ℕ) (ps : List (ℕ × ℕ)) (i r : ℕ) (counts : List ℕ) → i ≤ length ps → r < region_count m → AreTallies m end_of (take i ps) counts → slice_index counts r ≤ i
+pub tally_le : (m : MoveTable) (end_of : ℕ × ℕ → ℕ) (ps : List (ℕ × ℕ)) (i r : ℕ) (counts : List ℕ) → i ≤ length ps → r < region_count m → ArePairCounts m end_of (take i ps) counts → slice_index counts r ≤ i
 tally_le m end_of ps i r counts le lt tallies =
     let is = tallies.each r lt in
     let few = count_by-le-length (λ pair. r == end_of pair) (take i ps) in
@@ -63,7 +63,7 @@ pub record IsOpening (v : SchedulerView) (readers sources : List ℕ) (left : �
   pub kept : IsKept v readers sources left
 
 pub opening_kept : (v : SchedulerView) (readers sources : List ℕ) (left : ℕ) → IsMoveTable v.moves → v.flags ≡ replicate (length v.moves.pairs) false → v.progress ≡ replicate (region_count v.moves) Unclaimed
-    → AreTallies v.moves (λ pair. pair.1) v.moves.pairs readers → AreTallies v.moves (λ pair. pair.0) v.moves.pairs sources → left ≡ count_by (λ b. b) v.moves.fill → IsOpening v readers sources left
+    → ArePairCounts v.moves (λ pair. pair.1) v.moves.pairs readers → ArePairCounts v.moves (λ pair. pair.0) v.moves.pairs sources → left ≡ count_by (λ b. b) v.moves.fill → IsOpening v readers sources left
 opening_kept v readers sources left table flags progress reads' takes count =
     record {
       state = state;

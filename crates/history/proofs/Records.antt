@@ -9,7 +9,7 @@ use Rattle.history.specs.History.{IsLegal, entry, state_of}
 use Rattle.history.specs.Schedule.{ScheduleView, IsHistory, line_of, entries_of, schedule_of}
 use Rattle.history.specs.ImageMoves.{image_table}
 use Rattle.history.specs.WordMachine.{image_slide, machine_start, machine_of}
-use Rattle.history.specs.Replay.{IsCallOf, AreCallsOf, IsChecked}
+use Rattle.history.specs.Replay.{IsCallOfLine, AreCallsOf, IsChecked}
 use Rattle.history.specs.Whole.{HasEachOnce}
 use Rattle.history.specs.Record.{IsRecord}
 use Rattle.history.specs.declared.event.Event.{Event}
@@ -24,7 +24,7 @@ entry_is w w' e e' r r' a b c = cc
 told_reply : (r s : Reply) → (◌≡◌ {A = Option Reply} (Some r) None) ⊎ (◌≡◌ {A = Option Reply} (Some r) (Some s)) → s ≡ r
 told_reply r s told = ⊎_elim (λ (none : Some r ≡ None). absurd (none-some r (sym none))) (λ (some : Some r ≡ Some s). sym (same_Some r s some)) told
 
-call_is : (e f : Entry) → IsCallOf (line_of e) f → f ≡ e
+call_is : (e f : Entry) → IsCallOfLine (line_of e) f → f ≡ e
 call_is e f is = entry_is f.worker e.worker f.event e.event f.reply e.reply is.worker is.event (told_reply e.reply f.reply is.told)
 
 calls_are : (es log : List Entry) → AreCallsOf (map line_of es) log → log ≡ es

@@ -10,7 +10,7 @@ use Rattle.history.specs.Schedule.{ScheduleView, line_of}
 use Rattle.history.specs.Slide.{Slide, Machine, machine_after, machine_from, IsMachineStep, AreMachineSteps}
 use Rattle.history.specs.ImageMoves.{image_table}
 use Rattle.history.specs.WordMachine.{image_slide, machine_start, machine_of}
-use Rattle.history.specs.Replay.{IsCallOf, AreCallsOf, IsReplay, IsRefused, IsRefusedAt}
+use Rattle.history.specs.Replay.{IsCallOfLine, AreCallsOf, IsReplay, IsRefused, IsRefusedAt}
 use Rattle.history.specs.declared.entry.Entry.{Entry}
 use Rattle.history.specs.declared.event.Event.{Event}
 use Rattle.history.specs.declared.line.Line.{Line}
@@ -29,7 +29,7 @@ same_entry e f a b c = go e.worker f.worker e.event f.event e.reply f.reply a b 
     go : (m n : ℕ) (v w : Event) (r s : Reply) → m ≡ n → v ≡ w → r ≡ s → ◌≡◌ {A = Entry} (record { worker = m; event = v; reply = r }) (record { worker = n; event = w; reply = s })
     go m n v w r s a b c = cc
 
-one_step : (m : MoveTable) (p : Slide) (workers : ℕ) (w : Machine) (line : Line) (e f : Entry) → IsCallOf line e → IsCallOf line f → IsMachineStep m p workers w e → IsMachineStep m p workers w f → e ≡ f
+one_step : (m : MoveTable) (p : Slide) (workers : ℕ) (w : Machine) (line : Line) (e f : Entry) → IsCallOfLine line e → IsCallOfLine line f → IsMachineStep m p workers w e → IsMachineStep m p workers w f → e ≡ f
 one_step m p workers w line e f a b s t =
     let event : e.event ≡ f.event = a.event ∙ sym b.event in
     same_entry e f (a.worker ∙ sym b.worker) event (s.1.replied ∙ (ap (reply_to m w.known) event ∙ sym t.1.replied))
@@ -63,7 +63,7 @@ told_calls (e ∷ es) [] calls = absurd calls
 
 -- a line that is refused after the calls of those before it stops every list of calls
 refuses_all : (m : MoveTable) (p : Slide) (workers : ℕ) (w : Machine) (xs : List Line) (line : Line) (ys : List Line) (es log : List Entry) → AreCallsOf xs es → AreMachineSteps m p workers w es
-    → AreCallsOf (xs ++ line ∷ ys) log → AreMachineSteps m p workers w log → ((e : Entry) → IsCallOf line e → ¬ (IsMachineStep m p workers (machine_from p w es) e)) → ⊥
+    → AreCallsOf (xs ++ line ∷ ys) log → AreMachineSteps m p workers w log → ((e : Entry) → IsCallOfLine line e → ¬ (IsMachineStep m p workers (machine_from p w es) e)) → ⊥
 refuses_all m p workers w [] line ys [] (e ∷ log) a s b t none = none e b.0 t.0
 refuses_all m p workers w [] line ys [] [] a s b t none = b
 refuses_all m p workers w [] line ys (f ∷ es) log a s b t none = a

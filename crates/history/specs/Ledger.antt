@@ -6,7 +6,7 @@ use Rattle.history.specs.Scheduler.{state_in}
 use Rattle.history.specs.ImageMoves.{image_table}
 use Rattle.history.specs.Slide.{Machine, IsMachineStep, machine_after}
 use Rattle.history.specs.WordMachine.{image_slide}
-use Rattle.history.specs.Replay.{IsCallOf}
+use Rattle.history.specs.Replay.{IsCallOfLine}
 use Rattle.history.specs.LineCause.{IsCause}
 use Rattle.history.specs.declared.entry.Entry.{Entry}
 use Rattle.history.specs.declared.event.Event.{Event}
@@ -34,7 +34,7 @@ Leads image workers old e new =
 -- no call of the line is a step of any machine that the ledger tells
 abbrev pub RefusesLine : HeapImage → ℕ → Ledger → Line → Type 0
 RefusesLine image workers ledger line =
-    (w : Machine) → Tells ledger w → (e : Entry) → IsCallOf line e → ¬ (IsMachineStep (image_table image) (image_slide image) workers w e)
+    (w : Machine) → Tells ledger w → (e : Entry) → IsCallOfLine line e → ¬ (IsMachineStep (image_table image) (image_slide image) workers w e)
 
 -- this is why each machine that the ledger tells refuses the line
 abbrev pub HasCause : HeapImage → ℕ → Ledger → Line → LineCause → Type 0

@@ -10,7 +10,7 @@ use Rattle.history.specs.declared.entry.Entry.{Entry}
 use Rattle.history.specs.declared.line.Line.{Line}
 
 -- the call is the line's, with the reply that the line tells or with any where it is left open
-pub record IsCallOf (line : Line) (e : Entry) : Type 0 where
+pub record IsCallOfLine (line : Line) (e : Entry) : Type 0 where
   pub worker : e.worker ≡ line.worker
   pub event : e.event ≡ line.event
   pub told : (line.reply ≡ None) ⊎ (line.reply ≡ Some e.reply)
@@ -18,7 +18,7 @@ pub record IsCallOf (line : Line) (e : Entry) : Type 0 where
 -- these are the calls of these lines, one for each
 abbrev pub AreCallsOf : List Line → List Entry → Type 0
 AreCallsOf [] [] = Unit {0}
-AreCallsOf (line ∷ lines) (e ∷ es) = IsCallOf line e × AreCallsOf lines es
+AreCallsOf (line ∷ lines) (e ∷ es) = IsCallOfLine line e × AreCallsOf lines es
 AreCallsOf _ _ = ⊥
 
 -- the calls of these lines, which the word machine of the image allows, with its replies
@@ -29,7 +29,7 @@ pub record IsReplay (image : HeapImage) (workers : ℕ) (lines : List Line) (log
 -- the word machine allows no call of this line after these calls
 abbrev pub IsRefused : HeapImage → ℕ → List Entry → Line → Type 0
 IsRefused image workers log line =
-    (e : Entry) → IsCallOf line e → ¬ (IsMachineStep (image_table image) (image_slide image) workers (machine_of image log) e)
+    (e : Entry) → IsCallOfLine line e → ¬ (IsMachineStep (image_table image) (image_slide image) workers (machine_of image log) e)
 
 -- The least line of a schedule's text that the word machine refuses. It takes the lines before it. The text's first line
 -- tells the workers.

@@ -66,6 +66,6 @@ pub record IsPendingAt (v : SchedulerView) (d s at : ℕ) : Type 0 where
   pub undrained : slice_index_or v.flags at false ≡ false
 
 -- of each region, how many of these pairs have it as this end
-pub record AreTallies (m : MoveTable) (end_of : ℕ × ℕ → ℕ) (pairs : List (ℕ × ℕ)) (counts : List ℕ) : Type 0 where
+pub record ArePairCounts (m : MoveTable) (end_of : ℕ × ℕ → ℕ) (pairs : List (ℕ × ℕ)) (counts : List ℕ) : Type 0 where
   pub all : length counts ≡ region_count m
   pub each : (r : ℕ) → r < region_count m → slice_index counts r ≡ count_by (λ pair. r == end_of pair) pairs

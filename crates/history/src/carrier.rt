@@ -5,7 +5,7 @@ ghost use Rattle.heap_image.specs.HeapImage.{HeapImage, IsValid, heap_words, reg
 ghost use Rattle.summary.specs.NewAddresses.{new_top, new_live};
 ghost use Rattle.summary.specs.WordMoves.{origin};
 ghost use Rattle.summary.specs.Compaction.{moved_word, compacted_word, redirected, compact};
-ghost use Rattle.summary.specs.RegionData.{addresses};
+ghost use Rattle.summary.specs.RegionData.{region_addresses};
 ghost use Rattle.history.specs.Slide.{word_for};
 ghost use Rattle.history.specs.WordMachine.{image_slide};
 ghost use Rattle.history.specs.Carrier.{IsCarrier};
@@ -122,7 +122,7 @@ impl<'a> Carrier<'a> {
         requires inside { r < region_count self.now.plan.now }
         requires long { length heap.now ≡ heap_words self.now.plan.now }
         requires moved { (a : ℕ) → a < heap_words self.now.plan.now → slice_index heap.now a ≡ moved_word self.now.plan.now a }
-        ensures { IfOk result (λ region. region ≡ map (compacted_word self.now.plan.now) (addresses self.now.plan.now r)) }
+        ensures { IfOk result (λ region. region ≡ map (compacted_word self.now.plan.now) (region_addresses self.now.plan.now r)) }
     {
         let len = self.plan.region_words();
         let start = u64::from(r) * len;

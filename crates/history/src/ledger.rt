@@ -8,7 +8,7 @@ ghost use Rattle.history.specs.History.{entry};
 ghost use Rattle.history.specs.ImageMoves.{image_table};
 ghost use Rattle.history.specs.Slide.{Machine, IsMachineStep, IsCopiedOut, AllowsWords, words_of};
 ghost use Rattle.history.specs.WordMachine.{image_slide, machine_start};
-ghost use Rattle.history.specs.Replay.{IsCallOf};
+ghost use Rattle.history.specs.Replay.{IsCallOfLine};
 ghost use Rattle.history.specs.Ledger.{IsLedger, Tells, Leads, RefusesLine, HasCause, AreNoted, taken_up_to};
 ghost use Rattle.history.specs.Replayed.{places_of};
 ghost use Rattle.history.specs.declared.reply.Reply.{Reply};
@@ -47,7 +47,7 @@ impl Ledger {
         requires kept { IsLedger plan.now self.old.scheduler.workers self.old }
         requires worker { line.worker < self.old.scheduler.workers }
         ensures kept { IfOk result (λ reply. IsLedger plan.now self.old.scheduler.workers self.new) }
-        ensures call { IfOk result (λ reply. IsCallOf line (entry line.worker line.event reply)) }
+        ensures call { IfOk result (λ reply. IsCallOfLine line (entry line.worker line.event reply)) }
         ensures leads { IfOk result (λ reply. Leads plan.now self.old.scheduler.workers self.old (entry line.worker line.event reply) self.new) }
         ensures refused { OnErr result (RefusesLine plan.now self.old.scheduler.workers self.old line) }
         ensures cause { IfErr result (HasCause plan.now self.old.scheduler.workers self.old line) }

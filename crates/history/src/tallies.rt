@@ -1,5 +1,5 @@
 ghost use Rattle.std.specs.Prelude.{IfOk};
-ghost use Rattle.history.specs.Scheduler.{AreTallies};
+ghost use Rattle.history.specs.Scheduler.{ArePairCounts};
 
 use crate::given_moves::GivenMoves;
 use crate::moves::Moves;
@@ -7,7 +7,7 @@ use std::alloc::{AllocError, Global};
 
 /// Of each region, how many others read it. Linear in the number of pairs.
 pub fn count_readers(alloc: Global, moves: &GivenMoves) -> Result<Vec<usize>, AllocError>
-    ensures { IfOk result (λ counts. AreTallies moves.now (λ pair. pair.1) moves.now.pairs counts.items) }
+    ensures { IfOk result (λ counts. ArePairCounts moves.now (λ pair. pair.1) moves.now.pairs counts.items) }
 {
     let mut counts = vec![in alloc; 0; moves.regions() as usize]?;
     for &(_, source) in moves.pairs() {
@@ -18,7 +18,7 @@ pub fn count_readers(alloc: Global, moves: &GivenMoves) -> Result<Vec<usize>, Al
 
 /// Of each region, how many others it reads. Linear in the number of pairs.
 pub fn count_sources(alloc: Global, moves: &GivenMoves) -> Result<Vec<usize>, AllocError>
-    ensures { IfOk result (λ counts. AreTallies moves.now (λ pair. pair.0) moves.now.pairs counts.items) }
+    ensures { IfOk result (λ counts. ArePairCounts moves.now (λ pair. pair.0) moves.now.pairs counts.items) }
 {
     let mut counts = vec![in alloc; 0; moves.regions() as usize]?;
     for &(destination, _) in moves.pairs() {

@@ -1,8 +1,9 @@
 -- The bits between the first and the last words of the objects, word by word.
 use Rattle.std.proofs.Common.{◌≡◌, ℕ, zero, suc, ◌+◌, ◌-◌, ◌*◌, ◌/◌, ◌%◌, ◌^◌, ◌≤◌, ◌<◌, inl, inr, Bool, true, false, ◌||◌, ◌&&◌, eqb, leb, ltb, List, [], ◌∷◌, length, get_or, map, refl, sym, ◌∙◌, ap, arith}
+use mir.Val.{bool_byte}
 use Rattle.std.specs.Int.{bit_at}
 use Rattle.std.specs.List.{list_any}
-use Rattle.std.proofs.lemmas.Bool.{cases_lt, cases_order, eq-eqb, eqb-true, le-leb, leb-true, lt-ltb, ltb-true, and_parts, and_from, or_cases, or_left, or_right, false_from_ne_true}
+use Rattle.std.proofs.lemmas.Bool.{cases_lt, cases_order, eq-eqb, eqb-true, le-leb, leb-true, lt-ltb, ltb-true, and_parts, and_from, or_cases, or_left, or_right}
 use Rattle.std.proofs.lemmas.Nat.Bits.{bit_at-lt, bit_at_cat_low, bit_at_cat_high, same_from_bits_below}
 use Rattle.std.proofs.lemmas.List.Folds.{list_any_at}
 use Rattle.std.proofs.Math.Nat.{add-mul}
@@ -10,7 +11,7 @@ use Rattle.std.proofs.Math.ListN.{set}
 use Rattle.std.proofs.lemmas.List.{get_or-set_same, get_or-set_other}
 use Rattle.heap_image.specs.HeapImage.{HeapImage, IsValid, heap_words, end_of, size_at, is_word_of, is_live_word}
 use Rattle.heap_image.specs.Bits.{has}
-use Rattle.mark_bitmap.specs.Marks.{is_begin, is_end}
+use Rattle.mark_bitmap.specs.Marks.{AreBegins, AreBitsFrom, goes_on, is_begin, is_end}
 use Rattle.heap_image.proofs.Places.{same_tests}
 use Rattle.mark_bitmap.proofs.Apart.{place_of, sound_at, apart}
 
@@ -41,6 +42,11 @@ one-back : (b : Bool) → eqb (one b) 1 ≡ b
 unfolding one
 one-back true = refl
 one-back false = refl
+
+pub byte-is : (b : Bool) → bool_byte b ≡ one b
+unfolding one
+byte-is true = refl
+byte-is false = refl
 
 one-few : (b : Bool) → one b < 2
 unfolding one
@@ -103,16 +109,18 @@ runs-from begins ends live on runs s = record {
   last = λ k. let next : s + k + 1 ≡ s + (k + 1) = omega arith in runs.last (s + k) ∙ ap (λ m. one (ends (s + k)) + one (on m)) next;
 }
 
--- the bits of a word of the list
-pub word-bits : (words : List ℕ) (i word : ℕ) (test : ℕ → Bool) → word ≡ get_or words i 0 → ((k : ℕ) → has words k ≡ test k) → (j : ℕ) → j < 64 → bit_at word j ≡ one (test (64 * i + j))
-word-bits words i word test is bits j h =
+-- the bits of a word of the list, which is a part of a larger one
+word-bits : (words : List ℕ) (start i word : ℕ) (test : ℕ → Bool) → word ≡ get_or words i 0 → i < length words → AreBitsFrom test start words → (j : ℕ) → j < 64 → bit_at word j ≡ one (test (64 * (start + i) + j))
+word-bits words start i word test is inside bits j h =
     let quotient : i ≡ (64 * i + j) / 64 = omega arith in
     let rest : j ≡ (64 * i + j) % 64 = omega arith in
+    let place : 64 * start + (64 * i + j) ≡ 64 * (start + i) + j = omega arith in
     one-is (bit_at word j) (bit_at-lt word j)
     ∙ ap (λ w. one (eqb (bit_at w j) 1)) is
     ∙ ap (λ n. one (eqb (bit_at (get_or words n 0) j) 1)) quotient
     ∙ ap (λ n. one (eqb (bit_at (get_or words ((64 * i + j) / 64) 0) n) 1)) rest
-    ∙ ap one (bits (64 * i + j))
+    ∙ ap one (bits (64 * i + j) (omega arith))
+    ∙ ap (λ n. one (test n)) place
 
 -- one more word has its bits
 pub has-set : (words : List ℕ) (i word : ℕ) (test : ℕ → Bool) → i < length words → ((k : ℕ) → k < 64 * i → has words k ≡ test k) → ((j : ℕ) → j < 64 → bit_at word j ≡ one (test (64 * i + j))) → (k : ℕ) → k < 64 * (i + 1) → has (set words i word) k ≡ test k
@@ -160,10 +168,6 @@ one-or t true true h k = absurd (k refl refl)
 one-or t true false h k = ap one h
 one-or t false true h k = ap one h
 one-or t false false h k = ap one h
-
--- the words at k - 1 and at k are of one object
-abbrev pub goes_on : HeapImage → ℕ → Bool
-goes_on image k = list_any (λ a. ltb a k && ltb k (end_of image a)) image.live
 
 module _ (image : HeapImage) (valid : IsValid image) where
   -- a word of an object is its first, or one behind another of its words
@@ -266,13 +270,11 @@ module _ (image : HeapImage) (valid : IsValid image) where
   }
 
   -- word i of the live bits, and whether an object goes on behind it
-  pub live_word-is : (begins ends : List ℕ) (i b e w o : ℕ) → ((k : ℕ) → has begins k ≡ is_begin image k) → ((k : ℕ) → has ends k ≡ is_end image k)
-      → b ≡ get_or begins i 0 → e ≡ get_or ends i 0 → b < 2 ^ 64 → e < 2 ^ 64 → w < 2 ^ 64 → o ≡ one (goes_on image (64 * i)) → (w + b + o) % 2 ^ 64 ≡ 2 * e % 2 ^ 64
+  live_word-is : (i b e w o : ℕ) → ((j : ℕ) → j < 64 → bit_at b j ≡ one (is_begin image (64 * i + j))) → ((j : ℕ) → j < 64 → bit_at e j ≡ one (is_end image (64 * i + j)))
+      → b < 2 ^ 64 → e < 2 ^ 64 → w < 2 ^ 64 → o ≡ one (goes_on image (64 * i)) → (w + b + o) % 2 ^ 64 ≡ 2 * e % 2 ^ 64
       → ((j : ℕ) → j < 64 → bit_at w j ≡ one (is_live_word image (64 * i + j))) × (w / 2 ^ 63 ≡ e / 2 ^ 63 + one (goes_on image (64 * (i + 1))))
-  live_word-is begins ends i b e w o begin_bits end_bits b_is e_is b_fits e_fits w_fits before sums =
+  live_word-is i b e w o b_bits e_bits b_fits e_fits w_fits before sums =
       let runs = runs-from (is_begin image) (is_end image) (is_live_word image) (goes_on image) runs-of (64 * i) in
-      let b_bits = word-bits begins i b (is_begin image) b_is begin_bits in
-      let e_bits = word-bits ends i e (is_end image) e_is end_bits in
       let here : 64 * i ≡ 64 * i + 0 = omega arith in
       let next : 64 * i + 64 ≡ 64 * (i + 1) = omega arith in
       let on : ℕ → Bool = λ k. goes_on image (64 * i + k) in
@@ -281,6 +283,16 @@ module _ (image : HeapImage) (valid : IsValid image) where
         goes_on-next (λ k. is_begin image (64 * i + k)) (λ k. is_end image (64 * i + k)) (λ k. is_live_word image (64 * i + k)) on runs b e w o b_bits e_bits b_fits e_fits w_fits before' sums
             ∙ ap (λ n. e / 2 ^ 63 + one (goes_on image n)) next,
       )
+
+  -- the same of word i of a part, which has the bits of the addresses from 64 * start on
+  pub part_word-is : (begins ends : List ℕ) (start i b w o : ℕ) → AreBegins image begins → AreBitsFrom (is_end image) start ends → start + i < length begins → i < length ends
+      → b ≡ get_or begins (start + i) 0 → b < 2 ^ 64 → get_or ends i 0 < 2 ^ 64 → w < 2 ^ 64 → o ≡ one (goes_on image (64 * (start + i))) → (w + b + o) % 2 ^ 64 ≡ 2 * get_or ends i 0 % 2 ^ 64
+      → ((j : ℕ) → j < 64 → bit_at w j ≡ one (is_live_word image (64 * (start + i) + j))) × (w / 2 ^ 63 ≡ get_or ends i 0 / 2 ^ 63 + one (goes_on image (64 * (start + i + 1))))
+  part_word-is begins ends start i b w o begin_bits end_bits inside few is b_fits e_fits w_fits before sums =
+      live_word-is (start + i) b (get_or ends i 0) w o
+      (λ j h. word-bits begins 0 (start + i) b (is_begin image) is inside (λ k l. begin_bits.bits k ∙ ap (is_begin image) (omega arith)) j h ∙ ap (λ n. one (is_begin image n)) (omega arith))
+      (word-bits ends start i (get_or ends i 0) (is_end image) refl few end_bits)
+      b_fits e_fits w_fits before sums
 
   -- every live word is in the heap
   pub live-inside : (k : ℕ) → is_live_word image k ≡ true → k < heap_words image
@@ -292,12 +304,11 @@ module _ (image : HeapImage) (valid : IsValid image) where
       let inside : end_of image a ≤ heap_words image = (sound_at image valid here.0 here.1).inside in
       omega arith
 
-  -- no object begins before the heap
-  pub none-on : 0 ≡ one (goes_on image 0)
-  unfolding one
-  none-on = sym (ap one (false_from_ne_true (goes_on image 0) (λ h.
-      let here = place_of image valid (λ b. ltb b 0 && ltb 0 (end_of image b)) h in
+  -- and so is the last word of every object
+  pub end-inside : (k : ℕ) → is_end image k ≡ true → k < heap_words image
+  end-inside k h =
+      let here = place_of image valid (λ b. eqb (end_of image b) (k + 1)) h in
       let a : ℕ = get_or image.live here.0 0 in
-      let p = and_parts (ltb a 0) (ltb 0 (end_of image a)) here.2 in
-      let no : a < 0 = ltb-true a 0 p.0 in
-      omega arith)))
+      let is : end_of image a ≡ k + 1 = eqb-true (end_of image a) (k + 1) here.2 in
+      let inside : end_of image a ≤ heap_words image = (sound_at image valid here.0 here.1).inside in
+      omega arith

@@ -1,8 +1,12 @@
 -- What the marks of an image tell.
-use Rattle.std.specs.Prelude.{◌≡◌, ℕ, ◌+◌, ◌*◌, ◌/◌, ◌==◌, min, Bool, List, length}
+use Rattle.std.specs.Prelude.{◌≡◌, ℕ, ◌+◌, ◌*◌, ◌/◌, ◌<◌, ◌≤◌, ◌==◌, ◌&&◌, nat_lt, min, Bool, List, All, length, slice_index}
 use Rattle.std.specs.List.{list_any}
-use Rattle.heap_image.specs.HeapImage.{HeapImage, IsValid, heap_words, region_words, region_of, start_of, end_of, is_word_of, live_words}
-use Rattle.heap_image.specs.Bits.{has}
+use Rattle.heap_image.specs.HeapImage.{HeapImage, IsValid, heap_words, region_words, region_of, start_of, end_of, is_word_of, is_live_word, live_words}
+use Rattle.heap_image.specs.Bits.{has, room}
+
+-- words of bits, of which the first has the bits of the addresses from 64 * start on
+abbrev pub AreBitsFrom : (ℕ → Bool) → ℕ → List ℕ → Type 0
+AreBitsFrom test start words = (k : ℕ) → k < room words → has words k ≡ test (64 * start + k)
 
 module _ (image : HeapImage) where
   -- a live object begins at a
@@ -42,3 +46,29 @@ module _ (image : HeapImage) where
     pub valid : IsValid image
     pub log : region_log ≡ image.region_log
     pub bits : HaveMarks image.live begins ends live
+
+  -- the words at k - 1 and at k are of one object
+  abbrev pub goes_on : ℕ → Bool
+  goes_on k = list_any (λ a. nat_lt a k && nat_lt k (end_of image a)) image.live
+
+  -- the live objects of the indices below i begin below the address, and the others don't
+  pub record IsFirstObject (address i : ℕ) : Type 0 where
+    pub inside : i ≤ length image.live
+    pub before : (j : ℕ) → j < i → slice_index image.live j < address
+    pub behind : (j : ℕ) → i ≤ j → j < length image.live → address ≤ slice_index image.live j
+
+  -- the bits of the addresses at which live objects begin
+  pub record AreBegins (begins : List ℕ) : Type 0 where
+    pub room : length begins ≡ bit_words
+    pub bits : (a : ℕ) → has begins a ≡ is_begin a
+
+  -- room for the end bits and the live bits of the addresses from 64 * start on, of which no end bit is set yet
+  pub record IsBlankPart (start : ℕ) (ends live : List ℕ) : Type 0 where
+    pub inside : start + length ends ≤ bit_words
+    pub no_ends : All (λ word. word ≡ 0) ends
+    pub alike : length live ≡ length ends
+
+  -- the end bits and the live bits of the addresses from 64 * start on
+  pub record IsMarkedPart (start : ℕ) (ends live : List ℕ) : Type 0 where
+    pub end_bits : AreBitsFrom is_end start ends
+    pub live_bits : AreBitsFrom (is_live_word image) start live

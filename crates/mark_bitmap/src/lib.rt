@@ -2,7 +2,7 @@
 //!
 //! [`Marks::of`] makes two bit arrays with one bit for each word of the heap, from the live list alone: the begin bit of
 //! an object's first word is set, and the end bit of its last. Beside them it keeps what makes counts fast: one bit for
-//! each word that belongs to a live object. No other call takes memory.
+//! each word that belongs to a live object. [`Marks::by_workers`] makes the same by several threads. No other call takes memory.
 //!
 //! # What a contract sees
 //!
@@ -21,11 +21,13 @@
 //!
 //! # What is only tested
 //!
-//! That memory that is refused ends `of` with an error. How fast the queries are is neither proved nor tested.
+//! That memory that is refused ends `of` and `by_workers` with an error, and how many threads the latter starts. How fast the queries are is neither proved nor tested.
 #![tactic(auto)]
 
+mod mark_builder;
 mod marks;
 mod objects;
+mod part_bits;
 #[cfg(test)]
 mod tests;
 

@@ -1,15 +1,20 @@
 //! `Marks`: the mark bitmaps of an image.
-ghost use Rattle.std.specs.Prelude.{◌≡◌, ℕ, ◌+◌, ◌*◌, ◌<◌, ◌≤◌, ◌==◌, IsTrue, IfOk, MatchOption};
+ghost use Rattle.std.specs.Prelude.{◌≡◌, ℕ, ◌+◌, ◌*◌, ◌<◌, ◌≤◌, ◌==◌, IsTrue, IfOk, MatchOption, length};
 ghost use Rattle.std.specs.Int.{bit_at};
 ghost use Rattle.heap_image.specs.HeapImage.{IsValid, heap_words, is_live_word, is_dead_word, live_words, size_at};
 ghost use Rattle.heap_image.specs.Bits.{NoneFrom, IsFirstFrom, NoneBetween, IsFirstBetween};
-ghost use Rattle.mark_bitmap.specs.Marks.{is_begin, is_end, block_words, block_count, block_live};
+ghost use Rattle.mark_bitmap.specs.Marks.{AreBegins, IsMarkedPart, bit_words, is_begin, is_end, block_words, block_count, block_live};
 
-use crate::objects::{begin_bits, mark_objects};
+use crate::mark_builder::MarkBuilder;
+use crate::objects::{begin_bits, mark_part, no_bits};
 use heap_image::{Bits, Image};
 use std::alloc::{AllocError, Global};
 use std::marker::Model;
 use std::snapshot::Snapshot;
+use std::thread::Threads;
+
+/// How many words of bits are worth a thread of their own.
+const LEAST: usize = 16_384;
 
 /// The marks of an image: where its live objects begin and end, and which words are theirs.
 ///
@@ -41,18 +46,65 @@ impl Marks {
     pub fn of(alloc: Global, image: &Image) -> Result<Marks, AllocError>
         ensures { IfOk result (λ marks. marks ≡ image.now) }
     {
-        let len = image.len();
         let begins = begin_bits(alloc, image)?;
-        let mut ends = Bits::new(alloc, len)?;
-        let mut live = Bits::new(alloc, len)?;
-        mark_objects(image, &begins, &mut ends, &mut live);
-        Ok(Marks {
+        let mut ends = no_bits(alloc, image)?;
+        let mut live = no_bits(alloc, image)?;
+        mark_part(image, &begins, 0, ends.as_mut_slice(), live.as_mut_slice());
+        Ok(Marks::with_bits(image, begins, ends, live))
+    }
+
+    /// As [`of`](Marks::of), by so many threads at most, the caller's among them; 0 is taken for 1.
+    pub fn by_workers(
+        alloc: Global,
+        image: &Image,
+        workers: usize,
+        threads: &(impl Threads + Sync),
+    ) -> Result<Marks, AllocError>
+        ensures { IfOk result (λ marks. marks ≡ image.now) }
+    {
+        let words = (image.len() / 64 + 1) as usize;
+        let share = words.div_ceil(workers.max(1)).max(LEAST);
+        Marks::in_shares(alloc, image, share, threads)
+    }
+
+    /// As [`of`](Marks::of), by a thread for so many words of bits each.
+    pub(crate) fn in_shares(
+        alloc: Global,
+        image: &Image,
+        share: usize,
+        threads: &(impl Threads + Sync),
+    ) -> Result<Marks, AllocError>
+        requires { 0 < share }
+        ensures { IfOk result (λ marks. marks ≡ image.now) }
+    {
+        let begins = begin_bits(alloc, image)?;
+        let mut ends = no_bits(alloc, image)?;
+        let mut live = no_bits(alloc, image)?;
+        let builder = MarkBuilder {
+            image,
+            begins: &begins,
+            threads,
+            share,
+        };
+        builder.mark(0, ends.as_mut_slice(), live.as_mut_slice());
+        Ok(Marks::with_bits(image, begins, ends, live))
+    }
+
+    /// The marks of an image that have these bits.
+    fn with_bits(image: &Image, begins: Bits, ends: Vec<u64>, live: Vec<u64>) -> Marks
+        requires begins { AreBegins image.now begins }
+        requires ends_room { length ends.items ≡ bit_words image.now }
+        requires live_room { length live.items ≡ bit_words image.now }
+        requires marked { IsMarkedPart image.now 0 ends.items live.items }
+        ensures { result ≡ image.now }
+    {
+        Marks {
             image: Snapshot::of(image),
             region_log: image.region_log(),
             begins,
-            ends,
-            live,
-        })
+            ends: Bits::from_words(ends),
+            live: Bits::from_words(live),
+        }
     }
 
     /// Whether a live object begins at address `a`. None does at an address past the heap.

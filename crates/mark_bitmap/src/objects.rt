@@ -1,18 +1,18 @@
 //! The bits of the live objects.
-ghost use Rattle.std.specs.Prelude.{◌≡◌, ℕ, ◌+◌, ◌-◌, ◌*◌, ◌%◌, ◌^◌, ◌<◌, ◌≤◌, ◌==◌, ◌||◌, All, IfOk, IfSome, length, map, replicate, slice_index, take};
+ghost use Rattle.std.specs.Prelude.{◌≡◌, ℕ, ◌+◌, ◌-◌, ◌*◌, ◌%◌, ◌^◌, ◌<◌, ◌≤◌, ◌==◌, ◌||◌, All, IfOk, IfSome, nat_lt, length, map, slice_index, take, drop};
 ghost use Rattle.std.specs.List.{list_any};
-ghost use Rattle.heap_image.specs.HeapImage.{IsValid, HasSoundHeader, heap_words, end_of, size_at, is_live_word};
-ghost use Rattle.heap_image.specs.Bits.{has};
+ghost use Rattle.heap_image.specs.HeapImage.{IsValid, HasSoundHeader, end_of, size_at, is_live_word};
+ghost use Rattle.heap_image.specs.Bits.{has, room};
 ghost use Rattle.heap_image.specs.Sizes.{AreSizesOf};
-ghost use Rattle.mark_bitmap.specs.Marks.{HaveMarks, bit_words, is_begin, is_end};
+ghost use Rattle.mark_bitmap.specs.Marks.{AreBegins, AreBitsFrom, IsBlankPart, IsFirstObject, IsMarkedPart, bit_words, goes_on, is_end};
 
+use crate::part_bits::insert_within;
 use heap_image::{Bits, Image, PIECE};
 use std::alloc::{AllocError, Global};
 
 /// The bits of the first words of the live objects. Where they were seen when the image was read, they aren't made again.
 pub(crate) fn begin_bits(alloc: Global, image: &Image) -> Result<Bits, AllocError>
-    ensures room { IfOk result (λ bits. length bits ≡ bit_words image.now) }
-    ensures bits { IfOk result (λ bits. (a : ℕ) → has bits a ≡ is_begin image.now a) }
+    ensures { IfOk result (λ bits. AreBegins image.now bits) }
 {
     match image.begins() {
         Some(begins) => begins.copy(alloc),
@@ -20,31 +20,74 @@ pub(crate) fn begin_bits(alloc: Global, image: &Image) -> Result<Bits, AllocErro
     }
 }
 
-/// Sets, for each live object, whose first word has its bit in `begins`, the bit of its last word in `ends`, and those of
-/// all its words in `live`.
-pub(crate) fn mark_objects(image: &Image, begins: &Bits, ends: &mut Bits, live: &mut Bits)
-    requires begins_room { length begins.now ≡ bit_words image.now }
-    requires begins { (a : ℕ) → has begins.now a ≡ is_begin image.now a }
-    requires no_ends { ends.old ≡ replicate (bit_words image.now) 0 }
-    requires no_live { live.old ≡ replicate (bit_words image.now) 0 }
-    ensures { HaveMarks image.now image.now.live begins.now ends.new live.new }
+/// Words for one bit of each address, none of which is set.
+pub(crate) fn no_bits(alloc: Global, image: &Image) -> Result<Vec<u64>, AllocError>
+    ensures room { IfOk result (λ words. length words.items ≡ bit_words image.now) }
+    ensures none { IfOk result (λ words. All (λ word. word ≡ 0) words.items) }
 {
-    mark_ends(image, ends);
-    mark_words(image, begins, ends, live);
+    vec![in alloc; 0; (image.len() / 64 + 1) as usize]
 }
 
-/// Sets the bit of the last word of each live object.
-fn mark_ends(image: &Image, ends: &mut Bits)
-    requires { ends.old ≡ replicate (bit_words image.now) 0 }
-    ensures room { length ends.new ≡ bit_words image.now }
-    ensures bits { (a : ℕ) → has ends.new a ≡ is_end image.now a }
+/// Sets the end bits and the live bits of the addresses from `64 * start` on. Word `i` of each has those from
+/// `64 * (start + i)` on, so a part of the words of all bits has a `start` of its own.
+pub(crate) fn mark_part(
+    image: &Image,
+    begins: &Bits,
+    start: usize,
+    ends: &mut [u64],
+    live: &mut [u64],
+)
+    requires begins { AreBegins image.now begins.now }
+    requires blank { IsBlankPart image.now start ends.old live.old }
+    ensures ends_room { length ends.new ≡ length ends.old }
+    ensures live_room { length live.new ≡ length live.old }
+    ensures marked { IsMarkedPart image.now start ends.new live.new }
+{
+    let _valid = image.len();
+    mark_ends(image, start, ends);
+    mark_words(image, begins, start, ends, live);
+}
+
+/// Sets the bit of the last word of each live object that ends in a part of the heap. Of the objects that begin before the
+/// part only the last one can end in it.
+fn mark_ends(image: &Image, start: usize, ends: &mut [u64])
+    requires valid { IsValid image.now }
+    requires inside { start + length ends.old ≤ bit_words image.now }
+    requires no_ends { All (λ word. word ≡ 0) ends.old }
+    ensures room { length ends.new ≡ length ends.old }
+    ensures bits { AreBitsFrom (is_end image.now) start ends.new }
+{
+    let first = first_from(image, 64 * start as u64).saturating_sub(1);
+    let behind = first_from(image, 64 * (start + ends.len()) as u64);
+    for piece in first / PIECE..behind.div_ceil(PIECE) {
+        mark_ends_of(image, piece, start, ends);
+    }
+}
+
+/// How many live objects begin below an address: the index of the first one that begins there or behind it.
+fn first_from(image: &Image, address: u64) -> usize
+    ensures { IsFirstObject image.now address result }
+{
+    image.live().partition_point(
+        |begin: &u64| -> bool
+            ensures { result ≡ nat_lt begin.now address }
+        { *begin < address },
+    )
+}
+
+/// Sets the bit of the last word of each object of a piece of the live list that ends in a part of the heap.
+fn mark_ends_of(image: &Image, piece: usize, start: usize, ends: &mut [u64])
+    requires piece { 64 * piece < length image.now.live }
+    requires inside { start + length ends.old ≤ bit_words image.now }
+    ensures room { length ends.new ≡ length ends.old }
+    ensures bits { (k : ℕ) → k < room ends.old
+        → has ends.new k ≡ (has ends.old k || list_any (λ a. end_of image.now a == 64 * start + k + 1) (take 64 (drop (64 * piece) image.now.live))) }
 {
     let objects = image.live();
-    for piece in 0..objects.len().div_ceil(PIECE) {
-        let from = piece * PIECE;
-        let to = objects.len().min(from + PIECE);
-        mark_ends_of(image, &objects[from..to], sizes_of(image, piece), ends);
-    }
+    let from = piece * PIECE;
+    let to = objects.len().min(from + PIECE);
+    let lasts = last_words(image, &objects[from..to], sizes_of(image, piece));
+    insert_within(ends, 64 * start as u64, &lasts[..to - from]);
 }
 
 /// The sizes of the objects of a piece of the live list, where they were seen when the image was read.
@@ -57,20 +100,6 @@ fn sizes_of(image: &Image, piece: usize) -> Option<&[u32; PIECE]>
         Some(sizes) => Some(&sizes[piece]),
         None => None,
     }
-}
-
-/// Sets the bit of the last word of each of a few objects, whose sizes may be known.
-fn mark_ends_of(image: &Image, objects: &[u64], sizes: Option<&[u32; PIECE]>, ends: &mut Bits)
-    requires valid { IsValid image.now }
-    requires few { length objects.now ≤ 64 }
-    requires sound { All (HasSoundHeader image.now) objects.now }
-    requires sizes { IfSome sizes (λ sizes. AreSizesOf image.now objects.now sizes.now) }
-    requires room { length ends.old ≡ bit_words image.now }
-    ensures room { length ends.new ≡ length ends.old }
-    ensures bits { (k : ℕ) → has ends.new k ≡ (has ends.old k || list_any (λ a. end_of image.now a == k + 1) objects.now) }
-{
-    let lasts = last_words(image, objects, sizes);
-    ends.insert_all(&lasts[..objects.len()]);
 }
 
 /// The addresses of the last words of a few objects, whose sizes may be known, and zeros behind them.
@@ -123,23 +152,36 @@ fn last_words_by(image: &Image, objects: &[u64], sizes: &[u32; PIECE]) -> [u64; 
     lasts
 }
 
-/// Sets the bits of the words of all live objects, by the bits of their first words and of their last words.
-fn mark_words(image: &Image, begins: &Bits, ends: &Bits, live: &mut Bits)
-    requires begins_room { length begins.now ≡ bit_words image.now }
-    requires ends_room { length ends.now ≡ bit_words image.now }
-    requires live_room { length live.old ≡ bit_words image.now }
-    requires begins { (a : ℕ) → has begins.now a ≡ is_begin image.now a }
-    requires ends { (a : ℕ) → has ends.now a ≡ is_end image.now a }
-    ensures room { length live.new ≡ bit_words image.now }
-    ensures bits { (a : ℕ) → has live.new a ≡ is_live_word image.now a }
+/// Sets the bits of the words of the live objects in a part of the heap, by the bits of their first words and of their
+/// last words.
+fn mark_words(image: &Image, begins: &Bits, start: usize, ends: &[u64], live: &mut [u64])
+    requires valid { IsValid image.now }
+    requires begins { AreBegins image.now begins.now }
+    requires inside { start + length ends.now ≤ bit_words image.now }
+    requires ends { AreBitsFrom (is_end image.now) start ends.now }
+    requires alike { length live.old ≡ length ends.now }
+    ensures room { length live.new ≡ length live.old }
+    ensures bits { AreBitsFrom (is_live_word image.now) start live.new }
 {
-    let mut carried = 0;
-    for i in 0..(image.len() / 64 + 1) as usize {
-        let ends = ends.word(i);
-        let word = live_word(begins.word(i), ends, carried);
-        live.set_word(i, word);
-        carried = (word >> 63) - (ends >> 63);
+    let mut carried = u64::from(goes_on(image, 64 * start as u64));
+    for i in 0..ends.len() {
+        let word = live_word(begins.word(start + i), ends[i], carried);
+        live[i] = word;
+        carried = (word >> 63) - (ends[i] >> 63);
     }
+}
+
+/// Whether an object that begins below this address has the word there.
+fn goes_on(image: &Image, address: u64) -> bool
+    ensures { result ≡ goes_on image.now address }
+{
+    let objects = image.live();
+    let first = first_from(image, address);
+    if first == 0 {
+        return false;
+    }
+    let begin = objects[first - 1];
+    address < begin + image.heap().size_at(begin)
 }
 
 /// The live bits of a word, by the begin bits and the end bits in it. `carried` is 1 where its first bit belongs to an

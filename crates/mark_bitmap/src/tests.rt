@@ -156,6 +156,20 @@ fn base_heap_answers(rt: HostRuntime) -> Result<(), Fail> {
 }
 
 #[test]
+fn several_workers_make_the_same_marks(rt: HostRuntime) -> Result<(), Fail> {
+    let objects = [(60, 200), (260, 252)];
+    let image = plain_image(&rt, rt.alloc(), 9, 512, objects.as_slice())?;
+    for workers in [0, 1, 3] {
+        let marks = Marks::by_workers(rt.alloc(), &image, workers, &rt)?;
+        let ends: Vec<u64> = (0..600).filter(|a| marks.is_end(*a)).collect(rt.alloc())?;
+        assert_eq!(rt; ends.as_slice(), [259, 511].as_slice());
+        assert_eq!(rt; image.len(), 512);
+        assert_eq!(rt; marks.live_words(0, 512), 452);
+    }
+    Ok(())
+}
+
+#[test]
 fn an_object_of_one_word_has_both_bits(rt: HostRuntime) -> Result<(), Fail> {
     let words = [
         ONE_WORD,

@@ -12,6 +12,7 @@ pub mod Order
 pub mod Text
 pub mod Assemble
 pub mod Map
+pub mod Timeline
 use Rattle.std.specs.Prelude.{ℕ, List, [], ◌∷◌, MatchBool, bytes_eq}
 use Rattle.pcompact.specs.Command.{Command}
 
@@ -31,6 +32,7 @@ listed =
     ∷ Text.text_command
     ∷ Assemble.assemble_command
     ∷ Map.map_command
+    ∷ Timeline.timeline_command
     ∷ []
 
 -- the first of these commands that has this name prints such a text

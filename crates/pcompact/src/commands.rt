@@ -17,6 +17,7 @@ mod record;
 mod replay;
 mod summarize;
 mod text;
+mod timeline;
 mod upgrade;
 mod verify;
 
@@ -28,9 +29,10 @@ use std::os::unix::fs::FileExt;
 use std::rt::Files;
 use std::sync::Wait;
 use std::thread::Threads;
+use std::time::Clock;
 
 /// Does what is asked for, but for its end. A picture is for this screen.
-pub fn answer<'a, R: Files + AllocGlobal + Threads + Wait + Sync>(
+pub fn answer<'a, R: Files + AllocGlobal + Threads + Wait + Clock + Sync>(
     rt: &R,
     screen: Screen,
     request: Request<'a>,
@@ -56,6 +58,7 @@ where
         Request::Text(asked) => text::answer(rt, asked),
         Request::Assemble(asked) => assemble::answer(rt, asked),
         Request::Map(asked) => map::answer(rt, screen, asked),
+        Request::Timeline(asked) => timeline::answer(rt, screen, asked),
         Request::Show(text) => Ok(Done::printing(text.into_bytes())),
     }
 }

@@ -3,6 +3,7 @@ ghost use Rattle.std.specs.Prelude.{◌≡◌, IfErr};
 ghost use Rattle.pcompact.specs.Failure.{failed_device};
 
 use crate::replacement::Replacement;
+use crate::stats::Stats;
 use crate::trouble::Trouble;
 use std::rt::Files;
 
@@ -15,6 +16,8 @@ pub struct Done<'a> {
     pub out: Option<Replacement<'a>>,
     /// That for SCHEDULE.
     pub schedule: Option<Replacement<'a>>,
+    /// What the work took, of a command that tells it.
+    pub stats: Option<Stats>,
 }
 
 impl<'a> Done<'a> {
@@ -26,6 +29,17 @@ impl<'a> Done<'a> {
             text,
             out: None,
             schedule: None,
+            stats: None,
+        }
+    }
+
+    /// And this is what the work took.
+    pub fn with_stats(self, stats: Stats) -> Done<'a>
+        ensures { result.text ≡ self.entry.text }
+    {
+        Done {
+            stats: Some(stats),
+            ..self
         }
     }
 

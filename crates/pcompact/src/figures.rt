@@ -1,4 +1,4 @@
-//! The line with the figures of a collection.
+//! `FiguresLine`.
 ghost use Rattle.std.specs.Prelude.{◌≡◌, ◌++◌, OnOk, string_bytes};
 ghost use Rattle.pcompact.specs.Figures.{figures_line};
 
@@ -7,6 +7,13 @@ use std::alloc::AllocError;
 
 /// Room for the line, with each figure as long as a number can be.
 pub const LINE_ROOM: usize = 80;
+
+/// The figures of a collection, and the line that tells them.
+#[derive(Drop)]
+pub struct FiguresLine {
+    pub figures: Figures,
+    pub line: String,
+}
 
 /// Adds the line with the figures.
 pub fn tell_figures(figures: Figures, line: &mut String) -> Result<(), AllocError>

@@ -102,6 +102,7 @@ pub fn ended<'a, H: Files>(
         text: line.into_bytes(),
         out: out.finish(host)?,
         schedule: None,
+        stats: None,
     })
 }
 

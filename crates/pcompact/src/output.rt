@@ -11,6 +11,8 @@ use std::rt::Files;
 pub struct Output<'a, F: Drop> {
     /// The file, open for writing.
     pub file: Watched<'a, F>,
+    /// Whether it is a regular file.
+    pub may_have_holes: bool,
     /// That it takes the place of another in the end.
     pub replacement: Option<Replacement<'a>>,
 }
@@ -23,7 +25,11 @@ impl<'a, F: OpenFile + Drop> Output<'a, F> {
         self,
         host: &H,
     ) -> Result<Option<Replacement<'a>>, Trouble<'a>> {
-        let Output { file, replacement } = self;
+        let Output {
+            file,
+            replacement,
+            ..
+        } = self;
         let Some(replacement) = replacement else {
             return Ok(None);
         };

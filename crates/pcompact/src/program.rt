@@ -1,7 +1,7 @@
 //! The whole program, over the writers that it is handed.
-ghost use Rattle.std.specs.Prelude.{◌≡◌, ◌≤◌, ◌∷◌, [], codes, ℕ, List, IfOk, OnOk, IfErr};
+ghost use Rattle.std.specs.Prelude.{◌≡◌, ◌≤◌, ◌∷◌, ◌⊎◌, [], codes, ℕ, List, IfOk, OnOk, IfErr, IsTrue};
 ghost use Rattle.std.specs.Io.KnownBytes.{Appends};
-ghost use Rattle.command_line.specs.CommandLine.{AreWords, AreCallOf};
+ghost use Rattle.command_line.specs.CommandLine.{AreWords, AreCallOf, HaveWord};
 ghost use Rattle.pcompact.specs.Commands.{IsPrintedBy};
 ghost use Rattle.pcompact.specs.Failure.{failed_device, out_of_memory, status_of};
 
@@ -11,6 +11,7 @@ use crate::failed_call::{Call, FailedCall};
 use crate::failure::Failure;
 use crate::reason::Reason;
 use crate::screen::Screen;
+use crate::stats::Stats;
 use crate::trouble::Trouble;
 use collector::Verdict;
 use heap_image::Fault;
@@ -20,16 +21,18 @@ use std::os::unix::fs::FileExt;
 use std::rt::Files;
 use std::sync::Wait;
 use std::thread::Threads;
+use std::time::Clock;
 
 /// Runs the program on the words after its name, and answers the exit status.
 ///
 /// `out` and `err` stand for standard output and standard error, and `screen` for what the first shows. What a command prints is written
 /// to `out` whole, once its work is done, and flushed; a write or flush of `out` that fails is
 /// fault 13. Files that are to replace others take their places after that. A failed write to `err`
-/// changes nothing. Where the words ask for it, more lines on `err` follow the one that is owed.
+/// changes nothing. Where the words ask for it, more lines on `err` follow the one that is owed, or tell, once all is done, what
+/// the work took.
 ///
-/// `rt` opens files, allocates, starts threads and waits for them.
-pub fn run<R: Files + AllocGlobal + Threads + Wait + Sync, A: Write, B: Write>(
+/// `rt` opens files, allocates, starts threads, waits for them and reads the clock.
+pub fn run<R: Files + AllocGlobal + Threads + Wait + Clock + Sync, A: Write, B: Write>(
     rt: &R,
     words: &[String],
     screen: Screen,
@@ -39,7 +42,7 @@ pub fn run<R: Files + AllocGlobal + Threads + Wait + Sync, A: Write, B: Write>(
 where
     R::File: FileExt + Sync,
     ensures status { result ≤ 2 }
-    ensures good { result ≡ 0 → err.new ≡ err.old }
+    ensures good { result ≡ 0 → (err.new ≡ err.old) ⊎ HaveWord (codes "--stats") words.now }
     ensures usage { result ≡ 2 → out.new ≡ out.old }
     ensures board_is_known { AreWords words.now (codes "board" ∷ []) → result ≤ 1 }
 
@@ -56,13 +59,34 @@ where
         }
     };
     let verbose = request.is_verbose();
+    // An option is a word, so the second half says no more than the first; the contract speaks of words.
+    let measured = request.asks_stats() && have_word(words, "--stats");
     let done = match commands::answer(rt, screen, request) {
         Ok(done) => done,
         Err(trouble) => return tell(&trouble, verbose, err),
     };
-    match end(rt, done, out) {
-        Ok(()) => 0,
-        Err(trouble) => tell(&trouble, verbose, err),
+    let stats = done.stats;
+    if let Err(trouble) = end(rt, done, out) {
+        return tell(&trouble, verbose, err);
+    }
+    if measured {
+        tell_stats(rt, stats, err);
+    }
+    0
+}
+
+/// Whether one of the words has this text.
+fn have_word(words: &[String], text: &str) -> bool
+    ensures { IsTrue result → HaveWord text.now words.now }
+{
+    words.iter().any(|word| word.as_str() == text)
+}
+
+/// Says on `err` what the work took. Where `err` takes no text nothing changes.
+fn tell_stats<H: Files + Threads + Clock, B: Write>(host: &H, stats: Option<Stats>, err: &mut B) {
+    if let Some(stats) = stats {
+        let _ = stats.tell(host, err);
+        let _ = err.flush();
     }
 }
 

@@ -138,11 +138,16 @@ impl<'a, F: OpenFile + Drop> Target<'a, F> {
         let Target { word, found, way } = self;
         match way {
             Way::InPlace { file, .. } => {
-                if found.is_some_and(|found: Metadata| found.is_file() && found.len() > 0) {
+                let (is_regular, len) = match found {
+                    Some(found) => (found.is_file(), found.len()),
+                    None => (false, 0),
+                };
+                if is_regular && len > 0 {
                     called(word, Call::Empty, file.set_len(0))?;
                 }
                 Ok(Output {
                     file: Watched::new(word, file),
+                    may_have_holes: is_regular,
                     replacement: None,
                 })
             }
@@ -150,6 +155,7 @@ impl<'a, F: OpenFile + Drop> Target<'a, F> {
                 let (file, replacement) = Replacement::make(host, word, place, found.as_ref())?;
                 Ok(Output {
                     file: Watched::new(word, file),
+                    may_have_holes: true,
                     replacement: Some(replacement),
                 })
             }

@@ -102,6 +102,22 @@ impl<F: Seek + Drop> Watched<'_, F> {
             _ => false,
         }
     }
+
+    /// Passes over so many bytes. Those behind the file's end read as zeros once more is written.
+    pub fn skip(&mut self, count: u64) -> io::Result<()> {
+        match self.sought(count) {
+            Ok(_) => Ok(()),
+            Err(error) => {
+                self.failed = Some(FailedCall::of(Call::Write, &error));
+                Err(error)
+            }
+        }
+    }
+
+    fn sought(&mut self, count: u64) -> io::Result<u64> {
+        let at = self.file.stream_position()?;
+        self.file.seek(SeekFrom::Start(at.saturating_add(count)))
+    }
 }
 
 impl<F: Read + Drop> Read for Watched<'_, F> {

@@ -1,5 +1,5 @@
 //! The region: a list of words.
-ghost use Rattle.std.specs.Prelude.{◌≡◌, ◌+◌, ◌<◌, ◌≤◌, length, replicate, slice_index, slice_set, IfOk};
+ghost use Rattle.std.specs.Prelude.{◌≡◌, ◌+◌, ◌<◌, ◌≤◌, length, replicate, slice_index, slice_set, IfOk, IsTrue};
 ghost use Rattle.std.specs.Borrow.{sem};
 ghost use Rattle.raw_region.specs.Region.{with_words, part};
 
@@ -21,11 +21,11 @@ pub struct Region {
 
 impl Model for Region {
     ghost use Rattle.std.specs.Prelude.{List, ℕ};
-    ghost use Rattle.raw_region.specs.Region.{seen};
+    ghost use Rattle.raw_region.specs.Region.{shown_words};
 
     ghost Value = { List ℕ };
 
-    ghost view = { λ r. seen r.is_clear r.block.words };
+    ghost view = { λ r. shown_words r.is_clear r.block.words };
 }
 
 impl Region {
@@ -104,6 +104,14 @@ impl Region {
         ensures same_length { length self.new ≡ length self.old }
     {
         self.is_clear = true;
+    }
+
+    /// Whether the region was cleared and no word of it was written since. Then all its words are 0.
+    pub fn is_cleared(&self) -> bool
+        ensures { IsTrue result → self.now ≡ replicate (length self.now) 0 }
+    {
+        let Region { is_clear, .. } = self;
+        *is_clear
     }
 
     /// Makes each of the `n` words from index `at` on `word`.

@@ -1,4 +1,4 @@
--- Counts by blocks of words, new addresses by region data, and the words of a region as a list.
+-- Counts by blocks of words, new region_addresses by region data, and the words of a region as a list.
 use Rattle.std.proofs.Common.{◌≡◌, ℕ, zero, suc, ◌+◌, ◌-◌, ◌*◌, ◌/◌, ◌%◌, ◌≤◌, ◌<◌, inl, inr, Bool, true, cond, ◌&&◌, ◌∷◌, ◌++◌, length, get_or, take, drop, refl, sym, ◌∙◌, ap, subst, arith, ltb, add-zero}
 use Rattle.std.proofs.lemmas.Bool.{cases_lt, cond-true, cond-false, and_parts, ltb-true, lt-ltb, le-ltb}
 use Rattle.std.proofs.lemmas.Nat.{div-add-mod', mul-le, le-div}
@@ -14,7 +14,7 @@ use Rattle.heap_image.proofs.Spans.{count_by-cons, is_in_parts}
 use Rattle.summary.specs.NewAddresses.{prefix_end, new_address, new_top}
 use Rattle.summary.specs.WordMoves.{slid, origin}
 use Rattle.summary.specs.Compaction.{compact, compacted_word, moved, moved_word, written, is_deferred}
-use Rattle.summary.specs.RegionData.{addresses, partial_words, destination}
+use Rattle.summary.specs.RegionData.{region_addresses, partial_words, destination}
 use Rattle.summary.proofs.Addresses.{new_address-slid, range_with_len-add}
 use Rattle.summary.proofs.Prefix.{prefix_end_is}
 use Rattle.summary.proofs.Words.{count_by-range-le, live_words-add, live_words-le, is_live, one_owner}
@@ -62,13 +62,13 @@ module _ (image : HeapImage) where
       let whole = div-add-mod' (heap_words image) R in
       omega arith
 
-  pub compact-block : (r : ℕ) → r < region_count image → block_of (compact image) r ≡ map (compacted_word image) (addresses image r)
+  pub compact-block : (r : ℕ) → r < region_count image → block_of (compact image) r ≡ map (compacted_word image) (region_addresses image r)
   compact-block r l = block-map-range (compacted_word image) (heap_words image) (start_of image r) R (region_in_heap r l)
 
-  pub moved-block : (r : ℕ) → r < region_count image → block_of (moved image) r ≡ map (moved_word image) (addresses image r)
+  pub moved-block : (r : ℕ) → r < region_count image → block_of (moved image) r ≡ map (moved_word image) (region_addresses image r)
   moved-block r l = block-map-range (moved_word image) (heap_words image) (start_of image r) R (region_in_heap r l)
 
-  map-range-step : (f : ℕ → ℕ) (b k : ℕ) → map f (range_with_len (b * R) (k * R)) ≡ flat_map (λ r. map f (addresses image r)) (range_with_len b k)
+  map-range-step : (f : ℕ → ℕ) (b k : ℕ) → map f (range_with_len (b * R) (k * R)) ≡ flat_map (λ r. map f (region_addresses image r)) (range_with_len b k)
   map-range-step f b zero = let z : 0 * R ≡ 0 = zero-mul R in rw z refl
   map-range-step f b (suc k) =
       let e : suc k * R ≡ R + k * R = omega arith in
@@ -80,7 +80,7 @@ module _ (image : HeapImage) where
       ∙ ap (λ xs. map f (range_with_len (b * R) R) ++ xs) (map-range-step f (b + 1) k)
 
   -- a list made address by address is the blocks of the regions one after another
-  pub joined : (f : ℕ → ℕ) → heap_words image % region_words image ≡ 0 → map f (range_with_len 0 (heap_words image)) ≡ flat_map (λ r. map f (addresses image r)) (range_with_len 0 (region_count image))
+  pub joined : (f : ℕ → ℕ) → heap_words image % region_words image ≡ 0 → map f (range_with_len 0 (heap_words image)) ≡ flat_map (λ r. map f (region_addresses image r)) (range_with_len 0 (region_count image))
   joined f none =
       let whole = div-add-mod' (heap_words image) R in
       let e : heap_words image ≡ region_count image * R = omega arith in
@@ -90,7 +90,7 @@ module _ (image : HeapImage) where
   pub words-map : image.words ≡ map (word_at image) (range_with_len 0 (heap_words image))
   words-map = fill_by_all (word_at image) image.words (heap_words image) 0 refl (λ k l. refl)
 
-  pub old-block : (r : ℕ) → r < region_count image → block_of image r ≡ map (word_at image) (addresses image r)
+  pub old-block : (r : ℕ) → r < region_count image → block_of image r ≡ map (word_at image) (region_addresses image r)
   old-block r l = ap (λ ws. take R (drop (start_of image r) ws)) words-map ∙ block-map-range (word_at image) (heap_words image) (start_of image r) R (region_in_heap r l)
 
   map-range-same : (f g : ℕ → ℕ) (b n : ℕ) → ((p : ℕ) → b ≤ p → p < b + n → f p ≡ g p) → map f (range_with_len b n) ≡ map g (range_with_len b n)
@@ -110,10 +110,10 @@ module _ (image : HeapImage) where
   pub compact-length : heap_words (compact image) ≡ heap_words image
   compact-length = length-map-range_with_len (compacted_word image) 0 (heap_words image)
 
-  pub moved-joined : heap_words image % region_words image ≡ 0 → (moved image).words ≡ flat_map (λ r. map (moved_word image) (addresses image r)) (range_with_len 0 (region_count image))
+  pub moved-joined : heap_words image % region_words image ≡ 0 → (moved image).words ≡ flat_map (λ r. map (moved_word image) (region_addresses image r)) (range_with_len 0 (region_count image))
   moved-joined none = joined (moved_word image) none
 
-  pub compact-joined : heap_words image % region_words image ≡ 0 → (compact image).words ≡ flat_map (λ r. map (compacted_word image) (addresses image r)) (range_with_len 0 (region_count image))
+  pub compact-joined : heap_words image % region_words image ≡ 0 → (compact image).words ≡ flat_map (λ r. map (compacted_word image) (region_addresses image r)) (range_with_len 0 (region_count image))
   compact-joined none = joined (compacted_word image) none
 
   -- ---- counts by blocks of n words
@@ -149,7 +149,7 @@ module _ (image : HeapImage) where
       let two = live_words-add image ((i + 1) * n) (j * n) to up high in
       omega arith
 
-  -- the same by the blocks of the two addresses
+  -- the same by the blocks of the two region_addresses
   pub live_words-cut : (n from to : ℕ) → 0 < n → from / n < to / n
       → live_words image from to ≡ live_words image from ((from / n + 1) * n) + sum (map (block n) (range_with_len (from / n + 1) (to / n - (from / n + 1)))) + live_words image (to / n * n) to
   live_words-cut n from to some l =

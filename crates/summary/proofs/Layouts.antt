@@ -8,7 +8,7 @@ use Rattle.std.specs.Prelude.{None}
 use Rattle.heap_image.specs.HeapImage.{HeapImage, IsValid, region_words, heap_words, region_count, start_of}
 use Rattle.summary.specs.NewAddresses.{dead_words_below, prefix_end}
 use Rattle.summary.specs.RegionData.{partial_words, own_words, data_words, destination, readers_from}
-use Rattle.summary.specs.Layout.{region_counts, placed_region, AreCounts}
+use Rattle.summary.specs.Layout.{region_counts, placed_region, AreRegionCounts}
 use Rattle.summary.specs.declared.region_counts.RegionCounts.{RegionCounts}
 use Rattle.summary.proofs.Blocks.{region_in_heap}
 use Rattle.summary.proofs.Destinations.{destination-live_words}
@@ -31,10 +31,10 @@ module _ (image : HeapImage) (valid : IsValid image) where
   start_next : (r : ℕ) → start (r + 1) ≡ start r + R
   start_next r = omega arith
 
-  pub counts_length : (counts : List RegionCounts) → AreCounts image counts → length counts ≡ region_count image
+  pub counts_length : (counts : List RegionCounts) → AreRegionCounts image counts → length counts ≡ region_count image
   counts_length counts h = ap length h ∙ length-map-range_with_len (region_counts image) 0 (region_count image)
 
-  pub counts_at : (counts : List RegionCounts) → AreCounts image counts → (r : ℕ) (d : RegionCounts) → r < region_count image → get_or counts r d ≡ region_counts image r
+  pub counts_at : (counts : List RegionCounts) → AreRegionCounts image counts → (r : ℕ) (d : RegionCounts) → r < region_count image → get_or counts r d ≡ region_counts image r
   counts_at counts h r d l = ap (λ xs. get_or xs r d) h ∙ get_or-map-range_with_len (region_counts image) 0 (region_count image) r r d l (omega arith)
 
   pub data-le : (r : ℕ) → data_words image r ≤ R

@@ -14,7 +14,7 @@ use Rattle.summary.specs.LiveObjects.{object_count, object_at}
 use Rattle.summary.specs.NewAddresses.{greatest, dead_words_below, is_allowed, prefix_end, new_address, new_end_of, new_live, next_after, next_at, new_top}
 use Rattle.summary.specs.WordMoves.{origin, slid}
 use Rattle.summary.specs.Compaction.{carried, redirected, is_reference_of, compacted_word, compact}
-use Rattle.summary.specs.RegionData.{addresses}
+use Rattle.summary.specs.RegionData.{region_addresses}
 use Rattle.summary.proofs.Addresses.{range_with_len-add}
 use Rattle.summary.proofs.Blocks.{compact-joined}
 use Rattle.summary.proofs.Destinations.{count_by-parts}
@@ -151,7 +151,7 @@ map-from f xs s n long each =
 
 module _ (image : HeapImage) where
   abbrev block : ℕ → List ℕ
-  block r = map (compacted_word image) (addresses image r)
+  block r = map (compacted_word image) (region_addresses image r)
 
   abbrev blocks : List (List ℕ)
   blocks = map block (range_with_len 0 (region_count image))

@@ -15,7 +15,7 @@ use Rattle.summary.specs.Updates.{is_late_reference, updated_word}
 use Rattle.summary.proofs.Addresses.{new_address-slid}
 use Rattle.summary.proofs.Origin.{slid-increasing, origin-slid, origin-Some}
 use Rattle.summary.proofs.Words.{owner, is_live, one_owner, slid-below}
-use Rattle.summary.specs.RegionData.{addresses, deferred}
+use Rattle.summary.specs.RegionData.{region_addresses, deferred}
 use Rattle.summary.proofs.Readers.{same_Bool}
 use Rattle.summary.proofs.Objects.{deferred-told, deferred-Some, new_ends_before}
 
@@ -175,8 +175,8 @@ module _ (image : HeapImage) (sound : HasLiveList image) where
   pub updated-words : map (updated_word image) (range_with_len 0 (heap_words image)) ≡ (compact image).words
   updated-words = map_same (updated_word image) (compacted_word image) updated-compacted (range_with_len 0 (heap_words image))
 
-  pub updated-block : (r : ℕ) → map (updated_word image) (addresses image r) ≡ map (compacted_word image) (addresses image r)
-  updated-block r = map_same (updated_word image) (compacted_word image) updated-compacted (addresses image r)
+  pub updated-block : (r : ℕ) → map (updated_word image) (region_addresses image r) ≡ map (compacted_word image) (region_addresses image r)
+  updated-block r = map_same (updated_word image) (compacted_word image) updated-compacted (region_addresses image r)
 
   -- the word j of an object at its new address, once it is moved
   pub moved-carried : (i j : ℕ) → i < length image.live → j < size_at image (place i) → moved_word image (new_address image (place i) + j) ≡ carried image early (place i + j)

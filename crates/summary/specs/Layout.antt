@@ -26,8 +26,8 @@ module _ (image : HeapImage) where
   region_counts r = record { partial = partial_words image r; live = own_words image r }
 
   -- these are the counts of all regions
-  abbrev pub AreCounts : List RegionCounts → Type 0
-  AreCounts counts = counts ≡ map region_counts (range_with_len 0 (region_count image))
+  abbrev pub AreRegionCounts : List RegionCounts → Type 0
+  AreRegionCounts counts = counts ≡ map region_counts (range_with_len 0 (region_count image))
 
   -- the data of a region, but for its source
   abbrev pub placed_region : ℕ → RegionData

@@ -9,9 +9,9 @@ use Rattle.summary.specs.Compaction.{is_deferred}
 use Rattle.summary.specs.declared.region_data.RegionData.{RegionData}
 
 module _ (image : HeapImage) where
-  -- the addresses of a region
-  abbrev pub addresses : ℕ → List ℕ
-  addresses r = range_with_len (start_of image r) (region_words image)
+  -- the region_addresses of a region
+  abbrev pub region_addresses : ℕ → List ℕ
+  region_addresses r = range_with_len (start_of image r) (region_words image)
 
   -- q is a word of an object that begins left of region r
   abbrev pub is_begun_left : ℕ → ℕ → Bool
@@ -19,11 +19,11 @@ module _ (image : HeapImage) where
 
   -- the words at the front of a region that belong to a live object begun further left
   abbrev pub partial_words : ℕ → ℕ
-  partial_words r = count_by (is_begun_left r) (addresses r)
+  partial_words r = count_by (is_begun_left r) (region_addresses r)
 
   -- the words in a region of the live objects that begin in it
   abbrev pub own_words : ℕ → ℕ
-  own_words r = count_by (λ q. list_any (λ a. nat_le (start_of image r) a && is_word_of image a q) image.live) (addresses r)
+  own_words r = count_by (λ q. list_any (λ a. nat_le (start_of image r) a && is_word_of image a q) image.live) (region_addresses r)
 
   -- the live words of a region
   abbrev pub data_words : ℕ → ℕ

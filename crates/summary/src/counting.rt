@@ -3,7 +3,7 @@
 ghost use Rattle.std.specs.Prelude.{◌≡◌, ℕ, ◌<◌, ◌≤◌, false, IsTrue, IfOk};
 ghost use Rattle.heap_image.specs.HeapImage.{heap_words, region_count};
 ghost use Rattle.mark_bitmap.specs.Marks.{is_begin};
-ghost use Rattle.summary.specs.Layout.{region_counts, AreCounts, IsOwnStart, AreOwnStarts};
+ghost use Rattle.summary.specs.Layout.{region_counts, AreRegionCounts, IsOwnStart, AreOwnStarts};
 
 use crate::region_counts::RegionCounts;
 use heap_image::Image;
@@ -24,7 +24,7 @@ pub(crate) fn count_regions(
     threads: &(impl Threads + Sync),
 ) -> Result<Vec<RegionCounts>, AllocError>
     requires { marks.now ≡ image.now }
-    ensures { IfOk result (λ counts. AreCounts image.now counts.items) }
+    ensures { IfOk result (λ counts. AreRegionCounts image.now counts.items) }
 {
     let starts = own_starts(alloc, image, marks)?;
     let starts = starts.as_slice();

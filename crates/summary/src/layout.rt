@@ -4,7 +4,7 @@ ghost use Rattle.std.specs.Prelude.{◌≡◌, ◌+◌, ◌^◌, ◌<◌, ◌≤
 ghost use Rattle.heap_image.specs.HeapImage.{IsValid, heap_words, region_count, start_of, last_end};
 ghost use Rattle.summary.specs.NewAddresses.{prefix_end};
 ghost use Rattle.summary.specs.RegionData.{destination, readers_from};
-ghost use Rattle.summary.specs.Layout.{region_counts, placed_region, AreCounts, IsLayout};
+ghost use Rattle.summary.specs.Layout.{region_counts, placed_region, AreRegionCounts, IsLayout};
 
 use crate::region_counts::RegionCounts;
 use crate::region_data::RegionData;
@@ -25,7 +25,7 @@ pub struct Layout {
 impl Layout {
     /// The layout of an image whose regions have these counts.
     pub fn of(alloc: Global, image: &Image, counts: &[RegionCounts]) -> Result<Layout, AllocError>
-        requires { AreCounts image.now counts.now }
+        requires { AreRegionCounts image.now counts.now }
         ensures { IfOk result (λ layout. IsLayout image.now layout) }
     {
         let prefix = prefix_end(image, counts);
@@ -86,7 +86,7 @@ fn readers(image: &Image, s: u64, destination: u64, words: u64) -> u32
 /// The last region start that is not above the end of the last live object and has no more dead words below it than
 /// the allowance.
 pub fn prefix_end(image: &Image, counts: &[RegionCounts]) -> u64
-    requires { AreCounts image.now counts.now }
+    requires { AreRegionCounts image.now counts.now }
     ensures value { result ≡ prefix_end image.now }
     ensures valid { IsValid image.now }
 {

@@ -10,7 +10,7 @@ ghost use Rattle.summary.specs.NewAddresses.{prefix_end, next_after, next_at, ne
 ghost use Rattle.summary.specs.WordMoves.{origin};
 ghost use Rattle.summary.specs.Fillers.{gap_at, filler_word};
 ghost use Rattle.summary.specs.Compaction.{redirected, is_reference_of, carried, compacted_word, compact};
-ghost use Rattle.summary.specs.RegionData.{addresses};
+ghost use Rattle.summary.specs.RegionData.{region_addresses};
 ghost use Rattle.summary.specs.Placement.{IsPrefix, IsPlacement};
 
 use heap_image::{Image, ImageParts, header};
@@ -90,7 +90,7 @@ fn compacted_region(
 ) -> Result<Region, AllocError>
     requires places { IsPlacement image.now places.now }
     requires inside { r < region_count image.now }
-    ensures { IfOk result (λ region. region ≡ map (compacted_word image.now) (addresses image.now r)) }
+    ensures { IfOk result (λ region. region ≡ map (compacted_word image.now) (region_addresses image.now r)) }
 {
     let len = image.region_words();
     let start = u64::from(r) * len;

@@ -3,7 +3,7 @@
 ghost use Rattle.std.specs.Prelude.{◌≡◌, ◌<◌, ◌≤◌, IfOk, length};
 ghost use Rattle.heap_image.specs.HeapImage.{IsValid, region_words, region_count};
 ghost use Rattle.summary.specs.NewAddresses.{prefix_end, new_top};
-ghost use Rattle.summary.specs.Layout.{AreCounts};
+ghost use Rattle.summary.specs.Layout.{AreRegionCounts};
 ghost use Rattle.summary.specs.Plan.{AreRegions};
 
 use crate::layout::Layout;
@@ -45,7 +45,7 @@ impl RegionTable {
         image: &Image,
         counts: &[RegionCounts],
     ) -> Result<RegionTable, AllocError>
-        requires { AreCounts image.now counts.now }
+        requires { AreRegionCounts image.now counts.now }
         ensures { IfOk result (λ table. table ≡ image.now) }
     {
         let Layout {

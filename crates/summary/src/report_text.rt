@@ -2,7 +2,7 @@
 
 ghost use Rattle.std.specs.Prelude.{◌≡◌, ◌++◌, ◌∷◌, IfOk, OnOk, string_bytes, codes, decimal};
 ghost use Rattle.std.specs.Option.{option_map_or};
-ghost use Rattle.summary.specs.Report.{in_column, line_of, report};
+ghost use Rattle.summary.specs.Report.{in_column, row_of, report};
 
 use crate::region_data::RegionData;
 use crate::region_table::RegionTable;
@@ -21,7 +21,7 @@ pub(crate) fn report_of_table(alloc: Global, table: &RegionTable) -> Result<Stri
 
 /// Writes the line of region `r`.
 fn write_line(text: &mut String, r: u64, region: RegionData) -> Result<(), AllocError>
-    ensures { OnOk result (string_bytes text.new ≡ string_bytes text.old ++ line_of r region) }
+    ensures { OnOk result (string_bytes text.new ≡ string_bytes text.old ++ row_of r region) }
 {
     write_column(text, r)?;
     write_next_column(text, u64::from(region.partial))?;

@@ -31,7 +31,7 @@ impl Model for Survey {
 }
 
 impl Survey {
-    /// The survey of an image. The regions are counted by as many threads as there are processors.
+    /// The survey of an image. As many threads as there are processors make the marks and count the regions.
     ///
     /// The only error is [`Fault::Memory`], where memory is refused.
     pub fn of(
@@ -55,7 +55,7 @@ impl Survey {
         ensures survey { IfOk result (λ survey. survey ≡ image.now) }
         ensures fault { IfErr result (λ fault. fault ≡ Memory) }
     {
-        let marks = Marks::of(alloc, image)?;
+        let marks = Marks::by_workers(alloc, image, workers, threads)?;
         let plan = Plan::by_workers(alloc, image, &marks, workers, threads)?;
         Ok(Survey { marks, plan })
     }

@@ -58,7 +58,7 @@ fn image_of(alloc: Global, allowance: u64, live: &[u64]) -> Result<Image, Fail> 
 }
 
 /// The line of the order of work of an image.
-fn line_of<T: Threads + Sync>(alloc: Global, image: &Image, threads: &T) -> Result<String, Fail> {
+fn told_line<T: Threads + Sync>(alloc: Global, image: &Image, threads: &T) -> Result<String, Fail> {
     let survey = Survey::of(alloc, image, threads)?;
     let order = WorkOrder::of(alloc, survey.plan())?;
     Ok(format!(in alloc; "{order}")?)
@@ -74,7 +74,7 @@ fn the_rows_of_the_base_heap(rt: HostRuntime) -> Result<(), Fail> {
     ];
     for (allowance, line) in rows {
         let image = image_of(rt.alloc(), allowance, &[0, 5, 12, 20])?;
-        let told = line_of(rt.alloc(), &image, &rt)?;
+        let told = told_line(rt.alloc(), &image, &rt)?;
         assert_eq!(rt; told.as_str(), line);
     }
     Ok(())
@@ -83,7 +83,7 @@ fn the_rows_of_the_base_heap(rt: HostRuntime) -> Result<(), Fail> {
 #[test]
 fn nothing_is_to_be_filled(rt: HostRuntime) -> Result<(), Fail> {
     let image = image_of(rt.alloc(), 0, &[])?;
-    let told = line_of(rt.alloc(), &image, &rt)?;
+    let told = told_line(rt.alloc(), &image, &rt)?;
     assert_eq!(rt; told.as_str(), "chain 0 words 0 speedup 1.00 workers 1");
     let survey = Survey::of(rt.alloc(), &image, &rt)?;
     let order = WorkOrder::of(rt.alloc(), survey.plan())?;

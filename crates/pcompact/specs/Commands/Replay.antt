@@ -28,7 +28,7 @@ pub record IsReplayOf (left left' asked : Option (List ℕ)) (shown : List ℕ) 
   pub tells : shown ≡ schedule_text replayed.lines ++ end_line replayed.ended
 
 -- the replay of some schedule on some valid image
-pub record IsReplay (shown : List ℕ) : Type 0 where
+pub record IsReplayText (shown : List ℕ) : Type 0 where
   pub image : HeapImage
   pub valid : IsValid image
   pub schedule : ScheduleView
@@ -37,4 +37,4 @@ pub record IsReplay (shown : List ℕ) : Type 0 where
   pub tells : shown ≡ schedule_text replayed.lines ++ end_line replayed.ended
 
 abbrev pub replay_command : Command
-replay_command = record { name = codes "replay"; prints = IsReplay }
+replay_command = record { name = codes "replay"; prints = IsReplayText }

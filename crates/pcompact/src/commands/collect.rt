@@ -1,24 +1,34 @@
 //! The command `collect`.
-ghost use Rattle.std.specs.Prelude.{codes, ℕ, List, IfOk, IfErr, string_bytes};
+ghost use Rattle.std.specs.Prelude.{◌≡◌, codes, ℕ, List, IfOk, IfErr, string_bytes};
 ghost use Rattle.pcompact.specs.Commands.{IsPrintedBy};
 ghost use Rattle.pcompact.specs.Commands.Collect.{IsCollection, IsFirstOfBytes};
-ghost use Rattle.pcompact.specs.Figures.{IsFigures};
+ghost use Rattle.pcompact.specs.Figures.{IsFigures, figures_line};
 
+use crate::collection_times::CollectionTimes;
 use crate::done::Done;
-use crate::figures::{LINE_ROOM, tell_figures};
+use crate::figures::{FiguresLine, LINE_ROOM, tell_figures};
 use crate::files::{ended, failed_between, image_and_out};
 use crate::image_file::ImageFile;
+use crate::moved::Moved;
+use crate::out_file::OutFile;
+use crate::stats::Stats;
+use crate::stopwatch::Stopwatch;
+use crate::timed_gate::TimedGate;
+use crate::timed_intake::TimedIntake;
+use crate::timed_outlet::TimedOutlet;
 use crate::trouble::Trouble;
-use collector::{OpenGate, collect_stream};
+use crate::workers::Workers;
+use collector::{Gate, collect_stream};
 use command_line::Collect;
-use heap_image::{Fault, Intake, Outlet, ToWrite};
+use heap_image::{Fault, Intake, Outlet};
 use std::os::unix::fs::FileExt;
 use std::rt::Files;
 use std::sync::Wait;
 use std::thread::Threads;
+use std::time::Clock;
 
 /// Collects one file into another, and answers what `collect` prints.
-pub fn answer<'a, R: Files + AllocGlobal + Threads + Wait + Sync>(
+pub fn answer<'a, R: Files + AllocGlobal + Threads + Wait + Clock + Sync>(
     rt: &R,
     asked: Collect<'a>,
 ) -> Result<Done<'a>, Trouble<'a>>
@@ -26,41 +36,56 @@ where
     R::File: FileExt + Sync,
     ensures { IfOk result (λ done. IsFigures done.text.items) }
 {
+    let watch = Stopwatch::start(rt, asked.stats);
     let (image, mut out) = image_and_out(rt, asked.image, asked.out, asked.atomic)?;
-    let mut image = ImageFile::read_ahead(rt, image, asked.workers);
-    let line = collect_into(
-        rt,
-        &mut image,
-        &mut ToWrite::new(&mut out.file),
-        asked.workers,
-    );
-    match line {
-        Ok(line) => ended(rt, line, out),
+    let image = ImageFile::read_ahead(rt, image, asked.workers);
+    let mut image = TimedIntake::new(rt, watch, image);
+    let may_have_holes = out.may_have_holes;
+    let written = OutFile::new(&mut out.file, may_have_holes);
+    let mut output = TimedOutlet::new(rt, watch, written);
+    let gate = TimedGate::new(rt, watch);
+    let workers = Workers {
+        count: asked.workers,
+        gate: &gate,
+    };
+    let told = collect_into(rt, &mut image, &mut output, workers);
+    let times = CollectionTimes::of(&image, &gate, &output);
+    let mut written = output.into_inner();
+    let told = written.end(told);
+    match told {
+        Ok(FiguresLine { figures, line }) => {
+            let moved = Moved::of(figures, times.in_memory());
+            let stats = Stats::of_collection(watch, times.laps(), moved, asked.workers);
+            Ok(ended(rt, line, out)?.with_stats(stats))
+        }
         Err(fault) => {
             let trouble = Trouble::from(fault).if_workers(asked.workers);
-            Err(failed_between(rt, trouble, &image.into_inner(), out))
+            let image = image.into_inner().into_inner();
+            Err(failed_between(rt, trouble, &image, out))
         }
     }
 }
 
 /// Collects the image that the input is the text of, and writes the text of the compacted one.
-/// What it answers is for standard output: the figures of the collection.
+/// The line that it answers is for standard output: the figures of the collection.
 ///
 /// Nothing takes memory once a byte is written.
-pub fn collect_into<R: AllocGlobal + Threads + Wait + Sync, I: Intake, O: Outlet>(
+pub fn collect_into<R: AllocGlobal + Threads + Wait + Sync, I: Intake, O: Outlet, G: Gate + Sync>(
     rt: &R,
     input: &mut I,
     output: &mut O,
-    workers: u32,
-) -> Result<String, Fault>
-    ensures collection { IfOk result (λ shown. IsCollection (I.left input.old) (I.left input.new)
-        (O.took output.old) (O.took output.new) (string_bytes shown)) }
+    workers: Workers<'_, G>,
+) -> Result<FiguresLine, Fault>
+    ensures collection { IfOk result (λ told. IsCollection (I.left input.old) (I.left input.new)
+        (O.took output.old) (O.took output.new) (string_bytes told.line)) }
+    ensures figures { IfOk result (λ told. string_bytes told.line ≡ figures_line told.figures) }
     ensures fault { IfErr result (IsFirstOfBytes (I.left input.old)) }
 {
     let mut line = String::with_capacity(rt.alloc(), LINE_ROOM)?;
-    let figures = collect_stream(rt.alloc(), input, output, workers, &OpenGate, rt, rt)?;
+    let Workers { count, gate } = workers;
+    let figures = collect_stream(rt.alloc(), input, output, count, gate, rt, rt)?;
     tell_figures(figures, &mut line)?;
-    Ok(line)
+    Ok(FiguresLine { figures, line })
 }
 
 /// What the contract of the program says of `collect`: it prints the

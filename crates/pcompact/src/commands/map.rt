@@ -56,7 +56,7 @@ pub struct Cut {
 }
 
 /// How a picture is printed on what standard output shows.
-fn style_on(screen: Screen, look: Look) -> Style {
+pub fn style_on(screen: Screen, look: Look) -> Style {
     Style {
         glyphs: if screen.is_utf8 && !look.letters {
             Glyphs::Blocks
@@ -199,7 +199,7 @@ fn drawing_of(
     let survey = Survey::of(alloc, image, threads)?;
     let picture = picture_of(alloc, image, &survey, cut)?;
     Ok(Drawing {
-        line: line_of(alloc, picture.figures)?,
+        line: text_of_figures(alloc, picture.figures)?,
         svg: picture.svg(alloc)?,
     })
 }
@@ -225,7 +225,7 @@ fn picture_of(
 }
 
 /// The line with the figures of a heap.
-fn line_of(alloc: Global, figures: Figures) -> Result<String, AllocError>
+fn text_of_figures(alloc: Global, figures: Figures) -> Result<String, AllocError>
     ensures { IfOk result (λ text. string_bytes text ≡ figures_text figures ++ codes "\n") }
 {
     let mut line = String::new(alloc);

@@ -3,29 +3,40 @@ ghost use Rattle.std.specs.Prelude.{◌≡◌, codes, ℕ, List, IfOk, IfErr, st
 ghost use Rattle.pcompact.specs.Commands.{IsPrintedBy};
 ghost use Rattle.pcompact.specs.Commands.Collect.{IsFirstOfBytes};
 ghost use Rattle.pcompact.specs.Commands.Record.{IsRecording};
-ghost use Rattle.pcompact.specs.Figures.{IsFigures};
+ghost use Rattle.pcompact.specs.Figures.{IsFigures, figures_line};
 
+use crate::collection_times::CollectionTimes;
 use crate::done::Done;
-use crate::figures::{LINE_ROOM, tell_figures};
+use crate::figures::{FiguresLine, LINE_ROOM, tell_figures};
 use crate::file_id::FileId;
 use crate::file_word::{FileWord, Role};
 use crate::files::{failed, must_differ, same_file};
 use crate::image_file::ImageFile;
+use crate::moved::Moved;
+use crate::out_file::OutFile;
 use crate::output::Output;
+use crate::phase::Phase;
+use crate::stats::Stats;
+use crate::stopwatch::Stopwatch;
 use crate::target::Target;
+use crate::timed_gate::TimedGate;
+use crate::timed_intake::TimedIntake;
+use crate::timed_outlet::TimedOutlet;
 use crate::trouble::Trouble;
 use crate::watched::Watched;
-use collector::{OpenGate, record_stream};
+use crate::workers::Workers;
+use collector::{Gate, record_stream};
 use command_line::Record;
 use heap_image::{Fault, Intake, Outlet, ToWrite};
 use std::os::unix::fs::FileExt;
 use std::rt::Files;
 use std::sync::Wait;
 use std::thread::Threads;
+use std::time::Clock;
 
 /// Collects one file into another and writes a third with the schedule, and answers what `record`
 /// prints.
-pub fn answer<'a, R: Files + AllocGlobal + Threads + Wait + Sync>(
+pub fn answer<'a, R: Files + AllocGlobal + Threads + Wait + Clock + Sync>(
     rt: &R,
     asked: Record<'a>,
 ) -> Result<Done<'a>, Trouble<'a>>
@@ -33,20 +44,33 @@ where
     R::File: FileExt + Sync,
     ensures { IfOk result (λ done. IsFigures done.text.items) }
 {
+    let watch = Stopwatch::start(rt, asked.stats);
     let (image, mut out, mut schedule) = image_out_and_schedule(rt, &asked)?;
-    let mut image = ImageFile::read_ahead(rt, image, asked.workers);
-    let line = record_into(
-        rt,
-        &mut image,
-        &mut ToWrite::new(&mut out.file),
-        &mut ToWrite::new(&mut schedule.file),
-        asked.workers,
-    );
-    match line {
-        Ok(line) => both_ended(rt, line, out, schedule),
+    let image = ImageFile::read_ahead(rt, image, asked.workers);
+    let mut image = TimedIntake::new(rt, watch, image);
+    let may_have_holes = out.may_have_holes;
+    let written = OutFile::new(&mut out.file, may_have_holes);
+    let mut output = TimedOutlet::new(rt, watch, written);
+    let mut lines = TimedOutlet::new(rt, watch, ToWrite::new(&mut schedule.file));
+    let gate = TimedGate::new(rt, watch);
+    let workers = Workers {
+        count: asked.workers,
+        gate: &gate,
+    };
+    let told = record_into(rt, &mut image, &mut output, &mut lines, workers);
+    let times = CollectionTimes::of(&image, &gate, &output);
+    let mut written = output.into_inner();
+    let told = written.end(told);
+    let laps = times.laps().then(Phase::Schedule, lines.ended());
+    match told {
+        Ok(FiguresLine { figures, line }) => {
+            let moved = Moved::of(figures, times.in_memory());
+            let stats = Stats::of_collection(watch, laps, moved, asked.workers);
+            Ok(both_ended(rt, line, out, schedule)?.with_stats(stats))
+        }
         Err(fault) => {
             let trouble = Trouble::from(fault)
-                .if_image(&image.into_inner())
+                .if_image(&image.into_inner().into_inner())
                 .if_failed(&out.file)
                 .if_failed(&schedule.file)
                 .if_workers(asked.workers);
@@ -126,6 +150,7 @@ fn both_ended<'a, H: Files>(
         text: line.into_bytes(),
         out,
         schedule: None,
+        stats: None,
     };
     match schedule.finish(host) {
         Ok(schedule) => {
@@ -140,26 +165,34 @@ fn both_ended<'a, H: Files>(
 }
 
 /// Collects the image that the input is the text of, writes the text of the compacted one, and then
-/// the schedule of all that the workers did. What it answers is for standard output: the figures.
+/// the schedule of all that the workers did. The line that it answers is for standard output: the figures.
 ///
 /// Nothing takes memory once a byte is written.
-pub fn record_into<R: AllocGlobal + Threads + Wait + Sync, I: Intake, O: Outlet, L: Outlet>(
+pub fn record_into<
+    R: AllocGlobal + Threads + Wait + Sync,
+    I: Intake,
+    O: Outlet,
+    L: Outlet,
+    G: Gate + Sync,
+>(
     rt: &R,
     input: &mut I,
     output: &mut O,
     lines: &mut L,
-    workers: u32,
-) -> Result<String, Fault>
-    ensures record { IfOk result (λ shown. IsRecording workers (I.left input.old) (I.left input.new)
+    workers: Workers<'_, G>,
+) -> Result<FiguresLine, Fault>
+    ensures record { IfOk result (λ told. IsRecording workers.entry.count (I.left input.old) (I.left input.new)
         (O.took output.old) (O.took output.new)
-        (L.took lines.old) (L.took lines.new) (string_bytes shown)) }
+        (L.took lines.old) (L.took lines.new) (string_bytes told.line)) }
+    ensures figures { IfOk result (λ told. string_bytes told.line ≡ figures_line told.figures) }
     ensures fault { IfErr result (λ fault. IsFirstOfBytes (I.left input.old) fault) }
 {
     let alloc = rt.alloc();
     let mut line = String::with_capacity(alloc, LINE_ROOM)?;
-    let figures = record_stream(alloc, input, output, lines, workers, &OpenGate, rt, rt)?;
+    let Workers { count, gate } = workers;
+    let figures = record_stream(alloc, input, output, lines, count, gate, rt, rt)?;
     tell_figures(figures, &mut line)?;
-    Ok(line)
+    Ok(FiguresLine { figures, line })
 }
 
 /// What the contract of the program says of `record`: it prints the

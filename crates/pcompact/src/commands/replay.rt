@@ -2,7 +2,7 @@
 ghost use Rattle.std.specs.Prelude.{◌≡◌, ℕ, List, IfOk, IfSome, codes};
 ghost use Rattle.history.specs.ScheduleText.{schedule_text};
 ghost use Rattle.pcompact.specs.Commands.{IsPrintedBy};
-ghost use Rattle.pcompact.specs.Commands.Replay.{IsReplay, IsReplayOf, end_line};
+ghost use Rattle.pcompact.specs.Commands.Replay.{IsReplayText, IsReplayOf, end_line};
 
 use crate::done::Done;
 use crate::file_word::{FileWord, Role};
@@ -23,7 +23,7 @@ pub fn answer<'a, R: Files + AllocGlobal + Threads + Sync>(
     rt: &R,
     asked: Replay<'a>,
 ) -> Result<Done<'a>, Trouble<'a>>
-    ensures { IfOk result (λ done. IsReplay done.text.items) }
+    ensures { IfOk result (λ done. IsReplayText done.text.items) }
 {
     let image = FileWord::new(Role::Image, asked.image);
     let schedule = FileWord::new(Role::Schedule, asked.schedule);
@@ -91,7 +91,7 @@ pub fn replay_text<R: Intake, S: Read, T: Threads + Sync>(
 }
 
 /// The schedule that a file has the text of.
-fn schedule_in<S: Read>(alloc: Global, file: &mut S) -> Result<Schedule, Unreplayed>
+pub fn schedule_in<S: Read>(alloc: Global, file: &mut S) -> Result<Schedule, Unreplayed>
     ensures { IfOk result (λ schedule. IfSome (S.remaining file.old) (λ bytes. bytes ≡ schedule_text schedule)) }
 {
     let mut text = Vec::new(alloc);
@@ -114,7 +114,7 @@ fn malformed(fault: Fault) -> Unreplayed {
 }
 
 /// A fault of the replay of a schedule.
-fn refused(alloc: Global, plan: &Plan, asked: &Schedule, fault: Fault) -> Unreplayed {
+pub fn refused(alloc: Global, plan: &Plan, asked: &Schedule, fault: Fault) -> Unreplayed {
     let line = match explain(alloc, plan, asked) {
         Ok(Some(refused)) if fault == Fault::Schedule(refused.number) => {
             Some(LineReason::Refused(refused.cause))
@@ -137,5 +137,5 @@ fn end_line(ended: &End) -> &'static str
 /// What the contract of the program says of `replay`: it prints the
 /// replay of some schedule on some valid image.
 pub fn replay_prints_a_replay()
-    ensures prints { (text : List ℕ) → IsPrintedBy (codes "replay") text → IsReplay text }
+    ensures prints { (text : List ℕ) → IsPrintedBy (codes "replay") text → IsReplayText text }
 {}

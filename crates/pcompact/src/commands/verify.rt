@@ -7,6 +7,11 @@ use crate::done::Done;
 use crate::failure::Failure;
 use crate::file_word::{FileWord, Role};
 use crate::files::two_inputs;
+use crate::laps::Laps;
+use crate::phase::Phase;
+use crate::stats::Stats;
+use crate::stopwatch::Stopwatch;
+use crate::timed_intake::TimedIntake;
 use crate::trouble::Trouble;
 use collector::{Verdict, verify};
 use command_line::Verify;
@@ -14,16 +19,21 @@ use heap_image::{Fault, FromRead, Intake, read_image_by_threads};
 use std::alloc::Global;
 use std::rt::Files;
 use std::thread::Threads;
+use std::time::Clock;
 
 /// What `verify` prints where one file has the compaction of another.
-pub fn answer<'a, R: Files + AllocGlobal + Threads + Sync>(
+pub fn answer<'a, R: Files + AllocGlobal + Threads + Clock + Sync>(
     rt: &R,
     asked: Verify<'a>,
 ) -> Result<Done<'a>, Trouble<'a>>
     ensures { IfOk result (λ done. done.text.items ≡ codes "same\n") }
 {
-    match compared(rt, &asked)? {
-        Verdict::Same => Ok(Done::printing(Vec::from_slice(rt.alloc(), b"same\n")?)),
+    let (verdict, stats) = compared(rt, &asked)?;
+    match verdict {
+        Verdict::Same => {
+            let text = Vec::from_slice(rt.alloc(), b"same\n")?;
+            Ok(Done::printing(text).with_stats(stats))
+        }
         difference => {
             let after = FileWord::new(Role::After, asked.after);
             Err(Trouble::new(Failure::Differs(difference)).about(after))
@@ -31,22 +41,26 @@ pub fn answer<'a, R: Files + AllocGlobal + Threads + Sync>(
     }
 }
 
-/// The verdict on two files, of which both are opened before one is read.
-fn compared<'a, R: Files + AllocGlobal + Threads + Sync>(
+/// The verdict on two files, of which both are opened before one is read, and what it took.
+fn compared<'a, R: Files + AllocGlobal + Threads + Clock + Sync>(
     rt: &R,
     asked: &Verify<'a>,
-) -> Result<Verdict, Trouble<'a>> {
+) -> Result<(Verdict, Stats), Trouble<'a>> {
+    let watch = Stopwatch::start(rt, asked.stats);
     let before = FileWord::new(Role::Before, asked.before);
     let after = FileWord::new(Role::After, asked.after);
     let (mut before, mut after) = two_inputs(rt, before, after)?;
-    let verdict = verify_images(
-        rt.alloc(),
-        &mut FromRead::new(&mut before),
-        &mut FromRead::new(&mut after),
-        rt,
-    );
+    let mut was = TimedIntake::new(rt, watch, FromRead::new(&mut before));
+    let mut is = TimedIntake::new(rt, watch, FromRead::new(&mut after));
+    let verdict = verify_images(rt.alloc(), &mut was, &mut is, rt);
+    let laps = Laps::new()
+        .then(Phase::ReadBefore, was.came())
+        .then(Phase::CheckBefore, was.ended())
+        .then(Phase::ReadAfter, is.came())
+        .then(Phase::CheckAfter, is.ended())
+        .then(Phase::Compare, watch.elapsed(rt));
     match verdict {
-        Ok(verdict) => Ok(verdict),
+        Ok(verdict) => Ok((verdict, Stats::of_comparison(watch, laps))),
         Err(Unverified::Before(fault)) => Err(Trouble::from(fault).if_image(&before)),
         Err(Unverified::After(fault)) => Err(Trouble::from(fault).if_image(&after)),
         Err(Unverified::Neither(fault)) => Err(Trouble::from(fault)),

@@ -10,7 +10,7 @@ ghost use Rattle.summary.specs.NewAddresses.{new_address, new_end_of, new_top, p
 ghost use Rattle.summary.specs.WordMoves.{slid};
 ghost use Rattle.summary.specs.Compaction.{redirected, is_reference_of, object_image, carried, moved_word, compacted_word, moved, compact};
 ghost use Rattle.summary.specs.SameGraph.{IsSameGraph};
-ghost use Rattle.summary.specs.RegionData.{addresses, fill_count};
+ghost use Rattle.summary.specs.RegionData.{region_addresses, fill_count};
 
 /// The image after a collection is valid again.
 pub fn compaction_is_valid()
@@ -84,21 +84,21 @@ pub fn compaction_by_objects()
 /// The block of a region is its words address by address.
 pub fn blocks_of_regions()
     ensures compacted { (image : HeapImage) → (r : ℕ) → r < region_count image
-        → block_of (compact image) r ≡ map (compacted_word image) (addresses image r) }
+        → block_of (compact image) r ≡ map (compacted_word image) (region_addresses image r) }
     ensures moved { (image : HeapImage) → (r : ℕ) → r < region_count image
-        → block_of (moved image) r ≡ map (moved_word image) (addresses image r) }
+        → block_of (moved image) r ≡ map (moved_word image) (region_addresses image r) }
     ensures old { (image : HeapImage) → (r : ℕ) → r < region_count image
-        → block_of image r ≡ map (word_at image) (addresses image r) }
+        → block_of image r ≡ map (word_at image) (region_addresses image r) }
     ensures kept { (image : HeapImage) → (r : ℕ) → new_top image ≤ start_of image r → r < region_count image
         → block_of (moved image) r ≡ block_of image r }
     ensures moved_length { (image : HeapImage) → heap_words (moved image) ≡ heap_words image }
     ensures compacted_length { (image : HeapImage) → heap_words (compact image) ≡ heap_words image }
     ensures moved_joined { (image : HeapImage) → IsValid image
         → (moved image).words
-        ≡ flat_map (λ r. map (moved_word image) (addresses image r)) (range_with_len 0
+        ≡ flat_map (λ r. map (moved_word image) (region_addresses image r)) (range_with_len 0
         (region_count image)) }
     ensures compacted_joined { (image : HeapImage) → IsValid image
         → (compact image).words
-        ≡ flat_map (λ r. map (compacted_word image) (addresses image r)) (range_with_len 0
+        ≡ flat_map (λ r. map (compacted_word image) (region_addresses image r)) (range_with_len 0
         (region_count image)) }
 {}

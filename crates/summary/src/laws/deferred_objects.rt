@@ -9,7 +9,7 @@ ghost use Rattle.heap_image.specs.HeapImage.{HeapImage, HasLiveList, heap_words,
 ghost use Rattle.summary.specs.LiveObjects.{object_count, object_at};
 ghost use Rattle.summary.specs.NewAddresses.{new_address, new_end_of, new_top};
 ghost use Rattle.summary.specs.Compaction.{redirected, object_image, is_deferred, carried, moved_word, compacted_word, moved, compact};
-ghost use Rattle.summary.specs.RegionData.{addresses, deferred};
+ghost use Rattle.summary.specs.RegionData.{region_addresses, deferred};
 ghost use Rattle.summary.specs.Updates.{is_late_reference, updated_word};
 
 /// At most one deferred object begins in a region at its new address, and that address is told for the region.
@@ -88,6 +88,6 @@ pub fn update_then_clear()
         → deferred image e ≡ Some y → x < p → p ≤ x + references_of (moved_word image x) → y < p
         → p ≤ y + references_of (moved_word image y) → (d ≡ e) × (x ≡ y) }
     ensures blocks { (image : HeapImage) → HasLiveList image → (r : ℕ)
-        → map (updated_word image) (addresses image r)
-        ≡ map (compacted_word image) (addresses image r) }
+        → map (updated_word image) (region_addresses image r)
+        ≡ map (compacted_word image) (region_addresses image r) }
 {}

@@ -18,4 +18,5 @@ returns c =
     let order = c.in_ok-subcommand-10.ensures.shape c.in_ok-words-9.ensures.local ∙ ap₂ with_subcommand generate (ap top_is c.in_ok-words-9.ensures.app) in
     let text = c.in_ok-subcommand-11.ensures.shape c.in_ok-words-10.ensures.local ∙ ap₂ with_subcommand order (ap top_is c.in_ok-words-10.ensures.app) in
     let assemble = c.in_ok-subcommand-12.ensures.shape c.in_ok-words-11.ensures.local ∙ ap₂ with_subcommand text (ap top_is c.in_ok-words-11.ensures.app) in
-    IfOk-weaker c.subcommand-13.result _ _ (λ command added. added.shape c.in_ok-words-12.ensures.local ∙ ap₂ with_subcommand assemble (ap top_is c.in_ok-words-12.ensures.app)) c.subcommand-13.ensures
+    let map = c.in_ok-subcommand-13.ensures.shape c.in_ok-words-12.ensures.local ∙ ap₂ with_subcommand assemble (ap top_is c.in_ok-words-12.ensures.app) in
+    IfOk-weaker c.subcommand-14.result _ _ (λ command added. added.shape c.in_ok-words-13.ensures.local ∙ ap₂ with_subcommand map (ap top_is c.in_ok-words-13.ensures.app)) c.subcommand-14.ensures

@@ -14,7 +14,8 @@ returns-clause-app c =
     let step2 = c.in_ok-arg-3.ensures.shape c.file-2.ensures.local ∙ ap₂ with_rule step1 c.file-2.ensures.rule in
     let step3 = c.in_ok-arg-4.ensures.shape c.workers.ensures.local ∙ ap₂ with_rule step2 c.workers.ensures.rule in
     let step4 = c.in_ok-arg-5.ensures.shape c.atomic.ensures.local ∙ ap₂ with_rule step3 c.atomic.ensures.rule in
-    IfOk-weaker c.arg-6.result _ _ (λ command added. added.shape c.verbose.ensures.local ∙ ap₂ with_rule step4 c.verbose.ensures.rule) c.arg-6.ensures
+    let step5 = c.in_ok-arg-6.ensures.shape c.stats.ensures.local ∙ ap₂ with_rule step4 c.stats.ensures.rule in
+    IfOk-weaker c.arg-7.result _ _ (λ command added. added.shape c.verbose.ensures.local ∙ ap₂ with_rule step5 c.verbose.ensures.rule) c.arg-7.ensures
 
 pub returns-clause-local : goal.returns-clause-local
 returns-clause-local c =
@@ -24,4 +25,5 @@ returns-clause-local c =
     let step2 = c.in_ok-arg-3.ensures.globals ∙ ap₂ ◌||◌ step1 c.file-2.ensures.local in
     let step3 = c.in_ok-arg-4.ensures.globals ∙ ap₂ ◌||◌ step2 c.workers.ensures.local in
     let step4 = c.in_ok-arg-5.ensures.globals ∙ ap₂ ◌||◌ step3 c.atomic.ensures.local in
-    IfOk-weaker c.arg-6.result _ _ (λ command added. added.globals ∙ ap₂ ◌||◌ step4 c.verbose.ensures.local) c.arg-6.ensures
+    let step5 = c.in_ok-arg-6.ensures.globals ∙ ap₂ ◌||◌ step4 c.stats.ensures.local in
+    IfOk-weaker c.arg-7.result _ _ (λ command added. added.globals ∙ ap₂ ◌||◌ step5 c.verbose.ensures.local) c.arg-7.ensures

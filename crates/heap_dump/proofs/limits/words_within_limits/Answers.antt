@@ -18,7 +18,7 @@ returns-clause-limits c =
       region_log_high = c.requires.high;
       not_empty = omega arith;
       whole_regions = ap (λ n. n % 2 ^ log) long ∙ mul-mod_left (length regions) (2 ^ log);
-      few_words = c.if-words-gt-MAX_WORDS.false;
+      few_words = c.if-words-gt-MAX_HEAP_WORDS.false;
       few_regions = omega arith;
       few_live = omega arith;
     }

@@ -2,7 +2,7 @@ use Rattle.std.proofs.Common.{◌≡◌, ◌+◌, ◌*◌, ◌++◌, [], arith}
 use Rattle.std.proofs.lemmas.Result.{err_from_is_err_and}
 use Rattle.std.specs.List.{concat}
 use Rattle.heap_image.specs.ImageText.{numbers}
-use Rattle.heap_image.specs.Incoming.{expected, known_rest, held_bytes}
+use Rattle.heap_image.specs.Incoming.{expected, known_rest, unread_bytes}
 use Rattle.heap_image.specs.declared.fault.Fault.TheVariants.{TruncatedBody}
 use Rattle.heap_image.proofs.Known.{consumes_more, same_error}
 use Rattle.heap_image.proofs.Reading.{still_short, short_of_device, none_held}
@@ -41,7 +41,7 @@ returns-in_err-read-clause-truncated g c =
     rw (p.1, p.2) (λ e. let t = c.in_err-read.ensures.truncated (same_error c.in_err-read.field-0.0 TruncatedBody e) in
     let short = still_short start worded (concat c.in_ok-regions.regions.items) (expected c.new-incoming.result) (expected c.read_regions.new.incoming) taken (omega arith) t.1 in
     let wanted : expected c.new-incoming.result ≡ c.args.front.words + c.args.front.count = omega arith in
-    (t.0, rw (← wanted) (short_of_device (held_bytes c.new-incoming.result) (g.R.Intake.left c.args.reader.now) (8 * expected c.new-incoming.result) (none_held c.new-incoming.result.bytes c.new-incoming.result.start c.new-incoming.result.end none) short)))
+    (t.0, rw (← wanted) (short_of_device (unread_bytes c.new-incoming.result) (g.R.Intake.left c.args.reader.now) (8 * expected c.new-incoming.result) (none_held c.new-incoming.result.bytes c.new-incoming.result.start c.new-incoming.result.end none) short)))
 
 pub returns-in_err-read-clause-lost : goal.returns-in_err-read-clause-lost
 returns-in_err-read-clause-lost g c =

@@ -2,7 +2,7 @@ use Rattle.std.proofs.Common.{◌≡◌, ◌*◌, length, ap, subst, ◌∙◌}
 use Rattle.std.specs.List.{concat}
 use Rattle.std.specs.Io.KnownBytes.{Consumes}
 use Rattle.heap_image.specs.ImageText.{numbers}
-use Rattle.heap_image.specs.Incoming.{held_bytes, known_rest}
+use Rattle.heap_image.specs.Incoming.{unread_bytes, known_rest}
 use Rattle.heap_image.specs.Extents.{from_place, extent_words}
 use Rattle.heap_image.proofs.Extents.{consumes_at}
 use Rattle.heap_image.proofs.Reading.{consumes_of_device, none_held}
@@ -22,7 +22,7 @@ returns-in-Ok g c =
     let behind = c.read_regions.new.reader in
     let after = known_rest c.read_regions.new.incoming (from_place (g.S.Store.bytes behind.store.now) behind.at) in
     let none = none_held incoming.bytes incoming.start incoming.end c.new-incoming.ensures.none_held in
-    let taken : Consumes (from_place (g.S.Store.bytes cursor.store.now) cursor.at) after bytes = consumes_of_device (held_bytes incoming) (from_place (g.S.Store.bytes cursor.store.now) cursor.at) after bytes none read.bytes in
+    let taken : Consumes (from_place (g.S.Store.bytes cursor.store.now) cursor.at) after bytes = consumes_of_device (unread_bytes incoming) (from_place (g.S.Store.bytes cursor.store.now) cursor.at) after bytes none read.bytes in
     let long : length bytes ≡ 8 * extent_words extent = length-numbers (concat c.in-Ok.regions.items) ∙ ap (λ n. 8 * n) read.words in
     record {
       blocks = read.regions;

@@ -4,7 +4,7 @@ use Rattle.std.proofs.lemmas.Result.{err_from_is_err_and}
 use Rattle.std.specs.Io.KnownBytes.{Appends}
 use Rattle.heap_image.specs.HeapImage.{region_words, region_count, block_of}
 use Rattle.heap_image.specs.ImageText.{numbers, text, with_tail}
-use Rattle.heap_image.specs.Outgoing.{held_bytes, Sends, TakesBeginning}
+use Rattle.heap_image.specs.Outgoing.{unsent_bytes, Sends, TakesBeginning}
 use Rattle.heap_image.proofs.Sending.{beginning_of_first, sends_none, sends_first, sends_on, sends_more, failed_piece, all_sent, first, front_is, text_split, block_first, block_more, all_blocks}
 use Rattle.heap_image.proofs.write.write_image.Goals as goal
 
@@ -21,9 +21,45 @@ returns-in_err-give_all-clause-beginning g c =
 pub loop-r-init : goal.loop-r-init
 loop-r-init g c = record {
   in_range = c.new-outgoing.ensures.in_range;
-  sent = let none : 0 * region_words c.args.image.now ≡ 0 = omega arith in rw none (sends_none (g.W.Outlet.took c.give_all.new.writer) (held_bytes c.new-outgoing.result));
+  sent = let none : 0 * region_words c.args.image.now ≡ 0 = omega arith in rw none (sends_none (g.W.Outlet.took c.give_all.new.writer) (unsent_bytes c.new-outgoing.result));
   failed = refl;
 }
+
+pub returns-in_err-write_region-clause-beginning : goal.returns-in_err-write_region-clause-beginning
+returns-in_err-write_region-clause-beginning g c =
+    let p = err_from_is_err_and c.from_residual-in_err-write_region.result c.from_residual-in_err-write_region.ensures.1 in
+    let image = c.args.image.now in
+    let start = g.W.Outlet.took c.args.writer.now in
+    let fronted = g.W.Outlet.took c.give_all.new.writer in
+    let front_bytes : c.to_bytes.result ≡ first image = front_is image c.version.result c.region_log.result c.tail.result.now c.len.result c.allowance.result c.to_bytes.result c.version.ensures c.region_log.ensures.value c.tail.ensures.value c.len.ensures.value c.allowance.ensures c.to_bytes.ensures in
+    let opened : Sends start fronted [] [] (first image) = sends_first start fronted (first image) (subst (λ bytes. Appends start fronted bytes) front_bytes c.in_ok-give_all.ensures.bytes) in
+    let so_far = c.loop-r.invariant in
+    let written = numbers (take (c.loop-r.r * region_words image) image.words) in
+    let looped = g.W.Outlet.took c.loop-r.writer in
+    let sent : Sends start looped [] (unsent_bytes c.loop-r.outgoing) (first image ++ written) = sends_on start fronted looped (unsent_bytes c.new-outgoing.result) (unsent_bytes c.loop-r.outgoing) (first image) written c.new-outgoing.ensures.held opened so_far.sent in
+    let block : c.region.result.now ≡ block_of image c.loop-r.r = c.region.ensures in
+    let end = g.W.Outlet.took c.write_region.new.writer in
+    let behind = numbers (drop (region_words image) (drop (c.loop-r.r * region_words image) image.words)) in
+    let begun : TakesBeginning looped end (unsent_bytes c.loop-r.outgoing ++ numbers (block_of image c.loop-r.r)) = subst (λ b. TakesBeginning looped end (unsent_bytes c.loop-r.outgoing ++ numbers b)) block c.in_err-write_region.ensures.beginning in
+    let whole : (first image ++ written) ++ (numbers (block_of image c.loop-r.r) ++ (behind ++ numbers (with_tail image).live)) ≡ text image =
+    ap (λ l. (first image ++ written) ++ l) (sym (append_assoc (numbers (block_of image c.loop-r.r)) behind (numbers (with_tail image).live)) ∙ ap (λ l. l ++ numbers (with_tail image).live) (sym (block_first image c.loop-r.r))) ∙ text_split image (c.loop-r.r * region_words image) in
+    rw (p.1) (failed_piece start looped end (unsent_bytes c.loop-r.outgoing) (first image ++ written) (numbers (block_of image c.loop-r.r)) (behind ++ numbers (with_tail image).live) (text image) sent begun whole)
+
+pub loop-r-preserved : goal.loop-r-preserved
+loop-r-preserved g c =
+    let image = c.args.image.now in
+    let so_far = c.loop-r.invariant in
+    let fronted = g.W.Outlet.took c.give_all.new.writer in
+    let looped = g.W.Outlet.took c.loop-r.writer in
+    let end = g.W.Outlet.took c.write_region.new.writer in
+    let block : c.region.result.now ≡ block_of image c.loop-r.r = c.region.ensures in
+    let more = sends_more fronted looped end (unsent_bytes c.new-outgoing.result) (unsent_bytes c.loop-r.outgoing) (unsent_bytes c.write_region.new.self) (numbers (take (c.loop-r.r * region_words image) image.words)) (numbers c.region.result.now) so_far.sent c.in_ok-write_region.ensures.bytes in
+    let grown = ap (λ b. numbers (take (c.loop-r.r * region_words image) image.words) ++ numbers b) block ∙ sym (block_more image c.loop-r.r) in
+    record {
+      in_range = c.in_ok-write_region.ensures.in_range;
+      sent = subst (λ bytes. Sends fronted end (unsent_bytes c.new-outgoing.result) (unsent_bytes c.write_region.new.self) bytes) grown more;
+      failed = c.in_ok-write_region.ensures.failed ∙ so_far.failed;
+    }
 
 pub returns-in_err-write-clause-beginning : goal.returns-in_err-write-clause-beginning
 returns-in_err-write-clause-beginning g c =
@@ -36,51 +72,15 @@ returns-in_err-write-clause-beginning g c =
     let so_far = c.loop-r.invariant in
     let written = numbers (take (c.loop-r.r * region_words image) image.words) in
     let looped = g.W.Outlet.took c.loop-r.writer in
-    let sent : Sends start looped [] (held_bytes c.loop-r.outgoing) (first image ++ written) = sends_on start fronted looped (held_bytes c.new-outgoing.result) (held_bytes c.loop-r.outgoing) (first image) written c.new-outgoing.ensures.held opened so_far.sent in
-    let block : c.words.result.now ≡ block_of image c.loop-r.r = c.words.ensures.value ∙ c.region.ensures in
-    let end = g.W.Outlet.took c.write.new.writer in
-    let behind = numbers (drop (region_words image) (drop (c.loop-r.r * region_words image) image.words)) in
-    let begun : TakesBeginning looped end (held_bytes c.loop-r.outgoing ++ numbers (block_of image c.loop-r.r)) = subst (λ b. TakesBeginning looped end (held_bytes c.loop-r.outgoing ++ numbers b)) block c.in_err-write.ensures.beginning in
-    let whole : (first image ++ written) ++ (numbers (block_of image c.loop-r.r) ++ (behind ++ numbers (with_tail image).live)) ≡ text image =
-    ap (λ l. (first image ++ written) ++ l) (sym (append_assoc (numbers (block_of image c.loop-r.r)) behind (numbers (with_tail image).live)) ∙ ap (λ l. l ++ numbers (with_tail image).live) (sym (block_first image c.loop-r.r))) ∙ text_split image (c.loop-r.r * region_words image) in
-    rw (p.1) (failed_piece start looped end (held_bytes c.loop-r.outgoing) (first image ++ written) (numbers (block_of image c.loop-r.r)) (behind ++ numbers (with_tail image).live) (text image) sent begun whole)
-
-pub loop-r-preserved : goal.loop-r-preserved
-loop-r-preserved g c =
-    let image = c.args.image.now in
-    let so_far = c.loop-r.invariant in
-    let fronted = g.W.Outlet.took c.give_all.new.writer in
-    let looped = g.W.Outlet.took c.loop-r.writer in
-    let end = g.W.Outlet.took c.write.new.writer in
-    let block : c.words.result.now ≡ block_of image c.loop-r.r = c.words.ensures.value ∙ c.region.ensures in
-    let more = sends_more fronted looped end (held_bytes c.new-outgoing.result) (held_bytes c.loop-r.outgoing) (held_bytes c.write.new.self) (numbers (take (c.loop-r.r * region_words image) image.words)) (numbers c.words.result.now) so_far.sent c.in_ok-write.ensures.bytes in
-    let grown = ap (λ b. numbers (take (c.loop-r.r * region_words image) image.words) ++ numbers b) block ∙ sym (block_more image c.loop-r.r) in
-    record {
-      in_range = c.in_ok-write.ensures.in_range;
-      sent = subst (λ bytes. Sends fronted end (held_bytes c.new-outgoing.result) (held_bytes c.write.new.self) bytes) grown more;
-      failed = c.in_ok-write.ensures.failed ∙ so_far.failed;
-    }
-
-pub returns-in_err-write-2-clause-beginning : goal.returns-in_err-write-2-clause-beginning
-returns-in_err-write-2-clause-beginning g c =
-    let p = err_from_is_err_and c.from_residual-in_err-write-2.result c.from_residual-in_err-write-2.ensures.1 in
-    let image = c.args.image.now in
-    let start = g.W.Outlet.took c.args.writer.now in
-    let fronted = g.W.Outlet.took c.give_all.new.writer in
-    let front_bytes : c.to_bytes.result ≡ first image = front_is image c.version.result c.region_log.result c.tail.result.now c.len.result c.allowance.result c.to_bytes.result c.version.ensures c.region_log.ensures.value c.tail.ensures.value c.len.ensures.value c.allowance.ensures c.to_bytes.ensures in
-    let opened : Sends start fronted [] [] (first image) = sends_first start fronted (first image) (subst (λ bytes. Appends start fronted bytes) front_bytes c.in_ok-give_all.ensures.bytes) in
-    let so_far = c.loop-r.invariant in
-    let written = numbers (take (c.loop-r.r * region_words image) image.words) in
-    let looped = g.W.Outlet.took c.loop-r.writer in
-    let sent : Sends start looped [] (held_bytes c.loop-r.outgoing) (first image ++ written) = sends_on start fronted looped (held_bytes c.new-outgoing.result) (held_bytes c.loop-r.outgoing) (first image) written c.new-outgoing.ensures.held opened so_far.sent in
+    let sent : Sends start looped [] (unsent_bytes c.loop-r.outgoing) (first image ++ written) = sends_on start fronted looped (unsent_bytes c.new-outgoing.result) (unsent_bytes c.loop-r.outgoing) (first image) written c.new-outgoing.ensures.held opened so_far.sent in
     let valid = c.region_log.ensures.valid in
     let count : c.loop-r.r ≡ region_count image = let last = c.loop-r-test.false in let upto = c.loop-r.auto in let is = c.regions-r-end.ensures.value in omega arith in
     let words : numbers (take (c.loop-r.r * region_words image) image.words) ≡ numbers image.words = ap numbers (all_blocks image valid c.loop-r.r count) in
     let live : c.tail-2.result.now ≡ (with_tail image).live = c.tail-2.ensures.value in
-    let end = g.W.Outlet.took c.write-2.new.writer in
-    let begun : TakesBeginning looped end (held_bytes c.loop-r.outgoing ++ numbers (with_tail image).live) = subst (λ l. TakesBeginning looped end (held_bytes c.loop-r.outgoing ++ numbers l)) live c.in_err-write-2.ensures.beginning in
+    let end = g.W.Outlet.took c.write.new.writer in
+    let begun : TakesBeginning looped end (unsent_bytes c.loop-r.outgoing ++ numbers (with_tail image).live) = subst (λ l. TakesBeginning looped end (unsent_bytes c.loop-r.outgoing ++ numbers l)) live c.in_err-write.ensures.beginning in
     let whole : (first image ++ written) ++ (numbers (with_tail image).live ++ []) ≡ text image = ap (λ l. (first image ++ written) ++ l) (append-nil (numbers (with_tail image).live)) ∙ ap (λ w. (first image ++ w) ++ numbers (with_tail image).live) words in
-    rw (p.1) (failed_piece start looped end (held_bytes c.loop-r.outgoing) (first image ++ written) (numbers (with_tail image).live) [] (text image) sent begun whole)
+    rw (p.1) (failed_piece start looped end (unsent_bytes c.loop-r.outgoing) (first image ++ written) (numbers (with_tail image).live) [] (text image) sent begun whole)
 
 pub returns-in_err-flush-clause-beginning : goal.returns-in_err-flush-clause-beginning
 returns-in_err-flush-clause-beginning g c =
@@ -93,17 +93,17 @@ returns-in_err-flush-clause-beginning g c =
     let so_far = c.loop-r.invariant in
     let written = numbers (take (c.loop-r.r * region_words image) image.words) in
     let looped = g.W.Outlet.took c.loop-r.writer in
-    let sent : Sends start looped [] (held_bytes c.loop-r.outgoing) (first image ++ written) = sends_on start fronted looped (held_bytes c.new-outgoing.result) (held_bytes c.loop-r.outgoing) (first image) written c.new-outgoing.ensures.held opened so_far.sent in
+    let sent : Sends start looped [] (unsent_bytes c.loop-r.outgoing) (first image ++ written) = sends_on start fronted looped (unsent_bytes c.new-outgoing.result) (unsent_bytes c.loop-r.outgoing) (first image) written c.new-outgoing.ensures.held opened so_far.sent in
     let valid = c.region_log.ensures.valid in
     let count : c.loop-r.r ≡ region_count image = let last = c.loop-r-test.false in let upto = c.loop-r.auto in let is = c.regions-r-end.ensures.value in omega arith in
     let words : numbers (take (c.loop-r.r * region_words image) image.words) ≡ numbers image.words = ap numbers (all_blocks image valid c.loop-r.r count) in
     let live : c.tail-2.result.now ≡ (with_tail image).live = c.tail-2.ensures.value in
-    let listed = g.W.Outlet.took c.write-2.new.writer in
+    let listed = g.W.Outlet.took c.write.new.writer in
     let end = g.W.Outlet.took c.flush.new.writer in
-    let all : Sends start listed [] (held_bytes c.write-2.new.self) ((first image ++ written) ++ numbers c.tail-2.result.now) = sends_more start looped listed [] (held_bytes c.loop-r.outgoing) (held_bytes c.write-2.new.self) (first image ++ written) (numbers c.tail-2.result.now) sent c.in_ok-write-2.ensures.bytes in
-    let begun : TakesBeginning listed end (held_bytes c.write-2.new.self ++ []) = subst (λ bytes. TakesBeginning listed end bytes) (sym (append-nil (held_bytes c.write-2.new.self))) c.in_err-flush.ensures.beginning in
+    let all : Sends start listed [] (unsent_bytes c.write.new.self) ((first image ++ written) ++ numbers c.tail-2.result.now) = sends_more start looped listed [] (unsent_bytes c.loop-r.outgoing) (unsent_bytes c.write.new.self) (first image ++ written) (numbers c.tail-2.result.now) sent c.in_ok-write.ensures.bytes in
+    let begun : TakesBeginning listed end (unsent_bytes c.write.new.self ++ []) = subst (λ bytes. TakesBeginning listed end bytes) (sym (append-nil (unsent_bytes c.write.new.self))) c.in_err-flush.ensures.beginning in
     let whole : ((first image ++ written) ++ numbers c.tail-2.result.now) ++ ([] ++ []) ≡ text image = append-nil ((first image ++ written) ++ numbers c.tail-2.result.now) ∙ ap (λ l. (first image ++ written) ++ numbers l) live ∙ ap (λ w. (first image ++ w) ++ numbers (with_tail image).live) words in
-    rw (p.1) (failed_piece start listed end (held_bytes c.write-2.new.self) ((first image ++ written) ++ numbers c.tail-2.result.now) [] [] (text image) all begun whole)
+    rw (p.1) (failed_piece start listed end (unsent_bytes c.write.new.self) ((first image ++ written) ++ numbers c.tail-2.result.now) [] [] (text image) all begun whole)
 
 pub returns-clause-text : goal.returns-clause-text
 returns-clause-text g c =
@@ -115,13 +115,13 @@ returns-clause-text g c =
     let so_far = c.loop-r.invariant in
     let written = numbers (take (c.loop-r.r * region_words image) image.words) in
     let looped = g.W.Outlet.took c.loop-r.writer in
-    let sent : Sends start looped [] (held_bytes c.loop-r.outgoing) (first image ++ written) = sends_on start fronted looped (held_bytes c.new-outgoing.result) (held_bytes c.loop-r.outgoing) (first image) written c.new-outgoing.ensures.held opened so_far.sent in
+    let sent : Sends start looped [] (unsent_bytes c.loop-r.outgoing) (first image ++ written) = sends_on start fronted looped (unsent_bytes c.new-outgoing.result) (unsent_bytes c.loop-r.outgoing) (first image) written c.new-outgoing.ensures.held opened so_far.sent in
     let valid = c.region_log.ensures.valid in
     let count : c.loop-r.r ≡ region_count image = let last = c.loop-r-test.false in let upto = c.loop-r.auto in let is = c.regions-r-end.ensures.value in omega arith in
     let words : numbers (take (c.loop-r.r * region_words image) image.words) ≡ numbers image.words = ap numbers (all_blocks image valid c.loop-r.r count) in
     let live : c.tail-2.result.now ≡ (with_tail image).live = c.tail-2.ensures.value in
-    let listed = g.W.Outlet.took c.write-2.new.writer in
+    let listed = g.W.Outlet.took c.write.new.writer in
     let end = g.W.Outlet.took c.flush.new.writer in
-    let all : Sends start listed [] (held_bytes c.write-2.new.self) ((first image ++ written) ++ numbers c.tail-2.result.now) = sends_more start looped listed [] (held_bytes c.loop-r.outgoing) (held_bytes c.write-2.new.self) (first image ++ written) (numbers c.tail-2.result.now) sent c.in_ok-write-2.ensures.bytes in
+    let all : Sends start listed [] (unsent_bytes c.write.new.self) ((first image ++ written) ++ numbers c.tail-2.result.now) = sends_more start looped listed [] (unsent_bytes c.loop-r.outgoing) (unsent_bytes c.write.new.self) (first image ++ written) (numbers c.tail-2.result.now) sent c.in_ok-write.ensures.bytes in
     let whole : (first image ++ written) ++ numbers c.tail-2.result.now ≡ text image = ap (λ l. (first image ++ written) ++ numbers l) live ∙ ap (λ w. (first image ++ w) ++ numbers (with_tail image).live) words in
-    subst (λ bytes. Appends start end bytes) whole (all_sent start listed end (held_bytes c.write-2.new.self) ((first image ++ written) ++ numbers c.tail-2.result.now) all c.in_ok-flush.ensures.bytes)
+    subst (λ bytes. Appends start end bytes) whole (all_sent start listed end (unsent_bytes c.write.new.self) ((first image ++ written) ++ numbers c.tail-2.result.now) all c.in_ok-flush.ensures.bytes)

@@ -2,7 +2,7 @@ use Rattle.std.proofs.Common.{◌≡◌, ◌<◌, ℕ, List, length, get_or, ap,
 use Rattle.std.specs.Prelude.{slice_index}
 use Rattle.std.proofs.lemmas.List.{get_or_default}
 use Rattle.history.specs.MoveTable.{MoveTable, region_count, Slides}
-use Rattle.history.proofs.Openings.{AreTallies-more, tally_le}
+use Rattle.history.proofs.Openings.{ArePairCounts-more, tally_le}
 use Rattle.history.proofs.tallies.count_sources.Goals as goal
 
 pub overflow_add-index_mut : goal.overflow_add-index_mut
@@ -33,4 +33,4 @@ loop-destination-preserved c =
     let inside' : (get_or m.pairs i (0, 0)).0 < region_count m = omega arith in
     let at : c.index_mut.result.now ≡ slice_index c.loop-destination.counts.items (get_or m.pairs i (0, 0)).0 =
     c.index_mut.ensures.value ∙ (ap (λ (ps : List (ℕ × ℕ)). get_or c.loop-destination.counts.items (get_or ps i (0, 0)).0 c.index_mut.result.now) same ∙ get_or_default c.loop-destination.counts.items (get_or m.pairs i (0, 0)).0 c.index_mut.result.now 0 (rw c.loop-destination.invariant.all inside')) in
-    rw (at, same) (AreTallies-more m (λ pair. pair.0) m.pairs i (0, 0) c.loop-destination.counts.items lt inside' c.loop-destination.invariant)
+    rw (at, same) (ArePairCounts-more m (λ pair. pair.0) m.pairs i (0, 0) c.loop-destination.counts.items lt inside' c.loop-destination.invariant)

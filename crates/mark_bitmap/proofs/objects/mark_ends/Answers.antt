@@ -1,36 +1,38 @@
-use Rattle.std.proofs.Common.{◌≡◌, ℕ, ◌+◌, ◌-◌, ◌*◌, ◌||◌, inl, inr, min, List, ◌++◌, length, take, drop, ap, ◌∙◌, sym, eqb, arith}
+use Rattle.std.proofs.Common.{◌≡◌, ℕ, ◌+◌, ◌*◌, ◌/◌, ◌<◌, ◌||◌, Bool, length, take, drop, refl, ap, ◌∙◌, sym, eqb, arith}
 use Rattle.std.specs.List.{list_any}
 use Rattle.std.proofs.Math.Seq.{take-add}
-use Rattle.std.proofs.lemmas.Bool.{cases_lt}
-use Rattle.std.proofs.lemmas.List.{take_all, length-drop}
 use Rattle.std.proofs.lemmas.List.Folds.{list_any-append}
 use Rattle.heap_image.specs.HeapImage.{HeapImage, end_of}
+use Rattle.mark_bitmap.proofs.PartBits.{none_set, none_ends_before, those_before_end}
 use Rattle.mark_bitmap.proofs.objects.mark_ends.Goals as goal
 
--- one more piece of a list, whose last piece may be shorter
-piece-more : (xs : List ℕ) (p to : ℕ) → to ≡ min (length xs) (p + 64) → take (p + 64) xs ≡ take p xs ++ take (to - p) (drop p xs)
-piece-more xs p to is = take-add p 64 xs ∙ ap (λ l. take p xs ++ l) same
-  where
-    same : take 64 (drop p xs) ≡ take (to - p) (drop p xs)
-    same = elim (cases_lt (length xs) (p + 64)) [
-      | inl short ↦
-          let rest : length (drop p xs) ≡ length xs - p = length-drop p xs in
-          take_all 64 (drop p xs) (omega arith) ∙ sym (take_all (to - p) (drop p xs) (omega arith))
-      | inr long ↦ let n : 64 ≡ to - p = omega arith in ap (λ m. take m (drop p xs)) n
-    ]
+pub loop-piece-init : goal.loop-piece-init
+loop-piece-init c = (
+  refl,
+  (λ k inside.
+      let image : HeapImage = c.args.image.now in
+      none_set c.args.ends.now c.requires.no_ends k
+      ∙ sym (none_ends_before image c.requires.valid (64 * c.args.start) c.first_from.result (64 * (c.saturating_sub-first.result / 64)) (64 * c.args.start + k + 1) c.first_from.ensures (omega (arith, c.saturating_sub-first.ensures)) (omega arith))),
+)
 
 pub loop-piece-preserved : goal.loop-piece-preserved
-loop-piece-preserved c =
+loop-piece-preserved c = (
+  c.mark_ends_of.ensures.room ∙ c.loop-piece.invariant.0,
+  (λ k inside.
+      let image : HeapImage = c.args.image.now in
+      let p : ℕ = 64 * c.loop-piece.piece in
+      let next : 64 * (c.loop-piece.piece + 1) ≡ p + 64 = omega arith in
+      let ends : ℕ → Bool = λ a. eqb (end_of image a) (64 * c.args.start + k + 1) in
+      c.mark_ends_of.ensures.bits k (omega (arith, c.loop-piece.invariant.0, inside))
+      ∙ ap (λ b. b || list_any ends (take 64 (drop p image.live))) (c.loop-piece.invariant.1 k inside)
+      ∙ sym (list_any-append ends (take p image.live) (take 64 (drop p image.live)))
+      ∙ ap (list_any ends) (sym (take-add p 64 image.live))
+      ∙ ap (λ n. list_any ends (take n image.live)) (sym next)),
+)
+
+pub returns-clause-bits : goal.returns-clause-bits
+returns-clause-bits c = λ k inside.
     let image : HeapImage = c.args.image.now in
-    let items : List ℕ = c.live-objects.result.now in
-    let p : ℕ = c.loop-piece.piece * 64 in
-    let to : ℕ = c.min-to.result in
-    let next : (c.loop-piece.piece + 1) * 64 ≡ p + 64 = omega arith in (
-      c.mark_ends_of.ensures.room ∙ c.loop-piece.invariant.0,
-      (λ k. c.mark_ends_of.ensures.bits k
-          ∙ ap (λ b. b || list_any (λ a. eqb (end_of image a) (k + 1)) (take (to - p) (drop p items))) (c.loop-piece.invariant.1 k)
-          ∙ ap (λ (l : List ℕ). list_any (λ a. eqb (end_of image a) (k + 1)) (take p image.live) || list_any (λ a. eqb (end_of image a) (k + 1)) (take (to - p) (drop p l))) c.live-objects.ensures.value
-          ∙ sym (list_any-append (λ a. eqb (end_of image a) (k + 1)) (take p image.live) (take (to - p) (drop p image.live)))
-          ∙ ap (list_any (λ a. eqb (end_of image a) (k + 1))) (sym (piece-more image.live p to (c.min-to.ensures ∙ ap (λ (l : List ℕ). min (length l) (p + 64)) c.live-objects.ensures.value)))
-          ∙ ap (λ n. list_any (λ a. eqb (end_of image a) (k + 1)) (take n image.live)) (sym next)),
-    )
+    let here : k < 64 * length c.args.ends.now = omega (arith, c.loop-piece.invariant.0, inside) in
+    c.loop-piece.invariant.1 k here
+    ∙ those_before_end image c.requires.valid (64 * (c.args.start + length c.args.ends.now)) c.first_from-behind.result (64 * c.loop-piece.piece) (64 * c.args.start + k + 1) c.first_from-behind.ensures (omega (arith, c.loop-piece-test.false, c.div_ceil-piece-end.ensures)) (omega arith)

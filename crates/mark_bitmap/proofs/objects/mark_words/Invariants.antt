@@ -1,12 +1,12 @@
-use Rattle.std.proofs.Common.{◌≡◌, ℕ, ◌*◌, ◌<◌, length}
+use Rattle.std.proofs.Common.{◌≡◌, ℕ, ◌+◌, ◌*◌, ◌<◌, length}
 use Rattle.heap_image.specs.HeapImage.{is_live_word}
 use Rattle.heap_image.specs.Bits.{has}
-use Rattle.mark_bitmap.specs.Marks.{bit_words}
-use Rattle.mark_bitmap.proofs.Runs.{one, goes_on}
+use Rattle.mark_bitmap.specs.Marks.{goes_on}
+use Rattle.mark_bitmap.proofs.Runs.{one}
 use Rattle.mark_bitmap.proofs.objects.mark_words.Given as goal
 
 abbrev pub invariant-loop-i : goal.invariant-loop-i
 invariant-loop-i l =
-    (length l.live ≡ bit_words l.image)
-    × ((k : ℕ) → k < 64 * l.i → has l.live k ≡ is_live_word l.image k)
-    × (l.carried ≡ one (goes_on l.image (64 * l.i)))
+    (length l.live ≡ length l.ends)
+    × ((k : ℕ) → k < 64 * l.i → has l.live k ≡ is_live_word l.image (64 * l.start + k))
+    × (l.carried ≡ one (goes_on l.image (64 * (l.start + l.i))))

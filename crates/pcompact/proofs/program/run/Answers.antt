@@ -16,6 +16,10 @@ returns-in-Err-answer-clause-board_is_known g c = λ words_are.
     omega arith
 
 -- what the command printed
-pub returns-in-Ok-end-clause-prints : goal.returns-in-Ok-end-clause-prints
-returns-in-Ok-end-clause-prints g c = λ name call good.
-    (c.in-Ok-answer.done.text.items, c.in-Ok-answer.ensures.prints name (c.in-Ok.ensures.calls name call), c.in-Ok-end.ensures.shown)
+pub returns-then-measured-clause-prints : goal.returns-then-measured-clause-prints
+returns-then-measured-clause-prints g c = λ name call good.
+    (c.in-Ok-answer.done.text.items, c.in-Ok-answer.ensures.prints name (c.in-Ok.ensures.calls name call), c.in_default.ensures.shown)
+
+pub returns-else-measured-clause-prints : goal.returns-else-measured-clause-prints
+returns-else-measured-clause-prints g c = λ name call good.
+    (c.in-Ok-answer.done.text.items, c.in-Ok-answer.ensures.prints name (c.in-Ok.ensures.calls name call), c.in_default.ensures.shown)

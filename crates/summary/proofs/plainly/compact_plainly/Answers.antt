@@ -3,7 +3,7 @@ use Rattle.std.specs.Prelude.{map, option_map}
 use Rattle.std.specs.List.{range_with_len}
 use Rattle.heap_image.specs.HeapImage.{IsValid, region_count}
 use Rattle.summary.specs.Compaction.{compacted_word}
-use Rattle.summary.specs.RegionData.{addresses}
+use Rattle.summary.specs.RegionData.{region_addresses}
 use Rattle.summary.proofs.PlainWords.{map-range-more, parts-of_blocks}
 use Rattle.summary.proofs.Compacted.{compact-IsValid}
 use Rattle.summary.proofs.plainly.compact_plainly.Goals as goal
@@ -13,8 +13,8 @@ loop-r-preserved c =
     let image = c.args.image.now in
     c.in_ok-push.ensures.items
     ∙ ap (λ bs. bs ++ c.in_ok-compacted_region.field-0 ∷ []) c.loop-r.invariant
-    ∙ ap (λ b. map (λ r. map (compacted_word image) (addresses image r)) (range_with_len 0 c.loop-r.r) ++ b ∷ []) c.in_ok-compacted_region.ensures
-    ∙ map-range-more (λ r. map (compacted_word image) (addresses image r)) c.loop-r.r
+    ∙ ap (λ b. map (λ r. map (compacted_word image) (region_addresses image r)) (range_with_len 0 c.loop-r.r) ++ b ∷ []) c.in_ok-compacted_region.ensures
+    ∙ map-range-more (λ r. map (compacted_word image) (region_addresses image r)) c.loop-r.r
 
 pub into_image-requires : goal.into_image-requires
 into_image-requires c =

@@ -6,7 +6,7 @@ use Rattle.std.specs.Int.{w64, to_le_bytes}
 use Rattle.std.proofs.lemmas.Result.{err_from_is_err_and}
 use Rattle.std.specs.Io.KnownBytes.{Consumes}
 use borrow.Rule.Slice.PartMut.{put_mid}
-use Rattle.heap_image.specs.Incoming.{expected, known_rest, held_bytes}
+use Rattle.heap_image.specs.Incoming.{expected, known_rest, unread_bytes}
 use Rattle.heap_image.specs.ImageText.{numbers}
 use Rattle.heap_image.proofs.Known.{consumes_more, consumes_held}
 use Rattle.heap_image.proofs.Pieces.{take_put_back, length-put_mid, length_of_rest}
@@ -43,7 +43,7 @@ loop-done-preserved g c =
     let before = known_rest c.args.self.now (g.R.Intake.left c.args.reader.now) in
     let read = numbers (take done words) in
     let topped = consumes_more before (known_rest c.loop-done.self (g.R.Intake.left c.loop-done.reader)) (known_rest c.top_up.new.self (g.R.Intake.left c.top_up.new.reader)) read [] c.loop-done.invariant.bytes c.in_ok-top_up.ensures.bytes in
-    let decoded = consumes_held before (g.R.Intake.left c.top_up.new.reader) (read ++ []) (held_bytes c.top_up.new.self) (numbers (take n c.decode-done.new.words)) (held_bytes c.decode-done.new.self) c.decode-done.ensures.bytes topped in
+    let decoded = consumes_held before (g.R.Intake.left c.top_up.new.reader) (read ++ []) (unread_bytes c.top_up.new.self) (numbers (take n c.decode-done.new.words)) (unread_bytes c.decode-done.new.self) c.decode-done.ensures.bytes topped in
     let grown : (read ++ []) ++ numbers (take n c.decode-done.new.words) ≡ numbers (take (done + n) new) = ap (λ xs. xs ++ numbers (take n c.decode-done.new.words)) (append-nil read) ∙ sym (flat_map-append (to_le_bytes w64) (take done words) (take n c.decode-done.new.words)) ∙ ap numbers (sym (take_put_back words c.decode-done.new.words done (length words - done) n c.loop-done.invariant.within least)) in
     let lost = c.loop-done.invariant.lost in
     let now = c.top_up.ensures.lost in

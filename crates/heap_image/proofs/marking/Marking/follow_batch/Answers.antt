@@ -3,7 +3,7 @@ use Rattle.std.proofs.lemmas.List.{length_push, append-nil, get_or_append_left}
 use Rattle.std.proofs.lemmas.List.Elements.{Contains-push}
 use Rattle.std.specs.Prelude.{All}
 use Rattle.heap_image.specs.HeapImage.{HeapImage}
-use Rattle.heap_image.specs.Marking.{IsMarking, unmarked, addresses}
+use Rattle.heap_image.specs.Marking.{IsMarking, unmarked, waiting_addresses}
 use Rattle.heap_image.specs.declared.marking.Waiting.{Waiting}
 use Rattle.heap_image.proofs.Growth.{all_left}
 use Rattle.heap_image.proofs.MarkingSteps.{batch_followed, addresses_push, none_left}
@@ -22,11 +22,11 @@ loop-object-init c = record {
 }
 
 -- of a batch without its last object
-last_inside : (words : ℕ) (batch rest : List Waiting) (w : Waiting) → batch ≡ rest ++ w ∷ [] → All (λ a. a < words) (addresses batch) → (w.address < words) × All (λ a. a < words) (addresses rest)
+last_inside : (words : ℕ) (batch rest : List Waiting) (w : Waiting) → batch ≡ rest ++ w ∷ [] → All (λ a. a < words) (waiting_addresses batch) → (w.address < words) × All (λ a. a < words) (waiting_addresses rest)
 last_inside words batch rest w e h =
-    let all : All (λ a. a < words) (addresses rest ++ w.address ∷ []) = subst (All (λ a. a < words)) (addresses_push batch rest w e) h in
-    let last = Contains-push (addresses rest) w.address in
-    (subst (λ a. a < words) last.2 (all last.0 w.address last.1), all_left (λ a. a < words) (addresses rest) (w.address ∷ []) all)
+    let all : All (λ a. a < words) (waiting_addresses rest ++ w.address ∷ []) = subst (All (λ a. a < words)) (addresses_push batch rest w e) h in
+    let last = Contains-push (waiting_addresses rest) w.address in
+    (subst (λ a. a < words) last.2 (all last.0 w.address last.1), all_left (λ a. a < words) (waiting_addresses rest) (w.address ∷ []) all)
 
 last_fetched : (heap : List ℕ) (batch rest : List Waiting) (w : Waiting) → batch ≡ rest ++ w ∷ [] → All (λ w. w.header ≡ get_or heap w.address 0) batch → (w.header ≡ get_or heap w.address 0) × All (λ w. w.header ≡ get_or heap w.address 0) rest
 last_fetched heap batch rest w e h =
@@ -55,8 +55,8 @@ loop-object-preserved c =
     let grown = c.follow.ensures.grown in
     let after = c.follow.new.self in
     record {
-      marking = λ roots m. batch_followed image roots c.loop-object.self.words w.address c.loop-object.self.bits after.bits c.loop-object.self.stack.items after.stack.items (addresses batch) (addresses rest) c.loop-object.self.well_formed after.well_formed words (addresses_push batch rest w popped) (before.marking roots m) grown c.follow.ensures.well_formed;
-      inside = subst (λ n. All (λ a. a < n) (addresses rest)) (sym c.follow.ensures.words) (last_inside c.loop-object.self.words batch rest w popped before.inside).1;
+      marking = λ roots m. batch_followed image roots c.loop-object.self.words w.address c.loop-object.self.bits after.bits c.loop-object.self.stack.items after.stack.items (waiting_addresses batch) (waiting_addresses rest) c.loop-object.self.well_formed after.well_formed words (addresses_push batch rest w popped) (before.marking roots m) grown c.follow.ensures.well_formed;
+      inside = subst (λ n. All (λ a. a < n) (waiting_addresses rest)) (sym c.follow.ensures.words) (last_inside c.loop-object.self.words batch rest w popped before.inside).1;
       fetched = (last_fetched c.args.heap.now.words batch rest w popped before.fetched).1;
       room = grown.room ∙ before.room;
       total = ap (λ n. length after.stack.items + unmarked n after.bits) c.follow.ensures.words ∙ grown.total ∙ before.total;
@@ -70,4 +70,4 @@ returns-clause-marking c = λ roots m.
     let image : HeapImage = c.args.heap.now in
     let stack = c.loop-object.self.stack.items in
     let empty : c.loop-object.batch.items ≡ [] = none_left c.loop-object.batch.items (omega (arith, c.in_default.ensures.cases, c.loop-object.batch.ok.0)) in
-    subst (λ xs. IsMarking image roots c.loop-object.self.bits xs c.loop-object.self.well_formed) (ap (λ xs. stack ++ addresses xs) empty ∙ append-nil stack) (c.loop-object.invariant.marking roots m)
+    subst (λ xs. IsMarking image roots c.loop-object.self.bits xs c.loop-object.self.well_formed) (ap (λ xs. stack ++ waiting_addresses xs) empty ∙ append-nil stack) (c.loop-object.invariant.marking roots m)

@@ -2,7 +2,7 @@ use Rattle.std.proofs.Common.{◌≡◌, [], length, sym, ◌∙◌, ap, arith}
 use Rattle.std.proofs.lemmas.Bool.{eqb-true}
 use Rattle.std.specs.Vec.{vec_len}
 use Rattle.heap_image.specs.HeapImage.{HeapImage}
-use Rattle.heap_image.specs.Marking.{addresses, unmarked}
+use Rattle.heap_image.specs.Marking.{waiting_addresses, unmarked}
 use Rattle.heap_image.proofs.MarkingSteps.{unmarked_few, none_left, marking_begins, marking_ends, marking_ends-well, batch_inside}
 use Rattle.heap_image.proofs.marking.Marking.mark_reached.Goals as goal
 
@@ -29,7 +29,7 @@ follow_batch-requires-clause-inside c =
     let new = c.take_batch.new.self in
     let taken = c.take_batch.ensures.marking c.args.roots.now c.loop-self.invariant.marking in
     let words = c.take_batch.ensures.words ∙ c.loop-self.invariant.words in
-    batch_inside image c.args.roots.now new.words words new.bits new.stack.items (addresses c.take_batch.new.batch.items) new.well_formed taken
+    batch_inside image c.args.roots.now new.words words new.bits new.stack.items (waiting_addresses c.take_batch.new.batch.items) new.well_formed taken
 
 pub loop-self-preserved : goal.loop-self-preserved
 loop-self-preserved c =

@@ -3,7 +3,7 @@ use Rattle.std.proofs.lemmas.List.{length_push, append-nil}
 use Rattle.std.proofs.lemmas.List.Elements.{All-push}
 use Rattle.heap_image.specs.HeapImage.{HeapImage}
 use Rattle.heap_image.specs.Bits.{has}
-use Rattle.heap_image.specs.Marking.{IsMarking, AreStacked, addresses}
+use Rattle.heap_image.specs.Marking.{IsMarking, AreStacked, waiting_addresses}
 use Rattle.heap_image.specs.declared.marking.Waiting.{Waiting}
 use Rattle.heap_image.proofs.Growth.{all_left}
 use Rattle.heap_image.proofs.MarkingSteps.{batch_taken, addresses_push, stacked_last}
@@ -13,7 +13,7 @@ pub loop-self-init : goal.loop-self-init
 loop-self-init c =
     let image : HeapImage = c.args.heap.now in
     let stack = c.args.self.now.stack.items in
-    let none : stack ≡ stack ++ addresses c.args.batch.now.items = sym (ap (λ xs. stack ++ addresses xs) c.requires.empty ∙ append-nil stack) in
+    let none : stack ≡ stack ++ waiting_addresses c.args.batch.now.items = sym (ap (λ xs. stack ++ waiting_addresses xs) c.requires.empty ∙ append-nil stack) in
     record {
       marking = λ roots m. subst (λ xs. IsMarking image roots c.args.self.now.bits xs c.args.self.now.well_formed) none m;
       fetched = subst (λ xs. (k : ℕ) → (d : Waiting) → k < length xs → (get_or xs k d).header ≡ get_or c.args.heap.now.words (get_or xs k d).address 0) (sym c.requires.empty) (λ k d l. let no : ⊥ = omega arith in absurd no);
@@ -29,7 +29,7 @@ pub returns-in_default-clause-marking : goal.returns-in_default-clause-marking
 returns-in_default-clause-marking c = λ roots m.
     let image : HeapImage = c.args.heap.now in
     let same : c.loop-self.self.stack.items ≡ c.pop.new.self.items = c.in_default.ensures.items ∙ append-nil c.pop.new.self.items in
-    subst (λ xs. IsMarking image roots c.loop-self.self.bits (xs ++ addresses c.loop-self.batch.items) c.loop-self.self.well_formed) same (c.loop-self.invariant.marking roots m)
+    subst (λ xs. IsMarking image roots c.loop-self.self.bits (xs ++ waiting_addresses c.loop-self.batch.items) c.loop-self.self.well_formed) same (c.loop-self.invariant.marking roots m)
 
 pub word-header-requires : goal.word-header-requires
 word-header-requires c =
@@ -52,7 +52,7 @@ loop-self-preserved c =
     let pushed = c.push_reserved.ensures.items in
     let before = c.loop-self.invariant in
     record {
-      marking = λ roots m. batch_taken image roots a bits stack rest (addresses batch) (addresses more) c.loop-self.self.well_formed popped (addresses_push more batch object pushed) (before.marking roots m);
+      marking = λ roots m. batch_taken image roots a bits stack rest (waiting_addresses batch) (waiting_addresses more) c.loop-self.self.well_formed popped (addresses_push more batch object pushed) (before.marking roots m);
       fetched = subst (λ xs. (k : ℕ) → (d : Waiting) → k < length xs → (get_or xs k d).header ≡ get_or c.args.heap.now.words (get_or xs k d).address 0) (sym pushed)
           (All-push (λ (w : Waiting). w.header ≡ get_or c.args.heap.now.words w.address 0) batch object before.fetched c.word-header.ensures);
       inside = all_left (λ b. (b < words) × (has bits b ≡ true)) rest (a ∷ []) (subst (AreStacked words bits) popped before.inside);

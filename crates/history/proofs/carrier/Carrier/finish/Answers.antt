@@ -3,7 +3,7 @@ use Rattle.std.specs.Prelude.{map, option_map}
 use Rattle.std.specs.List.{range_with_len}
 use Rattle.heap_image.specs.HeapImage.{HeapImage, IsValid, region_count}
 use Rattle.summary.specs.Compaction.{compacted_word}
-use Rattle.summary.specs.RegionData.{addresses}
+use Rattle.summary.specs.RegionData.{region_addresses}
 use Rattle.summary.proofs.PlainWords.{map-range-more, parts-of_blocks}
 use Rattle.summary.proofs.Compacted.{compact-IsValid}
 use Rattle.history.proofs.carrier.Carrier.finish.Goals as goal
@@ -11,12 +11,12 @@ use Rattle.history.proofs.carrier.Carrier.finish.Goals as goal
 pub loop-r-preserved : goal.loop-r-preserved
 loop-r-preserved c =
     let image : HeapImage = c.args.image.now in
-    let block : c.in_ok-finished_region.field-0 ≡ map (compacted_word image) (addresses image c.loop-r.r) =
-    c.in_ok-finished_region.ensures ∙ ap (λ (i : HeapImage). map (compacted_word i) (addresses i c.loop-r.r)) c.requires.image in
+    let block : c.in_ok-finished_region.field-0 ≡ map (compacted_word image) (region_addresses image c.loop-r.r) =
+    c.in_ok-finished_region.ensures ∙ ap (λ (i : HeapImage). map (compacted_word i) (region_addresses i c.loop-r.r)) c.requires.image in
     c.in_ok-push.ensures.items
     ∙ ap (λ (bs : List (List ℕ)). bs ++ c.in_ok-finished_region.field-0 ∷ []) c.loop-r.invariant
-    ∙ ap (λ (b : List ℕ). map (λ r. map (compacted_word image) (addresses image r)) (range_with_len 0 c.loop-r.r) ++ b ∷ []) block
-    ∙ map-range-more (λ r. map (compacted_word image) (addresses image r)) c.loop-r.r
+    ∙ ap (λ (b : List ℕ). map (λ r. map (compacted_word image) (region_addresses image r)) (range_with_len 0 c.loop-r.r) ++ b ∷ []) block
+    ∙ map-range-more (λ r. map (compacted_word image) (region_addresses image r)) c.loop-r.r
 
 pub into_image-requires : goal.into_image-requires
 into_image-requires c =

@@ -1,0 +1,100 @@
+//! Tests of devices that leave out the zeros of regions that a collection has cleared.
+use super::{Texts, with_prefix};
+use collector::{OpenGate, collect_stream};
+use heap_image::{Failed, Fault, FromRead, Outlet};
+use std::alloc::Global;
+use std::sync::Wait;
+use std::test::Fail;
+use std::thread::Threads;
+
+/// Keeps the bytes that it takes, and the zeros that it leaves out; it fails where it would keep more than `limit`.
+#[derive(Drop)]
+struct Holes {
+    bytes: Vec<u8>,
+    /// How many of the bytes are zeros that were left out.
+    left_out: usize,
+    limit: usize,
+    failed: bool,
+}
+
+impl Holes {
+    fn new(alloc: Global, limit: usize) -> Holes {
+        Holes {
+            bytes: Vec::new(alloc),
+            left_out: 0,
+            limit,
+            failed: false,
+        }
+    }
+}
+
+impl Outlet for Holes {
+    ghost use Rattle.std.specs.Prelude.{None};
+
+    ghost took = { λ _. None };
+
+    ghost has_failed = { λ holes. holes.failed };
+
+    fn give(&mut self, bytes: &[u8]) -> Result<usize, Failed> {
+        if self.failed {
+            return Err(Failed);
+        }
+        let n = bytes.len().min(self.limit.saturating_sub(self.bytes.len()));
+        let is_short = n == 0 && !bytes.is_empty();
+        if is_short || self.bytes.extend_from_slice(&bytes[..n]).is_err() {
+            self.failed = true;
+            return Err(Failed);
+        }
+        Ok(n)
+    }
+
+    fn failed(&self) -> bool {
+        self.failed
+    }
+
+    fn leave_out_zeros(&mut self, count: usize) -> bool {
+        let len = self.bytes.len();
+        if self.failed || self.bytes.resize(len.saturating_add(count), 0).is_err() {
+            return false;
+        }
+        self.left_out = self.left_out.saturating_add(count);
+        true
+    }
+}
+
+/// What the device has after a collection by two workers, and whether this ended well.
+fn collected<R: Threads + Wait + Sync>(
+    alloc: Global,
+    rt: &R,
+    texts: &Texts,
+    limit: usize,
+) -> (Holes, Result<(), Fault>) {
+    let mut reader = FromRead::new(texts.before.as_slice());
+    let mut holes = Holes::new(alloc, limit);
+    let answer = collect_stream(alloc, &mut reader, &mut holes, 2, &OpenGate, rt, rt);
+    (holes, answer.map(|_| ()))
+}
+
+#[test]
+fn the_zeros_of_cleared_regions_are_left_out(rt: HostRuntime) -> Result<(), Fail> {
+    let texts = with_prefix(rt.alloc(), &rt)?;
+    let (holes, answer) = collected(rt.alloc(), &rt, &texts, usize::MAX);
+    assert_eq!(rt; answer, Ok(()));
+    assert_eq!(rt; holes.bytes.as_slice(), texts.after.as_slice());
+    // The heap has 32 words in regions of 8, and its new top is 21: the last region lies above it.
+    assert_eq!(rt; holes.left_out, 64);
+    Ok(())
+}
+
+#[test]
+fn a_device_that_leaves_out_zeros_fails_at_each_byte(rt: HostRuntime) -> Result<(), Fail> {
+    let texts = with_prefix(rt.alloc(), &rt)?;
+    for limit in 0..texts.after.len() {
+        let (holes, answer) = collected(rt.alloc(), &rt, &texts, limit);
+        assert_eq!(rt; answer, Err(Fault::Io), "at {limit}");
+        let (kept, rest) = holes.bytes.split_at(holes.bytes.len().min(limit));
+        assert_eq!(rt; kept, &texts.after[..kept.len()]);
+        assert!(rt; rest.iter().all(|&byte| byte == 0));
+    }
+    Ok(())
+}

@@ -1,0 +1,83 @@
+//! `MarkBuilder`: end bits and live bits in parts, each by a thread of its own.
+ghost use Rattle.std.specs.Prelude.{◌≡◌, ◌+◌, ◌<◌, length};
+ghost use Rattle.mark_bitmap.specs.Marks.{AreBegins, IsBlankPart, IsMarkedPart};
+
+use crate::objects::mark_part;
+use heap_image::{Bits, Image};
+use std::thread::{Threads, join_mut};
+
+/// What the threads share that make the marks of an image.
+#[derive(Drop)]
+pub(crate) struct MarkBuilder<'a, T: Threads + Sync> {
+    pub(crate) image: &'a Image,
+    /// The bits of the first words of the live objects.
+    pub(crate) begins: &'a Bits,
+    pub(crate) threads: &'a T,
+    /// How many words of bits a thread takes.
+    pub(crate) share: usize,
+}
+
+impl<T: Threads + Sync> MarkBuilder<'_, T> {
+    /// Sets the end bits and the live bits of the addresses from `64 * start` on. More words than a share are cut in two
+    /// parts for two threads, and so on.
+    #[cycle(parts)]
+    pub(crate) fn mark(&self, start: usize, ends: &mut [u64], live: &mut [u64])
+        requires share { 0 < self.now.share }
+        requires begins { AreBegins self.now.image.now self.now.begins.now }
+        requires blank { IsBlankPart self.now.image.now start ends.old live.old }
+        ensures ends_room { length ends.new ≡ length ends.old }
+        ensures live_room { length live.new ≡ length live.old }
+        ensures marked { IsMarkedPart self.now.image.now start ends.new live.new }
+    {
+        if ends.len() <= self.share {
+            mark_part(self.image, self.begins, start, ends, live);
+            return;
+        }
+        let middle = ends.len().div_ceil(self.share) / 2 * self.share;
+        let (low_ends, high_ends) = ends.split_at_mut(middle);
+        let (low_live, high_live) = live.split_at_mut(middle);
+        self.mark_both(start, low_ends, low_live, high_ends, high_live);
+    }
+
+    /// Sets the end bits and the live bits of two parts, of which the first begins with the addresses from `64 * start` on,
+    /// by two threads.
+    #[cycle(parts)]
+    fn mark_both(
+        &self,
+        start: usize,
+        low_ends: &mut [u64],
+        low_live: &mut [u64],
+        high_ends: &mut [u64],
+        high_live: &mut [u64],
+    )
+        requires share { 0 < self.now.share }
+        requires begins { AreBegins self.now.image.now self.now.begins.now }
+        requires some_low { 0 < length low_ends.old }
+        requires some_high { 0 < length high_ends.old }
+        requires low { IsBlankPart self.now.image.now start low_ends.old low_live.old }
+        requires high { IsBlankPart self.now.image.now (start + length low_ends.old) high_ends.old high_live.old }
+        ensures low_ends_room { length low_ends.new ≡ length low_ends.old }
+        ensures low_live_room { length low_live.new ≡ length low_live.old }
+        ensures high_ends_room { length high_ends.new ≡ length high_ends.old }
+        ensures high_live_room { length high_live.new ≡ length high_live.old }
+        ensures low { IsMarkedPart self.now.image.now start low_ends.new low_live.new }
+        ensures high { IsMarkedPart self.now.image.now (start + length low_ends.old) high_ends.new high_live.new }
+    {
+        // The image is valid by its type.
+        let _len = self.image.len();
+        let middle = start + low_ends.len();
+        let mut low = ||
+            requires { (0 < self.now.share) × AreBegins self.now.image.now self.now.begins.now
+                × IsBlankPart self.now.image.now start low_ends.now low_live.now }
+            ensures { (length low_ends.exit.now ≡ length low_ends.entry.now) × (length low_live.exit.now ≡ length low_live.entry.now)
+                × IsMarkedPart self.entry.now.image.now start low_ends.exit.now low_live.exit.now }
+        { self.mark(start, low_ends, low_live) };
+        let mut high = ||
+            requires { (0 < self.now.share) × AreBegins self.now.image.now self.now.begins.now
+                × IsBlankPart self.now.image.now middle high_ends.now high_live.now }
+            ensures { (length high_ends.exit.now ≡ length high_ends.entry.now) × (length high_live.exit.now ≡ length high_live.entry.now)
+                × IsMarkedPart self.entry.now.image.now middle high_ends.exit.now high_live.exit.now }
+        { self.mark(middle, high_ends, high_live) };
+        join_mut(self.threads, &mut low, &mut high);
+    }
+}

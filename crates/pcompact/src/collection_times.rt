@@ -1,0 +1,54 @@
+//! `CollectionTimes`.
+use crate::laps::Laps;
+use crate::phase::Phase;
+use crate::timed_gate::TimedGate;
+use crate::timed_intake::TimedIntake;
+use crate::timed_outlet::TimedOutlet;
+use heap_image::{Intake, Outlet};
+use std::time::{Clock, Duration};
+
+/// When the phases of a collection ended, from one device to another, as far as that is known.
+#[derive(Clone, Copy)]
+pub struct CollectionTimes {
+    read: Option<Duration>,
+    checked: Option<Duration>,
+    /// Where no region was filled this is the time at which the writing began.
+    prepared: Option<Duration>,
+    filled: Option<Duration>,
+    cleaned_up: Option<Duration>,
+    written: Option<Duration>,
+}
+
+impl CollectionTimes {
+    /// The times that these have noted.
+    pub fn of<H: Clock, I: Intake + Drop, O: Outlet + Drop>(
+        image: &TimedIntake<'_, H, I>,
+        gate: &TimedGate<'_, H>,
+        output: &TimedOutlet<'_, H, O>,
+    ) -> CollectionTimes {
+        CollectionTimes {
+            read: image.came(),
+            checked: image.ended(),
+            prepared: gate.begun().or(output.begun()),
+            filled: gate.ended(),
+            cleaned_up: output.begun(),
+            written: output.ended(),
+        }
+    }
+
+    /// How long each phase took.
+    pub fn laps(&self) -> Laps {
+        Laps::new()
+            .then(Phase::Read, self.read)
+            .then(Phase::Check, self.checked)
+            .then(Phase::Prepare, self.prepared)
+            .then(Phase::Fills, self.filled)
+            .then(Phase::CleanUp, self.cleaned_up)
+            .then(Phase::Write, self.written)
+    }
+
+    /// How long the collection took in memory: from the image that is checked to the one that is written.
+    pub fn in_memory(&self) -> Option<Duration> {
+        Some(self.cleaned_up?.saturating_sub(self.checked?))
+    }
+}

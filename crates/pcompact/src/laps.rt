@@ -1,0 +1,66 @@
+//! `Laps`.
+use crate::phase::Phase;
+use crate::tenths::Tenths;
+use std::io;
+use std::io::Write;
+use std::time::Duration;
+
+/// How many phases a command has at most.
+const MAX_LAPS: usize = 7;
+
+/// How long the phases of a command took, one behind the other from its beginning on.
+#[derive(Clone, Copy)]
+pub struct Laps {
+    laps: [Option<Lap>; MAX_LAPS],
+    count: usize,
+    /// When the last of them ended, since the beginning.
+    end: Duration,
+}
+
+/// How long a phase took.
+#[derive(Clone, Copy)]
+struct Lap {
+    phase: Phase,
+    took: Duration,
+}
+
+impl Laps {
+    /// No phase yet.
+    pub fn new() -> Laps {
+        Laps {
+            laps: [None; MAX_LAPS],
+            count: 0,
+            end: Duration::ZERO,
+        }
+    }
+
+    /// This phase too, which ended at this time since the beginning. A phase whose end isn't known is left out, and its time
+    /// counts for the next.
+    pub fn then(mut self, phase: Phase, end: Option<Duration>) -> Laps {
+        if let (Some(end), true) = (end, self.count < MAX_LAPS) {
+            let took = end.saturating_sub(self.end);
+            self.laps[self.count] = Some(Lap { phase, took });
+            self.count += 1;
+            self.end = end;
+        }
+        self
+    }
+
+    /// Writes a line for each phase, and where the time of all is known one for the rest of it, and one for all of it.
+    pub fn tell<B: Write>(&self, total: Option<Duration>, err: &mut B) -> io::Result<()> {
+        for lap in self.laps.iter().flatten() {
+            writeln!(
+                err,
+                "pcompact: {} {} ms",
+                lap.phase,
+                Tenths::of_milliseconds(lap.took)
+            )?;
+        }
+        let Some(total) = total else {
+            return Ok(());
+        };
+        let rest = total.saturating_sub(self.end);
+        writeln!(err, "pcompact: finish {} ms", Tenths::of_milliseconds(rest))?;
+        writeln!(err, "pcompact: total {} ms", Tenths::of_milliseconds(total))
+    }
+}

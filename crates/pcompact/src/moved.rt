@@ -1,0 +1,38 @@
+//! `Moved`.
+use crate::tenths::Tenths;
+use collector::Figures;
+use std::io;
+use std::io::Write;
+use std::time::Duration;
+
+const BYTES_IN_A_WORD: u64 = 8;
+
+/// The live words that a collection moved, and how long it took in memory.
+#[derive(Clone, Copy)]
+pub struct Moved {
+    words: u64,
+    took: Option<Duration>,
+}
+
+impl Moved {
+    /// What a collection with these figures moved: the live words behind the dense prefix.
+    pub fn of(figures: Figures, took: Option<Duration>) -> Moved {
+        Moved {
+            words: figures.new_top.saturating_sub(figures.prefix_end),
+            took,
+        }
+    }
+
+    /// Writes the line that tells it, with the rate where the time is known.
+    pub fn tell<B: Write>(&self, err: &mut B) -> io::Result<()> {
+        let bytes = self.words.saturating_mul(BYTES_IN_A_WORD);
+        write!(err, "pcompact: live {} MiB moved", Tenths::of_mib(bytes))?;
+        match self.took {
+            Some(took) if took > Duration::ZERO => {
+                let rate = u128::from(bytes).saturating_mul(1_000_000_000) / took.as_nanos() >> 20;
+                writeln!(err, ", {rate} MiB a second")
+            }
+            _ => writeln!(err),
+        }
+    }
+}

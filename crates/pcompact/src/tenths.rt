@@ -1,0 +1,35 @@
+//! `Tenths`.
+use std::fmt;
+use std::time::Duration;
+
+const BYTES_IN_A_MIB: u64 = 1 << 20;
+
+/// A number with one digit behind the point.
+#[derive(Debug, Clone, Copy, PartialEq, Eq)]
+pub struct Tenths {
+    count: u64,
+}
+
+impl Tenths {
+    /// This time in milliseconds, rounded.
+    pub fn of_milliseconds(time: Duration) -> Tenths {
+        let tenths = time.as_micros().saturating_add(50) / 100;
+        Tenths {
+            count: u64::try_from(tenths).unwrap_or(u64::MAX),
+        }
+    }
+
+    /// So many bytes in MiB, rounded.
+    pub fn of_mib(bytes: u64) -> Tenths {
+        let tenths = bytes.saturating_mul(10).saturating_add(BYTES_IN_A_MIB / 2);
+        Tenths {
+            count: tenths / BYTES_IN_A_MIB,
+        }
+    }
+}
+
+impl fmt::Display for Tenths {
+    fn fmt<W: fmt::Write>(&self, f: &mut fmt::Formatter<W>) -> fmt::Result {
+        write!(f, "{}.{}", self.count / 10, self.count % 10)
+    }
+}

@@ -1,0 +1,77 @@
+//! `TimedIntake`.
+use crate::stopwatch::Stopwatch;
+use heap_image::{Failed, Intake};
+use raw_region::Region;
+use std::alloc::Global;
+use std::time::{Clock, Duration};
+
+/// A device that gives what another gives, and notes when.
+#[derive(Drop)]
+pub struct TimedIntake<'h, H, I: Drop> {
+    intake: I,
+    clock: &'h H,
+    watch: Stopwatch,
+    came: Option<Duration>,
+    ended: Option<Duration>,
+}
+
+impl<'h, H: Clock, I: Drop> TimedIntake<'h, H, I> {
+    /// What this device gives, by this stopwatch.
+    pub fn new(clock: &'h H, watch: Stopwatch, intake: I) -> TimedIntake<'h, H, I> {
+        TimedIntake {
+            intake,
+            clock,
+            watch,
+            came: None,
+            ended: None,
+        }
+    }
+
+    /// When the last bytes had come.
+    pub fn came(&self) -> Option<Duration> {
+        self.came
+    }
+
+    /// When the end was asked for, behind the last bytes.
+    pub fn ended(&self) -> Option<Duration> {
+        self.ended
+    }
+
+    /// The device.
+    pub fn into_inner(self) -> I {
+        let TimedIntake { intake, .. } = self;
+        intake
+    }
+}
+
+impl<H: Clock, I: Intake + Drop> Intake for TimedIntake<'_, H, I> {
+    ghost left = { λ timed. I.left timed.intake };
+
+    ghost has_failed = { λ timed. I.has_failed timed.intake };
+
+    fn take(&mut self, buffer: &mut [u8]) -> Result<usize, Failed> {
+        let asked = self.watch.elapsed(self.clock);
+        let count = self.intake.take(buffer)?;
+        if count > 0 {
+            self.came = self.watch.elapsed(self.clock);
+        } else {
+            self.ended = asked;
+        }
+        Ok(count)
+    }
+
+    fn failed(&self) -> bool {
+        self.intake.failed()
+    }
+
+    fn take_regions(
+        &mut self,
+        alloc: Global,
+        region_log: u32,
+        count: usize,
+    ) -> Option<Vec<Region>> {
+        let regions = self.intake.take_regions(alloc, region_log, count);
+        self.came = self.watch.elapsed(self.clock);
+        regions
+    }
+}

@@ -1,0 +1,4 @@
+pub mod Timeline
+pub mod Figures
+pub mod FirstCalls
+pub mod Page

@@ -1,0 +1,115 @@
+-- What a timeline shows of a history: a bar for each region that was granted, and a mark for each drain that freed one.
+use Rattle.std.specs.Prelude.{◌≡◌, ℕ, ◌+◌, ◌==◌, Bool, false, if◌then◌else◌, List, Option, Some, None, option_map, slice_get}
+use Rattle.std.specs.List.{enumerate_from, filter_map}
+use Rattle.heap_image.specs.HeapImage.{HeapImage}
+use Rattle.history.specs.State.{AllAreSettled}
+use Rattle.history.specs.History.{is_grant, is_settling_of}
+use Rattle.history.specs.Whole.{is_completion_of}
+use Rattle.history.specs.Schedule.{ScheduleView, schedule_of}
+use Rattle.history.specs.ImageMoves.{image_table}
+use Rattle.history.specs.WordMachine.{machine_of}
+use Rattle.history.specs.Replay.{IsReplay}
+use Rattle.history.specs.declared.entry.Entry.{Entry}
+use Rattle.history.specs.declared.event.Event.{Event}
+use Rattle.history.specs.declared.event.Event.TheVariants.{Claim, Drain}
+use Rattle.history.specs.declared.replayed.End.{End}
+use Rattle.history.specs.declared.replayed.End.TheVariants as end
+use Rattle.history.specs.declared.reply.Reply.{Reply}
+use Rattle.history.specs.declared.reply.Reply.TheVariants.{Yes, Last}
+use Rattle.schedule_timeline.specs.declared.bar.Bar.{Bar}
+use Rattle.schedule_timeline.specs.declared.call.Call.{Call}
+use Rattle.schedule_timeline.specs.declared.deed.Deed.{Deed}
+use Rattle.schedule_timeline.specs.declared.deed.Deed.TheVariants.{Grant, Completion, Settling}
+use Rattle.schedule_timeline.specs.declared.ending.Ending.{Ending}
+use Rattle.schedule_timeline.specs.declared.ending.Ending.TheVariants.{Finished, Open}
+use Rattle.schedule_timeline.specs.declared.freeing.Freeing.{Freeing}
+use Rattle.schedule_timeline.specs.declared.timeline.Timeline.{Timeline}
+
+-- it is this region
+abbrev pub is_region : ℕ → Option ℕ → Bool
+is_region r None = false
+is_region r (Some q) = r == q
+
+-- the call does this to the region
+abbrev pub does : Deed → ℕ → Entry → Bool
+does Grant r e = is_grant r e
+does Completion r e = is_completion_of r e.event
+does Settling r e = is_settling_of r e.event
+
+-- The call at a place of a history, by its line. In the text of a schedule the first call stands in line 2.
+abbrev pub call_at : ℕ × Entry → Call
+call_at p = record { worker = p.1.worker; line = p.0 + 2 }
+
+-- that call, if it is such a one
+abbrev pub call_if : (Entry → Bool) → ℕ × Entry → Option Call
+call_if is p = if is p.1 then Some (call_at p) else None
+
+-- the calls of a history that are such, in their order
+abbrev pub calls_that : (Entry → Bool) → List Entry → List Call
+calls_that is log = filter_map (call_if is) (enumerate_from 0 log)
+
+-- the first of them, if there is one
+abbrev pub first_call : (Entry → Bool) → List Entry → Option Call
+first_call is log = slice_get (calls_that is log) 0
+
+-- the bar of a region that this call granted
+abbrev pub bar_of : List Entry → Call → ℕ → Bar
+bar_of log call r = record {
+  region = r;
+  claimed = call;
+  completed = first_call (does Completion r) log;
+  settled = first_call (does Settling r) log;
+}
+
+-- the region that a call with this reply grants
+abbrev pub granted_region : Event → Reply → Option ℕ
+granted_region (Claim r) Yes = Some r
+granted_region _ _ = None
+
+abbrev pub bar_if : List Entry → ℕ × Entry → Option Bar
+bar_if log p = option_map (bar_of log (call_at p)) (granted_region p.1.event p.1.reply)
+
+-- the bars of a history: one for each call that grants a region, in their order
+abbrev pub bars_of : List Entry → List Bar
+bars_of log = filter_map (bar_if log) (enumerate_from 0 log)
+
+-- the pair, destination and source, that a call drains with the reply that nobody has to read the source any more
+abbrev pub freed_pair : Event → Reply → Option (ℕ × ℕ)
+freed_pair (Drain d s) Last = Some (d, s)
+freed_pair _ _ = None
+
+-- the mark of a drain that freed the source of this pair
+abbrev pub freeing_of : List Entry → Call → ℕ × ℕ → Freeing
+freeing_of log call pair = record {
+  drain = call;
+  destination = pair.0;
+  source = pair.1;
+  taken = first_call (does Grant pair.1) log;
+}
+
+abbrev pub freeing_if : List Entry → ℕ × Entry → Option Freeing
+freeing_if log p = option_map (freeing_of log (call_at p)) (freed_pair p.1.event p.1.reply)
+
+-- the marks of a history: one for each drain that freed a region, in their order
+abbrev pub freeings_of : List Entry → List Freeing
+freeings_of log = filter_map (freeing_if log) (enumerate_from 0 log)
+
+-- how a replay ended
+abbrev pub ending_of : End → Ending
+ending_of (end.Finished image) = Finished
+ending_of end.Open = Open
+
+-- all regions to be filled are settled after these calls, or not all are
+abbrev pub EndsAs : HeapImage → List Entry → Ending → Type 0
+EndsAs image log Finished = AllAreSettled (image_table image) (machine_of image log).known
+EndsAs image log Open = ¬ (AllAreSettled (image_table image) (machine_of image log).known)
+
+-- The word machine of the image takes the schedule's lines, and gives these calls. The timeline has the schedule with all
+-- replies, the bars and marks of the calls, and how it ends.
+pub record IsTimelineOf (image : HeapImage) (v : ScheduleView) (timeline : Timeline) : Type 0 where
+  pub log : List Entry
+  pub taken : IsReplay image v.workers v.lines log
+  pub told : timeline.schedule ≡ schedule_of v.workers log
+  pub bars : timeline.bars.items ≡ bars_of log
+  pub freeings : timeline.freeings.items ≡ freeings_of log
+  pub ended : EndsAs image log timeline.ending

@@ -1,0 +1,25 @@
+//! `Ending`: how a schedule ends.
+use std::fmt;
+
+/// How a schedule ends.
+#[derive(Debug, Clone, Copy, PartialEq, Eq)]
+pub enum Ending {
+    /// All regions to be filled are settled.
+    Finished,
+    /// Some region to be filled isn't settled.
+    Open,
+}
+
+impl fmt::Display for Ending {
+    ghost use Rattle.std.specs.Prelude.{Some};
+    ghost use Rattle.schedule_timeline.specs.Figures.{ending_text};
+
+    ghost output = { λ ending. Some (ending_text ending) };
+
+    fn fmt<W: fmt::Write>(&self, f: &mut fmt::Formatter<W>) -> fmt::Result {
+        match self {
+            Ending::Finished => write!(f, "finished"),
+            Ending::Open => write!(f, "open"),
+        }
+    }
+}

@@ -1,0 +1,58 @@
+//! The first call that does something to each region.
+ghost use Rattle.std.specs.Prelude.{◌≡◌, ◌≢◌, ◌<◌, ◌≤◌, ◌^◌, ℕ, IfOk, None, Some, length, slice_index_or};
+ghost use Rattle.schedule_timeline.specs.Timeline.{call_at, does, first_call};
+ghost use Rattle.schedule_timeline.specs.FirstCalls.{AreFirst, first_of};
+
+use crate::call::Call;
+use crate::deed::Deed;
+use crate::scale::FIRST_LINE;
+use history::Entry;
+use std::alloc::{AllocError, Global};
+
+/// Of each of so many regions the first call that does this to it.
+pub(crate) fn first_calls(
+    alloc: Global,
+    log: &[Entry],
+    regions: u32,
+    deed: Deed,
+) -> Result<Vec<Option<Call>>, AllocError>
+    ensures { IfOk result (λ calls. AreFirst deed regions log.now calls.items) }
+{
+    let mut calls = vec![in alloc; None; regions as usize]?;
+    for (i, entry) in log.iter().enumerate() {
+        if let Some(region) = deed.region(entry) {
+            note(&mut calls, region, call_at(i, entry));
+        }
+    }
+    Ok(calls)
+}
+
+/// Notes a call of a region, where none is noted yet.
+fn note(calls: &mut [Option<Call>], region: u32, call: Call)
+    ensures all { length calls.new ≡ length calls.old }
+    ensures others { (r : ℕ) → r ≢ region → slice_index_or calls.new r None ≡ slice_index_or calls.old r None }
+    ensures noted { region < length calls.old → slice_index_or calls.new region None ≡ first_of (slice_index_or calls.old region None) call }
+{
+    let at = region as usize;
+    if at < calls.len() && calls[at].is_none() {
+        calls[at] = Some(call);
+    }
+}
+
+/// The call that stands there of a history.
+pub(crate) fn call_at(i: usize, entry: &Entry) -> Call
+    requires { i < 2 ^ 63 }
+    ensures { result ≡ call_at (i, entry.now) }
+{
+    Call {
+        worker: entry.worker,
+        line: i as u64 + FIRST_LINE,
+    }
+}
+
+/// The call that is noted of a region.
+pub(crate) fn call_of(calls: &[Option<Call>], region: u32) -> Option<Call>
+    ensures { result ≡ slice_index_or calls.now region None }
+{
+    calls.get(region as usize).copied().unwrap_or(None)
+}

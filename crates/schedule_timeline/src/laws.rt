@@ -1,0 +1,18 @@
+//! Laws about schedules that the word machine takes. The function does nothing: its contract is the law.
+ghost use Rattle.std.specs.Prelude.{ℕ, List};
+ghost use Rattle.heap_image.specs.HeapImage.{HeapImage, region_count};
+ghost use Rattle.history.specs.Replay.{IsReplay};
+ghost use Rattle.history.specs.declared.entry.Entry.{Entry};
+ghost use Rattle.history.specs.declared.line.Line.{Line};
+ghost use Rattle.schedule_timeline.specs.FirstCalls.{AreGrantedBelow};
+
+use history::{moves_of_images, what_replays_keep};
+
+/// Only regions that the image has are granted.
+pub fn grants_are_inside()
+    ensures { (image : HeapImage) (workers : ℕ) (lines : List Line) (log : List Entry) → IsReplay image workers lines log
+        → AreGrantedBelow (region_count image) log }
+{
+    what_replays_keep();
+    moves_of_images();
+}

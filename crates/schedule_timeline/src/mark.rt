@@ -1,0 +1,54 @@
+//! `Mark`: what a worker does in a cell of its lane.
+
+/// What a worker does in a cell of its lane.
+#[derive(Debug, Clone, Copy, PartialEq, Eq)]
+pub(crate) enum Mark {
+    /// Nothing that is marked.
+    Nothing,
+    /// It claims a region.
+    Claim,
+    /// It claims a region that a drain freed, and maybe others.
+    Taking,
+    /// Its drain frees a region.
+    Freeing,
+    /// It settles a region.
+    Settling,
+    /// Several of these.
+    Several,
+}
+
+impl Mark {
+    /// This and another, in one cell.
+    pub(crate) fn with(self, other: Mark) -> Mark {
+        match (self, other) {
+            (Mark::Nothing, mark) | (mark, Mark::Nothing) => mark,
+            (Mark::Claim, Mark::Taking) => Mark::Taking,
+            _ if self == other => self,
+            _ => Mark::Several,
+        }
+    }
+
+    /// Its letter.
+    pub(crate) fn letter(self) -> &'static str {
+        match self {
+            Mark::Nothing => " ",
+            Mark::Claim => "c",
+            Mark::Taking => "t",
+            Mark::Freeing => "f",
+            Mark::Settling => "s",
+            Mark::Several => "x",
+        }
+    }
+
+    /// The number by which terminals know its colour.
+    pub(crate) fn colour(self) -> &'static str {
+        match self {
+            Mark::Nothing => "0",
+            Mark::Claim => "34",
+            Mark::Taking => "36",
+            Mark::Freeing => "33",
+            Mark::Settling => "32",
+            Mark::Several => "35",
+        }
+    }
+}

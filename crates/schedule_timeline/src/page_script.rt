@@ -1,0 +1,392 @@
+//! The script of a page, in JavaScript.
+
+/// It shows each line of the schedule, and goes from one to another.
+pub(crate) const SCRIPT: &str = r##"'use strict';
+(() => {
+  const FIRST = 2; // the line of the first call: line 1 tells the workers
+  const CHECKPOINT = 1000;
+  const STAGES = ['start', 'claimed', 'filling', 'filled', 'settled'];
+  const NAMES = ['as at the start', 'claimed', 'being filled', 'filled', 'settled'];
+  const [START, CLAIMED, FILLING, FILLED, SETTLED] = STAGES.keys();
+  const element = (id) => document.getElementById(id);
+
+  // What there is to move: how many regions, how many of them are to be filled, and the pairs.
+  const readMoves = (text) => {
+    const rows = text.trim().split('\n').map((row) => row.split(' '));
+    const [, regions, , filled] = rows[0];
+    const pairs = rows.slice(1).map((row) => row.map(Number));
+    const readers = new Map();
+    const places = new Map();
+    pairs.forEach(([destination, source], place) => {
+      readers.set(source, [...(readers.get(source) || []), place]);
+      places.set(destination + ' ' + source, place);
+    });
+    return { regions: Number(regions), filled: Number(filled), pairs, readers, places };
+  };
+
+  const readSchedule = (text) => {
+    const rows = text.trim().split('\n');
+    const calls = rows.slice(1).map((row) => {
+      const words = row.split(' ');
+      const numbers = words.slice(2, -1).map(Number);
+      return { worker: Number(words[0]), verb: words[1], region: numbers[0], other: numbers[1], reply: words[words.length - 1], row };
+    });
+    return { workers: Number(rows[0].split(' ')[2]), calls };
+  };
+
+  const moves = readMoves(element('moves').textContent);
+  const { workers, calls } = readSchedule(element('schedule').textContent);
+  const last = calls.length + 1;
+  const granted = new Map();
+  calls.forEach((call, i) => {
+    if (call.verb === 'claim' && call.reply === 'yes' && !granted.has(call.region)) {
+      granted.set(call.region, { worker: call.worker, line: i + FIRST });
+    }
+  });
+
+  // How far each region has come, who claimed it, how many have still to read it, and how many of its words are written.
+  class State {
+    constructor(other) {
+      const copy = (list, fresh) => (other ? list.slice() : fresh());
+      this.stage = copy(other && other.stage, () => new Uint8Array(moves.regions));
+      this.owner = copy(other && other.owner, () => new Int8Array(moves.regions).fill(-1));
+      this.written = copy(other && other.written, () => new Uint32Array(moves.regions));
+      this.drained = copy(other && other.drained, () => new Uint8Array(moves.pairs.length));
+      this.pending = copy(other && other.pending, () =>
+        Uint8Array.from({ length: moves.regions }, (_, r) => (moves.readers.get(r) || []).length));
+      this.unsettled = other ? other.unsettled : moves.filled;
+    }
+
+    apply(call) {
+      const { worker, verb, region, other, reply } = call;
+      if (verb === 'claim' && reply === 'yes') {
+        this.stage[region] = CLAIMED;
+        this.owner[region] = worker;
+      } else if (verb === 'drain') {
+        this.stage[region] = FILLING;
+        this.drained[moves.places.get(region + ' ' + other)] = 1;
+        this.pending[other] -= 1;
+      } else if (verb === 'copy') {
+        this.stage[region] = FILLING;
+        this.written[region] += other;
+      } else if (verb === 'complete') {
+        this.stage[region] = FILLED;
+      } else if (verb === 'settle') {
+        this.stage[region] = SETTLED;
+        this.unsettled -= 1;
+      }
+    }
+
+    // The regions that have still to read this one.
+    readersOf(region) {
+      const places = moves.readers.get(region) || [];
+      return places.filter((place) => !this.drained[place]).map((place) => moves.pairs[place][0]);
+    }
+
+    // The regions that a worker has in hand.
+    heldBy(worker) {
+      const held = [];
+      this.owner.forEach((owner, r) => {
+        if (owner === worker && this.stage[r] !== SETTLED) held.push(r);
+      });
+      return held;
+    }
+  }
+
+  const between = Math.max(CHECKPOINT, Math.ceil(calls.length / 200));
+  const checkpoints = [new State()];
+  {
+    const state = new State();
+    calls.forEach((call, i) => {
+      state.apply(call);
+      if ((i + 1) % between === 0) checkpoints.push(new State(state));
+    });
+  }
+
+  // The state once the calls up to this line were answered. After line 1 nothing has happened.
+  const stateAfter = (line) => {
+    const done = line - 1;
+    const state = new State(checkpoints[Math.floor(done / between)]);
+    for (let i = done - (done % between); i < done; i += 1) state.apply(calls[i]);
+    return state;
+  };
+
+  const list = (regions) => (regions.length === 1
+    ? 'region ' + regions[0] + ' has' : 'regions ' + regions.join(' and ') + ' have') + ' still to read it';
+  const isToFill = (region) => region < moves.filled;
+  const begun = (text) => text.charAt(0).toUpperCase() + text.slice(1) + '.';
+
+  const whyNot = (state, region) => {
+    const reasons = [];
+    const readers = state.readersOf(region);
+    if (!isToFill(region)) reasons.push("it isn't to be filled");
+    if (state.stage[region] !== START) reasons.push('worker ' + state.owner[region] + ' has claimed it before');
+    if (readers.length > 0) reasons.push(list(readers));
+    return 'No: ' + reasons.join(', and ') + '.';
+  };
+
+  const seen = (reply) => {
+    if (reply === 'claimed') return 'it is claimed, and not filled yet';
+    if (reply === 'filled') return 'all its words are written';
+    const left = reply.charAt(reply.length - 1);
+    return (reply.startsWith('open') ? "it is to be filled and unclaimed" : "it isn't to be filled")
+      + ', and ' + (left === '0' ? 'nobody has' : left === '1' ? 'one region has' : left + ' regions have') + ' still to read it';
+  };
+
+  const after = (source) => {
+    const taken = granted.get(source);
+    if (!isToFill(source)) return "It isn't to be filled, so nobody claims it.";
+    return taken ? 'Worker ' + taken.worker + ' claims it in line ' + taken.line + '.' : 'Nobody claims it in this schedule.';
+  };
+
+  // Of each event what happened, and why it was allowed or answered so, from the state before it.
+  const words = {
+    claim: (who, state, { region, reply }) => (reply === 'yes'
+      ? [who + ' claims region ' + region + ': granted.',
+        'Yes: it is to be filled, nobody had claimed it, and nobody has still to read it.']
+      : [who + ' claims region ' + region + ': not granted.', whyNot(state, region)]),
+    look: (who, state, { region, reply }) => [who + ' looks at region ' + region + ': ' + seen(reply) + '.',
+      'A look is always allowed, and changes nothing.'],
+    drain: (who, state, { region, other, reply }) => {
+      const left = state.readersOf(other).filter((reader) => reader !== region);
+      return [who + ' has copied all that region ' + region + ' takes from region ' + other + '. '
+        + (reply === 'last' ? 'It was the last: region ' + other + ' is free. ' + after(other) : begun(list(left))),
+      'Allowed: ' + who.toLowerCase() + ' claimed region ' + region + ', had not completed it, and this pair was pending.'];
+    },
+    complete: (who, state, { region }) => [who + ' completes region ' + region + '.',
+      'Allowed: it claimed the region, has written all its words, and has drained all that it takes from others.'],
+    settle: (who, state, { region, reply }) => [who + ' settles region ' + region + ': '
+      + (reply === 'all' ? 'all regions to be filled are settled.' : (state.unsettled - 1) + ' are still to be settled.'),
+    'Allowed: it claimed the region and has completed it.'],
+    poll: (who, state, { reply }) => [who + ' asks whether all is settled: '
+      + (reply === 'all' ? 'yes.' : 'no, ' + state.unsettled + ' regions are not.'), 'A poll is always allowed.'],
+    copy: (who, state, { region, other }) => [who + ' writes ' + other + ' words of region ' + region + '; '
+      + (state.written[region] + other) + ' are written now.',
+    'Allowed: it claimed the region, and at least so many words were unwritten.'],
+  };
+
+  const explain = (line) => {
+    if (line < FIRST) return ['Nothing has happened yet.', 'The heap has ' + moves.regions + ' regions, of which ' + moves.filled + ' are to be filled.'];
+    const call = calls[line - FIRST];
+    return words[call.verb]('Worker ' + call.worker, stateAfter(line - 1), call);
+  };
+
+  const grid = element('regions');
+  const isSmall = moves.regions > 600;
+  grid.className = isSmall ? 'small' : 'large';
+  grid.innerHTML = Array.from({ length: moves.regions }, (_, r) => '<i>' + (isSmall ? '' : r) + '</i>').join('');
+  const cells = Array.from(grid.children);
+  const looks = new Int16Array(moves.regions).fill(-1);
+  const lanes = element('workers');
+  lanes.innerHTML = Array.from({ length: workers }, (_, w) => '<li><b>worker ' + w + '</b> <span></span></li>').join('');
+  const doing = Array.from(lanes.querySelectorAll('span'));
+
+  const showRegions = (state) => {
+    for (let r = 0; r < moves.regions; r += 1) {
+      const look = state.stage[r] * 4 + state.pending[r];
+      if (looks[r] !== look) {
+        looks[r] = look;
+        cells[r].className = isToFill(r) ? STAGES[state.stage[r]] : 'outside';
+        cells[r].dataset.pending = state.pending[r] || '';
+      }
+    }
+  };
+
+  // The region of a line has a frame, and is brought into sight before it is painted.
+  let framed = null;
+  const bring = () => {
+    if (!framed) return;
+    const top = framed.offsetTop - grid.offsetTop;
+    const isInSight = top >= grid.scrollTop && top + framed.offsetHeight <= grid.scrollTop + grid.clientHeight;
+    if (!isInSight) grid.scrollTop = top - grid.clientHeight / 2;
+  };
+  const frame = (line) => {
+    if (framed) delete framed.dataset.now;
+    framed = line < FIRST || calls[line - FIRST].verb === 'poll' ? null : cells[calls[line - FIRST].region];
+    if (!framed) return;
+    framed.dataset.now = '';
+    window.requestAnimationFrame(bring);
+  };
+
+  const told = (region, state) => {
+    const readers = state.readersOf(region);
+    const owner = state.owner[region];
+    return 'Region ' + region + ': ' + (isToFill(region) ? NAMES[state.stage[region]] : 'not to be filled')
+      + (owner < 0 ? '' : ' by worker ' + owner) + ', ' + (readers.length ? list(readers) : 'nobody has still to read it') + '.';
+  };
+
+  const showWorkers = (state, line) => {
+    const held = Array.from({ length: workers }, () => []);
+    state.owner.forEach((owner, r) => {
+      if (owner >= 0 && state.stage[r] !== SETTLED) held[owner].push(r);
+    });
+    const acts = line < FIRST ? -1 : calls[line - FIRST].worker;
+    held.forEach((regions, w) => {
+      doing[w].textContent = regions.length ? regions.map((r) => NAMES[state.stage[r]] + ': region ' + r).join(', ') : 'no region in hand';
+      doing[w].parentNode.className = w === acts ? 'acts' : '';
+    });
+  };
+
+  const showNear = (line) => {
+    const from = Math.max(1, Math.min(line - 4, last - 8));
+    const rows = [];
+    for (let k = from; k <= Math.min(last, from + 8); k += 1) {
+      const row = k === 1 ? 'schedule 1 ' + workers : calls[k - FIRST].row;
+      rows.push('<li value="' + k + '"' + (k === line ? ' aria-current="true"' : '') + '>' + row + '</li>');
+    }
+    element('near').innerHTML = rows.join('');
+  };
+
+  let current = 1;
+  let now = stateAfter(1);
+  let looked = 0;
+  let timer = null;
+
+  const show = (wanted) => {
+    current = Math.max(1, Math.min(last, Math.floor(wanted) || 1));
+    now = stateAfter(current);
+    const [what, why] = explain(current);
+    showRegions(now);
+    frame(current);
+    showWorkers(now, current);
+    showNear(current);
+    element('what').textContent = what;
+    element('why').textContent = why;
+    element('line').textContent = 'line ' + current + ' of ' + last;
+    element('slider').value = current;
+    element('told').textContent = told(looked, now);
+    element('cursor').style.left = (last > 1 ? ((current - 1) / (last - 1)) * 100 : 0) + '%';
+    if (current === last) pause();
+  };
+
+  const pause = () => {
+    if (timer !== null) clearInterval(timer);
+    timer = null;
+    element('play').textContent = 'Play';
+  };
+
+  // Lines a second; more than 50 go by several a turn.
+  const play = () => {
+    const speed = Number(element('speed').value);
+    const turns = Math.min(speed, 50);
+    if (current === last) show(1);
+    element('play').textContent = 'Pause';
+    timer = setInterval(() => show(current + Math.max(1, Math.round(speed / turns))), 1000 / turns);
+  };
+
+  const toggle = () => (timer === null ? play() : pause());
+  const jump = (line) => {
+    pause();
+    show(line);
+  };
+
+  const draw = () => {
+    const canvas = element('lanes');
+    const pen = canvas.getContext && canvas.getContext('2d');
+    if (!pen) return;
+    const width = canvas.clientWidth || 960;
+    const high = 20;
+    canvas.width = width;
+    canvas.height = workers * high;
+    canvas.style.height = workers * high + 'px';
+    const at = (line) => ((line - 1) / Math.max(1, last - 1)) * width;
+    const thin = calls.length > width ? 0.25 : 1;
+    const open = new Map();
+    const part = (fill, worker, from, to) => {
+      const wide = Math.max(1, at(to) - at(from - 1));
+      pen.fillStyle = fill;
+      pen.fillRect(at(from - 1), worker * high + 3, wide, high - 6);
+      if (wide > 3) pen.strokeRect(at(from - 1) + 0.5, worker * high + 3.5, wide, high - 7);
+    };
+    pen.font = '11px sans-serif';
+    pen.fillStyle = '#eee';
+    for (let w = 0; w < workers; w += 1) pen.fillRect(0, w * high + 3, width, high - 6);
+    const fill = (region, from, to, worker) => {
+      part(region % 2 ? '#f6d28b' : '#a8c8f0', worker, from, to);
+      pen.fillStyle = '#000';
+      if (at(to) - at(from) > 22) pen.fillText(region, at(from - 1) + 4, worker * high + 14);
+    };
+    calls.forEach(({ worker, verb, region, reply }, i) => {
+      const line = i + FIRST;
+      if (verb === 'claim' && reply === 'yes') open.set(region, line);
+      if (verb === 'complete') fill(region, open.get(region), line, worker);
+      if (verb === 'complete') open.set(region, line);
+      if (verb === 'settle') part('#fff', worker, open.get(region) + 1, line);
+      if (verb === 'settle') open.delete(region);
+    });
+    open.forEach((from, region) => {
+      if (granted.get(region).line === from) fill(region, from, last, granted.get(region).worker);
+      else part('#fff', granted.get(region).worker, from + 1, last);
+    });
+    pen.fillStyle = '#000';
+    calls.forEach(({ worker, verb, reply }, i) => {
+      if (verb === 'drain' && reply === 'last') pen.fillRect(at(i + FIRST) - thin, worker * high + high - 4, 3 * thin, 4);
+    });
+  };
+
+  const keys = {
+    ' ': toggle,
+    ArrowRight: () => jump(current + 1),
+    ArrowLeft: () => jump(current - 1),
+    PageDown: () => jump(current + 100),
+    PageUp: () => jump(current - 100),
+    Home: () => jump(1),
+    End: () => jump(last),
+  };
+  document.addEventListener('keydown', (event) => {
+    const { id, tagName } = event.target || {};
+    const isTheirs = id === 'region' || id === 'speed' || (tagName === 'BUTTON' && event.key === ' ');
+    if (!keys[event.key] || isTheirs || event.ctrlKey || event.altKey || event.metaKey) return;
+    event.preventDefault();
+    keys[event.key]();
+  });
+  element('play').addEventListener('click', toggle);
+  element('back').addEventListener('click', keys.ArrowLeft);
+  element('step').addEventListener('click', keys.ArrowRight);
+  element('begin').addEventListener('click', keys.Home);
+  element('end').addEventListener('click', keys.End);
+  element('slider').addEventListener('input', () => jump(Number(element('slider').value)));
+  element('near').addEventListener('click', (event) => event.target.value && jump(event.target.value));
+  const lookAt = (region) => {
+    if (!(region >= 0 && region < moves.regions)) return;
+    looked = region;
+    element('told').textContent = told(looked, now);
+  };
+  element('region').addEventListener('input', () => lookAt(Math.floor(Number(element('region').value))));
+  grid.addEventListener('click', (event) => {
+    const region = cells.indexOf(event.target);
+    if (region < 0) return;
+    element('region').value = region;
+    lookAt(region);
+  });
+  element('lanes').addEventListener('click', (event) => {
+    const width = element('lanes').clientWidth || 1;
+    jump(1 + Math.round((event.offsetX / width) * (last - 1)));
+  });
+  window.addEventListener('resize', draw);
+
+  element('slider').max = last;
+  element('region').max = moves.regions - 1;
+  draw();
+  const wanted = /^#line=([0-9]+)$/.exec(window.location.hash);
+  show(wanted ? Number(wanted[1]) : 1);
+
+  // What a line shows, for whoever wants to read it from a program.
+  window.timeline = {
+    last,
+    show: jump,
+    line: () => current,
+    isPlaying: () => timer !== null,
+    explain,
+    stateAt: (line) => {
+      const state = stateAfter(line);
+      return {
+        stages: Array.from(state.stage, (stage, r) => (isToFill(r) ? STAGES[stage] : 'outside')),
+        owners: Array.from(state.owner),
+        pending: Array.from(state.pending),
+        unsettled: state.unsettled,
+      };
+    },
+  };
+})();
+"##;

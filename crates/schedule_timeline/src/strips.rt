@@ -1,0 +1,125 @@
+//! A timeline as text: two rows for each worker.
+use crate::freeing::Freeing;
+use crate::lane::Lane;
+use crate::mark::Mark;
+use crate::scale::Scale;
+use crate::share::Share;
+use crate::timeline::Timeline;
+use heap_map::{Glyphs, Style};
+use std::alloc::{AllocError, Global};
+
+/// Of how many freed regions a line tells who took them.
+const TOLD_FREEINGS: usize = 20;
+
+/// Writes the lanes, what their characters mean, and who took which freed region.
+pub(crate) fn write_lanes(
+    alloc: Global,
+    text: &mut String,
+    timeline: &Timeline,
+    style: Style,
+    width: u32,
+) -> Result<(), AllocError> {
+    let lines = timeline.schedule.len() as u64;
+    let scale = Scale {
+        lines,
+        cells: lines.min(u64::from(width)),
+    };
+    for worker in 0..timeline.schedule.workers() {
+        let lane = Lane::of(alloc, timeline, worker, scale)?;
+        write_lane(text, style, worker, &lane, scale)?;
+    }
+    write_legend(text, style.glyphs)?;
+    write_freeings(text, &timeline.freeings)
+}
+
+/// Writes the two rows of a worker.
+fn write_lane(
+    text: &mut String,
+    style: Style,
+    worker: u32,
+    lane: &Lane,
+    scale: Scale,
+) -> Result<(), AllocError> {
+    write!(text, "worker {worker:2} |")?;
+    for (cell, held) in lane.held.iter().enumerate() {
+        let first = scale.start_of(cell as u64);
+        let behind = scale.start_of((cell as u64).saturating_add(1));
+        let share = Share::of(*held, behind.saturating_sub(first));
+        write_coloured(text, style, share.colour(), share.glyph(style.glyphs))?;
+    }
+    text.push_str("|\n          |")?;
+    write_marks(text, style, &lane.marks)?;
+    text.push_str("|\n")
+}
+
+/// Writes what a worker does, cell by cell.
+fn write_marks(text: &mut String, style: Style, marks: &[Mark]) -> Result<(), AllocError> {
+    for mark in marks {
+        write_coloured(text, style, mark.colour(), mark.letter())?;
+    }
+    Ok(())
+}
+
+/// Writes a character, in this colour where colours are wanted. Colour 0 is none.
+fn write_coloured(
+    text: &mut String,
+    style: Style,
+    colour: &str,
+    glyph: &str,
+) -> Result<(), AllocError> {
+    if style.is_coloured && colour != "0" {
+        write!(text, "\x1b[{colour}m{glyph}\x1b[0m")
+    } else {
+        text.push_str(glyph)
+    }
+}
+
+/// Writes what the characters mean.
+fn write_legend(text: &mut String, glyphs: Glyphs) -> Result<(), AllocError> {
+    text.push_str("region in hand:")?;
+    for (share, name) in [
+        (Share::Never, "never"),
+        (Share::Seldom, "seldom"),
+        (Share::Half, "half"),
+        (Share::Mostly, "mostly"),
+        (Share::Always, "always"),
+    ] {
+        write!(text, " {} {name}", share.glyph(glyphs))?;
+    }
+    text.push_str("\nmark: c claims t takes a freed region f frees one s settles x several\n")
+}
+
+/// Writes who took which freed region, of the first ones.
+fn write_freeings(text: &mut String, freeings: &[Freeing]) -> Result<(), AllocError> {
+    for freeing in freeings.iter().take(TOLD_FREEINGS) {
+        write_freeing(text, freeing)?;
+        text.push_str("\n")?;
+    }
+    match freeings.len().saturating_sub(TOLD_FREEINGS) {
+        0 => Ok(()),
+        more => writeln!(text, "and {more} more"),
+    }
+}
+
+/// Writes who freed a region and who took it.
+pub(crate) fn write_freeing(text: &mut String, freeing: &Freeing) -> Result<(), AllocError> {
+    let Freeing {
+        drain,
+        destination,
+        source,
+        taken,
+    } = *freeing;
+    write!(text, "line {}: worker {}", drain.line, drain.worker)?;
+    write!(
+        text,
+        " drains {source} into {destination} and frees {source}"
+    )?;
+    match taken {
+        Some(taken) => write!(
+            text,
+            ", worker {} takes it in line {}",
+            taken.worker, taken.line
+        ),
+        None => text.push_str(", nobody takes it"),
+    }
+}
