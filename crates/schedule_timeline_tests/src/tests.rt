@@ -196,10 +196,10 @@ fn a_line_that_is_not_taken_is_told(rt: HostRuntime) -> Result<(), Fail> {
     let schedule = read_schedule(rt.alloc(), b"schedule 1 1\n0 poll ?\n0 settle 0 ?\n")?;
     match Timeline::of(rt.alloc(), &image, &survey, &schedule) {
         Ok(_) => Err(Fail::from("it is taken")),
-        Err(Fault::Memory) => Err(Fail::from("memory")),
-        Err(fault) => {
-            assert_eq!(rt; fault, Fault::Schedule(3));
+        Err(Fault::Schedule(line)) => {
+            assert_eq!(rt; line, 3);
             Ok(())
         }
+        Err(fault) => Err(Fail::from(fault)),
     }
 }
