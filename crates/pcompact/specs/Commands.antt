@@ -1,38 +1,38 @@
 -- The commands of the program. Each has a module of its own, with what a good call prints.
-pub mod Board
-pub mod Summarize
 pub mod Collect
 pub mod Verify
 pub mod Record
-pub mod Replay
-pub mod Upgrade
-pub mod Import
-pub mod Generate
-pub mod Order
-pub mod Text
-pub mod Assemble
-pub mod Map
-pub mod Timeline
 use Rattle.std.specs.Prelude.{ℕ, List, [], ◌∷◌, MatchBool, bytes_eq}
-use Rattle.pcompact.specs.Command.{Command}
+use Rattle.heap_commands.specs.Command.{Command}
+use Rattle.heap_commands.specs.Assemble.{assemble_command}
+use Rattle.heap_commands.specs.Board.{board_command}
+use Rattle.heap_commands.specs.Generate.{generate_command}
+use Rattle.heap_commands.specs.Import.{import_command}
+use Rattle.heap_commands.specs.Map.{map_command}
+use Rattle.heap_commands.specs.Order.{order_command}
+use Rattle.heap_commands.specs.Replay.{replay_command}
+use Rattle.heap_commands.specs.Summarize.{summary_command}
+use Rattle.heap_commands.specs.Text.{text_command}
+use Rattle.heap_commands.specs.Timeline.{timeline_command}
+use Rattle.heap_commands.specs.Upgrade.{upgrade_command}
 
 -- the commands, in the order in which help lists them
 abbrev pub listed : List Command
 listed =
-    Board.board_command
-    ∷ Summarize.summary_command
+    board_command
+    ∷ summary_command
     ∷ Collect.collect_command
     ∷ Verify.verify_command
     ∷ Record.record_command
-    ∷ Replay.replay_command
-    ∷ Upgrade.upgrade_command
-    ∷ Import.import_command
-    ∷ Generate.generate_command
-    ∷ Order.order_command
-    ∷ Text.text_command
-    ∷ Assemble.assemble_command
-    ∷ Map.map_command
-    ∷ Timeline.timeline_command
+    ∷ replay_command
+    ∷ upgrade_command
+    ∷ import_command
+    ∷ generate_command
+    ∷ order_command
+    ∷ text_command
+    ∷ assemble_command
+    ∷ map_command
+    ∷ timeline_command
     ∷ []
 
 -- the first of these commands that has this name prints such a text

@@ -1,4 +1,2 @@
-pub mod Failure
 pub mod Figures
-pub mod Command
 pub mod Commands

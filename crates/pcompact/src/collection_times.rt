@@ -1,9 +1,7 @@
 //! `CollectionTimes`.
-use crate::laps::Laps;
-use crate::phase::Phase;
 use crate::timed_gate::TimedGate;
-use crate::timed_intake::TimedIntake;
-use crate::timed_outlet::TimedOutlet;
+use collector::Figures;
+use command_support::{Laps, Moved, Phase, TimedIntake, TimedOutlet};
 use heap_image::{Intake, Outlet};
 use std::time::{Clock, Duration};
 
@@ -47,8 +45,14 @@ impl CollectionTimes {
             .then(Phase::Write, self.written)
     }
 
+    /// What a collection with these figures moved: the live words behind the dense prefix.
+    pub fn moved(&self, figures: Figures) -> Moved {
+        let words = figures.new_top.saturating_sub(figures.prefix_end);
+        Moved::new(words, self.in_memory())
+    }
+
     /// How long the collection took in memory: from the image that is checked to the one that is written.
-    pub fn in_memory(&self) -> Option<Duration> {
+    fn in_memory(&self) -> Option<Duration> {
         Some(self.cleaned_up?.saturating_sub(self.checked?))
     }
 }

@@ -4,27 +4,18 @@
 ghost use Rattle.std.specs.Prelude.{◌≡◌, codes, ℕ, List, IfOk, IfErr};
 ghost use Rattle.command_line.specs.Request.{IsFor};
 ghost use Rattle.pcompact.specs.Commands.{IsPrintedBy};
-ghost use Rattle.pcompact.specs.Failure.{out_of_memory};
+ghost use Rattle.command_support.specs.Failure.{out_of_memory};
 
-mod assemble;
-mod board;
 mod collect;
-mod generate;
-mod import;
-mod map;
-mod order;
 mod record;
-mod replay;
-mod summarize;
-mod text;
-mod timeline;
-mod upgrade;
 mod verify;
 
-use crate::done::Done;
-use crate::screen::Screen;
-use crate::trouble::Trouble;
 use command_line::Request;
+use command_support::{Done, Trouble};
+use heap_commands::screen::Screen;
+use heap_commands::{
+    assemble, board, generate, import, map, order, replay, summarize, text, timeline, upgrade,
+};
 use std::os::unix::fs::FileExt;
 use std::rt::Files;
 use std::sync::Wait;

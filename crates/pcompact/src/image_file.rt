@@ -1,6 +1,6 @@
 //! `ImageFile`.
 use crate::ahead::Ahead;
-use crate::watched::Watched;
+use command_support::Watched;
 use heap_image::{Failed, Intake};
 use raw_region::Region;
 use std::alloc::Global;

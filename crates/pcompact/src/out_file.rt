@@ -2,7 +2,7 @@
 ghost use Rattle.std.specs.Prelude.{◌≡◌, ◌≤◌, IfOk, IfSome, Ok, length};
 
 use crate::figures::FiguresLine;
-use crate::watched::Watched;
+use command_support::Watched;
 use heap_image::{Failed, Fault, Outlet};
 use std::io::{Seek, Write};
 

@@ -3,17 +3,11 @@ ghost use Rattle.std.specs.Prelude.{◌≡◌, ◌≤◌, ◌∷◌, ◌⊎◌, 
 ghost use Rattle.std.specs.Io.KnownBytes.{Appends};
 ghost use Rattle.command_line.specs.CommandLine.{AreWords, AreCallOf, HaveWord};
 ghost use Rattle.pcompact.specs.Commands.{IsPrintedBy};
-ghost use Rattle.pcompact.specs.Failure.{failed_device, out_of_memory, status_of};
+ghost use Rattle.command_support.specs.Failure.{failed_device, out_of_memory, status_of};
 
 use crate::commands;
-use crate::done::Done;
-use crate::failed_call::{Call, FailedCall};
-use crate::failure::Failure;
-use crate::reason::Reason;
-use crate::screen::Screen;
-use crate::stats::Stats;
-use crate::trouble::Trouble;
-use collector::Verdict;
+use command_support::{Call, Done, FailedCall, Failure, Reason, Stats, Trouble};
+use heap_commands::screen::Screen;
 use heap_image::Fault;
 use std::io;
 use std::io::Write;
@@ -121,7 +115,7 @@ pub fn tell<B: Write>(trouble: &Trouble<'_>, verbose: bool, err: &mut B) -> u8
     let _ = match &trouble.failure {
         Failure::Usage(text) => err.write_all(text.as_bytes()),
         Failure::Fault(fault) => writeln!(err, "pcompact: fault {fault}"),
-        Failure::Differs(verdict) => tell_difference(*verdict, err),
+        Failure::Differs(difference) => writeln!(err, "pcompact: differs {difference}"),
         Failure::Dump(error) => writeln!(err, "pcompact: {error}"),
         Failure::Generation(error) => writeln!(err, "pcompact: {error}"),
         Failure::Text(error) => writeln!(err, "pcompact: TEXT {error}"),
@@ -131,15 +125,4 @@ pub fn tell<B: Write>(trouble: &Trouble<'_>, verbose: bool, err: &mut B) -> u8
     }
     let _ = err.flush();
     trouble.failure.status()
-}
-
-/// Says where two images differ.
-fn tell_difference<B: Write>(verdict: Verdict, err: &mut B) -> io::Result<()> {
-    match verdict {
-        Verdict::Same => Ok(()),
-        Verdict::Shape => writeln!(err, "pcompact: differs shape"),
-        Verdict::Word(address) => writeln!(err, "pcompact: differs word {address}"),
-        Verdict::Live(index) => writeln!(err, "pcompact: differs live {index}"),
-        Verdict::Root(index) => writeln!(err, "pcompact: differs root {index}"),
-    }
 }

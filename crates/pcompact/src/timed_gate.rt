@@ -1,6 +1,6 @@
 //! `TimedGate`.
-use crate::stopwatch::Stopwatch;
 use collector::Gate;
+use command_support::Stopwatch;
 use std::sync::atomic::{AtomicU64, Ordering};
 use std::time::{Clock, Duration};
 

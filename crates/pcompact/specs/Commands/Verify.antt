@@ -5,7 +5,7 @@ use Rattle.heap_image.specs.ImageText.{text}
 use Rattle.summary.specs.Compaction.{compact}
 use Rattle.collector.specs.Verdict.{IsVerdict}
 use Rattle.collector.specs.declared.verdict.Verdict.{Verdict}
-use Rattle.pcompact.specs.Command.{Command}
+use Rattle.heap_commands.specs.Command.{Command}
 
 -- each device gave the text of a valid image, and this is the verdict on the second beside the compaction of the first
 abbrev pub IsVerdictOf : Option (List ℕ) → Option (List ℕ) → Option (List ℕ) → Option (List ℕ) → Verdict → Type 0

@@ -1,25 +1,19 @@
 //! The command `collect`.
 ghost use Rattle.std.specs.Prelude.{◌≡◌, codes, ℕ, List, IfOk, IfErr, string_bytes};
-ghost use Rattle.pcompact.specs.Commands.{IsPrintedBy};
 ghost use Rattle.pcompact.specs.Commands.Collect.{IsCollection, IsFirstOfBytes};
 ghost use Rattle.pcompact.specs.Figures.{IsFigures, figures_line};
 
 use crate::collection_times::CollectionTimes;
-use crate::done::Done;
 use crate::figures::{FiguresLine, LINE_ROOM, tell_figures};
-use crate::files::{ended, failed_between, image_and_out};
 use crate::image_file::ImageFile;
-use crate::moved::Moved;
 use crate::out_file::OutFile;
-use crate::stats::Stats;
-use crate::stopwatch::Stopwatch;
 use crate::timed_gate::TimedGate;
-use crate::timed_intake::TimedIntake;
-use crate::timed_outlet::TimedOutlet;
-use crate::trouble::Trouble;
 use crate::workers::Workers;
 use collector::{Gate, collect_stream};
 use command_line::Collect;
+use command_support::{
+    Done, Stats, Stopwatch, TimedIntake, TimedOutlet, Trouble, ended, failed_between, image_and_out,
+};
 use heap_image::{Fault, Intake, Outlet};
 use std::os::unix::fs::FileExt;
 use std::rt::Files;
@@ -54,7 +48,7 @@ where
     let told = written.end(told);
     match told {
         Ok(FiguresLine { figures, line }) => {
-            let moved = Moved::of(figures, times.in_memory());
+            let moved = times.moved(figures);
             let stats = Stats::of_collection(watch, times.laps(), moved, asked.workers);
             Ok(ended(rt, line, out)?.with_stats(stats))
         }
@@ -87,9 +81,3 @@ pub fn collect_into<R: AllocGlobal + Threads + Wait + Sync, I: Intake, O: Outlet
     tell_figures(figures, &mut line)?;
     Ok(FiguresLine { figures, line })
 }
-
-/// What the contract of the program says of `collect`: it prints the
-/// figures of the collection of some valid image.
-pub fn collect_prints_figures()
-    ensures prints { (text : List ℕ) → IsPrintedBy (codes "collect") text → IsFigures text }
-{}

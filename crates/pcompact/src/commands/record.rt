@@ -1,32 +1,21 @@
 //! The command `record`.
 ghost use Rattle.std.specs.Prelude.{◌≡◌, codes, ℕ, List, IfOk, IfErr, string_bytes};
-ghost use Rattle.pcompact.specs.Commands.{IsPrintedBy};
 ghost use Rattle.pcompact.specs.Commands.Collect.{IsFirstOfBytes};
 ghost use Rattle.pcompact.specs.Commands.Record.{IsRecording};
 ghost use Rattle.pcompact.specs.Figures.{IsFigures, figures_line};
 
 use crate::collection_times::CollectionTimes;
-use crate::done::Done;
 use crate::figures::{FiguresLine, LINE_ROOM, tell_figures};
-use crate::file_id::FileId;
-use crate::file_word::{FileWord, Role};
-use crate::files::{failed, must_differ, same_file};
 use crate::image_file::ImageFile;
-use crate::moved::Moved;
 use crate::out_file::OutFile;
-use crate::output::Output;
-use crate::phase::Phase;
-use crate::stats::Stats;
-use crate::stopwatch::Stopwatch;
-use crate::target::Target;
 use crate::timed_gate::TimedGate;
-use crate::timed_intake::TimedIntake;
-use crate::timed_outlet::TimedOutlet;
-use crate::trouble::Trouble;
-use crate::watched::Watched;
 use crate::workers::Workers;
 use collector::{Gate, record_stream};
 use command_line::Record;
+use command_support::{
+    Done, FileId, FileWord, Output, Phase, Role, Stats, Stopwatch, Target, TimedIntake,
+    TimedOutlet, Trouble, Watched, failed, must_differ, same_file,
+};
 use heap_image::{Fault, Intake, Outlet, ToWrite};
 use std::os::unix::fs::FileExt;
 use std::rt::Files;
@@ -64,7 +53,7 @@ where
     let laps = times.laps().then(Phase::Schedule, lines.ended());
     match told {
         Ok(FiguresLine { figures, line }) => {
-            let moved = Moved::of(figures, times.in_memory());
+            let moved = times.moved(figures);
             let stats = Stats::of_collection(watch, laps, moved, asked.workers);
             Ok(both_ended(rt, line, out, schedule)?.with_stats(stats))
         }
@@ -194,9 +183,3 @@ pub fn record_into<
     tell_figures(figures, &mut line)?;
     Ok(FiguresLine { figures, line })
 }
-
-/// What the contract of the program says of `record`: it prints the
-/// figures of the collection of some valid image.
-pub fn record_prints_figures()
-    ensures prints { (text : List ℕ) → IsPrintedBy (codes "record") text → IsFigures text }
-{}

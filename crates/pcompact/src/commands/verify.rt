@@ -1,20 +1,13 @@
 //! The command `verify`.
 ghost use Rattle.std.specs.Prelude.{◌≡◌, codes, ℕ, List, IfOk};
-ghost use Rattle.pcompact.specs.Commands.{IsPrintedBy};
 ghost use Rattle.pcompact.specs.Commands.Verify.{IsVerdictOf};
 
-use crate::done::Done;
-use crate::failure::Failure;
-use crate::file_word::{FileWord, Role};
-use crate::files::two_inputs;
-use crate::laps::Laps;
-use crate::phase::Phase;
-use crate::stats::Stats;
-use crate::stopwatch::Stopwatch;
-use crate::timed_intake::TimedIntake;
-use crate::trouble::Trouble;
 use collector::{Verdict, verify};
 use command_line::Verify;
+use command_support::{
+    Difference, Done, Failure, FileWord, Laps, Phase, Role, Stats, Stopwatch, TimedIntake, Trouble,
+    two_inputs,
+};
 use heap_image::{Fault, FromRead, Intake, read_image_by_threads};
 use std::alloc::Global;
 use std::rt::Files;
@@ -29,15 +22,26 @@ pub fn answer<'a, R: Files + AllocGlobal + Threads + Clock + Sync>(
     ensures { IfOk result (λ done. done.text.items ≡ codes "same\n") }
 {
     let (verdict, stats) = compared(rt, &asked)?;
-    match verdict {
-        Verdict::Same => {
+    match difference(verdict) {
+        None => {
             let text = Vec::from_slice(rt.alloc(), b"same\n")?;
             Ok(Done::printing(text).with_stats(stats))
         }
-        difference => {
+        Some(difference) => {
             let after = FileWord::new(Role::After, asked.after);
             Err(Trouble::new(Failure::Differs(difference)).about(after))
         }
+    }
+}
+
+/// The difference that a verdict names. None where it names none.
+fn difference(verdict: Verdict) -> Option<Difference> {
+    match verdict {
+        Verdict::Same => None,
+        Verdict::Shape => Some(Difference::Shape),
+        Verdict::Word(address) => Some(Difference::Word(address)),
+        Verdict::Live(index) => Some(Difference::Live(index)),
+        Verdict::Root(index) => Some(Difference::Root(index)),
     }
 }
 
@@ -103,8 +107,3 @@ pub fn verify_images<R: Intake, S: Intake, T: Threads + Sync>(
         Err(fault) => Err(Unverified::Neither(fault)),
     }
 }
-
-/// What the contract of the program says of `verify`: it prints `same`.
-pub fn verify_prints_same()
-    ensures prints { (text : List ℕ) → IsPrintedBy (codes "verify") text → text ≡ codes "same\n" }
-{}

@@ -1,6 +1,6 @@
 use Rattle.std.proofs.Common.{◌≡◌, ◌∙◌, ap, arith, codes}
 use Rattle.command_line.specs.Request.{IsFor}
-use Rattle.pcompact.specs.Failure.{out_of_memory, status_of}
+use Rattle.command_support.specs.Failure.{out_of_memory, status_of}
 use Rattle.pcompact.proofs.program.run.Goals as goal
 
 pub returns-in-Err-clause-board_is_known : goal.returns-in-Err-clause-board_is_known

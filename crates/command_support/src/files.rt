@@ -1,0 +1,157 @@
+//! The files that several commands open together, and how a command ends that wrote one. A file that
+//! can't be opened is fault 13.
+ghost use Rattle.std.specs.Prelude.{◌≡◌, ◌≢◌, IfOk, OnOk, string_bytes};
+
+use crate::done::Done;
+use crate::failure::Failure;
+use crate::file_id::FileId;
+use crate::file_word::{FileWord, Role};
+use crate::output::Output;
+use crate::target::Target;
+use crate::trouble::Trouble;
+use crate::watched::Watched;
+use std::alloc::{AllocError, Global};
+use std::rt::Files;
+
+/// A file to read, and one to write.
+type ImageAndOut<'a, F> = (Watched<'a, F>, Output<'a, F>);
+
+/// A file to read and one to write. The first is opened before the second is made or emptied. They
+/// may be one file only where that is replaced.
+pub fn image_and_out<'a, H: Files + AllocGlobal>(
+    host: &H,
+    image: &'a str,
+    out: &'a str,
+    atomic: bool,
+) -> Result<ImageAndOut<'a, H::File>, Trouble<'a>> {
+    let image = FileWord::new(Role::Image, image);
+    let out = FileWord::new(Role::Out, out);
+    if !atomic {
+        must_differ(host.alloc(), image, out)?;
+    }
+    let image = Watched::open(host, image)?;
+    let out = target_beside(host, &image, out, atomic)?;
+    Ok((image, out.begin(host)?))
+}
+
+/// Two files to read, of which both are opened before one is read.
+pub fn two_inputs<'a, H: Files>(
+    host: &H,
+    one: FileWord<'a>,
+    other: FileWord<'a>,
+) -> Result<(Watched<'a, H::File>, Watched<'a, H::File>), Trouble<'a>> {
+    let one = Watched::open(host, one)?;
+    let other = Watched::open(host, other)?;
+    Ok((one, other))
+}
+
+/// Two files to read, as [`two_inputs`]. They may not be one file.
+pub fn two_different_inputs<'a, H: Files + AllocGlobal>(
+    host: &H,
+    one: FileWord<'a>,
+    other: FileWord<'a>,
+) -> Result<(Watched<'a, H::File>, Watched<'a, H::File>), Trouble<'a>> {
+    must_differ(host.alloc(), one, other)?;
+    let (one, other) = two_inputs(host, one, other)?;
+    if one.id()?.is_same(other.id()?) {
+        return Err(same_file(host.alloc(), one.word(), other.word())?);
+    }
+    Ok((one, other))
+}
+
+/// The file to write, where this one is read. They may be one file only where that is replaced.
+pub fn target_beside<'a, H: Files + AllocGlobal>(
+    host: &H,
+    read: &Watched<'a, H::File>,
+    out: FileWord<'a>,
+    atomic: bool,
+) -> Result<Target<'a, H::File>, Trouble<'a>> {
+    let id = read.id()?;
+    let out = Target::find(host, out, atomic)?;
+    if atomic {
+        Ok(out)
+    } else {
+        apart_from(host, out, read.word(), id)
+    }
+}
+
+/// The file to write, as it was found, unless it is this one that is read. Then it is left as it stood.
+pub fn apart_from<'a, H: Files + AllocGlobal>(
+    host: &H,
+    found: Target<'a, H::File>,
+    read: FileWord<'a>,
+    id: FileId,
+) -> Result<Target<'a, H::File>, Trouble<'a>> {
+    if found.is(id) {
+        let same = same_file(host.alloc(), read, found.word());
+        found.leave(host);
+        return Err(same?);
+    }
+    Ok(found)
+}
+
+/// Two files of one command must have other names.
+pub fn must_differ<'a>(
+    alloc: Global,
+    one: FileWord<'a>,
+    other: FileWord<'a>,
+) -> Result<(), Trouble<'a>>
+    ensures { OnOk result (one.entry.name.now ≢ other.entry.name.now) }
+{
+    if one.name == other.name {
+        return Err(same_file(alloc, one, other)?);
+    }
+    Ok(())
+}
+
+/// The failure of two words of one command that name one file.
+pub fn same_file<'a>(
+    alloc: Global,
+    one: FileWord<'a>,
+    other: FileWord<'a>,
+) -> Result<Trouble<'a>, AllocError> {
+    let same = Trouble::new(Failure::usage(alloc, "pcompact: same file\n")?);
+    Ok(same.about(one).about(other))
+}
+
+/// The failure of a file that must be a regular one and isn't.
+pub fn not_regular<'a>(alloc: Global, file: FileWord<'a>) -> Result<Trouble<'a>, AllocError> {
+    Ok(Trouble::new(Failure::usage(alloc, "pcompact: not a regular file\n")?).about(file))
+}
+
+/// What a command has done that prints this line and has written one file.
+pub fn ended<'a, H: Files>(
+    host: &H,
+    line: String,
+    out: Output<'a, H::File>,
+) -> Result<Done<'a>, Trouble<'a>>
+    ensures { IfOk result (λ done. done.text.items ≡ string_bytes line) }
+{
+    Ok(Done {
+        text: line.into_bytes(),
+        out: out.finish(host)?,
+        schedule: None,
+        stats: None,
+    })
+}
+
+/// Why a command fails that met this trouble while it wrote a file.
+pub fn failed<'a, H: Files>(
+    host: &H,
+    trouble: Trouble<'a>,
+    out: Output<'a, H::File>,
+) -> Trouble<'a> {
+    out.abandon(host);
+    trouble
+}
+
+/// Why a command fails that met this trouble while it read an image and wrote another.
+pub fn failed_between<'a, H: Files>(
+    host: &H,
+    trouble: Trouble<'a>,
+    image: &Watched<'a, H::File>,
+    out: Output<'a, H::File>,
+) -> Trouble<'a> {
+    let trouble = trouble.if_image(image).if_failed(&out.file);
+    failed(host, trouble, out)
+}

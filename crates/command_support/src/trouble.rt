@@ -1,0 +1,238 @@
+//! `Trouble`.
+ghost use Rattle.std.specs.Prelude.{◌≡◌, None, IfErr};
+ghost use Rattle.command_support.specs.Failure.{failed_device};
+ghost use Rattle.heap_image.specs.declared.fault.Fault.TheVariants.{Memory};
+ghost use Rattle.command_support.specs.declared.failure.Failure.TheVariants.{Fault};
+
+use crate::failed_call::{Call, FailedCall};
+use crate::failure::Failure;
+use crate::file_word::FileWord;
+use crate::reason::{LineReason, Reason};
+use crate::watched::Watched;
+use heap_image::{Fault, LengthCause};
+use std::alloc::AllocError;
+use std::io;
+use std::io::Write;
+
+/// Why the program ends with a status other than 0, and what more is known of it.
+#[derive(Drop)]
+pub struct Trouble<'a> {
+    /// Why. It decides the status and the first line of standard error.
+    pub failure: Failure,
+    /// Which file it is about.
+    file: Option<FileWord<'a>>,
+    /// Which other file it is about too.
+    other: Option<FileWord<'a>>,
+    reason: Option<Reason>,
+}
+
+impl<'a> Trouble<'a> {
+    /// A failure of which nothing more is known.
+    pub fn new(failure: Failure) -> Trouble<'a>
+        ensures { result.failure ≡ failure }
+    {
+        Trouble {
+            failure,
+            file: None,
+            other: None,
+            reason: None,
+        }
+    }
+
+    /// A call on this file failed: fault 13.
+    pub fn of_call(file: FileWord<'a>, call: FailedCall) -> Trouble<'a>
+        ensures { result.failure ≡ failed_device }
+    {
+        Trouble::new(Failure::Fault(Fault::Io))
+            .because(Reason::Call(call))
+            .about(file)
+    }
+
+    /// It is about this file, and about another if it was about that before.
+    pub fn about(self, file: FileWord<'a>) -> Trouble<'a>
+        ensures { result.failure ≡ self.entry.failure }
+    {
+        Trouble {
+            file: Some(file),
+            other: self.file,
+            ..self
+        }
+    }
+
+    /// This is the reason.
+    pub fn because(self, reason: Reason) -> Trouble<'a>
+        ensures { result.failure ≡ self.entry.failure }
+    {
+        Trouble {
+            reason: Some(reason),
+            ..self
+        }
+    }
+
+    /// Where a call on this file failed, it is about the file.
+    pub fn if_failed<F: Drop>(self, file: &Watched<'a, F>) -> Trouble<'a>
+        ensures { result.failure ≡ self.entry.failure }
+    {
+        match (self.fault(), file.failed()) {
+            (Some(Fault::Io), Some(call)) => self.because(Reason::Call(call)).about(file.word()),
+            _ => self,
+        }
+    }
+
+    /// Where it is a fault of the image in this file, or a call on this file failed, it is about the
+    /// file.
+    pub fn if_image<F: Drop>(self, image: &Watched<'a, F>) -> Trouble<'a>
+        ensures { result.failure ≡ self.entry.failure }
+    {
+        match self.fault() {
+            Some(Fault::Length) => self.because_of_length(image).about(image.word()),
+            Some(fault) if is_of_image(fault) => self.about(image.word()),
+            _ => self.if_failed(image),
+        }
+    }
+
+    /// Where a dump gives no image, or a call on one of these two openings of it failed, it is about the
+    /// dump.
+    pub fn if_dump<F: Drop>(self, dump: &Watched<'a, F>, again: &Watched<'a, F>) -> Trouble<'a>
+        ensures { result.failure ≡ self.entry.failure }
+    {
+        if self.is_of_dump() {
+            self.about(dump.word())
+        } else {
+            self.if_failed(dump).if_failed(again)
+        }
+    }
+
+    /// Where a line of a text is none of a heap, or a call on the file failed, it is about the file.
+    pub fn if_text<F: Drop>(self, text: &Watched<'a, F>) -> Trouble<'a>
+        ensures { result.failure ≡ self.entry.failure }
+    {
+        if self.is_of_text() {
+            self.about(text.word())
+        } else {
+            self.if_failed(text)
+        }
+    }
+
+    /// Where the number of workers is none that is allowed, this is it.
+    pub fn if_workers(self, asked: u32) -> Trouble<'a>
+        ensures { result.failure ≡ self.entry.failure }
+    {
+        match self.fault() {
+            Some(Fault::Workers) => self.because(Reason::Workers(asked)),
+            _ => self,
+        }
+    }
+
+    /// Where it is a line of the schedule in this file, it is about the file, for this reason.
+    pub fn if_line<F: Drop>(
+        self,
+        schedule: &Watched<'a, F>,
+        reason: Option<LineReason>,
+    ) -> Trouble<'a>
+        ensures { result.failure ≡ self.entry.failure }
+    {
+        let trouble = match self.fault() {
+            Some(Fault::Schedule(_)) => self.about(schedule.word()),
+            _ => self.if_failed(schedule),
+        };
+        match reason {
+            Some(reason) => trouble.because(Reason::Line(reason)),
+            None => trouble,
+        }
+    }
+
+    /// Writes the lines that tell more than the first: the files, and the reason.
+    pub fn tell_more<B: Write>(&self, err: &mut B) -> io::Result<()> {
+        for file in [self.other, self.file].into_iter().flatten() {
+            writeln!(err, "pcompact: file {} {}", file.role, file.name)?;
+        }
+        match &self.reason {
+            Some(reason) => reason.tell(err),
+            None => Ok(()),
+        }
+    }
+
+    fn fault(&self) -> Option<Fault> {
+        match &self.failure {
+            Failure::Fault(fault) => Some(*fault),
+            _ => None,
+        }
+    }
+
+    fn is_of_dump(&self) -> bool {
+        match &self.failure {
+            Failure::Dump(_) => true,
+            _ => false,
+        }
+    }
+
+    fn is_of_text(&self) -> bool {
+        match &self.failure {
+            Failure::Text(_) => true,
+            _ => false,
+        }
+    }
+
+    fn because_of_length<F: Drop>(self, image: &Watched<'a, F>) -> Trouble<'a>
+        ensures { result.failure ≡ self.entry.failure }
+    {
+        match LengthCause::of(image.front()) {
+            Some(cause) => self.because(Reason::Length(cause)),
+            None => self,
+        }
+    }
+}
+
+/// What a call of the system on this file answered. Fault 13 where it failed.
+pub fn called<'a, T>(
+    file: FileWord<'a>,
+    call: Call,
+    outcome: io::Result<T>,
+) -> Result<T, Trouble<'a>>
+    ensures { IfErr result (λ trouble. trouble.failure ≡ failed_device) }
+{
+    match outcome {
+        Ok(value) => Ok(value),
+        Err(error) => Err(Trouble::of_call(file, FailedCall::of(call, &error))),
+    }
+}
+
+/// Whether the fault is one of an image's bytes.
+fn is_of_image(fault: Fault) -> bool {
+    match fault {
+        Fault::TruncatedHeader
+        | Fault::Magic
+        | Fault::RegionLog
+        | Fault::Length
+        | Fault::TruncatedBody
+        | Fault::LiveOrder(_)
+        | Fault::Header(_)
+        | Fault::Overlap(_)
+        | Fault::Reference(_, _)
+        | Fault::Trailing
+        | Fault::Root(_) => true,
+        Fault::Memory
+        | Fault::Workers
+        | Fault::Io
+        | Fault::Schedule(_)
+        | Fault::Overwritten(_)
+        | Fault::Gate => false,
+    }
+}
+
+impl<'a> From<AllocError> for Trouble<'a> {
+    ghost from_gives = { λ _ trouble. trouble.failure ≡ Fault Memory };
+
+    fn from(refused: AllocError) -> Trouble<'a> {
+        Trouble::new(Failure::from(refused))
+    }
+}
+
+impl<'a> From<Fault> for Trouble<'a> {
+    ghost from_gives = { λ fault trouble. trouble.failure ≡ Fault fault };
+
+    fn from(fault: Fault) -> Trouble<'a> {
+        Trouble::new(Failure::Fault(fault))
+    }
+}

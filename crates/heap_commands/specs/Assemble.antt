@@ -1,0 +1,27 @@
+use Rattle.std.specs.Prelude.{◌≡◌, ℕ, List, ◌++◌, length, Option, IfSome, codes, decimal}
+use Rattle.std.specs.Io.KnownBytes.{Appends}
+use Rattle.heap_image.specs.HeapImage.{HeapImage, IsValid, heap_words, roots_of}
+use Rattle.heap_image.specs.ImageText.{text}
+use Rattle.heap_text.specs.Text.{text_of}
+use Rattle.heap_commands.specs.Command.{Command}
+
+-- the line with the number of words of an image, of its roots, and of its live objects
+abbrev pub count_line : HeapImage → List ℕ
+count_line image = codes "words " ++ (decimal (heap_words image) ++ (codes " roots " ++ (decimal (length (roots_of image))
+    ++ (codes " live " ++ (decimal (length image.live) ++ codes "\n")))))
+
+-- The one device had the lines of a valid image, and the text of that image was written to the other. What is shown
+-- counts what the image has.
+pub record IsAssembly (asked took took' : Option (List ℕ)) (shown : List ℕ) : Type 0 where
+  pub image : HeapImage
+  pub valid : IsValid image
+  pub read : IfSome asked (λ bytes. bytes ≡ text_of image)
+  pub written : Appends took took' (text image)
+  pub tells : shown ≡ count_line image
+
+-- the line of some valid image
+abbrev pub IsCountLine : List ℕ → Type 0
+IsCountLine shown = (image : HeapImage) × IsValid image × (shown ≡ count_line image)
+
+abbrev pub assemble_command : Command
+assemble_command = record { name = codes "assemble"; prints = IsCountLine }

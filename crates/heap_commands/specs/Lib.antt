@@ -1,0 +1,12 @@
+pub mod Command
+pub mod Assemble
+pub mod Board
+pub mod Generate
+pub mod Import
+pub mod Map
+pub mod Order
+pub mod Replay
+pub mod Summarize
+pub mod Text
+pub mod Timeline
+pub mod Upgrade

@@ -1,0 +1,25 @@
+use Rattle.std.specs.Prelude.{◌≡◌, ℕ, List, ◌++◌, Option, codes, decimal}
+use Rattle.std.specs.Io.KnownBytes.{Consumes}
+use Rattle.heap_image.specs.HeapImage.{HeapImage, IsValid}
+use Rattle.heap_image.specs.ImageText.{text}
+use Rattle.summary.specs.NewAddresses.{prefix_end, new_top}
+use Rattle.summary.specs.Report.{report}
+use Rattle.heap_commands.specs.Command.{Command}
+
+-- the ends of the dense prefix and of the compacted heap, and then the table of the regions
+abbrev pub summary_of : HeapImage → List ℕ
+summary_of image =
+    codes "prefix " ++ (decimal (prefix_end image) ++ (codes " top " ++ (decimal (new_top image)
+    ++ (codes "\n" ++ report image))))
+
+-- the summary of some valid image
+abbrev pub IsSummary : List ℕ → Type 0
+IsSummary shown = (image : HeapImage) × IsValid image × (shown ≡ summary_of image)
+
+-- what was read is the text of some valid image, and this is its summary
+abbrev pub IsSummaryOf : Option (List ℕ) → Option (List ℕ) → List ℕ → Type 0
+IsSummaryOf before after shown = (image : HeapImage) × IsValid image
+    × Consumes before after (text image) × (shown ≡ summary_of image)
+
+abbrev pub summary_command : Command
+summary_command = record { name = codes "summary"; prints = IsSummary }

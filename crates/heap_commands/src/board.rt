@@ -1,0 +1,16 @@
+//! The command `board`.
+ghost use Rattle.std.specs.Prelude.{◌≡◌, codes, ℕ, List, MatchResult};
+ghost use Rattle.board_sweep.specs.Report.{IsBoardText};
+ghost use Rattle.command_support.specs.Failure.{out_of_memory};
+
+use board_sweep::sweep_with_two_workers;
+use command_support::{Done, Trouble};
+use std::thread::Threads;
+
+/// What `board` prints.
+pub fn answer<'a, R: AllocGlobal + Threads>(rt: &R) -> Result<Done<'a>, Trouble<'a>>
+    ensures { MatchResult result (λ done. IsBoardText done.text.items)
+        (λ trouble. trouble.failure ≡ out_of_memory) }
+{
+    Ok(Done::printing(sweep_with_two_workers(rt)?.into_bytes()))
+}

@@ -1,0 +1,67 @@
+//! The command `order`.
+ghost use Rattle.std.specs.Prelude.{◌≡◌, ◌++◌, codes, ℕ, List, IfOk, IfErr, IfSome, string_bytes};
+ghost use Rattle.heap_image.specs.Refusals.{IsReason};
+ghost use Rattle.work_order.specs.WorkOrder.{order_text};
+ghost use Rattle.heap_commands.specs.Order.{IsOrder, IsOrderLine, IsOrderOf};
+
+use command_line::Order;
+use command_support::{Done, FileWord, Role, Trouble, Watched};
+use heap_image::{Fault, FromRead, Image, Intake, read_image_by_threads};
+use std::alloc::{AllocError, Global};
+use std::rt::Files;
+use std::thread::Threads;
+use summary::Survey;
+use work_order::WorkOrder;
+
+/// What `order` prints of the image in a file.
+pub fn answer<'a, R: Files + AllocGlobal + Threads + Sync>(
+    rt: &R,
+    asked: Order<'a>,
+) -> Result<Done<'a>, Trouble<'a>>
+    ensures { IfOk result (λ done. IsOrder done.text.items) }
+{
+    let image = Watched::open(rt, FileWord::new(Role::Image, asked.image))?;
+    let mut image = FromRead::new(image);
+    match order(rt.alloc(), &mut image, rt) {
+        Ok(text) => Ok(Done::printing(text.into_bytes())),
+        Err(fault) => Err(Trouble::from(fault).if_image(&image.into_inner())),
+    }
+}
+
+/// What parallelism the order of work allows in the collection of the image that the input is.
+pub fn order<R: Intake, T: Threads + Sync>(
+    alloc: Global,
+    input: &mut R,
+    threads: &T,
+) -> Result<String, Fault>
+    ensures order { IfOk result (λ text.
+        IsOrderOf (R.left input.old) (R.left input.new) (string_bytes text)) }
+    ensures fault { IfErr result (λ fault. IfSome (R.left input.old) (λ bytes. IsReason bytes fault)) }
+{
+    let image = read_image_by_threads(alloc, input, threads)?;
+    text_of_image(alloc, &image, threads)
+}
+
+/// The line of the order of work of an image. The only fault is want of memory.
+fn text_of_image(
+    alloc: Global,
+    image: &Image,
+    threads: &(impl Threads + Sync),
+) -> Result<String, Fault>
+    ensures order { IfOk result (λ text. IsOrderLine image.now (string_bytes text)) }
+    ensures fault { IfErr result (λ fault. fault ≡ Fault.Memory) }
+{
+    let survey = Survey::of(alloc, image, threads)?;
+    let order = WorkOrder::of(alloc, survey.plan())?;
+    Ok(text_of(alloc, order)?)
+}
+
+/// The line of an order of work.
+fn text_of(alloc: Global, order: WorkOrder) -> Result<String, AllocError>
+    ensures { IfOk result (λ text. string_bytes text
+        ≡ order_text order.words order.chain ++ codes "\n") }
+{
+    let mut text = String::new(alloc);
+    writeln!(text, "{order}")?;
+    Ok(text)
+}

@@ -1,0 +1,64 @@
+//! The command `summary`. (A module of that name would hide the crate `summary`.)
+ghost use Rattle.std.specs.Prelude.{◌≡◌, codes, ℕ, List, IfOk, IfErr, IfSome, string_bytes};
+ghost use Rattle.heap_image.specs.Refusals.{IsReason};
+ghost use Rattle.heap_commands.specs.Summarize.{IsSummary, IsSummaryOf, summary_of};
+
+use command_line::Summary;
+use command_support::{Done, FileWord, Role, Trouble, Watched};
+use heap_image::{Fault, FromRead, Image, Intake, read_image_by_threads};
+use std::alloc::{AllocError, Global};
+use std::rt::Files;
+use std::thread::Threads;
+use summary::{Plan, Survey};
+
+/// What `summary` prints of the image in a file.
+pub fn answer<'a, R: Files + AllocGlobal + Threads + Sync>(
+    rt: &R,
+    asked: Summary<'a>,
+) -> Result<Done<'a>, Trouble<'a>>
+    ensures { IfOk result (λ done. IsSummary done.text.items) }
+{
+    let image = Watched::open(rt, FileWord::new(Role::Image, asked.image))?;
+    let mut image = FromRead::new(image);
+    match summarize(rt.alloc(), &mut image, rt) {
+        Ok(text) => Ok(Done::printing(text.into_bytes())),
+        Err(fault) => Err(Trouble::from(fault).if_image(&image.into_inner())),
+    }
+}
+
+/// What the plan says of the image that the input is.
+pub fn summarize<R: Intake, T: Threads + Sync>(
+    alloc: Global,
+    input: &mut R,
+    threads: &T,
+) -> Result<String, Fault>
+    ensures summary { IfOk result (λ text.
+        IsSummaryOf (R.left input.old) (R.left input.new) (string_bytes text)) }
+    ensures fault { IfErr result (λ fault. IfSome (R.left input.old) (λ bytes. IsReason bytes fault)) }
+{
+    let image = read_image_by_threads(alloc, input, threads)?;
+    summary_text(alloc, &image, threads)
+}
+
+/// What the plan of an image says. The only fault is want of memory.
+fn summary_text(
+    alloc: Global,
+    image: &Image,
+    threads: &(impl Threads + Sync),
+) -> Result<String, Fault>
+    ensures summary { IfOk result (λ text. string_bytes text ≡ summary_of image.now) }
+    ensures fault { IfErr result (λ fault. fault ≡ Fault.Memory) }
+{
+    let survey = Survey::of(alloc, image, threads)?;
+    Ok(text_of(alloc, survey.plan())?)
+}
+
+/// The ends of the dense prefix and of the compacted heap, and then a line for each region.
+fn text_of(alloc: Global, plan: &Plan) -> Result<String, AllocError>
+    ensures { IfOk result (λ text. string_bytes text ≡ summary_of plan.now) }
+{
+    let mut text = String::new(alloc);
+    writeln!(text, "prefix {} top {}", plan.prefix_end(), plan.new_top())?;
+    text.push_str(plan.report(alloc)?.as_str())?;
+    Ok(text)
+}

@@ -1,8 +1,0 @@
-use Rattle.std.proofs.Common.{◌∙◌, ap, sym, subst}
-use Rattle.pcompact.specs.Commands.Timeline.{IsTimeline}
-use Rattle.pcompact.proofs.Timelines.{lanes_are_a_timeline}
-use Rattle.pcompact.proofs.commands.timeline.printed.Goals as goal
-
-pub returns-in-Ok : goal.returns-in-Ok
-returns-in-Ok g c =
-    subst IsTimeline (sym (ap (λ v. v.items) (c.printing.ensures ∙ c.into_bytes.ensures.value))) (lanes_are_a_timeline _ _ _ _ c.in-Ok.ensures)

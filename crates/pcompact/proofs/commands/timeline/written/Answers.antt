@@ -1,9 +1,0 @@
-use Rattle.std.proofs.Common.{sym, subst}
-use Rattle.std.proofs.lemmas.Result.{IfOk-weaker}
-use Rattle.pcompact.specs.Commands.Timeline.{IsTimeline}
-use Rattle.pcompact.proofs.Timelines.{figures_are_a_timeline}
-use Rattle.pcompact.proofs.commands.timeline.written.Goals as goal
-
-pub returns-in-Ok : goal.returns-in-Ok
-returns-in-Ok g c =
-    IfOk-weaker c.ended.result _ _ (λ done is. subst IsTimeline (sym is) (figures_are_a_timeline _ _ _ _ c.in-Ok.ensures.line)) c.ended.ensures

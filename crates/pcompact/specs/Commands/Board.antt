@@ -1,7 +1,0 @@
--- The command `board`.
-use Rattle.std.specs.Prelude.{codes}
-use Rattle.board_sweep.specs.Report.{IsBoardText}
-use Rattle.pcompact.specs.Command.{Command}
-
-abbrev pub board_command : Command
-board_command = record { name = codes "board"; prints = IsBoardText }
