@@ -17,7 +17,7 @@ FAULT_13 = "13 input or output"
 LARGEST = 2**64 - 1
 OLD = b"what stood there before" * 4000
 SVG = "{http://www.w3.org/2000/svg}"
-MOST_BYTES = 300_000
+MAX_BYTES = 300_000
 
 LEGEND = """\
 live: _ none . few : half + most # all
@@ -122,7 +122,7 @@ def try_terminal(tried: Tried) -> None:
 def drawing(tried: Tried, name: str) -> xml.etree.ElementTree.Element:
     """The drawing in a file, which must be valid XML and not too long."""
     text = tried.read(name)
-    if len(text) >= MOST_BYTES:
+    if len(text) >= MAX_BYTES:
         tried.is_wrong(f"a drawing has {len(text)} bytes")
     return xml.etree.ElementTree.fromstring(text)
 

@@ -9,7 +9,7 @@ LEGEND = """\
 region in hand: _ never . seldom : half + mostly # always
 mark: c claims t takes a freed region f frees one s settles x several
 """
-MOST_TOLD = 20
+MAX_TOLD = 20
 
 
 @dataclasses.dataclass(frozen=True)
@@ -85,8 +85,8 @@ class Timeline:
             cells = self.cells(width)
             shares = "".join(self.share(worker, cell) for cell in cells)
             rows.append(f"worker {worker:2} |{shares}|\n          |{''.join(self.mark(worker, cell) for cell in cells)}|\n")
-        told = "".join(freeing.text() + "\n" for freeing in self.freeings[:MOST_TOLD])
-        more = len(self.freeings) - MOST_TOLD
+        told = "".join(freeing.text() + "\n" for freeing in self.freeings[:MAX_TOLD])
+        more = len(self.freeings) - MAX_TOLD
         return self.figures() + "".join(rows) + LEGEND + told + (f"and {more} more\n" if more > 0 else "")
 
 

@@ -26,10 +26,10 @@ const LANE_HEIGHT: u64 = 34;
 const BAR_HEIGHT: u64 = 18;
 
 /// How many bars are drawn at most, but for one more a worker. Where there are more regions, a bar is of several.
-const MOST_BARS: usize = 600;
+const MAX_BARS: usize = 600;
 
 /// How many drains are drawn at most that freed a region. Where there are more, some are left out.
-const MOST_FREEINGS: usize = 300;
+const MAX_FREEINGS: usize = 300;
 
 /// The timeline as SVG.
 pub(crate) fn draw(alloc: Global, timeline: &Timeline) -> Result<String, AllocError> {
@@ -39,7 +39,7 @@ pub(crate) fn draw(alloc: Global, timeline: &Timeline) -> Result<String, AllocEr
         cells: LANE_WIDTH,
     };
     let workers = timeline.schedule.workers();
-    let several = timeline.bars.len().div_ceil(MOST_BARS);
+    let several = timeline.bars.len().div_ceil(MAX_BARS);
     begin(&mut svg, timeline)?;
     for worker in 0..workers {
         draw_lane(&mut svg, timeline, worker, scale, several)?;
@@ -251,7 +251,7 @@ fn draw_several(svg: &mut String, group: Group, scale: Scale, y: u64) -> Result<
 
 /// Writes which drains freed a region, and who took it.
 fn draw_freeings(svg: &mut String, freeings: &[Freeing], scale: Scale) -> Result<(), AllocError> {
-    let every = freeings.len().div_ceil(MOST_FREEINGS).max(1);
+    let every = freeings.len().div_ceil(MAX_FREEINGS).max(1);
     for (i, freeing) in freeings.iter().enumerate() {
         if i % every == 0 {
             draw_freeing(svg, freeing, scale)?;
@@ -310,7 +310,7 @@ fn write_thinned(
     several: usize,
     y: u64,
 ) -> Result<(), AllocError> {
-    let every = timeline.freeings.len().div_ceil(MOST_FREEINGS);
+    let every = timeline.freeings.len().div_ceil(MAX_FREEINGS);
     if several > 1 {
         write!(
             svg,
