@@ -6,7 +6,7 @@ ghost use Rattle.summary.specs.Compaction.{redirected, compact};
 ghost use Rattle.fill.specs.FillFaults.{IsOverwritten};
 
 use crate::valid::planned_image_is_valid;
-use fill::{clear_above, update_deferred};
+use fill::{clear_above, update_deferred_by_workers};
 use heap_image::{Fault, Image, ImageParts, roots_are_null_or_live};
 use region_cells::Cells;
 use std::thread;
@@ -17,7 +17,8 @@ use summary::{Plan, Survey};
 /// How many words are worth a thread of their own.
 const LEAST: usize = 16_384;
 
-/// The compaction of the image of which the cells are. So many threads redirect live list and roots at most.
+/// The compaction of the image of which the cells are. So many threads at most update the deferred objects, and redirect
+/// live list and roots.
 ///
 /// Fault 15 comes where a region to fill has not moved, or another is not as it was. Beside the threads nothing takes
 /// memory.
@@ -35,7 +36,7 @@ pub(crate) fn clean_up(
     let plan = survey.plan();
     planned_image_is_valid(plan);
     let mut parts = cells.into_regions()?;
-    update_deferred(parts.regions.as_mut_slice(), survey);
+    update_deferred_by_workers(parts.regions.as_mut_slice(), survey, workers, threads);
     clear_above(parts.regions.as_mut_slice(), plan.new_top());
     redirect_live(parts.live.as_mut_slice(), survey, workers, threads);
     let parts = ImageParts {

@@ -1,15 +1,11 @@
 -- A word that is written in a heap that lies in blocks of r words.
-use Rattle.std.proofs.Common.{◌≡◌, ℕ, zero, suc, ◌+◌, ◌-◌, ◌*◌, ◌/◌, ◌%◌, ◌≤◌, ◌<◌, List, [], ◌∷◌, ◌++◌, length, get_or, set, refl, sym, ◌∙◌, ap, arith}
-use Rattle.std.specs.List.{concat, range_with_len}
+use Rattle.std.proofs.Common.{◌≡◌, ℕ, zero, suc, ◌+◌, ◌-◌, ◌*◌, ◌/◌, ◌%◌, ◌≤◌, ◌<◌, List, [], ◌∷◌, ◌++◌, length, get_or, set, sym, ◌∙◌, ap, arith}
+use Rattle.std.specs.List.{concat}
 use Rattle.std.proofs.lemmas.List.{set-append_left, set-append_right}
 use Rattle.std.proofs.lemmas.List.Elements.{All-head, All-tail, All-set}
 use Rattle.std.proofs.lemmas.Nat.{mod_below}
 use Rattle.std.proofs.Math.Nat.{div-add-mod'}
-use Rattle.std.specs.Prelude.{All, map, flat_map}
-use Rattle.std.proofs.lemmas.List.Concat.{flat_map-cons}
-use Rattle.std.proofs.lemmas.List.FromFn.{get_or-map-range_with_len, length-map-range_with_len}
-use Rattle.heap_image.specs.HeapImage.{HeapImage, AreBlocks, region_words, region_count, start_of}
-use Rattle.summary.specs.RegionData.{region_addresses}
+use Rattle.std.specs.Prelude.{All}
 use Rattle.heap_image.proofs.BlockWords.{block_below}
 
 module _ (r : ℕ) where
@@ -39,17 +35,3 @@ module _ (r : ℕ) where
 
   pub same-set : (blocks : List (List ℕ)) → Same blocks → (i : ℕ) (b : List ℕ) → length b ≡ r → Same (set blocks i b)
   same-set blocks same i b e = All-set (λ block. length block ≡ r) blocks i b e same
-
-concat_map : {X : Type 0} (f : X → List ℕ) (xs : List X) → concat (map f xs) ≡ flat_map f xs
-concat_map f [] = refl
-concat_map f (x ∷ xs) = ap (λ ys. f x ++ ys) (concat_map f xs) ∙ sym (flat_map-cons f x xs)
-
--- blocks that are made region by region
-pub made_blocks : (image : HeapImage) (f : ℕ → ℕ) → AreBlocks image.region_log (map (λ r. map f (region_addresses image r)) (range_with_len 0 (region_count image)))
-made_blocks image f k d l =
-    let n : ℕ = region_count image in
-    let long = length-map-range_with_len (λ r. map f (region_addresses image r)) 0 n in
-    ap (length {A = ℕ}) (get_or-map-range_with_len (λ r. map f (region_addresses image r)) 0 n k k d (omega arith) (omega arith)) ∙ length-map-range_with_len f (start_of image k) (region_words image)
-
-pub made_joined : (image : HeapImage) (f : ℕ → ℕ) → concat (map (λ r. map f (region_addresses image r)) (range_with_len 0 (region_count image))) ≡ flat_map (λ r. map f (region_addresses image r)) (range_with_len 0 (region_count image))
-made_joined image f = concat_map (λ r. map f (region_addresses image r)) (range_with_len 0 (region_count image))

@@ -1,5 +1,5 @@
 -- The references of the deferred objects, as they are redirected region by region.
-use Rattle.std.proofs.Common.{◌≡◌, ℕ, ◌+◌, ◌-◌, ◌≤◌, ◌<◌, inl, inr, ◌⊎◌, Bool, true, false, cond, ◌&&◌, ◌||◌, [], ◌∷◌, ◌++◌, length, get_or, set, refl, sym, ◌∙◌, ap, subst, arith, ltb, leb, length-set}
+use Rattle.std.proofs.Common.{◌≡◌, ℕ, ◌+◌, ◌-◌, ◌≤◌, ◌<◌, inl, inr, ◌⊎◌, Bool, true, false, cond, ◌&&◌, ◌||◌, List, map, [], ◌∷◌, ◌++◌, length, get_or, set, refl, sym, ◌∙◌, ap, subst, arith, ltb, leb, length-set}
 use Rattle.std.specs.Prelude.{Some, None, Option}
 use Rattle.std.specs.List.{range_with_len, list_any}
 use Rattle.std.proofs.Math.Nat.{zero-add}
@@ -14,7 +14,7 @@ use Rattle.summary.specs.Compaction.{moved_word, redirected, is_deferred}
 use Rattle.summary.specs.RegionData.{deferred}
 use Rattle.summary.specs.Updates.{is_late_reference}
 use Rattle.summary.proofs.Addresses.{range_with_len-add}
-use Rattle.fill.specs.MovedHeap.{redirected_where, words_where, is_reference_behind, is_late_behind, is_late_before}
+use Rattle.fill.specs.MovedHeap.{redirected_where, is_reference_behind, is_late_behind, is_late_before}
 
 same_Bool : (b c : Bool) → (b ≡ true → c ≡ true) → (c ≡ true → b ≡ true) → b ≡ c
 same_Bool true c f g = sym (f refl)
@@ -26,47 +26,49 @@ or_false true = refl
 or_false false = refl
 
 module _ (image : HeapImage) where
-  abbrev N : ℕ
-  N = heap_words image
+  -- the n words from address a up, with the references redirected that the test passes
+  module _ (a n : ℕ) where
+    abbrev words_by : (ℕ → Bool) → List ℕ
+    words_by test = map (redirected_where image test) (range_with_len a n)
 
-  pub length-words : (test : ℕ → Bool) → length (words_where image test) ≡ N
-  length-words test = length-map-range_with_len (redirected_where image test) 0 N
+    pub length-words : (test : ℕ → Bool) → length (words_by test) ≡ n
+    length-words test = length-map-range_with_len (redirected_where image test) a n
 
-  pub words_at : (test : ℕ → Bool) (p : ℕ) → p < N → get_or (words_where image test) p 0 ≡ redirected_where image test p
-  words_at test p l = get_or-map-range_with_len (redirected_where image test) 0 N p p 0 l (omega arith)
+    pub words_at : (test : ℕ → Bool) (k : ℕ) → k < n → get_or (words_by test) k 0 ≡ redirected_where image test (a + k)
+    words_at test k l = get_or-map-range_with_len (redirected_where image test) a n k (a + k) 0 l refl
 
-  -- a word that the test does not pass is a moved one
-  pub words_not : (test : ℕ → Bool) (p : ℕ) → p < N → test p ≡ false → get_or (words_where image test) p 0 ≡ moved_word image p
-  words_not test p l e = words_at test p l ∙ ap (λ b. cond b (redirected image (moved_word image p)) (moved_word image p)) e
+    -- a word that the test does not pass is a moved one
+    pub words_not : (test : ℕ → Bool) (k : ℕ) → k < n → test (a + k) ≡ false → get_or (words_by test) k 0 ≡ moved_word image (a + k)
+    words_not test k l e = words_at test k l ∙ ap (λ b. cond b (redirected image (moved_word image (a + k))) (moved_word image (a + k))) e
 
-  -- tests that agree below the end of the heap
-  pub words_same : (test next : ℕ → Bool) → ((p : ℕ) → p < N → test p ≡ next p) → words_where image test ≡ words_where image next
-  words_same test next h =
-      let one = length-words test in
-      let two = length-words next in
-      ext_get_or 0 (words_where image test) (words_where image next) (omega arith) (λ k l.
-      let m : k < N = omega arith in
-      words_at test k m ∙ ap (λ b. cond b (redirected image (moved_word image k)) (moved_word image k)) (h k m) ∙ sym (words_at next k m))
+    -- tests that agree on these addresses
+    pub words_same : (test next : ℕ → Bool) → ((p : ℕ) → a ≤ p → p < a + n → test p ≡ next p) → words_by test ≡ words_by next
+    words_same test next h =
+        let one = length-words test in
+        let two = length-words next in
+        ext_get_or 0 (words_by test) (words_by next) (omega arith) (λ k l.
+        let m : k < n = omega arith in
+        words_at test k m ∙ ap (λ b. cond b (redirected image (moved_word image (a + k))) (moved_word image (a + k))) (h (a + k) (omega arith) (omega arith)) ∙ sym (words_at next k m))
 
-  -- one more reference is redirected
-  pub words_set : (test next : ℕ → Bool) (p w : ℕ) → p < N → w ≡ redirected image (moved_word image p) → next p ≡ true → ((q : ℕ) → (q ≡ p → ⊥) → test q ≡ next q)
-      → set (words_where image test) p w ≡ words_where image next
-  words_set test next p w l e pass others =
-      let one = length-words test in
-      let two = length-words next in
-      let three = length-set (words_where image test) p w in
-      ext_get_or 0 (set (words_where image test) p w) (words_where image next) (omega arith) (λ k m. each k (omega arith))
-    where
-      each : (k : ℕ) → k < N → get_or (set (words_where image test) p w) k 0 ≡ get_or (words_where image next) k 0
-      each k m = elim (cases_eq k p) [
-        | inl same ↦
-            let one = length-words test in
-            ap (λ i. get_or (set (words_where image test) p w) i 0) same ∙ get_or-set_same (words_where image test) p w 0 (omega arith) ∙ e
-            ∙ sym (ap (λ i. get_or (words_where image next) i 0) same ∙ words_at next p l ∙ ap (λ b. cond b (redirected image (moved_word image p)) (moved_word image p)) pass)
-        | inr other ↦
-            get_or-set_other (words_where image test) p k w 0 other ∙ words_at test k m
-            ∙ ap (λ b. cond b (redirected image (moved_word image k)) (moved_word image k)) (others k other) ∙ sym (words_at next k m)
-      ]
+    -- one more reference is redirected
+    pub words_set : (test next : ℕ → Bool) (p w : ℕ) → p < n → w ≡ redirected image (moved_word image (a + p)) → next (a + p) ≡ true → ((q : ℕ) → (q ≡ a + p → ⊥) → test q ≡ next q)
+        → set (words_by test) p w ≡ words_by next
+    words_set test next p w l e pass others =
+        let one = length-words test in
+        let two = length-words next in
+        let three = length-set (words_by test) p w in
+        ext_get_or 0 (set (words_by test) p w) (words_by next) (omega arith) (λ k m. each k (omega arith))
+      where
+        each : (k : ℕ) → k < n → get_or (set (words_by test) p w) k 0 ≡ get_or (words_by next) k 0
+        each k m = elim (cases_eq k p) [
+          | inl same ↦
+              let one = length-words test in
+              ap (λ i. get_or (set (words_by test) p w) i 0) same ∙ get_or-set_same (words_by test) p w 0 (omega arith) ∙ e
+              ∙ sym (ap (λ i. get_or (words_by next) i 0) same ∙ words_at next p l ∙ ap (λ b. cond b (redirected image (moved_word image (a + p))) (moved_word image (a + p))) pass)
+          | inr other ↦
+              get_or-set_other (words_by test) p k w 0 other ∙ words_at test k m
+              ∙ ap (λ b. cond b (redirected image (moved_word image (a + k))) (moved_word image (a + k))) (others (a + k) (λ same. other (omega arith))) ∙ sym (words_at next k m)
+        ]
 
   abbrev late_in : ℕ → ℕ → Bool
   late_in p e = is_late_behind image (deferred image e) p
@@ -143,10 +145,10 @@ module _ (image : HeapImage) where
 
   pub late-all : (n p : ℕ) → ((h : is_late_reference image p ≡ true) → (d : ℕ) × (x : ℕ) × (deferred image d ≡ Some x) × (x < p) × (p ≤ x + references_of (moved_word image x)))
       → ((d x : ℕ) → deferred image d ≡ Some x → x < p → p ≤ x + references_of (moved_word image x) → is_late_reference image p ≡ true)
-      → ((d x : ℕ) → deferred image d ≡ Some x → d < n) → is_late_before image n p ≡ is_late_reference image p
+      → ((d x : ℕ) → deferred image d ≡ Some x → x < p → d < n) → is_late_before image n p ≡ is_late_reference image p
   late-all n p late told few = same_Bool (is_late_before image n p) (is_late_reference image p)
       (λ h. let at = late-parts n p h in told at.0 at.1 at.3 at.4 at.5)
-      (λ h. let at = late h in late-from n p at.0 at.1 (few at.0 at.1 at.2) at.2 at.3 at.4)
+      (λ h. let at = late h in late-from n p at.0 at.1 (few at.0 at.1 at.2 at.3) at.2 at.3 at.4)
 
   -- ---- the deferred object whose new words begin at x
   module _ (sound : HasLiveList image) (d x : ℕ) (here : deferred image d ≡ Some x) where
@@ -181,7 +183,7 @@ module _ (image : HeapImage) where
       references_are : n ≡ references_at image a
       references_are = ap (λ p. references_of (moved_word image p)) (sym goes) ∙ ap references_of header
 
-      pub late_fits : new_end_of image a ≤ new_top image → new_top image ≤ N → x + 1 + n ≤ N
+      pub late_fits : new_end_of image a ≤ new_top image → new_top image ≤ heap_words image → x + 1 + n ≤ heap_words image
       late_fits end top =
           let few : references_at image a < size_at image a = (sound.sound i 0 inside).references in
           let are = references_are in

@@ -8,5 +8,6 @@ pub mod Redirects
 pub mod Steps
 pub mod Gaps
 pub mod Draining
+pub mod Parts
 pub mod Reaching
 pub mod Targets

@@ -1,8 +1,8 @@
 -- The words of a heap between the moves and the end of a collection.
-use Rattle.std.specs.Prelude.{ℕ, ◌+◌, ◌-◌, Bool, false, ◌&&◌, nat_lt, nat_le, if◌then◌else◌, List, ◌++◌, length, take, replicate, map, Option, Some, None}
-use Rattle.std.specs.List.{list_any, range_with_len}
+use Rattle.std.specs.Prelude.{◌≡◌, ℕ, ◌+◌, ◌-◌, ◌*◌, ◌≤◌, Bool, false, ◌&&◌, nat_lt, nat_le, if◌then◌else◌, List, ◌++◌, length, take, replicate, map, Option, Some, None}
+use Rattle.std.specs.List.{concat, list_any, range_with_len}
 use Rattle.heap_image.specs.Header.{references_of}
-use Rattle.heap_image.specs.HeapImage.{HeapImage, heap_words, region_count}
+use Rattle.heap_image.specs.HeapImage.{HeapImage, AreBlocks, heap_words, region_words, region_count, start_of}
 use Rattle.summary.specs.Compaction.{moved_word, redirected}
 use Rattle.summary.specs.RegionData.{region_addresses, deferred}
 use Rattle.summary.specs.Updates.{is_late_reference}
@@ -12,13 +12,21 @@ abbrev pub cleared : ℕ → List ℕ → List ℕ
 cleared top words = take top words ++ replicate (length words - top) 0
 
 module _ (image : HeapImage) where
+  -- so many regions from this one on, each with its moved words
+  abbrev pub moved_regions_from : ℕ → ℕ → List (List ℕ)
+  moved_regions_from first count = map (λ r. map (moved_word image) (region_addresses image r)) (range_with_len first count)
+
   -- the regions of the heap, each with its moved words
   abbrev pub moved_regions : List (List ℕ)
-  moved_regions = map (λ r. map (moved_word image) (region_addresses image r)) (range_with_len 0 (region_count image))
+  moved_regions = moved_regions_from 0 (region_count image)
 
   -- the moved words, with the references redirected that the test passes
   abbrev pub redirected_where : (ℕ → Bool) → ℕ → ℕ
   redirected_where test p = if test p then redirected image (moved_word image p) else moved_word image p
+
+  -- the words of so many regions from this one on, with the references redirected that the test passes
+  abbrev pub words_from : ℕ → ℕ → (ℕ → Bool) → List ℕ
+  words_from first count test = map (redirected_where test) (range_with_len (start_of image first) (count * region_words image))
 
   -- the words of the heap, with the references redirected that the test passes
   abbrev pub words_where : (ℕ → Bool) → List ℕ
@@ -40,3 +48,20 @@ module _ (image : HeapImage) where
   -- p is a reference of a deferred object that begins in one of the first d regions
   abbrev pub is_late_before : ℕ → ℕ → Bool
   is_late_before d p = list_any (λ e. is_late_behind (deferred image e) p) (range_with_len 0 d)
+
+  -- no deferred object that begins in one of the first d regions has a reference in a later region
+  abbrev pub IsCut : ℕ → Type 0
+  IsCut d = (p : ℕ) → start_of image d ≤ p → is_late_before d p ≡ false
+
+  -- these blocks are regions from this one on, each with its moved words, and no references of a deferred object lie
+  -- both within and without
+  pub record IsMovedPart (first : ℕ) (blocks : List (List ℕ)) : Type 0 where
+    pub inside : first + length blocks ≤ region_count image
+    pub moved : blocks ≡ moved_regions_from first (length blocks)
+    pub begins : IsCut first
+    pub ends : IsCut (first + length blocks)
+
+  -- these blocks are so many regions from this one on, with the references of the deferred objects redirected
+  pub record IsUpdatedPart (first count : ℕ) (blocks : List (List ℕ)) : Type 0 where
+    pub whole : AreBlocks image.region_log blocks
+    pub words : concat blocks ≡ words_from first count (is_late_reference image)

@@ -1,17 +1,19 @@
 //! The update of the deferred objects.
-ghost use Rattle.std.specs.Prelude.{◌≡◌, ℕ, ◌+◌, ◌<◌, ◌≤◌, false, IsTrue, Some};
+ghost use Rattle.std.specs.Prelude.{◌≡◌, ℕ, ◌+◌, ◌*◌, ◌<◌, ◌≤◌, false, List, length, IsTrue, Some};
 ghost use Rattle.std.specs.List.{concat};
 ghost use Rattle.heap_image.specs.Header.{references_of};
-ghost use Rattle.heap_image.specs.HeapImage.{FormHeap, AreBlocks, region_count, heap_words, is_null_or_live};
+ghost use Rattle.heap_image.specs.HeapImage.{FormHeap, AreBlocks, region_of, region_words, start_of, region_count, heap_words, is_null_or_live};
 ghost use Rattle.summary.specs.NewAddresses.{new_top};
 ghost use Rattle.summary.specs.RegionData.{deferred};
 ghost use Rattle.summary.specs.Compaction.{compact, moved_word};
-ghost use Rattle.fill.specs.MovedHeap.{moved_regions, cleared, words_where, updated_words, is_late_before, is_reference_behind};
+ghost use Rattle.fill.specs.MovedHeap.{moved_regions, cleared, words_from, updated_words, is_late_before, is_reference_behind, IsCut, IsMovedPart, IsUpdatedPart};
 
+use crate::deferred_parts::DeferredParts;
 use crate::heap::{set_word, word};
 use crate::valid::planned_image_is_valid;
 use heap_image::header::references;
 use raw_region::Region;
+use std::thread::Threads;
 use summary::laws::compaction::blocks_of_regions;
 use summary::laws::deferred_objects::{moved_objects, one_deferred_object, update_then_clear};
 use summary::laws::new_addresses::objects_keep_their_order;
@@ -29,58 +31,126 @@ pub fn update_deferred(regions: &mut [Region], survey: &Survey)
     ensures updated { concat regions.new ≡ updated_words survey.now }
     ensures compacted { cleared (new_top survey.now) (concat regions.new) ≡ (compact survey.now).words }
 {
-    update_regions(regions, survey.plan());
+    let plan = survey.plan();
+    whole_heap(plan);
+    update_regions(regions, plan, 0);
 }
 
-/// Redirects the references of the deferred objects that begin in each region in turn.
-fn update_regions(regions: &mut [Region], plan: &Plan)
-    requires { regions.old ≡ moved_regions plan.now }
-    ensures blocks { AreBlocks plan.now.region_log regions.new }
-    ensures updated { concat regions.new ≡ updated_words plan.now }
-    ensures compacted { cleared (new_top plan.now) (concat regions.new) ≡ (compact plan.now).words }
+/// As [`update_deferred`], by so many threads at most, the caller's among them; 0 is taken for 1. The heap is cut into
+/// parts between regions where no references of a deferred object lie on both sides.
+///
+/// Beside the threads nothing takes memory.
+pub fn update_deferred_by_workers(
+    regions: &mut [Region],
+    survey: &Survey,
+    workers: usize,
+    threads: &(impl Threads + Sync),
+)
+    requires { regions.old ≡ moved_regions survey.now }
+    ensures blocks { AreBlocks survey.now.region_log regions.new }
+    ensures updated { concat regions.new ≡ updated_words survey.now }
+    ensures compacted { cleared (new_top survey.now) (concat regions.new) ≡ (compact survey.now).words }
+{
+    let plan = survey.plan();
+    whole_heap(plan);
+    DeferredParts { plan, threads }.update(regions, 0, workers);
+}
+
+/// The whole heap is a part of itself, and its words are updated once that part is.
+///
+/// The function does nothing: its contract is the law.
+fn whole_heap(plan: &Plan)
+    ensures moved { (blocks : List (List ℕ)) → blocks ≡ moved_regions plan.now → IsMovedPart plan.now 0 blocks }
+    ensures updated { (blocks done : List (List ℕ)) → blocks ≡ moved_regions plan.now
+        → IsUpdatedPart plan.now 0 (length blocks) done → concat done ≡ updated_words plan.now }
+    ensures compacted { cleared (new_top plan.now) (updated_words plan.now) ≡ (compact plan.now).words }
 {
     planned_image_is_valid(plan);
-    blocks_of_regions();
-    regions_to_fill();
     one_deferred_object();
+    moved_objects();
     objects_keep_their_order();
+    regions_to_fill();
     update_then_clear();
-    for d in 0..plan.fill_regions() {
-        update_region(regions, plan, d);
+}
+
+/// Redirects the references of the deferred objects that begin in a part of the heap, whose first region is `first`.
+pub(crate) fn update_regions(regions: &mut [Region], plan: &Plan, first: u32)
+    requires { IsMovedPart plan.now first regions.old }
+    ensures { IsUpdatedPart plan.now first (length regions.old) regions.new }
+{
+    planned_image_is_valid(plan);
+    one_deferred_object();
+    update_then_clear();
+    for d in first..first + regions.len() as u32 {
+        update_region(regions, plan, first, d);
     }
 }
 
-/// Redirects the references of the deferred object that begins in region `d`, if one does.
-fn update_region(regions: &mut [Region], plan: &Plan, d: u32)
-    requires inside { d < region_count plan.now }
+/// Redirects the references of the deferred object that begins in region `d`, if one does. The regions are a part of the
+/// heap, whose first region is `first`.
+fn update_region(regions: &mut [Region], plan: &Plan, first: u32, d: u32)
+    requires inside { (first ≤ d) × (d < first + length regions.old) }
+    requires part { first + length regions.old ≤ region_count plan.now }
     requires heap { FormHeap plan.now.region_log regions.old }
-    requires words { concat regions.old ≡ words_where plan.now (is_late_before plan.now d) }
+    requires ends { IsCut plan.now (first + length regions.old) }
+    requires words { concat regions.old ≡ words_from plan.now first (length regions.old) (is_late_before plan.now d) }
     ensures heap { FormHeap plan.now.region_log regions.new }
-    ensures words { concat regions.new ≡ words_where plan.now (is_late_before plan.now (d + 1)) }
+    ensures words { concat regions.new
+        ≡ words_from plan.now first (length regions.old) (is_late_before plan.now (d + 1)) }
 {
     let log = plan.region_log();
     planned_image_is_valid(plan);
     if let Some(begin) = plan.deferred(d) {
         late_references(plan, d, begin);
-        let first = begin + 1;
-        for p in first..first + u64::from(references(word(regions, log, begin))) {
+        references_in_part(plan, regions, first, d, begin);
+        let header = begin - part_start(plan, first);
+        let behind = header + 1;
+        for p in behind..behind + u64::from(references(word(regions, log, header))) {
             let reference = word(regions, log, p);
             set_word(regions, log, p, plan.redirected(reference));
         }
     }
 }
 
-/// Of the deferred object that begins at its new address in region `d`: its words lie in the heap, none of its
-/// references is one of an object that begins in an earlier region, and each is null or leads to a live object.
+/// The deferred object that begins in region `d` of a part has its header and its references in that part.
 ///
 /// The function does nothing: its contract is the law.
-fn late_references(plan: &Plan, d: u32, begin: u64)
+fn references_in_part(plan: &Plan, regions: &[Region], first: u32, d: u32, begin: u64)
+    requires inside { (first ≤ d) × (d < first + length regions.now) }
+    requires ends { IsCut plan.now (first + length regions.now) }
     requires begins { deferred plan.now d ≡ Some begin }
+    ensures low { start_of plan.now first ≤ begin }
+    ensures high { begin + references_of (moved_word plan.now begin)
+        < start_of plan.now first + length regions.now * region_words plan.now }
+{
+    late_references(plan, d, begin);
+}
+
+/// The first address of a part of the heap, whose first region is `first`.
+#[inline]
+pub(crate) fn part_start(plan: &Plan, first: u32) -> u64
+    requires { first ≤ region_count plan.now }
+    ensures { result ≡ start_of plan.now first }
+{
+    planned_image_is_valid(plan);
+    u64::from(first) * plan.region_words()
+}
+
+/// Of the deferred object that begins at its new address in region `d`: its words lie in the heap, none of its
+/// references is one of an object that begins in an earlier region, and each is null or leads to a live object. If they
+/// end in region `d`, the heap can be cut behind it.
+///
+/// The function does nothing: its contract is the law.
+pub(crate) fn late_references(plan: &Plan, d: u32, begin: u64)
+    requires begins { deferred plan.now d ≡ Some begin }
+    ensures region { region_of plan.now begin ≡ d }
     ensures fits { begin + 1 + references_of (moved_word plan.now begin) ≤ heap_words plan.now }
     ensures header { is_late_before plan.now d begin ≡ false }
     ensures once { (p : ℕ) → IsTrue (is_reference_behind plan.now begin p) → is_late_before plan.now d p ≡ false }
     ensures sound { (p : ℕ) → IsTrue (is_reference_behind plan.now begin p)
         → IsTrue (is_null_or_live plan.now (moved_word plan.now p)) }
+    ensures cut { begin + references_of (moved_word plan.now begin) < start_of plan.now (d + 1)
+        → IsCut plan.now (d + 1) }
 {
     planned_image_is_valid(plan);
     moved_objects();

@@ -7,12 +7,12 @@
 //! prefix keeps its live words and gets fillers in its gaps.
 //!
 //! An object whose new words cross the end of the region in which they begin is deferred: it is moved with its old
-//! references. [`update_deferred`] redirects them once all regions are filled, and [`clear_above`] makes the words from
-//! the new top up 0.
+//! references. [`update_deferred`] redirects them once all regions are filled, [`update_deferred_by_workers`] in parts by
+//! several threads, and [`clear_above`] makes the words from the new top up 0.
 //!
 //! **Proved**, for every valid image: a region that is filled has its moved words, word for word; its worker has made
 //! the drains of its other sources and its completion, and no other call, and has told of just those sources whose drain
-//! answered `Last`; [`update_deferred`] and then [`clear_above`] make the words of the compaction from the moved ones;
+//! answered `Last`; [`update_deferred`], or [`update_deferred_by_workers`], and then [`clear_above`] make the words of the compaction from the moved ones;
 //! no call reads or writes outside its regions, and each returns, if the desk and the cells do. **Only tested**: that a
 //! fill succeeds, and how many words are noted before each drain. **Not said**: how fast a call is.
 #![tactic(auto)]
@@ -20,6 +20,7 @@
 mod behind_prefix;
 mod clear;
 mod deferred;
+mod deferred_parts;
 mod fill;
 mod filling;
 mod guide;
@@ -31,5 +32,5 @@ mod span;
 mod valid;
 
 pub use clear::clear_above;
-pub use deferred::update_deferred;
+pub use deferred::{update_deferred, update_deferred_by_workers};
 pub use fill::fill_region;

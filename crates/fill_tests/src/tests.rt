@@ -4,6 +4,7 @@ ghost use Rattle.history.specs.ImageMoves.{image_table};
 ghost use Rattle.claim_board.specs.Boards.{moves as moves_of, identity, board_of};
 
 mod overwritten;
+mod parts;
 mod recorded;
 mod seeded;
 

@@ -1,0 +1,15 @@
+use Rattle.std.proofs.Common.{◌+◌, ◌*◌}
+use Rattle.fill.proofs.deferred_parts.+parts.Given as goal
+
+-- each thread's number falls with each call of `update`; `update_both` and a closure stand between two of these
+abbrev pub decreases-DeferredParts::update : goal.decreases-DeferredParts::update
+decreases-DeferredParts::update g l = 3 * l.most + 1
+
+abbrev pub decreases-DeferredParts::update_both : goal.decreases-DeferredParts::update_both
+decreases-DeferredParts::update_both g l = 3 * l.most
+
+abbrev pub decreases-DeferredParts::update_both-upper : goal.decreases-DeferredParts::update_both-upper
+decreases-DeferredParts::update_both-upper g l = 3 * l.others + 2
+
+abbrev pub decreases-DeferredParts::update_both-lower : goal.decreases-DeferredParts::update_both-lower
+decreases-DeferredParts::update_both-lower g l = 3 * l.few + 2

@@ -1,0 +1,103 @@
+//! `DeferredParts`: the deferred objects updated in parts, each by a thread of its own.
+ghost use Rattle.std.specs.Prelude.{◌≡◌, ◌+◌, ◌<◌, ◌≤◌, length, IsSome, IfSome, IsTrue};
+ghost use Rattle.fill.specs.MovedHeap.{IsCut, IsMovedPart, IsUpdatedPart};
+
+use crate::deferred::{late_references, part_start, update_regions};
+use crate::heap::word;
+use crate::valid::planned_image_is_valid;
+use heap_image::header::references;
+use raw_region::Region;
+use std::thread::{Threads, join_mut};
+use summary::Plan;
+
+/// How many regions to fill are worth a thread of their own.
+const LEAST_REGIONS: usize = 512;
+
+/// What the threads share that update the deferred objects of a heap.
+#[derive(Drop)]
+pub(crate) struct DeferredParts<'a, T: Threads + Sync> {
+    pub(crate) plan: &'a Plan,
+    pub(crate) threads: &'a T,
+}
+
+impl<T: Threads + Sync> DeferredParts<'_, T> {
+    /// Redirects the references of the deferred objects that begin in a part of the heap, whose first region is `first`,
+    /// by so many threads at most.
+    #[cycle(parts)]
+    pub(crate) fn update(&self, regions: &mut [Region], first: u32, most: usize)
+        requires { IsMovedPart self.now.plan.now first regions.old }
+        ensures { IsUpdatedPart self.now.plan.now first (length regions.old) regions.new }
+    {
+        match middle_cut(regions, self.plan, first, most) {
+            Some(cut) => {
+                let (low, high) = regions.split_at_mut(cut);
+                self.update_both(low, high, first, most);
+            }
+            None => update_regions(regions, self.plan, first),
+        }
+    }
+
+    /// Redirects the references of the deferred objects that begin in two parts side by side, by two threads and more.
+    #[cycle(parts)]
+    fn update_both(&self, low: &mut [Region], high: &mut [Region], first: u32, most: usize)
+        requires most { 1 < most }
+        requires low { IsMovedPart self.now.plan.now first low.old }
+        requires high { IsMovedPart self.now.plan.now (first + length low.old) high.old }
+        ensures low { IsUpdatedPart self.now.plan.now first (length low.old) low.new }
+        ensures high { IsUpdatedPart self.now.plan.now (first + length low.old) (length high.old) high.new }
+    {
+        planned_image_is_valid(self.plan);
+        let middle = first + low.len() as u32;
+        let few = most / 2;
+        let others = most - few;
+        let mut lower = ||
+            requires { IsMovedPart self.now.plan.now first low.now }
+            ensures { IsUpdatedPart self.entry.now.plan.now first (length low.entry.now) low.exit.now }
+        { self.update(low, first, few) };
+        let mut upper = ||
+            requires { IsMovedPart self.now.plan.now middle high.now }
+            ensures { IsUpdatedPart self.entry.now.plan.now middle (length high.entry.now) high.exit.now }
+        { self.update(high, middle, others) };
+        join_mut(self.threads, &mut lower, &mut upper);
+    }
+}
+
+/// How many regions of a part come before a place in its middle at which it can be cut. None where the part has
+/// too few regions to fill for that, or has no such place in their upper half.
+fn middle_cut(regions: &[Region], plan: &Plan, first: u32, most: usize) -> Option<usize>
+    requires { IsMovedPart plan.now first regions.now }
+    ensures most { IsSome result → 1 < most }
+    ensures inside { IfSome result (λ cut. cut ≤ length regions.now) }
+    ensures cut { IfSome result (λ cut. IsCut plan.now (first + cut)) }
+{
+    let filled = plan.fill_regions().saturating_sub(first) as usize;
+    let filled = filled.min(regions.len());
+    if most < 2 || filled < 2 * LEAST_REGIONS {
+        return None;
+    }
+    for cut in filled / 2..filled {
+        if is_cut(regions, plan, first, cut) {
+            return Some(cut);
+        }
+    }
+    None
+}
+
+/// Whether an object is deferred in the region before this place of a part, and has no reference behind it.
+fn is_cut(regions: &[Region], plan: &Plan, first: u32, cut: usize) -> bool
+    requires part { IsMovedPart plan.now first regions.now }
+    requires place { (0 < cut) × (cut ≤ length regions.now) }
+    ensures { IsTrue result → IsCut plan.now (first + cut) }
+{
+    planned_image_is_valid(plan);
+    let last = first + (cut - 1) as u32;
+    match plan.deferred(last) {
+        Some(begin) => {
+            late_references(plan, last, begin);
+            let header = begin - part_start(plan, first);
+            let count = references(word(regions, plan.region_log(), header));
+            begin + u64::from(count) < part_start(plan, last + 1)
+        }
+        None => false,
+    }
+}
