@@ -116,7 +116,7 @@ fn write_fault<W: Wait>(
 }
 
 /// Whether all regions below this one are filled, in ascending order.
-fn filled_below<W: Wait>(
+pub(super) fn filled_below<W: Wait>(
     heap: &Heap,
     pass: &mut Pass,
     alloc: Global,

@@ -1,11 +1,9 @@
 //! Deferred objects of larger heaps, updated by several threads.
-ghost use Rattle.std.specs.Prelude.{◌≡◌};
-ghost use Rattle.claim_board.specs.Boards.{identity, board_of};
 
-use crate::tests::{DEAD, Heap, fill, heap_of, joined, sized_image};
-use claim_board::Pass;
+use crate::tests::overwritten::filled_below;
+use crate::tests::{DEAD, Heap, heap_of, joined, sized_image};
 use fill::{clear_above, update_deferred_by_workers};
-use heap_image::{Fault, Image};
+use heap_image::Image;
 use std::alloc::{AllocError, Global};
 use std::sync::Wait;
 use std::test::Fail;
@@ -57,24 +55,6 @@ fn region_starts(alloc: Global) -> Result<Vec<u64>, AllocError> {
     Ok(starts)
 }
 
-/// Fills all regions that are to be filled, from the lowest on. False where one is not granted.
-fn fill_from_below<W: Wait>(
-    alloc: Global,
-    heap: &Heap,
-    pass: &mut Pass,
-    wait: &W,
-) -> Result<bool, Fault>
-    requires { board_of pass.old ≡ identity heap.now.board }
-{
-    let mut told = Vec::new(alloc);
-    for region in 0..heap.survey.plan().fill_regions() {
-        if !fill(heap, pass, &mut told, region, wait)? {
-            return Ok(false);
-        }
-    }
-    Ok(true)
-}
-
 /// The words of the compaction, its deferred objects updated by so many workers.
 fn compacted_by<R: Threads + Wait + Sync>(
     rt: &R,
@@ -83,7 +63,8 @@ fn compacted_by<R: Threads + Wait + Sync>(
     workers: usize,
 ) -> Result<Vec<u64>, Fail> {
     let (heap, mut pass) = heap_of(alloc, image, rt)?;
-    if !fill_from_below(alloc, &heap, &mut pass, rt)? {
+    let end = heap.survey.plan().fill_regions();
+    if !filled_below(&heap, &mut pass, alloc, end, rt)? {
         return Err(Fail::from("a region is not granted"));
     }
     let Heap { survey, cells, .. } = heap;
