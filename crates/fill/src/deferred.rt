@@ -89,8 +89,7 @@ pub(crate) fn update_regions(regions: &mut [Region], plan: &Plan, first: u32)
 /// Redirects the references of the deferred object that begins in region `d`, if one does. The regions are a part of the
 /// heap, whose first region is `first`.
 fn update_region(regions: &mut [Region], plan: &Plan, first: u32, d: u32)
-    requires inside { (first ≤ d) × (d < first + length regions.old) }
-    requires part { first + length regions.old ≤ region_count plan.now }
+    requires inside { (first ≤ d) × (d < first + length regions.old) × (first + length regions.old ≤ region_count plan.now) }
     requires heap { FormHeap plan.now.region_log regions.old }
     requires ends { IsCut plan.now (first + length regions.old) }
     requires words { concat regions.old ≡ words_from plan.now first (length regions.old) (is_late_before plan.now d) }
@@ -119,9 +118,8 @@ fn references_in_part(plan: &Plan, regions: &[Region], first: u32, d: u32, begin
     requires inside { (first ≤ d) × (d < first + length regions.now) }
     requires ends { IsCut plan.now (first + length regions.now) }
     requires begins { deferred plan.now d ≡ Some begin }
-    ensures low { start_of plan.now first ≤ begin }
-    ensures high { begin + references_of (moved_word plan.now begin)
-        < start_of plan.now first + length regions.now * region_words plan.now }
+    ensures { (start_of plan.now first ≤ begin) × (begin + references_of (moved_word plan.now begin)
+        < start_of plan.now first + length regions.now * region_words plan.now) }
 {
     late_references(plan, d, begin);
 }

@@ -67,8 +67,7 @@ impl<T: Threads + Sync> DeferredParts<'_, T> {
 fn middle_cut(regions: &[Region], plan: &Plan, first: u32, most: usize) -> Option<usize>
     requires { IsMovedPart plan.now first regions.now }
     ensures most { IsSome result → 1 < most }
-    ensures inside { IfSome result (λ cut. cut ≤ length regions.now) }
-    ensures cut { IfSome result (λ cut. IsCut plan.now (first + cut)) }
+    ensures cut { IfSome result (λ cut. (cut ≤ length regions.now) × IsCut plan.now (first + cut)) }
 {
     let filled = plan.fill_regions().saturating_sub(first) as usize;
     let filled = filled.min(regions.len());

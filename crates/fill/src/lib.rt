@@ -12,9 +12,10 @@
 //!
 //! **Proved**, for every valid image: a region that is filled has its moved words, word for word; its worker has made
 //! the drains of its other sources and its completion, and no other call, and has told of just those sources whose drain
-//! answered `Last`; [`update_deferred`], or [`update_deferred_by_workers`], and then [`clear_above`] make the words of the compaction from the moved ones;
-//! no call reads or writes outside its regions, and each returns, if the desk and the cells do. **Only tested**: that a
-//! fill succeeds, and how many words are noted before each drain. **Not said**: how fast a call is.
+//! answered `Last`; [`update_deferred`] or [`update_deferred_by_workers`], and then [`clear_above`], make the words of
+//! the compaction from the moved ones; no call reads or writes outside its regions, and each returns, if the desk and the
+//! cells do. **Only tested**: that a fill succeeds, how many words are noted before each drain, and into how many parts
+//! the update is cut. **Not said**: how fast a call is.
 #![tactic(auto)]
 
 mod behind_prefix;

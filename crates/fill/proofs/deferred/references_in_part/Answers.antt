@@ -4,8 +4,4 @@ use Rattle.fill.proofs.deferred.references_in_part.Goals as goal
 
 pub returns : goal.returns
 returns c =
-    let both = late_inside c.args.plan.now c.args.first (length c.args.regions.now) c.args.d c.args.begin c.requires.inside.0 c.requires.inside.1 c.requires.ends c.requires.begins c.late_references.ensures.region in
-    record {
-      low = both.0;
-      high = both.1;
-    }
+    late_inside c.args.plan.now c.args.first (length c.args.regions.now) c.args.d c.args.begin c.requires.inside.0 c.requires.inside.1 c.requires.ends c.requires.begins c.late_references.ensures.region

@@ -3,23 +3,19 @@ use Rattle.std.specs.List.{concat}
 use Rattle.heap_image.specs.Header.{references_of}
 use Rattle.heap_image.specs.HeapImage.{HeapImage, FormHeap, region_words, start_of, is_null_or_live}
 use Rattle.summary.specs.Compaction.{moved_word, redirected}
-use Rattle.fill.specs.MovedHeap.{is_late_before, words_from}
+use Rattle.fill.specs.MovedHeap.{is_late_before, is_reference_behind, words_from}
 use Rattle.fill.proofs.Late.{length-words, words_not, words_same, late-next, or_false, late_up_to, behind-from, up_to-begin, up_to-end}
 use Rattle.fill.proofs.Parts.{late_length, late_old, late_set}
 use Rattle.fill.proofs.deferred.update_region.Goals as goal
-use Rattle.fill.proofs.deferred.update_region.Goals.{After-from}
-
--- where the place k of a part is the header of the object at x, and p one that is gone over
-come_to : (a start x n size p : ℕ) → start ≡ a → a ≤ x → x + n < a + size → x - start + 1 ≤ p → p < x - start + 1 + n → (x < a + p) × (a + p ≤ x + n) × (p < size)
-come_to a start x n size p e low high from few = (omega arith, omega arith, omega arith)
+use Rattle.fill.proofs.deferred.update_region.Goals.{After-from, In-loop-p}
 
 pub word-requires-clause-inside : goal.word-requires-clause-inside
 word-requires-clause-inside c =
     let image : HeapImage = c.args.plan.now in
     let size : ℕ = length c.args.regions.now * region_words image in
     let all : length (concat c.args.regions.now) ≡ size = ap length c.requires.words ∙ length-words image (start_of image c.args.first) size (is_late_before image c.args.d) in
-    let low = c.references_in_part.ensures.low in
-    let high = c.references_in_part.ensures.high in
+    let low = c.references_in_part.ensures.0 in
+    let high = c.references_in_part.ensures.1 in
     let start = c.part_start.ensures in
     omega arith
 
@@ -32,8 +28,8 @@ count c =
     let a : ℕ = start_of image c.args.first in
     let size : ℕ = length c.args.regions.now * region_words image in
     let k : ℕ = x - c.part_start.result in
-    let low = c.references_in_part.ensures.low in
-    let high = c.references_in_part.ensures.high in
+    let low = c.references_in_part.ensures.0 in
+    let high = c.references_in_part.ensures.1 in
     let start = c.part_start.ensures in
     let at : a + k ≡ x = omega arith in
     let is : c.word.result ≡ moved_word image x = c.word.ensures ∙ ap (λ ws. get_or ws k 0) c.requires.words
@@ -48,7 +44,7 @@ loop-p-init c =
     let x : ℕ = c.in-Some.begin in
     let a : ℕ = start_of image c.args.first in
     let k : ℕ = x - c.part_start.result in
-    let low = c.references_in_part.ensures.low in
+    let low = c.references_in_part.ensures.0 in
     let start = c.part_start.ensures in
     let next : x + 1 ≡ a + (k + 1) = omega arith in
     record {
@@ -59,60 +55,59 @@ loop-p-init c =
           ∙ ap (λ p. words_from image c.args.first (length c.args.regions.now) (late_up_to image d x p)) next;
     }
 
+-- a reference that is come to: where it lies, and how many words the part has still
+module _ (c : In-loop-p) where
+  abbrev still : ℕ
+  still = length c.loop-p.regions * region_words c.args.plan.now
+
+  abbrev q : ℕ
+  q = start_of c.args.plan.now c.args.first + c.loop-p.p
+
+  come_to : (c.in-Some.begin < q) × (q ≤ c.in-Some.begin + references_of (moved_word c.args.plan.now c.in-Some.begin)) × (c.loop-p.p < still)
+  come_to =
+      let same : still ≡ length c.args.regions.now * region_words c.args.plan.now = ap (λ n. n * region_words c.args.plan.now) c.loop-p.auto.regions in
+      let low = c.references_in_part.ensures.0 in
+      let high = c.references_in_part.ensures.1 in
+      let start = c.part_start.ensures in
+      let from = c.loop-p.auto.p in
+      let end = c.loop-p.invariant.end in
+      let few = c.loop-p-test.true in
+      (omega arith, omega arith, omega arith)
+
+  inside : c.loop-p.p < length (concat c.loop-p.regions)
+  inside = let all = late_length c.args.plan.now c.args.first c.args.d c.in-Some.begin c.loop-p.p c.loop-p.regions c.loop-p.invariant.words in let to = come_to in omega arith
+
+  behind : is_reference_behind c.args.plan.now c.in-Some.begin q ≡ true
+  behind = let to = come_to in behind-from c.args.plan.now c.in-Some.begin q to.0 to.1
+
+  -- it is still the moved word
+  old : get_or (concat c.loop-p.regions) c.loop-p.p 0 ≡ moved_word c.args.plan.now q
+  old = late_old c.args.plan.now c.args.first c.args.d c.in-Some.begin c.loop-p.p c.loop-p.regions c.loop-p.invariant.words come_to.2 (c.late_references.ensures.once q behind)
+
 pub word-reference-requires-clause-inside : goal.word-reference-requires-clause-inside
-word-reference-requires-clause-inside c =
-    let image : HeapImage = c.args.plan.now in
-    let x : ℕ = c.in-Some.begin in
-    let p : ℕ = c.loop-p.p in
-    let all = late_length image c.args.first c.args.d x p c.loop-p.regions c.loop-p.invariant.words in
-    let same : length c.loop-p.regions * region_words image ≡ length c.args.regions.now * region_words image = ap (λ n. n * region_words image) c.loop-p.auto.regions in
-    let to = come_to (start_of image c.args.first) c.part_start.result x (references_of (moved_word image x)) (length c.args.regions.now * region_words image) p c.part_start.ensures
-    c.references_in_part.ensures.low c.references_in_part.ensures.high (omega (arith, c.loop-p.auto.p)) (omega (arith, c.loop-p.invariant.end, c.loop-p-test.true)) in
-    omega arith
+word-reference-requires-clause-inside c = inside c
 
 pub redirected-requires : goal.redirected-requires
 redirected-requires c =
-    let image : HeapImage = c.args.plan.now in
-    let x : ℕ = c.in-Some.begin in
-    let p : ℕ = c.loop-p.p in
-    let q : ℕ = start_of image c.args.first + p in
-    let same : length c.loop-p.regions * region_words image ≡ length c.args.regions.now * region_words image = ap (λ n. n * region_words image) c.loop-p.auto.regions in
-    let to = come_to (start_of image c.args.first) c.part_start.result x (references_of (moved_word image x)) (length c.args.regions.now * region_words image) p c.part_start.ensures
-    c.references_in_part.ensures.low c.references_in_part.ensures.high (omega (arith, c.loop-p.auto.p)) (omega (arith, c.loop-p.invariant.end, c.loop-p-test.true)) in
-    let behind = behind-from image x q to.0 to.1 in
-    let is : c.word-reference.result ≡ moved_word image q = c.word-reference.ensures
-    ∙ late_old image c.args.first c.args.d x p c.loop-p.regions c.loop-p.invariant.words (omega arith) (c.late_references.ensures.once q behind) in
-    subst (λ (w : ℕ). is_null_or_live image w ≡ true) (sym is) (c.late_references.ensures.sound q behind)
+    let here : In-loop-p = c.before.before in
+    subst (λ (w : ℕ). is_null_or_live c.args.plan.now w ≡ true) (sym (c.word-reference.ensures ∙ old here)) (c.late_references.ensures.sound (q here) (behind here))
 
 pub set_word-requires-clause-inside : goal.set_word-requires-clause-inside
-set_word-requires-clause-inside c =
-    let image : HeapImage = c.args.plan.now in
-    let x : ℕ = c.in-Some.begin in
-    let p : ℕ = c.loop-p.p in
-    let all = late_length image c.args.first c.args.d x p c.loop-p.regions c.loop-p.invariant.words in
-    let same : length c.loop-p.regions * region_words image ≡ length c.args.regions.now * region_words image = ap (λ n. n * region_words image) c.loop-p.auto.regions in
-    let to = come_to (start_of image c.args.first) c.part_start.result x (references_of (moved_word image x)) (length c.args.regions.now * region_words image) p c.part_start.ensures
-    c.references_in_part.ensures.low c.references_in_part.ensures.high (omega (arith, c.loop-p.auto.p)) (omega (arith, c.loop-p.invariant.end, c.loop-p-test.true)) in
-    omega arith
+set_word-requires-clause-inside c = inside c.before.before.before
 
 pub loop-p-preserved : goal.loop-p-preserved
 loop-p-preserved c =
     let image : HeapImage = c.args.plan.now in
-    let d : ℕ = c.args.d in
-    let x : ℕ = c.in-Some.begin in
     let p : ℕ = c.loop-p.p in
-    let q : ℕ = start_of image c.args.first + p in
-    let same : length c.loop-p.regions * region_words image ≡ length c.args.regions.now * region_words image = ap (λ n. n * region_words image) c.loop-p.auto.regions in
-    let to = come_to (start_of image c.args.first) c.part_start.result x (references_of (moved_word image x)) (length c.args.regions.now * region_words image) p c.part_start.ensures
-    c.references_in_part.ensures.low c.references_in_part.ensures.high (omega (arith, c.loop-p.auto.p)) (omega (arith, c.loop-p.invariant.end, c.loop-p-test.true)) in
-    let is : c.word-reference.result ≡ moved_word image q = c.word-reference.ensures
-    ∙ late_old image c.args.first d x p c.loop-p.regions c.loop-p.invariant.words (omega arith) (c.late_references.ensures.once q (behind-from image x q to.0 to.1)) in
+    let here : In-loop-p = c.before.before.before.before.before in
+    let to = come_to here in
+    let is : c.word-reference.result ≡ moved_word image (q here) = c.word-reference.ensures ∙ old here in
     record {
       heap = subst (λ (log : ℕ). FormHeap log c.set_word.new.regions) c.region_log-log.ensures.value c.set_word.ensures.heap;
       end = c.loop-p.invariant.end;
       words = c.set_word.ensures.value
-          ∙ late_set image c.args.first d x p c.loop-p.regions c.loop-p.invariant.words c.redirected.result (omega arith) to.0 (c.redirected.ensures ∙ ap (redirected image) is)
-          ∙ ap (λ n. words_from image c.args.first n (late_up_to image d x (start_of image c.args.first + (p + 1)))) (sym c.set_word.auto.regions);
+          ∙ late_set image c.args.first c.args.d c.in-Some.begin p c.loop-p.regions c.loop-p.invariant.words c.redirected.result to.2 to.0 (c.redirected.ensures ∙ ap (redirected image) is)
+          ∙ ap (λ n. words_from image c.args.first n (late_up_to image c.args.d c.in-Some.begin (start_of image c.args.first + (p + 1)))) (sym c.set_word.auto.regions);
     }
 
 pub returns-after-loop-p-clause-words : goal.returns-after-loop-p-clause-words
@@ -121,7 +116,7 @@ returns-after-loop-p-clause-words c =
     let d : ℕ = c.args.d in
     let x : ℕ = c.in-Some.begin in
     let a : ℕ = start_of image c.args.first in
-    let low = c.references_in_part.ensures.low in
+    let low = c.references_in_part.ensures.0 in
     let start = c.part_start.ensures in
     let last : a + c.loop-p.p ≡ x + 1 + references_of (moved_word image x) = omega (arith, c.loop-p.auto.p, c.loop-p.invariant.end, c.loop-p-test.false) in
     c.loop-p.invariant.words
