@@ -1,7 +1,7 @@
 -- The arguments that several commands share, as the reading of the words sees them.
 use Rattle.std.specs.Prelude.{pos, true, codes, Some}
 use Rattle.clap.specs.Walk.{Rule, Text}
-use Rattle.clap.specs.Words.{new_rule}
+use Rattle.clap.specs.Words.{App, new_rule, with_rule}
 use Rattle.clap.specs.declared.builder.value_parser.ValueParser.TheVariants.{Signed}
 use Rattle.clap.specs.declared.builder.action.ArgAction.TheVariants.{SetTrue}
 
@@ -33,3 +33,11 @@ stats_rule = flag_rule (codes "stats")
 -- the option by which files are replaced only once all is done
 abbrev pub atomic_rule : Rule
 atomic_rule = flag_rule (codes "atomic")
+
+-- with the options that a command has last which writes files
+abbrev pub with_replacement : App → App
+with_replacement app = with_rule (with_rule app atomic_rule) verbose_rule
+
+-- with the options for how a terminal shows a picture
+abbrev pub with_look : App → App
+with_look app = with_rule (with_rule (with_rule app (flag_rule (codes "letters"))) (flag_rule (codes "color"))) (flag_rule (codes "no-color"))

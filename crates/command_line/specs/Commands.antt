@@ -99,6 +99,16 @@ refs_rule = number_rule (codes "refs") 0 100
 abbrev pub version_rule : Rule
 version_rule = number_rule (codes "version") 1 2
 
+-- `generate` with what must be given
+abbrev pub generate_needs : App
+generate_needs =
+    with_rule (with_rule (with_rule (with_rule (with_rule (new_app (codes "generate")) (file_rule (codes "IMAGE"))) words_rule) live_rule)
+    (required region_log_rule)) seed_rule
+
+-- with what of a heap may be left out
+abbrev pub with_generate_wishes : App → App
+with_generate_wishes app = with_rule (with_rule (with_rule app refs_rule) version_rule) allowance_rule
+
 -- the words of `generate`
 abbrev pub generate_words : App
 generate_words =
@@ -130,6 +140,11 @@ width_rule = number_rule (codes "width") 1 1000
 abbrev pub svg_rule : Rule
 svg_rule = record (new_rule (codes "svg")) { long = Some (codes "svg"); value_names = 1 }
 
+-- `map` with the file that it reads, and the options for what of it is shown, and where
+abbrev pub map_cells : App
+map_cells =
+    with_rule (with_rule (with_rule (with_rule (new_app (codes "map")) (file_rule (codes "IMAGE"))) (flag_rule (codes "after"))) width_rule) svg_rule
+
 -- the words of `map`
 abbrev pub map_words : App
 map_words =
@@ -140,6 +155,14 @@ map_words =
 -- the option `--html`, which takes the name of a file
 abbrev pub html_rule : Rule
 html_rule = record (new_rule (codes "html")) { long = Some (codes "html"); value_names = 1 }
+
+-- `timeline` with the files that it reads
+abbrev pub timeline_inputs : App
+timeline_inputs = with_rule (with_rule (new_app (codes "timeline")) (file_rule (codes "IMAGE"))) (file_rule (codes "SCHEDULE"))
+
+-- with the options for pictures of a schedule
+abbrev pub with_picture_rules : App → App
+with_picture_rules app = with_rule (with_rule (with_rule app width_rule) svg_rule) html_rule
 
 -- the words of `timeline`
 abbrev pub timeline_words : App

@@ -1,12 +1,13 @@
 //! The arguments that several commands share: how each is declared, and how it is read.
-ghost use Rattle.std.specs.Prelude.{◌≡◌, codes, false, IfErr};
-ghost use Rattle.clap.specs.Words.{rule_of};
-ghost use Rattle.command_line.specs.Arguments.{file_rule, flag_rule, workers_rule};
+ghost use Rattle.std.specs.Prelude.{◌≡◌, codes, false, IfErr, IfOk};
+ghost use Rattle.clap.specs.Words.{app_of, rule_of};
+ghost use Rattle.clap.specs.declared.builder.command.Command.TheViews.{out-Command as fields_of};
+ghost use Rattle.command_line.specs.Arguments.{file_rule, flag_rule, with_look, with_replacement, workers_rule};
 ghost use Rattle.command_line.specs.Request.{IsNoUsage};
 
 use crate::unread::Unread;
-use clap::{Arg, ArgAction, ArgMatches, value_parser};
-use std::alloc::Global;
+use clap::{Arg, ArgAction, ArgMatches, Command, value_parser};
+use std::alloc::{AllocError, Global};
 
 /// The file that is read.
 pub fn image<'a>(alloc: Global) -> Arg<'a>
@@ -105,6 +106,37 @@ pub fn verbose<'a>(alloc: Global) -> Arg<'a>
 /// Whether `--verbose` is given. Of a command that doesn't take it the answer is no.
 pub fn is_verbose(given: &ArgMatches<'_>) -> bool {
     given.get_flag("verbose")
+}
+
+/// With the options that a command has last which writes files: `--atomic` and `--verbose`.
+pub fn with_last<'a>(alloc: Global, command: Command<'a>) -> Result<Command<'a>, AllocError>
+    ensures app { IfOk result (λ made. app_of made ≡ with_replacement (app_of command.entry)) }
+    ensures local { (fields_of command.entry).has_globals ≡ false
+        → IfOk result (λ made. (fields_of made).has_globals ≡ false) }
+{
+    command.arg(atomic(alloc))?.arg(verbose(alloc))
+}
+
+/// With the options for how a terminal shows a picture. Two helps are given: of the option for colours, and of the one against
+/// them.
+pub fn with_looks<'a>(
+    alloc: Global,
+    command: Command<'a>,
+    coloured: &'a str,
+    plain: &'a str,
+) -> Result<Command<'a>, AllocError>
+    ensures app { IfOk result (λ made. app_of made ≡ with_look (app_of command.entry)) }
+    ensures local { (fields_of command.entry).has_globals ≡ false
+        → IfOk result (λ made. (fields_of made).has_globals ≡ false) }
+{
+    command
+        .arg(flag(
+            alloc,
+            "letters",
+            "Draws with letters where the locale has blocks too",
+        ))?
+        .arg(flag(alloc, "color", coloured))?
+        .arg(flag(alloc, "no-color", plain))
 }
 
 /// An option that takes no value and may be left out.

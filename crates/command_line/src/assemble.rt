@@ -16,12 +16,11 @@ pub fn words<'a>(alloc: Global) -> Result<Command<'a>, AllocError>
     ensures app { IfOk result (λ command. app_of command ≡ assemble_words) }
     ensures local { IfOk result (λ command. (fields_of command).has_globals ≡ false) }
 {
-    Command::new(alloc, "assemble")
+    let command = Command::new(alloc, "assemble")
         .about("Writes the heap image of a text")
         .arg(arguments::file(alloc, "TEXT", "A file with the text of a heap"))?
-        .arg(arguments::file(alloc, "IMAGE", "The file for the image"))?
-        .arg(arguments::atomic(alloc))?
-        .arg(arguments::verbose(alloc))
+        .arg(arguments::file(alloc, "IMAGE", "The file for the image"))?;
+    arguments::with_last(alloc, command)
 }
 
 /// What `assemble` is asked.

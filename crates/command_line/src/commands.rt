@@ -1,8 +1,9 @@
 //! The commands: the words of all of them, and which one was called. A command is a file of its own,
 //! and has a line in each of the two lists below.
-ghost use Rattle.std.specs.Prelude.{◌≡◌, codes, Some, Ok, ℕ, List, IfOk, MatchResult};
+ghost use Rattle.std.specs.Prelude.{◌≡◌, codes, Some, Ok, ℕ, List, [], ◌∷◌, IfOk, MatchResult};
 ghost use Rattle.clap.specs.Words.{app_of, subcommand_name_of};
-ghost use Rattle.command_line.specs.CommandLine.{commands, program_words};
+ghost use Rattle.command_line.specs.CommandLine.{commands, program_words, with_commands};
+ghost use Rattle.command_line.specs.Commands.{board_words, summary_words, collect_words, verify_words, record_words, replay_words, upgrade_words, import_words, generate_words, order_words, text_words, assemble_words, map_words, timeline_words};
 ghost use Rattle.command_line.specs.Request.{IsFor, IsNoUsage};
 ghost use Rattle.command_line.specs.declared.request.Request.TheVariants.{Board};
 
@@ -40,17 +41,52 @@ Exit status:
 pub fn words<'a>(alloc: Global) -> Result<Command<'a>, AllocError>
     ensures { IfOk result (λ command. app_of command ≡ commands) }
 {
-    program(alloc)?
+    let command = with_collections(alloc, program(alloc)?)?;
+    let command = with_followers(alloc, command)?;
+    let command = with_sources(alloc, command)?;
+    with_pictures(alloc, command)
+}
+
+/// With the commands that tell of a collection or make one.
+fn with_collections<'a>(alloc: Global, command: Command<'a>) -> Result<Command<'a>, AllocError>
+    ensures { IfOk result (λ made. app_of made
+        ≡ with_commands (app_of command.entry) (board_words ∷ summary_words ∷ collect_words ∷ verify_words ∷ [])) }
+{
+    command
         .subcommand(board::words(alloc))?
         .subcommand(summary::words(alloc)?)?
         .subcommand(collect::words(alloc)?)?
-        .subcommand(verify::words(alloc)?)?
+        .subcommand(verify::words(alloc)?)
+}
+
+/// With the commands on schedules, and `upgrade`.
+fn with_followers<'a>(alloc: Global, command: Command<'a>) -> Result<Command<'a>, AllocError>
+    ensures { IfOk result (λ made. app_of made
+        ≡ with_commands (app_of command.entry) (record_words ∷ replay_words ∷ upgrade_words ∷ [])) }
+{
+    command
         .subcommand(record::words(alloc)?)?
         .subcommand(replay::words(alloc)?)?
-        .subcommand(upgrade::words(alloc)?)?
+        .subcommand(upgrade::words(alloc)?)
+}
+
+/// With the commands that make images of other things, and `order`.
+fn with_sources<'a>(alloc: Global, command: Command<'a>) -> Result<Command<'a>, AllocError>
+    ensures { IfOk result (λ made. app_of made
+        ≡ with_commands (app_of command.entry) (import_words ∷ generate_words ∷ order_words ∷ [])) }
+{
+    command
         .subcommand(import::words(alloc)?)?
         .subcommand(generate::words(alloc)?)?
-        .subcommand(order::words(alloc)?)?
+        .subcommand(order::words(alloc)?)
+}
+
+/// With the commands that show a heap or a schedule, and `assemble`.
+fn with_pictures<'a>(alloc: Global, command: Command<'a>) -> Result<Command<'a>, AllocError>
+    ensures { IfOk result (λ made. app_of made
+        ≡ with_commands (app_of command.entry) (text_words ∷ assemble_words ∷ map_words ∷ timeline_words ∷ [])) }
+{
+    command
         .subcommand(text::words(alloc)?)?
         .subcommand(assemble::words(alloc)?)?
         .subcommand(map::words(alloc)?)?
@@ -70,7 +106,7 @@ pub fn called<'a>(matches: &ArgMatches<'a>) -> Result<Request<'a>, Unread>
     }
 }
 
-/// What a command is asked that collects, or tells of an image or of collections.
+/// What a command is asked that collects, or tells of a collection.
 fn asked<'a>(name: &str, given: &ArgMatches<'a>) -> Result<Request<'a>, Unread>
     ensures { MatchResult result (IsFor name.now) IsNoUsage }
 {
@@ -79,6 +115,15 @@ fn asked<'a>(name: &str, given: &ArgMatches<'a>) -> Result<Request<'a>, Unread>
         "collect" => Request::Collect(Collect::of(given)?),
         "verify" => Request::Verify(Verify::of(given)?),
         "record" => Request::Record(Record::of(given)?),
+        _ => return asked_to_show(name, given),
+    })
+}
+
+/// What a command is asked that shows an image or a schedule.
+fn asked_to_show<'a>(name: &str, given: &ArgMatches<'a>) -> Result<Request<'a>, Unread>
+    ensures { MatchResult result (IsFor name.now) IsNoUsage }
+{
+    Ok(match name {
         "replay" => Request::Replay(Replay::of(given)?),
         "order" => Request::Order(Order::of(given)?),
         "text" => Request::Text(Text::of(given)?),

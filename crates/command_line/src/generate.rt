@@ -4,7 +4,7 @@ ghost use Rattle.clap.specs.Words.{app_of, rule_of};
 ghost use Rattle.clap.specs.declared.builder.command.Command.TheViews.{out-Command as fields_of};
 ghost use Rattle.command_line.specs.CommandLine.{IsCallOf};
 ghost use Rattle.command_line.specs.Request.{IsNoUsage};
-ghost use Rattle.command_line.specs.Commands.{allowance_rule, generate_words, live_rule, refs_rule, region_log_rule, required, seed_rule, version_rule, words_rule};
+ghost use Rattle.command_line.specs.Commands.{allowance_rule, generate_needs, generate_words, live_rule, refs_rule, region_log_rule, required, seed_rule, version_rule, with_generate_wishes, words_rule};
 
 use crate::unread::Unread;
 use crate::{arguments, import};
@@ -22,18 +22,34 @@ pub fn words<'a>(alloc: Global) -> Result<Command<'a>, AllocError>
     ensures app { IfOk result (λ command. app_of command ≡ generate_words) }
     ensures local { IfOk result (λ command. (fields_of command).has_globals ≡ false) }
 {
+    let wanted = with_wishes(alloc, with_needs(alloc)?)?;
+    arguments::with_last(alloc, wanted)
+}
+
+/// The command with what must be given.
+fn with_needs<'a>(alloc: Global) -> Result<Command<'a>, AllocError>
+    ensures app { IfOk result (λ made. app_of made ≡ generate_needs) }
+    ensures local { IfOk result (λ made. (fields_of made).has_globals ≡ false) }
+{
     Command::new(alloc, "generate")
         .about("Writes a heap image that follows from a seed, for benchmarks and experiments")
         .arg(arguments::file(alloc, "IMAGE", "The file for the image"))?
         .arg(heap_words(alloc))?
         .arg(live(alloc))?
         .arg(region_log(alloc))?
-        .arg(seed(alloc))?
+        .arg(seed(alloc))
+}
+
+/// With what of a heap may be left out.
+fn with_wishes<'a>(alloc: Global, command: Command<'a>) -> Result<Command<'a>, AllocError>
+    ensures app { IfOk result (λ made. app_of made ≡ with_generate_wishes (app_of command.entry)) }
+    ensures local { (fields_of command.entry).has_globals ≡ false
+        → IfOk result (λ made. (fields_of made).has_globals ≡ false) }
+{
+    command
         .arg(references(alloc))?
         .arg(version(alloc))?
-        .arg(import::allowance(alloc))?
-        .arg(arguments::atomic(alloc))?
-        .arg(arguments::verbose(alloc))
+        .arg(import::allowance(alloc))
 }
 
 /// How many words the heap has.

@@ -16,7 +16,7 @@ pub fn words<'a>(alloc: Global) -> Result<Command<'a>, AllocError>
     ensures app { IfOk result (λ command. app_of command ≡ import_words) }
     ensures local { IfOk result (λ command. (fields_of command).has_globals ≡ false) }
 {
-    Command::new(alloc, "import")
+    let command = Command::new(alloc, "import")
         .about("Writes the heap dump of a Java virtual machine as a heap image")
         .arg(arguments::file(alloc, "DUMP", "A file with a heap dump"))?
         .arg(arguments::file(alloc, "IMAGE", "The file for the image"))?
@@ -26,9 +26,8 @@ pub fn words<'a>(alloc: Global) -> Result<Command<'a>, AllocError>
             alloc,
             "live-only",
             "Keeps the objects alone that are reached from the roots",
-        ))?
-        .arg(arguments::atomic(alloc))?
-        .arg(arguments::verbose(alloc))
+        ))?;
+    arguments::with_last(alloc, command)
 }
 
 /// The size of regions.

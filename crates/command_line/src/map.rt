@@ -4,7 +4,7 @@ ghost use Rattle.clap.specs.Words.{app_of, rule_of};
 ghost use Rattle.clap.specs.declared.builder.command.Command.TheViews.{out-Command as fields_of};
 ghost use Rattle.command_line.specs.CommandLine.{IsCallOf};
 ghost use Rattle.command_line.specs.Request.{IsNoUsage};
-ghost use Rattle.command_line.specs.Commands.{map_words, svg_rule, width_rule};
+ghost use Rattle.command_line.specs.Commands.{map_cells, map_words, svg_rule, width_rule};
 
 use crate::arguments;
 use crate::unread::Unread;
@@ -19,25 +19,26 @@ pub fn words<'a>(alloc: Global) -> Result<Command<'a>, AllocError>
     ensures app { IfOk result (λ command. app_of command ≡ map_words) }
     ensures local { IfOk result (λ command. (fields_of command).has_globals ≡ false) }
 {
+    let looking = arguments::with_looks(
+        alloc,
+        with_cells(alloc)?,
+        "Colours the picture also where standard output is no terminal",
+        "Doesn't colour it on a terminal either",
+    )?;
+    arguments::with_last(alloc, looking)
+}
+
+/// The command with the file that it reads, and the options for what of it is shown, and where.
+fn with_cells<'a>(alloc: Global) -> Result<Command<'a>, AllocError>
+    ensures app { IfOk result (λ made. app_of made ≡ map_cells) }
+    ensures local { IfOk result (λ made. (fields_of made).has_globals ≡ false) }
+{
     Command::new(alloc, "map")
         .about("Prints a picture of a heap image, and of what its collection leaves")
         .arg(arguments::image(alloc))?
         .arg(arguments::flag(alloc, "after", "Shows the heap after its collection too"))?
         .arg(width(alloc))?
-        .arg(svg(alloc))?
-        .arg(arguments::flag(
-            alloc,
-            "letters",
-            "Draws with letters where the locale has blocks too",
-        ))?
-        .arg(arguments::flag(
-            alloc,
-            "color",
-            "Colours the picture also where standard output is no terminal",
-        ))?
-        .arg(arguments::flag(alloc, "no-color", "Doesn't colour it on a terminal either"))?
-        .arg(arguments::atomic(alloc))?
-        .arg(arguments::verbose(alloc))
+        .arg(svg(alloc))
 }
 
 /// How many cells there are.

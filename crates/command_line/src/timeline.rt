@@ -4,7 +4,7 @@ ghost use Rattle.clap.specs.Words.{app_of, rule_of};
 ghost use Rattle.clap.specs.declared.builder.command.Command.TheViews.{out-Command as fields_of};
 ghost use Rattle.command_line.specs.CommandLine.{IsCallOf};
 ghost use Rattle.command_line.specs.Request.{IsNoUsage};
-ghost use Rattle.command_line.specs.Commands.{html_rule, svg_rule, timeline_words, width_rule};
+ghost use Rattle.command_line.specs.Commands.{html_rule, svg_rule, timeline_inputs, timeline_words, width_rule, with_picture_rules};
 
 use crate::arguments;
 use crate::map::Look;
@@ -25,31 +25,35 @@ pub fn words<'a>(alloc: Global) -> Result<Command<'a>, AllocError>
     ensures app { IfOk result (λ command. app_of command ≡ timeline_words) }
     ensures local { IfOk result (λ command. (fields_of command).has_globals ≡ false) }
 {
+    let pictured = with_pictures(alloc, with_inputs(alloc)?)?;
+    let looking = arguments::with_looks(
+        alloc,
+        pictured,
+        "Colours the lanes also where standard output is no terminal",
+        "Doesn't colour them on a terminal either",
+    )?;
+    arguments::with_last(alloc, looking)
+}
+
+/// The command with the files that it reads.
+fn with_inputs<'a>(alloc: Global) -> Result<Command<'a>, AllocError>
+    ensures app { IfOk result (λ made. app_of made ≡ timeline_inputs) }
+    ensures local { IfOk result (λ made. (fields_of made).has_globals ≡ false) }
+{
     Command::new(alloc, "timeline")
         .about("Shows which worker had which region in hand, line by line of a schedule")
         .after_help(EXAMPLE)
         .arg(arguments::image(alloc))?
-        .arg(arguments::file(alloc, "SCHEDULE", "A file with a schedule"))?
-        .arg(width(alloc))?
-        .arg(svg(alloc))?
-        .arg(html(alloc))?
-        .arg(arguments::flag(
-            alloc,
-            "letters",
-            "Draws with letters where the locale has blocks too",
-        ))?
-        .arg(arguments::flag(
-            alloc,
-            "color",
-            "Colours the lanes also where standard output is no terminal",
-        ))?
-        .arg(arguments::flag(
-            alloc,
-            "no-color",
-            "Doesn't colour them on a terminal either",
-        ))?
-        .arg(arguments::atomic(alloc))?
-        .arg(arguments::verbose(alloc))
+        .arg(arguments::file(alloc, "SCHEDULE", "A file with a schedule"))
+}
+
+/// With the options for pictures: how wide they are, and where a drawing or a page goes.
+fn with_pictures<'a>(alloc: Global, command: Command<'a>) -> Result<Command<'a>, AllocError>
+    ensures app { IfOk result (λ made. app_of made ≡ with_picture_rules (app_of command.entry)) }
+    ensures local { (fields_of command.entry).has_globals ≡ false
+        → IfOk result (λ made. (fields_of made).has_globals ≡ false) }
+{
+    command.arg(width(alloc))?.arg(svg(alloc))?.arg(html(alloc))
 }
 
 /// How many cells a lane has at most.

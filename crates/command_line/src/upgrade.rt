@@ -16,12 +16,11 @@ pub fn words<'a>(alloc: Global) -> Result<Command<'a>, AllocError>
     ensures app { IfOk result (λ command. app_of command ≡ upgrade_words) }
     ensures local { IfOk result (λ command. (fields_of command).has_globals ≡ false) }
 {
-    Command::new(alloc, "upgrade")
+    let command = Command::new(alloc, "upgrade")
         .about("Writes a heap image as one with roots")
         .arg(arguments::image(alloc))?
-        .arg(arguments::file(alloc, "OUT", "The file for the upgraded image"))?
-        .arg(arguments::atomic(alloc))?
-        .arg(arguments::verbose(alloc))
+        .arg(arguments::file(alloc, "OUT", "The file for the upgraded image"))?;
+    arguments::with_last(alloc, command)
 }
 
 /// What `upgrade` is asked.

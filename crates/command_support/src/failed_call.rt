@@ -4,7 +4,7 @@ use std::{fmt, io};
 
 /// What the system was asked to do with a file.
 #[derive(Debug, Clone, Copy, PartialEq, Eq)]
-pub enum Call {
+pub enum SystemCall {
     Open,
     /// To tell which file it is, and of what kind.
     Stat,
@@ -22,18 +22,18 @@ pub enum Call {
     Rename,
 }
 
-impl fmt::Display for Call {
+impl fmt::Display for SystemCall {
     fn fmt<W: fmt::Write>(&self, f: &mut fmt::Formatter<W>) -> fmt::Result {
         f.write_str(match self {
-            Call::Open => "open",
-            Call::Stat => "stat",
-            Call::Empty => "empty",
-            Call::Make => "make",
-            Call::Access => "access",
-            Call::Read => "read",
-            Call::Write => "write",
-            Call::Sync => "sync",
-            Call::Rename => "rename",
+            SystemCall::Open => "open",
+            SystemCall::Stat => "stat",
+            SystemCall::Empty => "empty",
+            SystemCall::Make => "make",
+            SystemCall::Access => "access",
+            SystemCall::Read => "read",
+            SystemCall::Write => "write",
+            SystemCall::Sync => "sync",
+            SystemCall::Rename => "rename",
         })
     }
 }
@@ -41,7 +41,7 @@ impl fmt::Display for Call {
 /// A call of the system that failed.
 #[derive(Clone, Copy)]
 pub struct FailedCall {
-    call: Call,
+    call: SystemCall,
     kind: ErrorKind,
     /// The system's own number of the error, where it gave one.
     number: Option<i32>,
@@ -49,7 +49,7 @@ pub struct FailedCall {
 
 impl FailedCall {
     /// This call, which failed with this error.
-    pub fn of(call: Call, error: &Error) -> FailedCall {
+    pub fn of(call: SystemCall, error: &Error) -> FailedCall {
         FailedCall {
             call,
             kind: error.kind(),
@@ -60,7 +60,7 @@ impl FailedCall {
     /// A write that took no byte.
     pub fn full() -> FailedCall {
         FailedCall {
-            call: Call::Write,
+            call: SystemCall::Write,
             kind: ErrorKind::WriteZero,
             number: None,
         }

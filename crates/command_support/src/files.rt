@@ -2,15 +2,16 @@
 //! can't be opened is fault 13.
 ghost use Rattle.std.specs.Prelude.{◌≡◌, ◌≢◌, IfOk, OnOk, string_bytes};
 
-use crate::done::Done;
 use crate::failure::Failure;
 use crate::file_id::FileId;
+use crate::file_target::FileTarget;
 use crate::file_word::{FileWord, Role};
 use crate::output::Output;
-use crate::target::Target;
 use crate::trouble::Trouble;
 use crate::watched::Watched;
+use crate::work_done::WorkDone;
 use std::alloc::{AllocError, Global};
+use std::fs::OpenFile;
 use std::rt::Files;
 
 /// A file to read, and one to write.
@@ -26,12 +27,26 @@ pub fn image_and_out<'a, H: Files + AllocGlobal>(
 ) -> Result<ImageAndOut<'a, H::File>, Trouble<'a>> {
     let image = FileWord::new(Role::Image, image);
     let out = FileWord::new(Role::Out, out);
+    let (image, out) = image_and_target(host, image, out, atomic)?;
+    Ok((image, out.begin(host)?))
+}
+
+/// A file to read, open, and one to write, as it was found.
+type ImageAndTarget<'a, F> = (Watched<'a, F>, FileTarget<'a, F>);
+
+/// Opens the file to read, and then finds the one to write.
+fn image_and_target<'a, H: Files + AllocGlobal>(
+    host: &H,
+    image: FileWord<'a>,
+    out: FileWord<'a>,
+    atomic: bool,
+) -> Result<ImageAndTarget<'a, H::File>, Trouble<'a>> {
     if !atomic {
         must_differ(host.alloc(), image, out)?;
     }
     let image = Watched::open(host, image)?;
     let out = target_beside(host, &image, out, atomic)?;
-    Ok((image, out.begin(host)?))
+    Ok((image, out))
 }
 
 /// Two files to read, of which both are opened before one is read.
@@ -53,10 +68,20 @@ pub fn two_different_inputs<'a, H: Files + AllocGlobal>(
 ) -> Result<(Watched<'a, H::File>, Watched<'a, H::File>), Trouble<'a>> {
     must_differ(host.alloc(), one, other)?;
     let (one, other) = two_inputs(host, one, other)?;
-    if one.id()?.is_same(other.id()?) {
-        return Err(same_file(host.alloc(), one.word(), other.word())?);
-    }
+    must_be_two(host.alloc(), &one, &other)?;
     Ok((one, other))
+}
+
+/// Two open files must not be one.
+fn must_be_two<'a, F: OpenFile + Drop>(
+    alloc: Global,
+    one: &Watched<'a, F>,
+    other: &Watched<'a, F>,
+) -> Result<(), Trouble<'a>> {
+    if one.id()?.is_same(other.id()?) {
+        return Err(same_file(alloc, one.word(), other.word())?);
+    }
+    Ok(())
 }
 
 /// The file to write, where this one is read. They may be one file only where that is replaced.
@@ -65,9 +90,9 @@ pub fn target_beside<'a, H: Files + AllocGlobal>(
     read: &Watched<'a, H::File>,
     out: FileWord<'a>,
     atomic: bool,
-) -> Result<Target<'a, H::File>, Trouble<'a>> {
+) -> Result<FileTarget<'a, H::File>, Trouble<'a>> {
     let id = read.id()?;
-    let out = Target::find(host, out, atomic)?;
+    let out = FileTarget::find(host, out, atomic)?;
     if atomic {
         Ok(out)
     } else {
@@ -78,10 +103,10 @@ pub fn target_beside<'a, H: Files + AllocGlobal>(
 /// The file to write, as it was found, unless it is this one that is read. Then it is left as it stood.
 pub fn apart_from<'a, H: Files + AllocGlobal>(
     host: &H,
-    found: Target<'a, H::File>,
+    found: FileTarget<'a, H::File>,
     read: FileWord<'a>,
     id: FileId,
-) -> Result<Target<'a, H::File>, Trouble<'a>> {
+) -> Result<FileTarget<'a, H::File>, Trouble<'a>> {
     if found.is(id) {
         let same = same_file(host.alloc(), read, found.word());
         found.leave(host);
@@ -124,10 +149,10 @@ pub fn ended<'a, H: Files>(
     host: &H,
     line: String,
     out: Output<'a, H::File>,
-) -> Result<Done<'a>, Trouble<'a>>
+) -> Result<WorkDone<'a>, Trouble<'a>>
     ensures { IfOk result (λ done. done.text.items ≡ string_bytes line) }
 {
-    Ok(Done {
+    Ok(WorkDone {
         text: line.into_bytes(),
         out: out.finish(host)?,
         schedule: None,

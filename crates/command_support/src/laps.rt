@@ -24,6 +24,14 @@ struct Lap {
     took: Duration,
 }
 
+impl Lap {
+    /// Writes its line.
+    fn tell<B: Write>(&self, err: &mut B) -> io::Result<()> {
+        let took = Tenths::of_milliseconds(self.took);
+        writeln!(err, "pcompact: {} {took} ms", self.phase)
+    }
+}
+
 impl Laps {
     /// No phase yet.
     pub fn new() -> Laps {
@@ -49,16 +57,16 @@ impl Laps {
     /// Writes a line for each phase, and where the time of all is known one for the rest of it, and one for all of it.
     pub fn tell<B: Write>(&self, total: Option<Duration>, err: &mut B) -> io::Result<()> {
         for lap in self.laps.iter().flatten() {
-            writeln!(
-                err,
-                "pcompact: {} {} ms",
-                lap.phase,
-                Tenths::of_milliseconds(lap.took)
-            )?;
+            lap.tell(err)?;
         }
-        let Some(total) = total else {
-            return Ok(());
-        };
+        match total {
+            Some(total) => self.tell_total(total, err),
+            None => Ok(()),
+        }
+    }
+
+    /// Writes the lines for the rest of this time and for all of it.
+    fn tell_total<B: Write>(&self, total: Duration, err: &mut B) -> io::Result<()> {
         let rest = total.saturating_sub(self.end);
         writeln!(err, "pcompact: finish {} ms", Tenths::of_milliseconds(rest))?;
         writeln!(err, "pcompact: total {} ms", Tenths::of_milliseconds(total))

@@ -1,6 +1,6 @@
 //! `Late`.
+use crate::file_target::FileTarget;
 use crate::output::Output;
-use crate::target::Target;
 use crate::trouble::Trouble;
 use heap_image::Fault;
 use std::io;
@@ -12,14 +12,14 @@ use std::rt::Files;
 pub struct Late<'a, 'h, H: Files> {
     host: &'h H,
     /// The file before its first byte.
-    found: Option<Target<'a, H::File>>,
+    found: Option<FileTarget<'a, H::File>>,
     /// The file from its first byte on, or why it couldn't be begun.
     begun: Option<Result<Output<'a, H::File>, Trouble<'a>>>,
 }
 
 impl<'a, 'h, H: Files + AllocGlobal> Late<'a, 'h, H> {
     /// This file, as it was found.
-    pub fn new(host: &'h H, found: Target<'a, H::File>) -> Late<'a, 'h, H> {
+    pub fn new(host: &'h H, found: FileTarget<'a, H::File>) -> Late<'a, 'h, H> {
         Late {
             host,
             found: Some(found),

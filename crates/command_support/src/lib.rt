@@ -1,9 +1,9 @@
 //! What every command of the program works with: the files that it opens, why it fails, and what its work took.
 //!
 //! **Files.** A [`FileWord`] is a name from the command line with what it stands for. [`Watched`] is an open file that
-//! keeps its first bytes and the first call on it that failed. [`Target::find`] looks at a file to write and touches nothing;
-//! [`Target::begin`] makes an [`Output`] of it, which is emptied, or a new file beside it that takes its place in the end
-//! ([`Replacement`]). [`Late`] does that with the first byte. [`Done`] is what a command has done, but for its end.
+//! keeps its first bytes and the first call on it that failed. [`FileTarget::find`] looks at a file to write and touches nothing;
+//! [`FileTarget::begin`] makes an [`Output`] of it, which is emptied, or a new file beside it that takes its place in the end
+//! ([`Replacement`]). [`Late`] does that with the first byte. [`WorkDone`] is what a command has done, but for its end.
 //!
 //! **Failures.** A [`Failure`] decides the exit status and the first line of standard error. [`Trouble`] adds which file it is
 //! about and the [`Reason`], which is told where that is asked for.
@@ -26,10 +26,10 @@
 #![tactic(auto)]
 
 mod difference;
-mod done;
 mod failed_call;
 mod failure;
 mod file_id;
+mod file_target;
 mod file_word;
 mod files;
 mod laps;
@@ -42,18 +42,18 @@ mod reason;
 mod replacement;
 mod stats;
 mod stopwatch;
-mod target;
 mod tenths;
 mod timed_intake;
 mod timed_outlet;
 mod trouble;
 mod watched;
+mod work_done;
 
 pub use difference::Difference;
-pub use done::Done;
-pub use failed_call::{Call, FailedCall};
+pub use failed_call::{FailedCall, SystemCall};
 pub use failure::Failure;
 pub use file_id::FileId;
+pub use file_target::FileTarget;
 pub use file_word::{FileWord, Role};
 pub use files::{
     apart_from, ended, failed, failed_between, image_and_out, must_differ, not_regular, same_file,
@@ -68,8 +68,8 @@ pub use reason::{LineReason, Reason};
 pub use replacement::Replacement;
 pub use stats::Stats;
 pub use stopwatch::Stopwatch;
-pub use target::Target;
 pub use timed_intake::TimedIntake;
 pub use timed_outlet::TimedOutlet;
 pub use trouble::{Trouble, called};
 pub use watched::Watched;
+pub use work_done::WorkDone;

@@ -1,5 +1,5 @@
 //! `Output`.
-use crate::failed_call::Call;
+use crate::failed_call::SystemCall;
 use crate::replacement::Replacement;
 use crate::trouble::{Trouble, called};
 use crate::watched::Watched;
@@ -33,7 +33,7 @@ impl<'a, F: OpenFile + Drop> Output<'a, F> {
         let Some(replacement) = replacement else {
             return Ok(None);
         };
-        match called(file.word(), Call::Sync, file.file().sync_all()) {
+        match called(file.word(), SystemCall::Sync, file.file().sync_all()) {
             Ok(()) => Ok(Some(replacement)),
             Err(trouble) => {
                 replacement.remove(host);

@@ -13,7 +13,7 @@ pub enum Reason {
     /// Fault 12: how many workers were asked for.
     Workers(u32),
     /// Fault 13: the call of the system that failed.
-    Call(FailedCall),
+    SystemCall(FailedCall),
     /// Fault 13: the write to standard output that failed.
     Output(FailedCall),
     /// Fault 14: why the line isn't taken.
@@ -40,7 +40,7 @@ impl Reason {
                     "pcompact: reason {asked} is not from 1 to {MAX_WORKERS}"
                 )
             }
-            Reason::Call(failed) => failed.tell(err),
+            Reason::SystemCall(failed) => failed.tell(err),
             Reason::Output(failed) => {
                 writeln!(err, "pcompact: standard output")?;
                 failed.tell(err)

@@ -2,7 +2,7 @@
 ghost use Rattle.std.specs.Prelude.{◌≡◌, IfErr};
 ghost use Rattle.command_support.specs.Failure.{failed_device};
 
-use crate::failed_call::{Call, FailedCall};
+use crate::failed_call::{FailedCall, SystemCall};
 use crate::file_word::FileWord;
 use crate::trouble::{Trouble, called};
 use heap_image::Fault;
@@ -40,7 +40,7 @@ impl<'a> Replacement<'a> {
         };
         match called(
             word,
-            Call::Access,
+            SystemCall::Access,
             replacement.take_access(host, &file, old),
         ) {
             Ok(()) => Ok((file, replacement)),
@@ -65,7 +65,7 @@ impl<'a> Replacement<'a> {
         ensures { IfErr result (λ trouble. trouble.failure ≡ failed_device) }
     {
         let renamed = fs::rename(host, &self.new, &self.place);
-        match called(self.word, Call::Rename, renamed) {
+        match called(self.word, SystemCall::Rename, renamed) {
             Ok(()) => Ok(()),
             Err(trouble) => {
                 self.remove(host);
@@ -91,18 +91,25 @@ fn make_beside<'a, H: Files + AllocGlobal>(
     let mode = if private { 0o600 } else { 0o666 };
     for number in 0..u32::MAX {
         let new = beside(host.alloc(), place, number)?;
-        match OpenOptions::new()
-            .write(true)
-            .create_new(true)
-            .mode(mode)
-            .open(host, &new)
-        {
+        match make_new(host, &new, mode) {
             Ok(file) => return Ok((new, file)),
             Err(error) if error.kind() == ErrorKind::AlreadyExists => {}
-            Err(error) => return Err(Trouble::of_call(word, FailedCall::of(Call::Make, &error))),
+            Err(error) => return Err(Trouble::of_call(
+                word,
+                FailedCall::of(SystemCall::Make, &error),
+            )),
         }
     }
     Err(Trouble::from(Fault::Io).about(word))
+}
+
+/// Makes a file of this name, which must be free, open for writing, and with these permissions.
+fn make_new<H: Files>(host: &H, new: &PathBuf, mode: u32) -> io::Result<H::File> {
+    OpenOptions::new()
+        .write(true)
+        .create_new(true)
+        .mode(mode)
+        .open(host, new)
 }
 
 /// The name of this number for a file beside a place.

@@ -56,13 +56,18 @@ impl Stats {
         if let Some(threads) = self.workers.or_else(|| processors(host)) {
             writeln!(err, "pcompact: threads {threads}")?;
         }
-        match peak_kib(host) {
-            Some(kib) => {
-                let peak = Tenths::of_mib(kib.saturating_mul(1024));
-                writeln!(err, "pcompact: peak memory {peak} MiB")
-            }
-            None => Ok(()),
+        tell_peak(host, err)
+    }
+}
+
+/// Writes the line of the peak memory of this process, where the system tells it.
+fn tell_peak<H: Files, B: Write>(host: &H, err: &mut B) -> io::Result<()> {
+    match peak_kib(host) {
+        Some(kib) => {
+            let peak = Tenths::of_mib(kib.saturating_mul(1024));
+            writeln!(err, "pcompact: peak memory {peak} MiB")
         }
+        None => Ok(()),
     }
 }
 

@@ -4,7 +4,7 @@ ghost use Rattle.command_support.specs.Failure.{failed_device};
 ghost use Rattle.heap_image.specs.declared.fault.Fault.TheVariants.{Memory};
 ghost use Rattle.command_support.specs.declared.failure.Failure.TheVariants.{Fault};
 
-use crate::failed_call::{Call, FailedCall};
+use crate::failed_call::{FailedCall, SystemCall};
 use crate::failure::Failure;
 use crate::file_word::FileWord;
 use crate::reason::{LineReason, Reason};
@@ -44,7 +44,7 @@ impl<'a> Trouble<'a> {
         ensures { result.failure ≡ failed_device }
     {
         Trouble::new(Failure::Fault(Fault::Io))
-            .because(Reason::Call(call))
+            .because(Reason::SystemCall(call))
             .about(file)
     }
 
@@ -74,7 +74,9 @@ impl<'a> Trouble<'a> {
         ensures { result.failure ≡ self.entry.failure }
     {
         match (self.fault(), file.failed()) {
-            (Some(Fault::Io), Some(call)) => self.because(Reason::Call(call)).about(file.word()),
+            (Some(Fault::Io), Some(call)) => self
+                .because(Reason::SystemCall(call))
+                .about(file.word()),
             _ => self,
         }
     }
@@ -144,9 +146,8 @@ impl<'a> Trouble<'a> {
 
     /// Writes the lines that tell more than the first: the files, and the reason.
     pub fn tell_more<B: Write>(&self, err: &mut B) -> io::Result<()> {
-        for file in [self.other, self.file].into_iter().flatten() {
-            writeln!(err, "pcompact: file {} {}", file.role, file.name)?;
-        }
+        tell_file(self.other, err)?;
+        tell_file(self.file, err)?;
         match &self.reason {
             Some(reason) => reason.tell(err),
             None => Ok(()),
@@ -184,10 +185,18 @@ impl<'a> Trouble<'a> {
     }
 }
 
+/// Writes the line of a file that a failure is about, if there is one.
+fn tell_file<B: Write>(file: Option<FileWord<'_>>, err: &mut B) -> io::Result<()> {
+    match file {
+        Some(file) => writeln!(err, "pcompact: file {} {}", file.role, file.name),
+        None => Ok(()),
+    }
+}
+
 /// What a call of the system on this file answered. Fault 13 where it failed.
 pub fn called<'a, T>(
     file: FileWord<'a>,
-    call: Call,
+    call: SystemCall,
     outcome: io::Result<T>,
 ) -> Result<T, Trouble<'a>>
     ensures { IfErr result (λ trouble. trouble.failure ≡ failed_device) }

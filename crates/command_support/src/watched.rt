@@ -1,5 +1,5 @@
 //! `Watched`.
-use crate::failed_call::{Call, FailedCall};
+use crate::failed_call::{FailedCall, SystemCall};
 use crate::file_id::FileId;
 use crate::file_word::FileWord;
 use crate::trouble::{Trouble, called};
@@ -39,7 +39,7 @@ impl<'a, F: Drop> Watched<'a, F> {
         host: &H,
         word: FileWord<'a>,
     ) -> Result<Watched<'a, F>, Trouble<'a>> {
-        let file = called(word, Call::Open, fs::open(host, word.name))?;
+        let file = called(word, SystemCall::Open, fs::open(host, word.name))?;
         Ok(Watched::new(word, file))
     }
 
@@ -60,7 +60,7 @@ impl<'a, F: Drop> Watched<'a, F> {
     where
         F: OpenFile,
     {
-        called(self.word, Call::Stat, self.file.metadata())
+        called(self.word, SystemCall::Stat, self.file.metadata())
     }
 
     /// The file itself.
@@ -108,7 +108,7 @@ impl<F: Seek + Drop> Watched<'_, F> {
         match self.sought(count) {
             Ok(_) => Ok(()),
             Err(error) => {
-                self.failed = Some(FailedCall::of(Call::Write, &error));
+                self.failed = Some(FailedCall::of(SystemCall::Write, &error));
                 Err(error)
             }
         }
@@ -130,7 +130,7 @@ impl<F: Read + Drop> Read for Watched<'_, F> {
                 Ok(n)
             }
             Err(error) => {
-                self.failed = Some(FailedCall::of(Call::Read, &error));
+                self.failed = Some(FailedCall::of(SystemCall::Read, &error));
                 Err(error)
             }
         }
@@ -149,7 +149,7 @@ impl<F: Write + Drop> Write for Watched<'_, F> {
                 Ok(n)
             }
             Err(error) => {
-                self.failed = Some(FailedCall::of(Call::Write, &error));
+                self.failed = Some(FailedCall::of(SystemCall::Write, &error));
                 Err(error)
             }
         }

@@ -9,7 +9,7 @@ use Rattle.std.proofs.lemmas.List.Folds.{list_any-append, list_any_at, Any-from_
 use Rattle.std.proofs.lemmas.List.FromFn.{get_or-map-range_with_len, length-map-range_with_len, get_or-range_with_len, length-range_with_len}
 use Rattle.heap_image.specs.Header.{references_of}
 use Rattle.heap_image.specs.HeapImage.{HeapImage, HasLiveList, heap_words, word_at, size_at, references_at, reference_at, is_null_or_live}
-use Rattle.summary.specs.NewAddresses.{new_address, new_end_of, new_top}
+use Rattle.summary.specs.NewAddresses.{new_address}
 use Rattle.summary.specs.Compaction.{moved_word, redirected, is_deferred}
 use Rattle.summary.specs.RegionData.{deferred}
 use Rattle.summary.specs.Updates.{is_late_reference}
@@ -182,12 +182,6 @@ module _ (image : HeapImage) where
 
       references_are : n ≡ references_at image a
       references_are = ap (λ p. references_of (moved_word image p)) (sym goes) ∙ ap references_of header
-
-      pub late_fits : new_end_of image a ≤ new_top image → new_top image ≤ heap_words image → x + 1 + n ≤ heap_words image
-      late_fits end top =
-          let few : references_at image a < size_at image a = (sound.sound i 0 inside).references in
-          let are = references_are in
-          omega arith
 
       pub late_sound : is_deferred image a ≡ true → ((f : ℕ) → f < references_at image a → moved_word image (new_address image a + (1 + f)) ≡ cond (is_deferred image a) (word_at image (a + (1 + f))) (redirected image (word_at image (a + (1 + f)))))
           → (p : ℕ) → x < p → p ≤ x + n → is_null_or_live image (moved_word image p) ≡ true

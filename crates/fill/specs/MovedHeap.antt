@@ -36,9 +36,13 @@ module _ (image : HeapImage) where
   abbrev pub updated_words : List ℕ
   updated_words = words_where (is_late_reference image)
 
+  -- the address of the last reference of the moved object at x, or x where it has none
+  abbrev pub last_reference : ℕ → ℕ
+  last_reference x = x + references_of (moved_word image x)
+
   -- p is one of the references of the moved object at x
   abbrev pub is_reference_behind : ℕ → ℕ → Bool
-  is_reference_behind x p = nat_lt x p && nat_le p (x + references_of (moved_word image x))
+  is_reference_behind x p = nat_lt x p && nat_le p (last_reference x)
 
   -- p is one of the references of the deferred object that begins there, if one does
   abbrev pub is_late_behind : Option ℕ → ℕ → Bool

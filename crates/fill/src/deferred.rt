@@ -1,12 +1,11 @@
 //! The update of the deferred objects.
 ghost use Rattle.std.specs.Prelude.{◌≡◌, ℕ, ◌+◌, ◌*◌, ◌<◌, ◌≤◌, false, List, length, IsTrue, Some};
 ghost use Rattle.std.specs.List.{concat};
-ghost use Rattle.heap_image.specs.Header.{references_of};
-ghost use Rattle.heap_image.specs.HeapImage.{FormHeap, AreBlocks, region_of, region_words, start_of, region_count, heap_words, is_null_or_live};
+ghost use Rattle.heap_image.specs.HeapImage.{FormHeap, AreBlocks, region_of, region_words, start_of, region_count, is_null_or_live};
 ghost use Rattle.summary.specs.NewAddresses.{new_top};
 ghost use Rattle.summary.specs.RegionData.{deferred};
 ghost use Rattle.summary.specs.Compaction.{compact, moved_word};
-ghost use Rattle.fill.specs.MovedHeap.{moved_regions, cleared, words_from, updated_words, is_late_before, is_reference_behind, IsCut, IsMovedPart, IsUpdatedPart};
+ghost use Rattle.fill.specs.MovedHeap.{moved_regions, cleared, words_from, updated_words, is_late_before, is_reference_behind, last_reference, IsCut, IsMovedPart, IsUpdatedPart};
 
 use crate::deferred_parts::DeferredParts;
 use crate::heap::{set_word, word};
@@ -61,8 +60,7 @@ pub fn update_deferred_by_workers(
 /// The function does nothing: its contract is the law.
 fn whole_heap(plan: &Plan)
     ensures moved { (blocks : List (List ℕ)) → blocks ≡ moved_regions plan.now → IsMovedPart plan.now 0 blocks }
-    ensures updated { (blocks done : List (List ℕ)) → blocks ≡ moved_regions plan.now
-        → IsUpdatedPart plan.now 0 (length blocks) done → concat done ≡ updated_words plan.now }
+    ensures updated { (blocks done : List (List ℕ)) → blocks ≡ moved_regions plan.now → IsUpdatedPart plan.now 0 (length blocks) done → concat done ≡ updated_words plan.now }
     ensures compacted { cleared (new_top plan.now) (updated_words plan.now) ≡ (compact plan.now).words }
 {
     planned_image_is_valid(plan);
@@ -94,8 +92,7 @@ fn update_region(regions: &mut [Region], plan: &Plan, first: u32, d: u32)
     requires ends { IsCut plan.now (first + length regions.old) }
     requires words { concat regions.old ≡ words_from plan.now first (length regions.old) (is_late_before plan.now d) }
     ensures heap { FormHeap plan.now.region_log regions.new }
-    ensures words { concat regions.new
-        ≡ words_from plan.now first (length regions.old) (is_late_before plan.now (d + 1)) }
+    ensures words { concat regions.new ≡ words_from plan.now first (length regions.old) (is_late_before plan.now (d + 1)) }
 {
     let log = plan.region_log();
     planned_image_is_valid(plan);
@@ -118,8 +115,7 @@ fn references_in_part(plan: &Plan, regions: &[Region], first: u32, d: u32, begin
     requires inside { (first ≤ d) × (d < first + length regions.now) }
     requires ends { IsCut plan.now (first + length regions.now) }
     requires begins { deferred plan.now d ≡ Some begin }
-    ensures { (start_of plan.now first ≤ begin) × (begin + references_of (moved_word plan.now begin)
-        < start_of plan.now first + length regions.now * region_words plan.now) }
+    ensures { (start_of plan.now first ≤ begin) × (last_reference plan.now begin < start_of plan.now first + length regions.now * region_words plan.now) }
 {
     late_references(plan, d, begin);
 }
@@ -134,21 +130,18 @@ pub(crate) fn part_start(plan: &Plan, first: u32) -> u64
     u64::from(first) * plan.region_words()
 }
 
-/// Of the deferred object that begins at its new address in region `d`: its words lie in the heap, none of its
-/// references is one of an object that begins in an earlier region, and each is null or leads to a live object. If they
-/// end in region `d`, the heap can be cut behind it.
+/// Of the deferred object that begins at its new address in region `d`: none of its references is one of an object that
+/// begins in an earlier region, and each is null or leads to a live object. If they end in region `d`, the heap can be
+/// cut behind it.
 ///
 /// The function does nothing: its contract is the law.
 pub(crate) fn late_references(plan: &Plan, d: u32, begin: u64)
     requires begins { deferred plan.now d ≡ Some begin }
     ensures region { region_of plan.now begin ≡ d }
-    ensures fits { begin + 1 + references_of (moved_word plan.now begin) ≤ heap_words plan.now }
     ensures header { is_late_before plan.now d begin ≡ false }
     ensures once { (p : ℕ) → IsTrue (is_reference_behind plan.now begin p) → is_late_before plan.now d p ≡ false }
-    ensures sound { (p : ℕ) → IsTrue (is_reference_behind plan.now begin p)
-        → IsTrue (is_null_or_live plan.now (moved_word plan.now p)) }
-    ensures cut { begin + references_of (moved_word plan.now begin) < start_of plan.now (d + 1)
-        → IsCut plan.now (d + 1) }
+    ensures sound { (p : ℕ) → IsTrue (is_reference_behind plan.now begin p) → IsTrue (is_null_or_live plan.now (moved_word plan.now p)) }
+    ensures cut { last_reference plan.now begin < start_of plan.now (d + 1) → IsCut plan.now (d + 1) }
 {
     planned_image_is_valid(plan);
     moved_objects();

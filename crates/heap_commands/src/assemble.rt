@@ -7,7 +7,8 @@ ghost use Rattle.command_support.specs.Failure.{failed_device};
 
 use command_line::Assemble;
 use command_support::{
-    Done, Failure, FileWord, Late, Role, Trouble, Watched, ended, must_differ, target_beside,
+    Failure, FileTarget, FileWord, Late, Role, Trouble, Watched, WorkDone, ended, must_differ,
+    target_beside,
 };
 use heap_image::{Fault, Image, Outlet, ToWrite, write_image};
 use heap_text::assemble;
@@ -22,16 +23,10 @@ const LINE_ROOM: usize = 80;
 pub fn answer<'a, R: Files + AllocGlobal>(
     rt: &R,
     asked: Assemble<'a>,
-) -> Result<Done<'a>, Trouble<'a>>
+) -> Result<WorkDone<'a>, Trouble<'a>>
     ensures { IfOk result (λ done. IsCountLine done.text.items) }
 {
-    let text = FileWord::new(Role::Text, asked.text);
-    let image = FileWord::new(Role::Image, asked.image);
-    if !asked.atomic {
-        must_differ(rt.alloc(), text, image)?;
-    }
-    let mut text = Watched::open(rt, text)?;
-    let found = target_beside(rt, &text, image, asked.atomic)?;
+    let (mut text, found) = open(rt, &asked)?;
     let mut written = ToWrite::new(Late::new(rt, found));
     let line = assemble_into(rt.alloc(), &mut text, &mut written);
     let late = written.into_inner();
@@ -39,6 +34,25 @@ pub fn answer<'a, R: Files + AllocGlobal>(
         Ok(line) => ended(rt, line, late.into_output()?),
         Err(failure) => Err(late.failed(Trouble::new(failure).if_text(&text))),
     }
+}
+
+/// The file of the text, open, and the one for the image, as it was found. They may be one file only where that is
+/// replaced.
+type TextAndImage<'a, F> = (Watched<'a, F>, FileTarget<'a, F>);
+
+/// Opens the file of the text, and finds the one for the image.
+fn open<'a, H: Files + AllocGlobal>(
+    host: &H,
+    asked: &Assemble<'a>,
+) -> Result<TextAndImage<'a, H::File>, Trouble<'a>> {
+    let text = FileWord::new(Role::Text, asked.text);
+    let image = FileWord::new(Role::Image, asked.image);
+    if !asked.atomic {
+        must_differ(host.alloc(), text, image)?;
+    }
+    let text = Watched::open(host, text)?;
+    let found = target_beside(host, &text, image, asked.atomic)?;
+    Ok((text, found))
 }
 
 /// Reads the text of a heap, and writes the image of which it is the text. What it answers is for

@@ -4,13 +4,13 @@ ghost use Rattle.board_sweep.specs.Report.{IsBoardText};
 ghost use Rattle.command_support.specs.Failure.{out_of_memory};
 
 use board_sweep::sweep_with_two_workers;
-use command_support::{Done, Trouble};
+use command_support::{Trouble, WorkDone};
 use std::thread::Threads;
 
 /// What `board` prints.
-pub fn answer<'a, R: AllocGlobal + Threads>(rt: &R) -> Result<Done<'a>, Trouble<'a>>
+pub fn answer<'a, R: AllocGlobal + Threads>(rt: &R) -> Result<WorkDone<'a>, Trouble<'a>>
     ensures { MatchResult result (λ done. IsBoardText done.text.items)
         (λ trouble. trouble.failure ≡ out_of_memory) }
 {
-    Ok(Done::printing(sweep_with_two_workers(rt)?.into_bytes()))
+    Ok(WorkDone::printing(sweep_with_two_workers(rt)?.into_bytes()))
 }

@@ -5,7 +5,7 @@ ghost use Rattle.heap_commands.specs.Generate.{IsGeneration, IsGenerationLine};
 ghost use Rattle.command_support.specs.Failure.{failed_device};
 
 use command_line::Generate;
-use command_support::{Done, Failure, FileWord, Late, Role, Target, Trouble, ended};
+use command_support::{Failure, FileTarget, FileWord, Late, Role, Trouble, WorkDone, ended};
 use heap_image::{Outlet, ToWrite, write_image};
 use heap_maker::{Figures, Generated, Wanted, generate};
 use std::alloc::{AllocError, Global};
@@ -18,11 +18,11 @@ const LINE_ROOM: usize = 120;
 pub fn answer<'a, R: Files + AllocGlobal>(
     rt: &R,
     asked: Generate<'a>,
-) -> Result<Done<'a>, Trouble<'a>>
+) -> Result<WorkDone<'a>, Trouble<'a>>
     ensures { IfOk result (λ done. IsGenerationLine done.text.items) }
 {
     let image = FileWord::new(Role::Image, asked.image);
-    let found = Target::find(rt, image, asked.atomic)?;
+    let found = FileTarget::find(rt, image, asked.atomic)?;
     let mut written = ToWrite::new(Late::new(rt, found));
     let line = generate_into(rt.alloc(), &mut written, &wanted_by(&asked));
     let late = written.into_inner();

@@ -7,8 +7,8 @@ ghost use Rattle.command_support.specs.Failure.{failed_device};
 
 use command_line::Import;
 use command_support::{
-    Done, Failure, FileWord, Late, Role, Target, Trouble, Watched, ended, must_differ, not_regular,
-    target_beside,
+    Failure, FileTarget, FileWord, Late, Role, Trouble, Watched, WorkDone, ended, must_differ,
+    not_regular, target_beside,
 };
 use heap_dump::{Figures, Imported, Options, import};
 use heap_image::{FromRead, Intake, Outlet, ToWrite, write_image};
@@ -23,7 +23,7 @@ const LINE_ROOM: usize = 240;
 pub fn answer<'a, R: Files + AllocGlobal>(
     rt: &R,
     asked: Import<'a>,
-) -> Result<Done<'a>, Trouble<'a>>
+) -> Result<WorkDone<'a>, Trouble<'a>>
     ensures { IfOk result (λ done. IsImportLine done.text.items) }
 {
     let options = Options {
@@ -54,7 +54,7 @@ struct Opened<'a, F: Drop> {
     /// The dump once more, for its second reading.
     again: Watched<'a, F>,
     /// The file for the image, as it was found.
-    image: Target<'a, F>,
+    image: FileTarget<'a, F>,
 }
 
 /// Opens the dump twice, and finds the file for the image. Both may be one file only where that is
@@ -70,13 +70,22 @@ fn open<'a, H: Files + AllocGlobal>(
     if !asked.atomic {
         must_differ(host.alloc(), word, image)?;
     }
+    let (dump, again) = open_dump(host, word)?;
+    let image = target_beside(host, &dump, image, asked.atomic)?;
+    Ok(Opened { dump, again, image })
+}
+
+/// Opens a dump twice. It is refused where it is no regular file.
+fn open_dump<'a, H: Files + AllocGlobal>(
+    host: &H,
+    word: FileWord<'a>,
+) -> Result<(Watched<'a, H::File>, Watched<'a, H::File>), Trouble<'a>> {
     let dump = Watched::open(host, word)?;
     if !dump.metadata()?.is_file() {
         return Err(not_regular(host.alloc(), word)?);
     }
     let again = Watched::open(host, word)?;
-    let image = target_beside(host, &dump, image, asked.atomic)?;
-    Ok(Opened { dump, again, image })
+    Ok((dump, again))
 }
 
 /// Makes an image of the dump that both inputs are, and writes its text. What it answers is for

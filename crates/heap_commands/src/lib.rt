@@ -2,7 +2,7 @@
 //! proved beside it.
 //!
 //! A command is a module. Its `answer` takes what the words of the command ask for, does the work over files, and gives what
-//! the command prints with the files that are to take their places ([`command_support::Done`]), or why it fails
+//! the command prints with the files that are to take their places ([`command_support::WorkDone`]), or why it fails
 //! ([`command_support::Trouble`]). The work itself stands in a call over any devices, so that its contract can speak of
 //! their bytes. The words are read in `command_line`, and the program shows what is printed.
 //!

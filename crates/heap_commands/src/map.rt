@@ -8,7 +8,7 @@ ghost use Rattle.heap_commands.specs.Map.{IsDrawing, IsMap, IsMapLine, IsPicture
 use crate::screen::Screen;
 use command_line::{Look, Map};
 use command_support::{
-    Done, FileWord, Late, Role, Target, Trouble, Watched, apart_from, ended, must_differ,
+    FileTarget, FileWord, Late, Role, Trouble, Watched, WorkDone, apart_from, ended, must_differ,
 };
 use heap_image::{
     Fault, FromRead, Image, Intake, Outlet, ToWrite, give_all, read_image_by_threads,
@@ -24,7 +24,7 @@ pub fn answer<'a, R: Files + AllocGlobal + Threads + Sync>(
     rt: &R,
     screen: Screen,
     asked: Map<'a>,
-) -> Result<Done<'a>, Trouble<'a>>
+) -> Result<WorkDone<'a>, Trouble<'a>>
     ensures { IfOk result (λ done. IsMap done.text.items) }
 {
     let image = FileWord::new(Role::Image, asked.image);
@@ -68,12 +68,12 @@ fn printed<'a, R: Files + AllocGlobal + Threads + Sync>(
     image: FileWord<'a>,
     cut: Cut,
     style: Style,
-) -> Result<Done<'a>, Trouble<'a>>
+) -> Result<WorkDone<'a>, Trouble<'a>>
     ensures { IfOk result (λ done. IsMap done.text.items) }
 {
     let mut image = FromRead::new(Watched::open(rt, image)?);
     match map(rt.alloc(), &mut image, cut, style, rt) {
-        Ok(text) => Ok(Done::printing(text.into_bytes())),
+        Ok(text) => Ok(WorkDone::printing(text.into_bytes())),
         Err(fault) => Err(Trouble::from(fault).if_image(&image.into_inner())),
     }
 }
@@ -85,11 +85,23 @@ fn drawn<'a, R: Files + AllocGlobal + Threads + Sync>(
     svg: FileWord<'a>,
     cut: Cut,
     atomic: bool,
-) -> Result<Done<'a>, Trouble<'a>>
+) -> Result<WorkDone<'a>, Trouble<'a>>
     ensures { IfOk result (λ done. IsMap done.text.items) }
 {
     let image = Watched::open(rt, image)?;
     let found = found_beside(rt, &image, svg, atomic)?;
+    drawn_to(rt, image, cut, found)
+}
+
+/// Draws the picture of the image in a file into the file that was found for it, and prints the figures.
+fn drawn_to<'a, R: Files + AllocGlobal + Threads + Sync>(
+    rt: &R,
+    image: Watched<'a, R::File>,
+    cut: Cut,
+    found: FileTarget<'a, R::File>,
+) -> Result<WorkDone<'a>, Trouble<'a>>
+    ensures { IfOk result (λ done. IsMap done.text.items) }
+{
     let mut image = FromRead::new(image);
     let mut drawing = ToWrite::new(Late::new(rt, found));
     let line = draw_into(rt.alloc(), &mut image, &mut drawing, cut, rt);
@@ -109,10 +121,10 @@ fn found_beside<'a, H: Files + AllocGlobal>(
     image: &Watched<'a, H::File>,
     svg: FileWord<'a>,
     atomic: bool,
-) -> Result<Target<'a, H::File>, Trouble<'a>> {
+) -> Result<FileTarget<'a, H::File>, Trouble<'a>> {
     must_differ(host.alloc(), image.word(), svg)?;
     let id = image.id()?;
-    let found = Target::find(host, svg, atomic)?;
+    let found = FileTarget::find(host, svg, atomic)?;
     apart_from(host, found, image.word(), id)
 }
 
@@ -143,8 +155,7 @@ fn text_of_image(
     ensures map { IfOk result (λ text. IsPicture style cut image.now (string_bytes text)) }
     ensures fault { IfErr result (λ fault. fault ≡ Fault.Memory) }
 {
-    let survey = Survey::of(alloc, image, threads)?;
-    let picture = picture_of(alloc, image, &survey, cut)?;
+    let picture = picture_of_image(alloc, image, cut, threads)?;
     Ok(picture.text(alloc, style)?)
 }
 
@@ -186,15 +197,30 @@ fn drawing_of(
     ensures line { IfOk result (λ drawing. IsMapLine image.now (string_bytes drawing.line)) }
     ensures fault { IfErr result (λ fault. fault ≡ Fault.Memory) }
 {
-    let survey = Survey::of(alloc, image, threads)?;
-    let picture = picture_of(alloc, image, &survey, cut)?;
+    let picture = picture_of_image(alloc, image, cut, threads)?;
     Ok(Drawing {
         line: text_of_figures(alloc, picture.figures)?,
         svg: picture.svg(alloc)?,
     })
 }
 
-/// The picture of an image, cut so.
+/// The picture of an image, cut so. The only fault is want of memory.
+fn picture_of_image(
+    alloc: Global,
+    image: &Image,
+    cut: Cut,
+    threads: &(impl Threads + Sync),
+) -> Result<Picture, Fault>
+    ensures figures { IfOk result (λ picture. AreFiguresOf image.now picture.figures) }
+    ensures before { IfOk result (λ picture. picture.before.cells.items ≡ cells_before image.now (cells_shown cut.cells)) }
+    ensures after { IfOk result (λ picture. option_map (λ map. map.cells.items) picture.after ≡ after_shown image.now cut) }
+    ensures fault { IfErr result (λ fault. fault ≡ Fault.Memory) }
+{
+    let survey = Survey::of(alloc, image, threads)?;
+    Ok(picture_of(alloc, image, &survey, cut)?)
+}
+
+/// The picture of an image that was surveyed, cut so.
 fn picture_of(
     alloc: Global,
     image: &Image,

@@ -1,11 +1,13 @@
 //! The command `order`.
 ghost use Rattle.std.specs.Prelude.{◌≡◌, ◌++◌, codes, ℕ, List, IfOk, IfErr, IfSome, string_bytes};
 ghost use Rattle.heap_image.specs.Refusals.{IsReason};
+ghost use Rattle.summary.specs.NewAddresses.{new_top};
+ghost use Rattle.work_order.specs.Chains.{IsLongestChain};
 ghost use Rattle.work_order.specs.WorkOrder.{order_text};
 ghost use Rattle.heap_commands.specs.Order.{IsOrder, IsOrderLine, IsOrderOf};
 
 use command_line::Order;
-use command_support::{Done, FileWord, Role, Trouble, Watched};
+use command_support::{FileWord, Role, Trouble, Watched, WorkDone};
 use heap_image::{Fault, FromRead, Image, Intake, read_image_by_threads};
 use std::alloc::{AllocError, Global};
 use std::rt::Files;
@@ -17,13 +19,13 @@ use work_order::WorkOrder;
 pub fn answer<'a, R: Files + AllocGlobal + Threads + Sync>(
     rt: &R,
     asked: Order<'a>,
-) -> Result<Done<'a>, Trouble<'a>>
+) -> Result<WorkDone<'a>, Trouble<'a>>
     ensures { IfOk result (λ done. IsOrder done.text.items) }
 {
     let image = Watched::open(rt, FileWord::new(Role::Image, asked.image))?;
     let mut image = FromRead::new(image);
     match order(rt.alloc(), &mut image, rt) {
-        Ok(text) => Ok(Done::printing(text.into_bytes())),
+        Ok(text) => Ok(WorkDone::printing(text.into_bytes())),
         Err(fault) => Err(Trouble::from(fault).if_image(&image.into_inner())),
     }
 }
@@ -51,9 +53,22 @@ fn text_of_image(
     ensures order { IfOk result (λ text. IsOrderLine image.now (string_bytes text)) }
     ensures fault { IfErr result (λ fault. fault ≡ Fault.Memory) }
 {
-    let survey = Survey::of(alloc, image, threads)?;
-    let order = WorkOrder::of(alloc, survey.plan())?;
+    let order = order_of(alloc, image, threads)?;
     Ok(text_of(alloc, order)?)
+}
+
+/// The order of work of an image. The only fault is want of memory.
+fn order_of(
+    alloc: Global,
+    image: &Image,
+    threads: &(impl Threads + Sync),
+) -> Result<WorkOrder, Fault>
+    ensures chain { IfOk result (λ order. IsLongestChain image.now order.chain) }
+    ensures words { IfOk result (λ order. order.words ≡ new_top image.now) }
+    ensures fault { IfErr result (λ fault. fault ≡ Fault.Memory) }
+{
+    let survey = Survey::of(alloc, image, threads)?;
+    Ok(WorkOrder::of(alloc, survey.plan())?)
 }
 
 /// The line of an order of work.

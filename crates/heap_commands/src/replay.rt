@@ -1,12 +1,12 @@
 //! The command `replay`.
-ghost use Rattle.std.specs.Prelude.{◌≡◌, ℕ, List, IfOk, IfSome, codes};
+ghost use Rattle.std.specs.Prelude.{◌≡◌, ◌++◌, ℕ, List, IfOk, IfSome, codes};
 ghost use Rattle.history.specs.ScheduleText.{schedule_text};
-ghost use Rattle.heap_commands.specs.Replay.{IsReplayText, IsReplayOf, end_line};
+ghost use Rattle.heap_commands.specs.Replay.{IsReplayShown, IsReplayText, IsReplayOf, end_line};
 
 use command_line::Replay;
-use command_support::{Done, FileWord, LineReason, Role, Trouble, two_different_inputs};
-use heap_image::{Fault, FromRead, Intake, read_image_by_threads};
-use history::{End, Schedule, explain, read_schedule, replay, write_schedule};
+use command_support::{FileWord, LineReason, Role, Trouble, WorkDone, two_different_inputs};
+use heap_image::{Fault, FromRead, Image, Intake, read_image_by_threads};
+use history::{End, Replayed, Schedule, explain, read_schedule, replay, write_schedule};
 use std::alloc::{AllocError, Global};
 use std::io::{ErrorKind, Read};
 use std::rt::Files;
@@ -17,7 +17,7 @@ use summary::{Plan, Survey};
 pub fn answer<'a, R: Files + AllocGlobal + Threads + Sync>(
     rt: &R,
     asked: Replay<'a>,
-) -> Result<Done<'a>, Trouble<'a>>
+) -> Result<WorkDone<'a>, Trouble<'a>>
     ensures { IfOk result (λ done. IsReplayText done.text.items) }
 {
     let image = FileWord::new(Role::Image, asked.image);
@@ -29,7 +29,7 @@ pub fn answer<'a, R: Files + AllocGlobal + Threads + Sync>(
         &mut schedule,
         rt,
     ) {
-        Ok(text) => Ok(Done::printing(text)),
+        Ok(text) => Ok(WorkDone::printing(text)),
         Err(Unreplayed { fault, line }) => Err(
             Trouble::from(fault)
                 .if_image(&image)
@@ -71,11 +71,30 @@ pub fn replay_text<R: Intake, S: Read, T: Threads + Sync>(
 {
     let image = read_image_by_threads(alloc, input, threads)?;
     let asked = schedule_in(alloc, schedule)?;
-    let survey = Survey::of(alloc, &image, threads)?;
-    let replayed = match replay(alloc, &image, &survey, &asked) {
-        Ok(replayed) => replayed,
-        Err(fault) => return Err(refused(alloc, survey.plan(), &asked, fault)),
-    };
+    text_on(alloc, &image, &asked, threads)
+}
+
+/// The replay of a schedule on an image, as text.
+fn text_on(
+    alloc: Global,
+    image: &Image,
+    asked: &Schedule,
+    threads: &(impl Threads + Sync),
+) -> Result<Vec<u8>, Unreplayed>
+    ensures { IfOk result (λ shown. IsReplayShown image.now asked.now shown.items) }
+{
+    let survey = Survey::of(alloc, image, threads)?;
+    match replay(alloc, image, &survey, asked) {
+        Ok(replayed) => Ok(text_of(alloc, &replayed)?),
+        Err(fault) => Err(refused(alloc, survey.plan(), asked, fault)),
+    }
+}
+
+/// The lines of a replay, and how it ended.
+fn text_of(alloc: Global, replayed: &Replayed) -> Result<Vec<u8>, AllocError>
+    ensures { IfOk result (λ text. text.items
+        ≡ schedule_text replayed.now.lines ++ end_line replayed.now.ended) }
+{
     let mut text = write_schedule(alloc, &replayed.lines)?;
     text.extend_from_slice(end_line(&replayed.ended).as_bytes())?;
     Ok(text)

@@ -4,7 +4,7 @@ ghost use Rattle.heap_image.specs.Refusals.{IsReason};
 ghost use Rattle.heap_commands.specs.Summarize.{IsSummary, IsSummaryOf, summary_of};
 
 use command_line::Summary;
-use command_support::{Done, FileWord, Role, Trouble, Watched};
+use command_support::{FileWord, Role, Trouble, Watched, WorkDone};
 use heap_image::{Fault, FromRead, Image, Intake, read_image_by_threads};
 use std::alloc::{AllocError, Global};
 use std::rt::Files;
@@ -15,13 +15,13 @@ use summary::{Plan, Survey};
 pub fn answer<'a, R: Files + AllocGlobal + Threads + Sync>(
     rt: &R,
     asked: Summary<'a>,
-) -> Result<Done<'a>, Trouble<'a>>
+) -> Result<WorkDone<'a>, Trouble<'a>>
     ensures { IfOk result (λ done. IsSummary done.text.items) }
 {
     let image = Watched::open(rt, FileWord::new(Role::Image, asked.image))?;
     let mut image = FromRead::new(image);
     match summarize(rt.alloc(), &mut image, rt) {
-        Ok(text) => Ok(Done::printing(text.into_bytes())),
+        Ok(text) => Ok(WorkDone::printing(text.into_bytes())),
         Err(fault) => Err(Trouble::from(fault).if_image(&image.into_inner())),
     }
 }

@@ -4,7 +4,7 @@ ghost use Rattle.heap_image.specs.Refusals.{IsReason};
 ghost use Rattle.heap_commands.specs.Text.{AreLines, AreLinesOf};
 
 use command_line::Text;
-use command_support::{Done, FileWord, Role, Trouble, Watched};
+use command_support::{FileWord, Role, Trouble, Watched, WorkDone};
 use heap_image::{Fault, FromRead, Intake, read_image_by_threads};
 use heap_text::write_text;
 use std::alloc::Global;
@@ -15,13 +15,13 @@ use std::thread::Threads;
 pub fn answer<'a, R: Files + AllocGlobal + Threads + Sync>(
     rt: &R,
     asked: Text<'a>,
-) -> Result<Done<'a>, Trouble<'a>>
+) -> Result<WorkDone<'a>, Trouble<'a>>
     ensures { IfOk result (λ done. AreLines done.text.items) }
 {
     let image = Watched::open(rt, FileWord::new(Role::Image, asked.image))?;
     let mut image = FromRead::new(image);
     match lines_of(rt.alloc(), &mut image, rt) {
-        Ok(lines) => Ok(Done::printing(lines)),
+        Ok(lines) => Ok(WorkDone::printing(lines)),
         Err(fault) => Err(Trouble::from(fault).if_image(&image.into_inner())),
     }
 }

@@ -2,6 +2,7 @@
 ghost use Rattle.std.specs.Prelude.{◌≡◌, ◌≢◌, ◌⊎◌, codes, ℕ, List, IfOk, IfErr, OnErr, IsTrue, string_bytes};
 ghost use Rattle.heap_image.specs.declared.fault.Fault.{Fault};
 ghost use Rattle.schedule_timeline.specs.Figures.{BeginsWithFigures, IsFiguresLine};
+ghost use Rattle.schedule_timeline.specs.Timeline.{IsTimelineOf};
 ghost use Rattle.heap_commands.specs.Timeline.{HasFigures, HasLanes, IsFollowed, IsTimeline};
 
 use crate::map::style_on;
@@ -9,11 +10,14 @@ use crate::replay::{Unreplayed, refused, schedule_in};
 use crate::screen::Screen;
 use command_line::Timeline;
 use command_support::{
-    Done, Failure, FileWord, Late, Role, Target, Trouble, Watched, apart_from, ended, must_differ,
-    two_different_inputs,
+    Failure, FileTarget, FileWord, Late, Role, Trouble, Watched, WorkDone, apart_from, ended,
+    must_differ, two_different_inputs,
 };
-use heap_image::{Fault, FromRead, Intake, Outlet, ToWrite, give_all, read_image_by_threads};
+use heap_image::{
+    Fault, FromRead, Image, Intake, Outlet, ToWrite, give_all, read_image_by_threads,
+};
 use heap_map::Style;
+use history::Schedule;
 use std::alloc::{AllocError, Global};
 use std::io::Read;
 use std::rt::Files;
@@ -26,7 +30,7 @@ pub fn answer<'a, R: Files + AllocGlobal + Threads + Sync>(
     rt: &R,
     screen: Screen,
     asked: Timeline<'a>,
-) -> Result<Done<'a>, Trouble<'a>>
+) -> Result<WorkDone<'a>, Trouble<'a>>
     ensures { IfOk result (λ done. IsTimeline done.text.items) }
 {
     let inputs = Inputs {
@@ -90,7 +94,7 @@ fn printed<'a, R: Files + AllocGlobal + Threads + Sync>(
     rt: &R,
     inputs: Inputs<'a>,
     lanes: Lanes,
-) -> Result<Done<'a>, Trouble<'a>>
+) -> Result<WorkDone<'a>, Trouble<'a>>
     ensures { IfOk result (λ done. IsTimeline done.text.items) }
 {
     let Opened {
@@ -98,7 +102,7 @@ fn printed<'a, R: Files + AllocGlobal + Threads + Sync>(
         mut schedule,
     } = open(rt, inputs)?;
     match lanes_text(rt, &mut FromRead::new(&mut image), &mut schedule, lanes) {
-        Ok(text) => Ok(Done::printing(text.into_bytes())),
+        Ok(text) => Ok(WorkDone::printing(text.into_bytes())),
         Err(unreplayed) => Err(trouble_of(unreplayed, &image, &schedule)),
     }
 }
@@ -110,11 +114,23 @@ fn written<'a, R: Files + AllocGlobal + Threads + Sync>(
     form: Form,
     file: FileWord<'a>,
     atomic: bool,
-) -> Result<Done<'a>, Trouble<'a>>
+) -> Result<WorkDone<'a>, Trouble<'a>>
     ensures { IfOk result (λ done. IsTimeline done.text.items) }
 {
-    let mut opened = open(rt, inputs)?;
+    let opened = open(rt, inputs)?;
     let found = found_beside(rt, &opened, file, atomic)?;
+    written_to(rt, opened, form, found)
+}
+
+/// Writes a drawing or a page of the schedule in a file into the file that was found for it, and prints the figures.
+fn written_to<'a, R: Files + AllocGlobal + Threads + Sync>(
+    rt: &R,
+    opened: Opened<'a, R::File>,
+    form: Form,
+    found: FileTarget<'a, R::File>,
+) -> Result<WorkDone<'a>, Trouble<'a>>
+    ensures { IfOk result (λ done. IsTimeline done.text.items) }
+{
     let Opened {
         mut image,
         mut schedule,
@@ -149,14 +165,23 @@ fn found_beside<'a, H: Files + AllocGlobal>(
     opened: &Opened<'a, H::File>,
     file: FileWord<'a>,
     atomic: bool,
-) -> Result<Target<'a, H::File>, Trouble<'a>> {
+) -> Result<FileTarget<'a, H::File>, Trouble<'a>> {
+    must_be_another(host.alloc(), opened, file)?;
     let Opened { image, schedule } = opened;
-    must_differ(host.alloc(), image.word(), file)?;
-    must_differ(host.alloc(), schedule.word(), file)?;
     let (image_id, schedule_id) = (image.id()?, schedule.id()?);
-    let found = Target::find(host, file, atomic)?;
+    let found = FileTarget::find(host, file, atomic)?;
     let found = apart_from(host, found, image.word(), image_id)?;
     apart_from(host, found, schedule.word(), schedule_id)
+}
+
+/// The file to write must have another name than those that are read.
+fn must_be_another<'a, F: Drop>(
+    alloc: Global,
+    opened: &Opened<'a, F>,
+    file: FileWord<'a>,
+) -> Result<(), Trouble<'a>> {
+    must_differ(alloc, opened.image.word(), file)?;
+    must_differ(alloc, opened.schedule.word(), file)
 }
 
 /// Why the command fails that met this fault.
@@ -201,9 +226,7 @@ pub fn write_into<R: Intake, S: Read, O: Outlet, T: AllocGlobal + Threads + Sync
     ensures nothing_yet { IfErr result (λ unreplayed. unreplayed.fault ≢ Fault.Io → output.new ≡ output.old) }
     ensures written { OnErr result ((output.new ≡ output.old) ⊎ IsTrue (O.has_failed output.new)) }
 {
-    let followed = follow(rt, input, schedule)?;
-    let line = followed.timeline.line(rt.alloc())?;
-    let bytes = bytes_of(rt.alloc(), &followed, form)?;
+    let Picture { line, bytes } = make_picture(rt, input, schedule, form)?;
     match give_all(output, &bytes) {
         Ok(()) => Ok(line),
         Err(failed) => Err(Unreplayed {
@@ -211,6 +234,36 @@ pub fn write_into<R: Intake, S: Read, O: Outlet, T: AllocGlobal + Threads + Sync
             line: None,
         }),
     }
+}
+
+/// A drawing or a page, and the line with its figures.
+#[derive(Drop)]
+struct Picture {
+    line: String,
+    bytes: Vec<u8>,
+}
+
+/// The picture of the schedule that one input is, on the image that the other is.
+fn make_picture<R: Intake, S: Read, T: AllocGlobal + Threads + Sync>(
+    rt: &T,
+    input: &mut R,
+    schedule: &mut S,
+    form: Form,
+) -> Result<Picture, Unreplayed>
+    ensures { IfOk result (λ picture. HasFigures (R.left input.old) (R.left input.new)
+        (S.remaining schedule.old) (string_bytes picture.line)) }
+{
+    let followed = follow(rt, input, schedule)?;
+    Ok(picture_of(rt.alloc(), &followed, form)?)
+}
+
+/// The picture of a schedule on its image.
+fn picture_of(alloc: Global, followed: &Followed, form: Form) -> Result<Picture, AllocError>
+    ensures { IfOk result (λ picture. IsFiguresLine followed.now.timeline (string_bytes picture.line)) }
+{
+    let line = followed.timeline.line(alloc)?;
+    let bytes = bytes_of(alloc, followed, form)?;
+    Ok(Picture { line, bytes })
 }
 
 /// A drawing or a page of a schedule.
@@ -242,9 +295,21 @@ fn follow<R: Intake, S: Read, T: AllocGlobal + Threads + Sync>(
     let alloc = rt.alloc();
     let image = read_image_by_threads(alloc, input, rt)?;
     let asked = schedule_in(alloc, schedule)?;
-    let survey = Survey::of(alloc, &image, rt)?;
-    match schedule_timeline::Timeline::of(alloc, &image, &survey, &asked) {
+    follow_on(alloc, &image, &asked, rt)
+}
+
+/// Follows a schedule on an image.
+fn follow_on(
+    alloc: Global,
+    image: &Image,
+    asked: &Schedule,
+    threads: &(impl Threads + Sync),
+) -> Result<Followed, Unreplayed>
+    ensures { IfOk result (λ followed. IsTimelineOf image.now asked.now followed.timeline) }
+{
+    let survey = Survey::of(alloc, image, threads)?;
+    match schedule_timeline::Timeline::of(alloc, image, &survey, asked) {
         Ok(timeline) => Ok(Followed { survey, timeline }),
-        Err(fault) => Err(refused(alloc, survey.plan(), &asked, fault)),
+        Err(fault) => Err(refused(alloc, survey.plan(), asked, fault)),
     }
 }

@@ -1,8 +1,8 @@
 //! `Classes`: the classes of a dump, and the fields of their instances.
 ghost use Rattle.std.specs.Prelude.{◌≢◌};
 
+use crate::contents::Contents;
 use crate::error::ImportError;
-use crate::extent::Extent;
 use crate::field_type::{FieldType, IdSize};
 use indexmap::IndexMap;
 use std::alloc::{AllocError, Global};
@@ -14,8 +14,8 @@ enum Above {
     Unknown,
     /// A class on the way up is not in the dump, or comes twice.
     Broken,
-    /// The extent of all these fields, and the next class above that has fields.
-    Known { all: Extent, next: Option<u32> },
+    /// The contents of all these fields, and the next class above that has fields.
+    Known { all: Contents, next: Option<u32> },
 }
 
 /// A class.
@@ -26,7 +26,7 @@ pub(crate) struct Class {
     /// The number of the class above it.
     parent: Option<u32>,
     /// Its references to other objects and its static fields.
-    own: Extent,
+    own: Contents,
     /// The fields that it adds to instances, in the order of the dump.
     fields: Vec<FieldType>,
     above: Above,
@@ -34,7 +34,7 @@ pub(crate) struct Class {
 
 impl Class {
     /// A class as its record tells it.
-    pub(crate) fn told(parent: Option<u32>, own: Extent, fields: Vec<FieldType>) -> Class {
+    pub(crate) fn told(parent: Option<u32>, own: Contents, fields: Vec<FieldType>) -> Class {
         Class {
             is_told: true,
             parent,
@@ -49,7 +49,7 @@ impl Class {
         Class {
             is_told: false,
             parent: None,
-            own: Extent::EMPTY,
+            own: Contents::EMPTY,
             fields: Vec::new(alloc),
             above: Above::Unknown,
         }
@@ -68,13 +68,13 @@ impl Class {
         }
     }
 
-    /// The extent of its own fields.
-    fn extent(&self) -> Extent {
-        let mut extent = Extent::EMPTY;
+    /// The contents of its own fields.
+    fn contents(&self) -> Contents {
+        let mut contents = Contents::EMPTY;
         for field in self.fields.as_slice() {
-            extent = extent.with(*field);
+            contents = contents.with(*field);
         }
-        extent
+        contents
     }
 }
 
@@ -138,7 +138,7 @@ impl Classes {
     }
 
     /// The references and static fields of the class with this id.
-    pub(crate) fn own_extent(&self, id: u64) -> Option<Extent> {
+    pub(crate) fn own_contents(&self, id: u64) -> Option<Contents> {
         let class = self.table.get(&id)?;
         Some(class.own)
     }
@@ -148,8 +148,8 @@ impl Classes {
         u32::try_from(self.table.get_index_of(&id)?).ok()
     }
 
-    /// The extent of an instance of this class, if the dump has the class and all those above it.
-    pub(crate) fn instance_extent(&self, number: u32) -> Option<Extent> {
+    /// The contents of an instance of this class, if the dump has the class and all those above it.
+    pub(crate) fn instance_contents(&self, number: u32) -> Option<Contents> {
         match self.get(number)?.above {
             Above::Known { all, .. } => Some(all),
             _ => None,
@@ -157,16 +157,16 @@ impl Classes {
     }
 
     /// The same, if the fields have so many bytes in the dump.
-    pub(crate) fn fitting_extent(&self, number: u32, bytes: u32) -> Option<Extent> {
-        let extent = self.instance_extent(number)?;
-        if extent.bytes(self.ids) == u64::from(bytes) {
-            Some(extent)
+    pub(crate) fn fitting_contents(&self, number: u32, bytes: u32) -> Option<Contents> {
+        let contents = self.instance_contents(number)?;
+        if contents.bytes(self.ids) == u64::from(bytes) {
+            Some(contents)
         } else {
             None
         }
     }
 
-    /// Finds the extent of the instances of each class.
+    /// Finds the contents of the instances of each class.
     pub(crate) fn settle(&mut self) -> Result<(), AllocError> {
         let mut path = Vec::new(self.alloc);
         for number in 0..self.table.len() {
@@ -213,7 +213,7 @@ impl Classes {
         if !class.is_told {
             return Above::Broken;
         }
-        let own = class.extent();
+        let own = class.contents();
         let Some(number) = class.parent else {
             return Above::Known {
                 all: own,

@@ -5,7 +5,7 @@ ghost use Rattle.heap_dump.specs.Figures.{AreFiguresOf};
 
 use crate::error::ImportError;
 use crate::figures::Figures;
-use crate::heap::Heap;
+use crate::heap::UnsealedHeap;
 use crate::limits::words_within_limits;
 use crate::roots::roots_to;
 use heap_image::{Fault, Image, mark_from_roots, marked_parts_are_valid};
@@ -14,7 +14,7 @@ use std::alloc::Global;
 /// The heap of an image, with its headers.
 #[derive(Drop)]
 pub(crate) struct Draft {
-    pub(crate) heap: Heap,
+    pub(crate) heap: UnsealedHeap,
     /// The addresses to which roots lead.
     pub(crate) roots: Vec<u64>,
     /// How many objects the heap has.

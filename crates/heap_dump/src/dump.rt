@@ -3,8 +3,8 @@ ghost use Rattle.std.specs.Prelude.{◌≡◌, None, true, OnOk, IsTrue, ◌≢�
 ghost use Rattle.std.specs.Io.KnownBytes.{IsAtEnd};
 
 use crate::class_head::ClassHead;
+use crate::contents::Contents;
 use crate::error::{ImportError, Problem};
-use crate::extent::Extent;
 use crate::field_type::{FieldType, IdSize};
 use crate::record::{Instance, Record};
 use crate::record_visitor::RecordVisitor;
@@ -209,8 +209,8 @@ impl Dump {
         self.window.skip(source, 4)?;
         let count = self.window.u32(source)?;
         self.id(source)?;
-        let extent = Extent::of_references(count);
-        Ok(Record::Array { id, extent })
+        let contents = Contents::of_references(count);
+        Ok(Record::Array { id, contents })
     }
 
     fn primitives<R: Intake>(&mut self, source: &mut R) -> Result<Record, ImportError>
@@ -223,8 +223,8 @@ impl Dump {
         if element.data_bytes() == 0 {
             return Err(self.problem(Problem::NotPrimitive));
         }
-        let extent = Extent::of_data(count, element);
-        Ok(Record::Array { id, extent })
+        let contents = Contents::of_data(count, element);
+        Ok(Record::Array { id, contents })
     }
 
     /// Reads a root with this tag.

@@ -1,5 +1,5 @@
 //! `Forwarding`: where the survivors of a heap go.
-use crate::heap::{Heap, header, references, size};
+use crate::heap::{UnsealedHeap, header, references, size};
 use std::alloc::{AllocError, Global};
 
 /// Where the survivors of a heap go when they stand without gaps.
@@ -17,7 +17,7 @@ impl Forwarding {
     /// Where the survivors at these addresses, which ascend, go.
     pub(crate) fn of(
         alloc: Global,
-        heap: &Heap,
+        heap: &UnsealedHeap,
         survivors: &[u64],
     ) -> Result<Forwarding, AllocError> {
         let rows = (heap.len() / 64 + 1) as usize;
@@ -77,7 +77,7 @@ impl Forwarding {
     }
 
     /// Copies the object at `from` to `to`.
-    pub(crate) fn copy(&self, old: &Heap, new: &mut Heap, from: u64, to: u64) {
+    pub(crate) fn copy(&self, old: &UnsealedHeap, new: &mut UnsealedHeap, from: u64, to: u64) {
         let first = old.word(from);
         new.put(to, header(first));
         for index in 1..size(first) {

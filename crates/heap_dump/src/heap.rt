@@ -1,4 +1,4 @@
-//! `Heap`: the words of an image while it is made.
+//! `UnsealedHeap`: the words of an image while it is made.
 ghost use Rattle.std.specs.Prelude.{◌<◌, ◌≤◌, ◌^◌};
 ghost use Rattle.heap_image.specs.HeapImage.{AreBlocks};
 
@@ -7,10 +7,10 @@ use std::alloc::{AllocError, Global};
 
 /// The words of a heap, in regions of `2 ^ region_log` words.
 ///
-/// Until [`seal`](Heap::seal), the first word of an object has its size in bits 0 to 31 and its number of references in
+/// Until [`seal`](UnsealedHeap::seal), the first word of an object has its size in bits 0 to 31 and its number of references in
 /// bits 32 to 63, and the first word of one that was not filled in has its size alone.
 #[derive(Drop)]
-pub(crate) struct Heap {
+pub(crate) struct UnsealedHeap {
     region_log: u32,
     regions: Vec<Region>,
     ghost low: { 3 ≤ region_log },
@@ -18,9 +18,13 @@ pub(crate) struct Heap {
     ghost whole: { AreBlocks region_log regions.items },
 }
 
-impl Heap {
+impl UnsealedHeap {
     /// A heap of at least so many words and at least one region, all of them 0.
-    pub(crate) fn new(alloc: Global, region_log: u32, words: u64) -> Result<Heap, AllocError>
+    pub(crate) fn new(
+        alloc: Global,
+        region_log: u32,
+        words: u64,
+    ) -> Result<UnsealedHeap, AllocError>
         requires low { 3 ≤ region_log }
         requires high { region_log ≤ 16 }
     {
@@ -29,7 +33,7 @@ impl Heap {
         for _r in 0..count {
             regions.push(Region::new(alloc, 1 << region_log)?)?;
         }
-        Ok(Heap {
+        Ok(UnsealedHeap {
             region_log,
             regions,
         })
@@ -71,7 +75,7 @@ impl Heap {
         ensures high { result.0 ≤ 16 }
         ensures whole { AreBlocks result.0 result.1.items }
     {
-        let Heap {
+        let UnsealedHeap {
             region_log,
             regions,
         } = self;

@@ -4,11 +4,11 @@ ghost use Rattle.std.specs.Io.KnownBytes.{IsAtEnd};
 
 use crate::arrangement::Arrangement;
 use crate::classes::{Class, Classes};
+use crate::contents::Contents;
 use crate::dump::Dump;
 use crate::error::ImportError;
-use crate::extent::Extent;
 use crate::field_type::FieldType;
-use crate::heap::Heap;
+use crate::heap::UnsealedHeap;
 use crate::objects::{Object, Objects};
 use crate::record::{Instance, Record};
 use crate::record_visitor::RecordVisitor;
@@ -38,10 +38,18 @@ impl Inventory {
             roots: Vec::new(alloc),
             alloc,
         };
-        dump.visit_records(source, &mut inventory)?;
-        inventory.classes.settle()?;
-        inventory.objects.sort()?;
+        inventory.read(&mut dump, source)?;
         Ok(inventory)
+    }
+
+    /// Notes what the records of a dump tell, up to its end.
+    fn read<R: Intake>(&mut self, dump: &mut Dump, source: &mut R) -> Result<(), ImportError>
+        ensures end { OnOk result (IsAtEnd (R.left source.new)) }
+        ensures input { result ≡ Err ImportError.Input → IsTrue (R.has_failed source.new) }
+    {
+        dump.visit_records(source, self)?;
+        self.classes.settle()?;
+        self.objects.sort()
     }
 
     /// Lays the objects out and answers how far they reach.
@@ -55,12 +63,12 @@ impl Inventory {
         alloc: Global,
         region_log: u32,
         keeps_gaps: bool,
-    ) -> Result<(Heap, Arrangement), AllocError>
+    ) -> Result<(UnsealedHeap, Arrangement), AllocError>
         requires low { 3 ≤ region_log }
         requires high { region_log ≤ 16 }
     {
         let arrangement = self.measure(keeps_gaps);
-        let mut heap = Heap::new(alloc, region_log, arrangement.words())?;
+        let mut heap = UnsealedHeap::new(alloc, region_log, arrangement.words())?;
         self.objects.place(&self.classes, keeps_gaps, &mut heap);
         Ok((heap, arrangement))
     }
@@ -97,7 +105,7 @@ impl Inventory {
     {
         let head = dump.class_head(source)?;
         let parent = self.classes.parent_number(head.parent)?;
-        let own = statics_extent(dump, source)?;
+        let own = contents_of_statics(dump, source)?;
         self.objects.note(dump, id, Object::Sized(own.words()))?;
         let fields = read_fields(self.alloc, dump, source)?;
         self.classes.tell(id, Class::told(parent, own, fields))
@@ -119,18 +127,19 @@ impl Inventory {
         dump.skip(source, u64::from(bytes))
     }
 
-    /// Notes an array of this extent, and goes on behind it.
+    /// Notes an array of these contents, and goes on behind it.
     fn note_array<R: Intake>(
         &mut self,
         dump: &mut Dump,
         source: &mut R,
         id: u64,
-        extent: Extent,
+        contents: Contents,
     ) -> Result<(), ImportError>
         ensures input { result ≡ Err ImportError.Input → IsTrue (R.has_failed source.new) }
     {
-        self.objects.note(dump, id, Object::Sized(extent.words()))?;
-        dump.skip(source, extent.bytes(dump.ids()))
+        self.objects
+            .note(dump, id, Object::Sized(contents.words()))?;
+        dump.skip(source, contents.bytes(dump.ids()))
     }
 }
 
@@ -145,26 +154,26 @@ impl RecordVisitor for Inventory {
             Record::Root { id } => Ok(self.note_root(id)?),
             Record::Class { id } => self.note_class(dump, source, id),
             Record::Instance(instance) => self.note_instance(dump, source, instance),
-            Record::Array { id, extent } => self.note_array(dump, source, id, extent),
+            Record::Array { id, contents } => self.note_array(dump, source, id, contents),
         }
     }
 }
 
-/// The extent of a class, whose static fields come next. It refers to its super class, loader, signers and domain too.
-fn statics_extent<R: Intake>(dump: &mut Dump, source: &mut R) -> Result<Extent, ImportError>
+/// The contents of a class, whose static fields come next. It refers to its super class, loader, signers and domain too.
+fn contents_of_statics<R: Intake>(dump: &mut Dump, source: &mut R) -> Result<Contents, ImportError>
     ensures input { result ≡ Err ImportError.Input → IsTrue (R.has_failed source.new) }
 {
-    let mut extent = Extent {
+    let mut contents = Contents {
         references: 4,
         data_bytes: 0,
     };
     let count = dump.u16(source)?;
     for _ in 0..count {
         let field = dump.field(source)?;
-        extent = extent.with(field);
+        contents = contents.with(field);
         dump.skip_value(source, field)?;
     }
-    Ok(extent)
+    Ok(contents)
 }
 
 /// Reads the fields that a class adds to instances.

@@ -11,10 +11,10 @@
 mod arrangement;
 mod class_head;
 mod classes;
+mod contents;
 mod draft;
 mod dump;
 mod error;
-mod extent;
 mod field_type;
 mod figures;
 mod forwarding;

@@ -5,7 +5,7 @@ use crate::arrangement::Arrangement;
 use crate::classes::Classes;
 use crate::dump::Dump;
 use crate::error::{ImportError, Problem};
-use crate::heap::{Heap, first_word, header, size};
+use crate::heap::{UnsealedHeap, first_word, header, size};
 use indexmap::IndexMap;
 use std::alloc::Global;
 
@@ -69,7 +69,7 @@ impl Objects {
     }
 
     /// Gives each object its place, and notes its size there.
-    pub(crate) fn place(&mut self, classes: &Classes, keeps_gaps: bool, heap: &mut Heap) {
+    pub(crate) fn place(&mut self, classes: &Classes, keeps_gaps: bool, heap: &mut UnsealedHeap) {
         let mut arrangement = Arrangement::new(keeps_gaps);
         for index in 0..self.table.len() {
             let Some((id, object)) = self.table.get_index(index) else {
@@ -106,7 +106,7 @@ impl Objects {
     }
 
     /// Makes the first word of each object a header.
-    pub(crate) fn seal(&self, heap: &mut Heap) {
+    pub(crate) fn seal(&self, heap: &mut UnsealedHeap) {
         for object in self.table.values() {
             if let Object::Placed(address) = object {
                 let first = heap.word(*address);
@@ -120,8 +120,8 @@ impl Objects {
 /// again.
 fn words_of(classes: &Classes, object: Object) -> u64 {
     match object {
-        Object::Instance { class, bytes } => match classes.fitting_extent(class, bytes) {
-            Some(extent) => extent.words(),
+        Object::Instance { class, bytes } => match classes.fitting_contents(class, bytes) {
+            Some(contents) => contents.words(),
             None => 1,
         },
         Object::Sized(words) => words,

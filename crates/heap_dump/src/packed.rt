@@ -3,7 +3,7 @@ ghost use Rattle.std.specs.Prelude.{OnOk, ◌≡◌, IsTrue};
 ghost use Rattle.std.specs.Io.KnownBytes.{IsAtEnd};
 
 use crate::error::ImportError;
-use crate::heap::Heap;
+use crate::heap::UnsealedHeap;
 use crate::inventory::Inventory;
 use crate::survivors::Survivors;
 use crate::transcribed::Transcribed;
@@ -14,7 +14,7 @@ use std::alloc::Global;
 /// A heap with all objects of a dump, of any size and without gaps, and its survivors.
 #[derive(Drop)]
 pub(crate) struct Packed {
-    pub(crate) heap: Heap,
+    pub(crate) heap: UnsealedHeap,
     pub(crate) survivors: Survivors,
     /// The addresses to which roots lead.
     pub(crate) roots: Vec<u64>,

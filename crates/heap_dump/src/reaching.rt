@@ -1,5 +1,5 @@
 //! `Reaching`: which objects of a heap were reached from roots so far.
-use crate::heap::{Heap, references};
+use crate::heap::{UnsealedHeap, references};
 use std::alloc::{AllocError, Global};
 
 /// Which addresses were reached, and those of which the references are still to be followed.
@@ -14,7 +14,7 @@ impl Reaching {
     /// What is reached from objects at these addresses.
     pub(crate) fn from_roots(
         alloc: Global,
-        heap: &Heap,
+        heap: &UnsealedHeap,
         roots: &[u64],
     ) -> Result<Reaching, AllocError> {
         let mut reaching = Reaching {
@@ -29,7 +29,7 @@ impl Reaching {
     }
 
     /// Follows all references that are still to be followed.
-    fn follow_all(&mut self, heap: &Heap) -> Result<(), AllocError> {
+    fn follow_all(&mut self, heap: &UnsealedHeap) -> Result<(), AllocError> {
         // Each address waits at most once.
         for _ in 0..heap.len() {
             let Some(address) = self.waiting.pop() else {
@@ -53,7 +53,7 @@ impl Reaching {
     }
 
     /// Follows the references of the object at an address.
-    fn follow(&mut self, heap: &Heap, address: u64) -> Result<(), AllocError> {
+    fn follow(&mut self, heap: &UnsealedHeap, address: u64) -> Result<(), AllocError> {
         let first = address.saturating_add(1);
         for slot in first..first.saturating_add(references(heap.word(address))) {
             let reference = heap.word(slot);

@@ -1,5 +1,5 @@
 //! `Record`: a record of the heap, as a dump tells it.
-use crate::extent::Extent;
+use crate::contents::Contents;
 
 /// A record of the heap. Of those with a body, the head was read and the body follows.
 #[derive(Clone, Copy)]
@@ -11,7 +11,7 @@ pub(crate) enum Record {
     /// An instance of a class.
     Instance(Instance),
     /// An array, of references or of primitive values.
-    Array { id: u64, extent: Extent },
+    Array { id: u64, contents: Contents },
 }
 
 /// The head of an instance.

@@ -1,7 +1,7 @@
 //! `Slots`: the words of one object, while they are filled in.
 ghost use Rattle.std.specs.Prelude.{◌<◌};
 
-use crate::heap::Heap;
+use crate::heap::UnsealedHeap;
 use byteorder::{ByteOrder, LittleEndian};
 
 /// Where the next reference and the next primitive data of an object go.
@@ -40,7 +40,7 @@ impl Slots {
     }
 
     /// Puts the next reference, and answers whether there was room.
-    pub(crate) fn put_reference(&mut self, heap: &mut Heap, reference: u64) -> bool {
+    pub(crate) fn put_reference(&mut self, heap: &mut UnsealedHeap, reference: u64) -> bool {
         if self.reference >= self.references_end {
             return false;
         }
@@ -50,7 +50,7 @@ impl Slots {
     }
 
     /// Puts the next bytes of data, and answers whether there was room.
-    pub(crate) fn put_data(&mut self, heap: &mut Heap, bytes: &[u8]) -> bool {
+    pub(crate) fn put_data(&mut self, heap: &mut UnsealedHeap, bytes: &[u8]) -> bool {
         let mut rest = bytes;
         while let Some((first, more)) = rest.split_first() {
             if self.held_count == 0 && rest.len() >= 8 {
@@ -69,7 +69,7 @@ impl Slots {
         true
     }
 
-    fn put_byte(&mut self, heap: &mut Heap, byte: u8) -> bool {
+    fn put_byte(&mut self, heap: &mut UnsealedHeap, byte: u8) -> bool {
         self.held[self.held_count] = byte;
         if self.held_count < 7 {
             self.held_count += 1;
@@ -79,14 +79,14 @@ impl Slots {
     }
 
     /// Puts the word of which bytes are held.
-    fn put_held(&mut self, heap: &mut Heap) -> bool {
+    fn put_held(&mut self, heap: &mut UnsealedHeap) -> bool {
         let word = LittleEndian::read_u64(&self.held);
         self.held = [0; 8];
         self.held_count = 0;
         self.put_word(heap, word)
     }
 
-    fn put_word(&mut self, heap: &mut Heap, word: u64) -> bool {
+    fn put_word(&mut self, heap: &mut UnsealedHeap, word: u64) -> bool {
         if self.data >= self.end {
             return false;
         }
@@ -96,7 +96,7 @@ impl Slots {
     }
 
     /// Puts what is still held, and answers whether the object is full.
-    pub(crate) fn close(mut self, heap: &mut Heap) -> bool {
+    pub(crate) fn close(mut self, heap: &mut UnsealedHeap) -> bool {
         if self.held_count > 0 && !self.put_held(heap) {
             return false;
         }

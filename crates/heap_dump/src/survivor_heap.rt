@@ -1,6 +1,6 @@
 //! `SurvivorHeap`: the survivors of a heap, moved together.
 use crate::forwarding::Forwarding;
-use crate::heap::Heap;
+use crate::heap::UnsealedHeap;
 use crate::options::Regions;
 use crate::survivors::Survivors;
 use std::alloc::{AllocError, Global};
@@ -8,7 +8,7 @@ use std::alloc::{AllocError, Global};
 /// The survivors of a heap alone.
 #[derive(Drop)]
 pub(crate) struct SurvivorHeap {
-    pub(crate) heap: Heap,
+    pub(crate) heap: UnsealedHeap,
     /// The new addresses of what roots lead to.
     pub(crate) roots: Vec<u64>,
 }
@@ -18,13 +18,13 @@ impl SurvivorHeap {
     /// addresses.
     pub(crate) fn of(
         alloc: Global,
-        old: &Heap,
+        old: &UnsealedHeap,
         survivors: &Survivors,
         regions: Regions,
         roots: &[u64],
     ) -> Result<SurvivorHeap, AllocError> {
         let forwarding = Forwarding::of(alloc, old, survivors.addresses.as_slice())?;
-        let mut heap = Heap::new(alloc, regions.log, survivors.words)?;
+        let mut heap = UnsealedHeap::new(alloc, regions.log, survivors.words)?;
         for (from, to) in survivors.addresses.iter().zip(forwarding.addresses()) {
             forwarding.copy(old, &mut heap, *from, *to);
         }

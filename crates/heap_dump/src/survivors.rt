@@ -1,5 +1,5 @@
 //! `Survivors`: the objects of a heap that are reached from roots, for heaps that are larger than an image may be.
-use crate::heap::{Heap, size};
+use crate::heap::{UnsealedHeap, size};
 use crate::reaching::Reaching;
 use std::alloc::{AllocError, Global};
 
@@ -16,7 +16,7 @@ impl Survivors {
     /// What is reached from objects at these addresses, in a heap whose objects stand without gaps up to an address.
     pub(crate) fn of(
         alloc: Global,
-        heap: &Heap,
+        heap: &UnsealedHeap,
         end: u64,
         roots: &[u64],
     ) -> Result<Survivors, AllocError> {
@@ -27,7 +27,7 @@ impl Survivors {
     /// The objects that were reached, in the order of their addresses.
     fn reached(
         alloc: Global,
-        heap: &Heap,
+        heap: &UnsealedHeap,
         end: u64,
         reaching: &Reaching,
     ) -> Result<Survivors, AllocError> {

@@ -4,7 +4,7 @@ ghost use Rattle.std.specs.Io.KnownBytes.{IsAtEnd};
 
 use crate::arrangement::Arrangement;
 use crate::error::ImportError;
-use crate::heap::Heap;
+use crate::heap::UnsealedHeap;
 use crate::inventory::Inventory;
 use crate::transcription::Transcription;
 use heap_image::Intake;
@@ -13,7 +13,7 @@ use std::alloc::Global;
 /// A heap with all objects of a dump and their values.
 #[derive(Drop)]
 pub(crate) struct Transcribed {
-    pub(crate) heap: Heap,
+    pub(crate) heap: UnsealedHeap,
     /// Where the objects stand.
     pub(crate) arrangement: Arrangement,
     /// The addresses to which roots lead.

@@ -3,11 +3,11 @@ ghost use Rattle.std.specs.Prelude.{◌<◌, ◌≤◌, OnOk, ◌≡◌, IsTrue,
 ghost use Rattle.std.specs.Io.KnownBytes.{IsAtEnd};
 
 use crate::class_head::ClassHead;
+use crate::contents::Contents;
 use crate::dump::Dump;
 use crate::error::{ImportError, Problem};
-use crate::extent::Extent;
 use crate::field_type::FieldType;
-use crate::heap::{Heap, first_word};
+use crate::heap::{UnsealedHeap, first_word};
 use crate::inventory::Inventory;
 use crate::record::{Instance, Record};
 use crate::record_visitor::RecordVisitor;
@@ -18,7 +18,7 @@ use heap_image::Intake;
 #[derive(Drop)]
 pub(crate) struct Transcription<'a> {
     inventory: &'a Inventory,
-    heap: Heap,
+    heap: UnsealedHeap,
     /// The place behind the last object in the order of ids, where the next one often is.
     next: usize,
     /// How many objects are done.
@@ -32,9 +32,9 @@ impl Transcription<'_> {
     /// and how many references lead to no object of the dump.
     pub(crate) fn of<R: Intake>(
         inventory: &Inventory,
-        heap: Heap,
+        heap: UnsealedHeap,
         source: &mut R,
-    ) -> Result<(Heap, u64), ImportError>
+    ) -> Result<(UnsealedHeap, u64), ImportError>
         ensures end { OnOk result (IsAtEnd (R.left source.new)) }
         ensures input { result ≡ Err ImportError.Input → IsTrue (R.has_failed source.new) }
     {
@@ -51,7 +51,7 @@ impl Transcription<'_> {
     }
 
     /// The heap, once all objects are done.
-    fn finish(self, dump: &Dump) -> Result<(Heap, u64), ImportError>
+    fn finish(self, dump: &Dump) -> Result<(UnsealedHeap, u64), ImportError>
         ensures { result ≢ Err ImportError.Input }
     {
         let Transcription {
@@ -67,20 +67,20 @@ impl Transcription<'_> {
         Ok((heap, unresolved))
     }
 
-    /// Begins the object with this id, which has this extent.
-    fn begin(&mut self, dump: &Dump, id: u64, extent: Extent) -> Result<Slots, ImportError>
+    /// Begins the object with this id, which has these contents.
+    fn begin(&mut self, dump: &Dump, id: u64, contents: Contents) -> Result<Slots, ImportError>
         ensures { result ≢ Err ImportError.Input }
     {
         let Some((index, address)) = self.inventory.objects.find(id, self.next) else {
             return Err(dump.problem(Problem::Changed));
         };
         self.next = index.saturating_add(1);
-        if self.heap.word(address) != first_word(extent.words(), 0) {
+        if self.heap.word(address) != first_word(contents.words(), 0) {
             return Err(dump.problem(Problem::Changed));
         }
-        let first = first_word(extent.words(), extent.references);
+        let first = first_word(contents.words(), contents.references);
         self.heap.put(address, first);
-        Ok(Slots::new(address, extent.references, extent.words()))
+        Ok(Slots::new(address, contents.references, contents.words()))
     }
 
     /// Ends an object, all of whose values were put.
@@ -177,10 +177,10 @@ impl Transcription<'_> {
     ) -> Result<(), ImportError>
         ensures input { result ≡ Err ImportError.Input → IsTrue (R.has_failed source.new) }
     {
-        let Some(extent) = self.inventory.classes.own_extent(id) else {
+        let Some(contents) = self.inventory.classes.own_contents(id) else {
             return Err(dump.problem(Problem::Changed));
         };
-        let mut slots = self.begin(dump, id, extent)?;
+        let mut slots = self.begin(dump, id, contents)?;
         let head = dump.class_head(source)?;
         self.put_head(dump, head, &mut slots)?;
         self.copy_statics(dump, source, &mut slots)?;
@@ -230,27 +230,27 @@ impl Transcription<'_> {
     ) -> Result<(), ImportError>
         ensures input { result ≡ Err ImportError.Input → IsTrue (R.has_failed source.new) }
     {
-        let (class, extent) = self.class_of(dump, instance)?;
-        let mut slots = self.begin(dump, instance.id, extent)?;
+        let (class, contents) = self.class_of(dump, instance)?;
+        let mut slots = self.begin(dump, instance.id, contents)?;
         self.copy_fields(dump, source, class, &mut slots)?;
         self.end(dump, slots)
     }
 
-    /// The number of an instance's class, and the extent of its fields.
-    fn class_of(&self, dump: &Dump, instance: Instance) -> Result<(u32, Extent), ImportError>
+    /// The number of an instance's class, and the contents of its fields.
+    fn class_of(&self, dump: &Dump, instance: Instance) -> Result<(u32, Contents), ImportError>
         ensures { result ≢ Err ImportError.Input }
     {
         let classes = &self.inventory.classes;
         let number = classes
             .known_number(instance.class)
             .ok_or(dump.problem(Problem::NoClass))?;
-        if classes.instance_extent(number).is_none() {
+        if classes.instance_contents(number).is_none() {
             return Err(dump.problem(Problem::NoClass));
         }
-        let extent = classes
-            .fitting_extent(number, instance.bytes)
+        let contents = classes
+            .fitting_contents(number, instance.bytes)
             .ok_or(dump.problem(Problem::InstanceSize(instance.bytes)))?;
-        Ok((number, extent))
+        Ok((number, contents))
     }
 
     /// Puts the fields of the class with this number, which come next, and then those of the classes above it.
@@ -294,21 +294,21 @@ impl Transcription<'_> {
         Ok(())
     }
 
-    /// Copies an array of this extent, whose elements come next.
+    /// Copies an array of these contents, whose elements come next.
     fn copy_array<R: Intake>(
         &mut self,
         dump: &mut Dump,
         source: &mut R,
         id: u64,
-        extent: Extent,
+        contents: Contents,
     ) -> Result<(), ImportError>
         ensures input { result ≡ Err ImportError.Input → IsTrue (R.has_failed source.new) }
     {
-        let mut slots = self.begin(dump, id, extent)?;
-        for _ in 0..extent.references {
+        let mut slots = self.begin(dump, id, contents)?;
+        for _ in 0..contents.references {
             self.copy_reference(dump, source, &mut slots)?;
         }
-        self.copy_data(dump, source, extent.data_bytes, &mut slots)?;
+        self.copy_data(dump, source, contents.data_bytes, &mut slots)?;
         self.end(dump, slots)
     }
 }
@@ -324,7 +324,7 @@ impl RecordVisitor for Transcription<'_> {
             Record::Root { .. } => Ok(()),
             Record::Class { id } => self.copy_class(dump, source, id),
             Record::Instance(instance) => self.copy_instance(dump, source, instance),
-            Record::Array { id, extent } => self.copy_array(dump, source, id, extent),
+            Record::Array { id, contents } => self.copy_array(dump, source, id, contents),
         }
     }
 }

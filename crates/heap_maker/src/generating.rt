@@ -1,7 +1,7 @@
 //! `generate`: a heap as it is wanted, as an image.
-ghost use Rattle.std.specs.Prelude.{◌≡◌, ◌<◌, ◌≤◌, ◌^◌, All, IfOk, length, if◌then◌else◌};
+ghost use Rattle.std.specs.Prelude.{◌≡◌, ◌<◌, ◌≤◌, ◌^◌, All, IfOk, OnOk, length, if◌then◌else◌};
 ghost use Rattle.std.specs.List.{concat};
-ghost use Rattle.heap_image.specs.HeapImage.{AreBlocks, IsValid, heap_words, version_of};
+ghost use Rattle.heap_image.specs.HeapImage.{AreBlocks, IsValid, heap_words, live_words, version_of};
 ghost use Rattle.heap_maker.specs.Figures.{AreFiguresOf};
 ghost use Rattle.heap_maker.specs.Wanted.{IsAsWanted};
 
@@ -12,11 +12,12 @@ use crate::heap_words::HeapWords;
 use crate::layout::Layout;
 use crate::limits::Limits;
 use crate::regions::{all_fit, regions_of};
+use crate::room::Room;
 use crate::wanted::Wanted;
 use heap_image::{Fault, Image, mark_from_roots, marked_parts_are_valid};
 use mark_bitmap::Marks;
 use raw_region::Region;
-use std::alloc::Global;
+use std::alloc::{AllocError, Global};
 
 /// A heap that was made.
 #[derive(Drop)]
@@ -39,26 +40,34 @@ pub fn generate(alloc: Global, wanted: &Wanted) -> Result<Generated, GenerationE
     let room = wanted.room(limits)?;
     let mut dice = Dice::new(wanted.seed);
     let layout = Layout::of(alloc, room, wanted.reference_percent, &mut dice)?;
-    let mut words = HeapWords::new(alloc, &layout, limits.words, dice)?;
-    let regions = regions_of(alloc, limits, &mut words)?;
-    let roots = layout.roots(alloc, words.is_kept())?;
-    let parts = Parts {
-        limits,
-        regions,
-        roots,
-    };
+    let parts = Parts::of(alloc, limits, &layout, dice)?;
     let image = parts.into_image(alloc, wanted)?;
-    let live_words = Marks::of(alloc, &image)?.live_words(0, image.len());
+    check_live(alloc, &image, room)?;
+    let figures = figures_of(&layout, &image);
+    Ok(Generated { image, figures })
+}
+
+/// Refuses an image where not just the words that they were to have belong to live objects.
+fn check_live(alloc: Global, image: &Image, room: Room) -> Result<(), GenerationError>
+    ensures { OnOk result (live_words image.now 0 (heap_words image.now) ≡ room.live) }
+{
+    let live_words = Marks::of(alloc, image)?.live_words(0, image.len());
     if live_words != room.live {
         return Err(GenerationError::Defect);
     }
-    let figures = Figures {
+    Ok(())
+}
+
+/// What the image with these objects has.
+fn figures_of(layout: &Layout, image: &Image) -> Figures
+    ensures { AreFiguresOf image.now result }
+{
+    Figures {
         words: image.len(),
         objects: layout.objects.len() as u64,
         roots: image.roots().len() as u64,
         live: image.live().len() as u64,
-    };
-    Ok(Generated { image, figures })
+    }
 }
 
 /// The words and the roots of a heap, before its live objects are found.
@@ -74,6 +83,21 @@ struct Parts {
 }
 
 impl Parts {
+    /// Those of a heap with these objects.
+    fn of(alloc: Global, limits: Limits, layout: &Layout, dice: Dice) -> Result<Parts, AllocError>
+        requires few { length layout.now.live.items ≤ limits.words }
+        ensures limits { IfOk result (λ parts. parts.limits ≡ limits) }
+    {
+        let mut words = HeapWords::new(alloc, layout, limits.words, dice)?;
+        let regions = regions_of(alloc, limits, &mut words)?;
+        let roots = layout.roots(alloc, words.is_kept())?;
+        Ok(Parts {
+            limits,
+            regions,
+            roots,
+        })
+    }
+
     /// The image with these words, and the objects that are reached from the roots as its live ones.
     fn into_image(self, alloc: Global, wanted: &Wanted) -> Result<Image, GenerationError>
         ensures valid { IfOk result (λ image. IsValid image) }

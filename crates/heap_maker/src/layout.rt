@@ -32,14 +32,14 @@ impl Layout {
         };
         let mut reference = 1;
         while room.words() > 0 {
-            let extent = room.take(dice);
+            let allotment = room.take(dice);
             let percent = u64::from(reference_percent);
-            let object = Object::new(extent, reference, percent, dice);
+            let object = Object::new(allotment, reference, percent, dice);
             layout.objects.push(object)?;
-            if extent.is_live {
+            if allotment.is_live {
                 layout.live.push(reference)?;
             }
-            reference += extent.size;
+            reference += allotment.size;
         }
         Ok(layout)
     }

@@ -2,7 +2,7 @@
 ghost use Rattle.std.specs.Prelude.{◌<◌, ◌≤◌};
 
 use crate::dice::Dice;
-use crate::room::Extent;
+use crate::room::Allotment;
 
 /// An object of a heap that is made.
 #[derive(Clone, Copy)]
@@ -23,14 +23,14 @@ impl Object {
     /// An object to which this reference leads. Of its words behind the header so many in a hundred are references,
     /// rounded up or down at random.
     pub(crate) fn new(
-        extent: Extent,
+        allotment: Allotment,
         reference: u64,
         reference_percent: u64,
         dice: &mut Dice,
     ) -> Object
         requires { reference_percent ≤ 100 }
     {
-        let Extent { size, is_live } = extent;
+        let Allotment { size, is_live } = allotment;
         let hundredths = (size - 1) * reference_percent + dice.below(100);
         Object {
             size: size as u32,

@@ -15,7 +15,7 @@ pub(crate) struct Room {
 
 /// The size of an object, and whether it is live.
 #[derive(Clone, Copy)]
-pub(crate) struct Extent {
+pub(crate) struct Allotment {
     pub(crate) size: u64,
     pub(crate) is_live: bool,
     ghost some: { 1 ≤ size },
@@ -33,7 +33,7 @@ impl Room {
 
     /// Gives words to the next object. It is live as often as the words that are left are for live ones, and no larger
     /// than these words.
-    pub(crate) fn take(&mut self, dice: &mut Dice) -> Extent
+    pub(crate) fn take(&mut self, dice: &mut Dice) -> Allotment
         requires { 0 < self.old.live + self.old.dead }
         ensures { self.old.live + self.old.dead ≡ self.new.live + self.new.dead + result.size }
     {
@@ -42,11 +42,11 @@ impl Room {
         if is_live {
             let size = wanted.min(self.live);
             self.live -= size;
-            Extent { size, is_live }
+            Allotment { size, is_live }
         } else {
             let size = wanted.min(self.dead);
             self.dead -= size;
-            Extent { size, is_live }
+            Allotment { size, is_live }
         }
     }
 }

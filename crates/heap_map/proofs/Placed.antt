@@ -1,10 +1,12 @@
 -- The objects of a compaction, by those of the heap.
-use Rattle.std.proofs.Common.{◌≡◌, ◌∙◌, ◌<◌, ◌≤◌, ◌+◌, ℕ, Bool, true, false, ap, ap₂, sym, arith}
-use Rattle.std.specs.Prelude.{cond, nat_lt}
+use Rattle.std.proofs.Common.{◌≡◌, ◌<◌, ◌≤◌, ◌+◌, ◌*◌, ◌/◌, ℕ, ap₂, arith}
+use Rattle.std.specs.Prelude.{nat_lt}
 use Rattle.std.proofs.lemmas.Bool.{cond-false, cond-true, lt-ltb, le-ltb}
 use Rattle.std.proofs.lemmas.List.{get_or-map}
+use Rattle.std.proofs.lemmas.Nat.{le-div}
+use Rattle.std.proofs.Math.Nat.{div-mul-le_self}
 use Rattle.heap_image.specs.Header.{size_of}
-use Rattle.heap_image.specs.HeapImage.{HeapImage, end_of, live_words, word_at}
+use Rattle.heap_image.specs.HeapImage.{HeapImage, end_of, live_words}
 use Rattle.summary.specs.Compaction.{compact}
 use Rattle.summary.specs.LiveObjects.{object_at, object_count}
 use Rattle.summary.specs.NewAddresses.{new_address, new_end_of, next_at, prefix_end, stays}
@@ -29,6 +31,10 @@ module _ (image : HeapImage) where
   goes-up a high counted =
       let e : slid image (a + 0) ≡ prefix_end image + live_words image (prefix_end image) (a + 0) = cond-false (nat_lt (a + 0) (prefix_end image)) (a + 0) (prefix_end image + live_words image (prefix_end image) (a + 0)) (le-ltb (a + 0) (prefix_end image) (omega arith)) in
       omega (arith, counted, e)
+
+-- a cell begins where the one before it does, or behind that
+pub starts-ascend : (words n i : ℕ) → 0 < n → i * words / n ≤ (i + 1) * words / n
+starts-ascend words n i some = le-div (i * words / n) ((i + 1) * words) n some (omega (arith, div-mul-le_self (i * words) n))
 
 -- a cell by its parts
 pub cell-same : (heap : HeapImage) (prefix top from to prefix' top' from' to' live : ℕ)

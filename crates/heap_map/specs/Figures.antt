@@ -1,5 +1,5 @@
 -- What a map tells of a heap in numbers, and how it is printed.
-use Rattle.std.specs.Prelude.{◌≡◌, ℕ, ◌-◌, List, ◌++◌, codes, decimal, count_by}
+use Rattle.std.specs.Prelude.{◌≡◌, ℕ, List, ◌++◌, codes, decimal, count_by}
 use Rattle.std.specs.List.{range_with_len}
 use Rattle.heap_image.specs.HeapImage.{HeapImage, heap_words, is_dead_word, live_words}
 use Rattle.summary.specs.NewAddresses.{prefix_end, new_top}

@@ -3,6 +3,7 @@ ghost use Rattle.std.specs.Prelude.{◌≤◌, length};
 
 use crate::area::Area;
 use crate::cell::Cell;
+use crate::figures::Figures;
 use crate::map::Map;
 use crate::patterns::{
     AREAS, SHADES, cover_of, digit_of, hatching_colour, hatching_of, key_of, name_of, share_of,
@@ -28,7 +29,7 @@ pub(crate) fn draw(alloc: Global, picture: &Picture) -> Result<String, AllocErro
         Some(_) => AFTER_AT + 75,
         None => BEFORE_AT + 75,
     };
-    begin(&mut svg, picture, legend + 80)?;
+    begin(&mut svg, picture.figures, legend + 80)?;
     draw_patterns(&mut svg)?;
     draw_strip(&mut svg, "before", BEFORE_AT, &picture.before)?;
     if let Some(after) = &picture.after {
@@ -41,23 +42,17 @@ pub(crate) fn draw(alloc: Global, picture: &Picture) -> Result<String, AllocErro
 }
 
 /// Writes the beginning of the drawing, which is so high, and the figures.
-fn begin(svg: &mut String, picture: &Picture, height: u64) -> Result<(), AllocError> {
-    let figures = picture.figures;
-    svg.push_str("<?xml version=\"1.0\" encoding=\"UTF-8\"?>\n")?;
-    svg.push_str(
-        "<svg xmlns=\"http://www.w3.org/2000/svg\" font-family=\"sans-serif\" font-size=\"14\"",
-    )?;
+fn begin(svg: &mut String, figures: Figures, height: u64) -> Result<(), AllocError> {
+    let words = figures.words;
     writeln!(
         svg,
-        " width=\"1020\" height=\"{height}\" viewBox=\"0 0 1020 {height}\">"
-    )?;
-    writeln!(svg, "<title>A heap of {} words</title>", figures.words)?;
-    writeln!(svg, "<desc>{figures}</desc>")?;
-    writeln!(
-        svg,
-        "<rect width=\"1020\" height=\"{height}\" fill=\"#fff\"/>"
-    )?;
-    writeln!(svg, "<text x=\"10\" y=\"24\">{figures}</text>")
+        r##"<?xml version="1.0" encoding="UTF-8"?>
+<svg xmlns="http://www.w3.org/2000/svg" font-family="sans-serif" font-size="14" width="1020" height="{height}" viewBox="0 0 1020 {height}">
+<title>A heap of {words} words</title>
+<desc>{figures}</desc>
+<rect width="1020" height="{height}" fill="#fff"/>
+<text x="10" y="24">{figures}</text>"##
+    )
 }
 
 /// Writes how each shade of each area looks.
@@ -72,31 +67,39 @@ fn draw_patterns(svg: &mut String) -> Result<(), AllocError> {
 /// Writes how each shade of an area looks.
 fn draw_patterns_of(svg: &mut String, area: Area) -> Result<(), AllocError> {
     for shade in SHADES {
-        write!(svg, "<pattern id=\"{}{}\"", key_of(area), digit_of(shade))?;
-        svg.push_str(" width=\"8\" height=\"8\" patternUnits=\"userSpaceOnUse\">")?;
-        write!(
-            svg,
-            "<rect width=\"8\" height=\"8\" fill=\"{}\"",
-            tint_of(area)
-        )?;
-        write!(svg, " fill-opacity=\"{}\"/>", cover_of(shade))?;
-        write!(svg, "<path d=\"{}\"", hatching_of(area))?;
-        writeln!(svg, " stroke=\"{}\"/></pattern>", hatching_colour(shade))?;
+        draw_pattern(svg, area, shade)?;
     }
     Ok(())
+}
+
+/// Writes how an area looks at a shade.
+fn draw_pattern(svg: &mut String, area: Area, shade: Shade) -> Result<(), AllocError> {
+    let (key, tint, path) = (key_of(area), tint_of(area), hatching_of(area));
+    let (digit, cover, colour) = (digit_of(shade), cover_of(shade), hatching_colour(shade));
+    writeln!(
+        svg,
+        r##"<pattern id="{key}{digit}" width="8" height="8" patternUnits="userSpaceOnUse"><rect width="8" height="8" fill="{tint}" fill-opacity="{cover}"/><path d="{path}" stroke="{colour}"/></pattern>"##
+    )
 }
 
 /// Writes a strip with its name, so far below the top.
 fn draw_strip(svg: &mut String, name: &str, y: u64, map: &Map) -> Result<(), AllocError>
     requires { 6 ≤ y }
 {
-    writeln!(svg, "<text x=\"10\" y=\"{}\">{name}</text>", y - 6)?;
-    writeln!(svg, "<g transform=\"translate(10,{y})\">")?;
+    let above = y - 6;
+    writeln!(
+        svg,
+        r#"<text x="10" y="{above}">{name}</text>
+<g transform="translate(10,{y})">"#
+    )?;
     draw_cells(svg, map.cells.as_slice())?;
     let cells = map.cells.len();
     let width = left_of(cells as u64, width_of(cells));
-    write!(svg, "<rect width=\"{width}\" height=\"48\" fill=\"none\"")?;
-    svg.push_str(" stroke=\"#000\"/>\n</g>\n")
+    writeln!(
+        svg,
+        r##"<rect width="{width}" height="48" fill="none" stroke="#000"/>
+</g>"##
+    )
 }
 
 /// How wide a cell is where there are so many.
@@ -133,19 +136,13 @@ fn draw_cell(svg: &mut String, cell: &Cell, x: u64, width: u64) -> Result<(), Al
     let (key, digit) = (key_of(cell.area), digit_of(Shade::of(cell)));
     write!(
         svg,
-        "<rect x=\"{x}\" width=\"{width}\" height=\"48\" fill=\"url(#{key}{digit})\">"
+        r#"<rect x="{x}" width="{width}" height="48" fill="url(#{key}{digit})">"#
     )?;
-    write!(
-        svg,
-        "<title>words {} to {}: ",
-        cell.from,
-        cell.to.saturating_sub(1)
-    )?;
+    let (from, last) = (cell.from, cell.to.saturating_sub(1));
+    let (live, name) = (cell.live, name_of(cell.area));
     writeln!(
         svg,
-        "{} live, {}</title></rect>",
-        cell.live,
-        name_of(cell.area)
+        "<title>words {from} to {last}: {live} live, {name}</title></rect>"
     )
 }
 
@@ -177,7 +174,10 @@ fn draw_sample(svg: &mut String, area: Area, shade: Shade, x: u64, y: u64) -> Re
     requires y { y ≤ 1000 }
 {
     let (key, digit) = (key_of(area), digit_of(shade));
-    write!(svg, "<rect x=\"{x}\" y=\"{y}\" width=\"24\" height=\"24\"")?;
-    writeln!(svg, " stroke=\"#000\" fill=\"url(#{key}{digit})\"/>")?;
-    write!(svg, "<text x=\"{}\" y=\"{}\">", x + 32, y + 17)
+    let (right, base) = (x + 32, y + 17);
+    write!(
+        svg,
+        r##"<rect x="{x}" y="{y}" width="24" height="24" stroke="#000" fill="url(#{key}{digit})"/>
+<text x="{right}" y="{base}">"##
+    )
 }

@@ -4,7 +4,7 @@ use Rattle.std.specs.Prelude.{flat_map}
 use Rattle.std.specs.List.{list_all, range_with_len}
 use Rattle.std.proofs.lemmas.List.Concat.{flat_map-cons}
 use Rattle.std.proofs.lemmas.List.Sums.{count_by_more_yes, sum_by-take-drop, sum_by-take-le}
-use Rattle.heap_text.specs.Text.{addresses_between, line_text}
+use Rattle.heap_text.specs.Text.{addresses_between, number_line}
 use Rattle.heap_text.specs.TextLines.{ended_lines}
 
 -- the first of the addresses_between, and the others
@@ -45,5 +45,5 @@ four_told t0 t1 t2 t3 t4 a b c d e1 e2 e3 e4 =
     e4 ∙ (ap (λ t. t ++ d) (e3 ∙ ap (λ t. t ++ c) (e2 ∙ ap (λ t. t ++ b) e1)) ∙ simp append_assoc)
 
 -- the line of a number is that of an equal one
-pub same_line : (name told new : List ℕ) (n m : ℕ) → new ≡ told ++ line_text name n → n ≡ m → new ≡ told ++ line_text name m
-same_line name told new n m is same = is ∙ ap (λ k. told ++ line_text name k) same
+pub same_line : (name told new : List ℕ) (n m : ℕ) → new ≡ told ++ number_line name n → n ≡ m → new ≡ told ++ number_line name m
+same_line name told new n m is same = is ∙ ap (λ k. told ++ number_line name k) same

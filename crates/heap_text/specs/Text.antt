@@ -16,8 +16,8 @@ abbrev pub number_text : ℕ → List ℕ
 number_text w = codes " " ++ decimal w
 
 -- a line with a number behind its name
-abbrev pub line_text : List ℕ → ℕ → List ℕ
-line_text name n = name ++ (codes " " ++ (decimal n ++ codes "\n"))
+abbrev pub number_line : List ℕ → ℕ → List ℕ
+number_line name n = name ++ (codes " " ++ (decimal n ++ codes "\n"))
 
 abbrev pub roots_text : List ℕ → List ℕ
 roots_text roots = codes "roots" ++ (flat_map reference_text roots ++ codes "\n")
@@ -25,10 +25,10 @@ roots_text roots = codes "roots" ++ (flat_map reference_text roots ++ codes "\n"
 module _ (image : HeapImage) where
   -- the lines before the words: version, region log, number of words, allowance, and in version 2 the roots
   abbrev pub front_text : List ℕ
-  front_text = line_text (codes "heap version") (version_of image)
-      ++ (line_text (codes "region-log") image.region_log
-      ++ (line_text (codes "words") (heap_words image)
-      ++ line_text (codes "allowance") image.allowance))
+  front_text = number_line (codes "heap version") (version_of image)
+      ++ (number_line (codes "region-log") image.region_log
+      ++ (number_line (codes "words") (heap_words image)
+      ++ number_line (codes "allowance") image.allowance))
 
   abbrev pub roots_line : List ℕ
   roots_line = if version_of image == 2 then roots_text (roots_of image) else []

@@ -1,7 +1,7 @@
 //! `write_text`: an image as a text.
 ghost use Rattle.std.specs.Prelude.{◌≡◌, ◌++◌, ◌+◌, ◌-◌, ◌≤◌, ◌<◌, IfOk, OnOk, List, ℕ, IsTrue, codes, string_bytes};
 ghost use Rattle.heap_image.specs.HeapImage.{HasSoundHeader, end_of, heap_words};
-ghost use Rattle.heap_text.specs.Text.{are_equal, dead_text, dead_words_text, front_text, line_text, lines_from, number_text, numbers_text, object_text, reference_text, references_text, roots_line, roots_text, text_of};
+ghost use Rattle.heap_text.specs.Text.{are_equal, dead_text, dead_words_text, front_text, number_line, lines_from, number_text, numbers_text, object_text, reference_text, references_text, roots_line, roots_text, text_of};
 
 use heap_image::{Image, header};
 use std::alloc::{AllocError, Global};
@@ -30,7 +30,7 @@ fn write_front(text: &mut String, image: &Image) -> Result<(), AllocError>
 
 /// Adds a line with a number behind its name.
 fn write_line(text: &mut String, name: &str, number: u64) -> Result<(), AllocError>
-    ensures { OnOk result (string_bytes text.new ≡ string_bytes text.old ++ line_text name.now number) }
+    ensures { OnOk result (string_bytes text.new ≡ string_bytes text.old ++ number_line name.now number) }
 {
     writeln!(text, "{name} {number}")
 }

@@ -15,7 +15,7 @@ use Rattle.history.specs.Slide.{Slide, Machine, words_of, write_words, copied, A
 use Rattle.history.specs.ImageMoves.{image_table}
 use Rattle.history.specs.WordMachine.{image_slide}
 use Rattle.history.specs.Replay.{IsCallOfLine}
-use Rattle.history.specs.Ledger.{IsLedger, Tells, Leads, RefusesLine, HasCause, AreNoted}
+use Rattle.history.specs.Ledger.{IsLedger, Tells, Leads, RefusesLine, HasCause, AreWrittenBy}
 use Rattle.history.specs.declared.entry.Entry.{Entry}
 use Rattle.history.specs.declared.event.Event.{Event}
 use Rattle.history.specs.declared.event.Event.TheVariants.{Claim, Look, Drain, Complete, Settle, Poll, Copy}
@@ -82,7 +82,7 @@ step_of m m' now known worker event reply new moves same step =
 
 module _ (image : HeapImage) (old new : Ledger) (w : Machine) (tells : Tells old w) where
   -- the counts after the event
-  noted : (event : Event) → ((d n : ℕ) → event ≡ Copy d n → d < length old.written.items) → AreNoted event old.written.items new.written.items
+  noted : (event : Event) → ((d n : ℕ) → event ≡ Copy d n → d < length old.written.items) → AreWrittenBy event old.written.items new.written.items
       → (r : ℕ) → (copied (image_slide image) w event).written r ≡ slice_index new.written.items r
   noted (Claim d) inside same r = tells.written r ∙ ap (λ (ns : List ℕ). slice_index ns r) (sym same)
   noted (Look d) inside same r = tells.written r ∙ ap (λ (ns : List ℕ). slice_index ns r) (sym same)
@@ -104,7 +104,7 @@ module _ (image : HeapImage) (old new : Ledger) (w : Machine) (tells : Tells old
 pub ledger_leads : (image : HeapImage) (workers : ℕ) (old new : Ledger) (worker : ℕ) (event : Event) (reply : Reply)
     → IsLedger image workers old → worker < workers → IsStep old.scheduler.moves (state_in old.scheduler) worker event reply (state_in new.scheduler)
     → ((w : Machine) → Tells old w → AllowsWords (image_slide image) w event)
-    → ((d n : ℕ) → event ≡ Copy d n → d < length old.written.items) → AreNoted event old.written.items new.written.items
+    → ((d n : ℕ) → event ≡ Copy d n → d < length old.written.items) → AreWrittenBy event old.written.items new.written.items
     → Leads image workers old (entry worker event reply) new
 ledger_leads image workers old new worker event reply kept few step words inside counts w tells = (
   (few, step_of old.scheduler.moves (image_table image) (state_in old.scheduler) w.known worker event reply (state_in new.scheduler) kept.moves tells.known step, words w tells),

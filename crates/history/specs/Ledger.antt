@@ -41,9 +41,9 @@ abbrev pub HasCause : HeapImage → ℕ → Ledger → Line → LineCause → Ty
 HasCause image workers ledger line cause = (w : Machine) → Tells ledger w → IsCause image workers w line cause
 
 -- how many words of each region are written, before an event and after it
-abbrev pub AreNoted : Event → List ℕ → List ℕ → Type 0
-AreNoted (Copy d n) old new = new ≡ slice_set old d (slice_index old d + n)
-AreNoted _ old new = new ≡ old
+abbrev pub AreWrittenBy : Event → List ℕ → List ℕ → Type 0
+AreWrittenBy (Copy d n) old new = new ≡ slice_set old d (slice_index old d + n)
+AreWrittenBy _ old new = new ≡ old
 
 -- up to which place of the region d, counted from its start, words of the region s go there
 abbrev pub taken_up_to : HeapImage → ℕ → ℕ → ℕ

@@ -9,7 +9,7 @@ ghost use Rattle.history.specs.ImageMoves.{image_table};
 ghost use Rattle.history.specs.Slide.{Machine, IsMachineStep, IsCopiedOut, AllowsWords, words_of};
 ghost use Rattle.history.specs.WordMachine.{image_slide, machine_start};
 ghost use Rattle.history.specs.Replay.{IsCallOfLine};
-ghost use Rattle.history.specs.Ledger.{IsLedger, Tells, Leads, RefusesLine, HasCause, AreNoted, taken_up_to};
+ghost use Rattle.history.specs.Ledger.{IsLedger, Tells, Leads, RefusesLine, HasCause, AreWrittenBy, taken_up_to};
 ghost use Rattle.history.specs.Replayed.{places_of};
 ghost use Rattle.history.specs.declared.reply.Reply.{Reply};
 
@@ -136,7 +136,7 @@ impl Ledger {
 /// Notes the words that the event writes.
 fn note(written: &mut [u32], event: Event)
     requires { (d n : ℕ) → event ≡ Event.Copy d n → (d < length written.old) × (slice_index written.old d + n < 2 ^ 32) }
-    ensures { AreNoted event written.old written.new }
+    ensures { AreWrittenBy event written.old written.new }
 {
     if let Event::Copy(region, words) = event {
         written[region as usize] += words;

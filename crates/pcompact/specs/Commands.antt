@@ -17,8 +17,8 @@ use Rattle.heap_commands.specs.Timeline.{timeline_command}
 use Rattle.heap_commands.specs.Upgrade.{upgrade_command}
 
 -- the commands, in the order in which help lists them
-abbrev pub listed : List Command
-listed =
+abbrev pub all_commands : List Command
+all_commands =
     board_command
     ∷ summary_command
     ∷ Collect.collect_command
@@ -43,4 +43,4 @@ IsPrintedByOneOf (command ∷ others) name text =
 
 -- a good call of the command of this name prints such a text
 abbrev pub IsPrintedBy : List ℕ → List ℕ → Type 0
-IsPrintedBy name text = IsPrintedByOneOf listed name text
+IsPrintedBy name text = IsPrintedByOneOf all_commands name text

@@ -11,7 +11,7 @@ mod record;
 mod verify;
 
 use command_line::Request;
-use command_support::{Done, Trouble};
+use command_support::{Trouble, WorkDone};
 use heap_commands::screen::Screen;
 use heap_commands::{
     assemble, board, generate, import, map, order, replay, summarize, text, timeline, upgrade,
@@ -27,7 +27,7 @@ pub fn answer<'a, R: Files + AllocGlobal + Threads + Wait + Clock + Sync>(
     rt: &R,
     screen: Screen,
     request: Request<'a>,
-) -> Result<Done<'a>, Trouble<'a>>
+) -> Result<WorkDone<'a>, Trouble<'a>>
 where
     R::File: FileExt + Sync,
     ensures prints { (name : List ℕ) → IsFor name request.entry
@@ -50,6 +50,6 @@ where
         Request::Assemble(asked) => assemble::answer(rt, asked),
         Request::Map(asked) => map::answer(rt, screen, asked),
         Request::Timeline(asked) => timeline::answer(rt, screen, asked),
-        Request::Show(text) => Ok(Done::printing(text.into_bytes())),
+        Request::Show(text) => Ok(WorkDone::printing(text.into_bytes())),
     }
 }

@@ -6,7 +6,7 @@ ghost use Rattle.pcompact.specs.Commands.{IsPrintedBy};
 ghost use Rattle.command_support.specs.Failure.{failed_device, out_of_memory, status_of};
 
 use crate::commands;
-use command_support::{Call, Done, FailedCall, Failure, Reason, Stats, Trouble};
+use command_support::{FailedCall, Failure, Reason, Stats, SystemCall, Trouble, WorkDone};
 use heap_commands::screen::Screen;
 use heap_image::Fault;
 use std::io;
@@ -85,7 +85,7 @@ fn tell_stats<H: Files + Threads + Clock, B: Write>(host: &H, stats: Option<Stat
 }
 
 /// Shows what a command prints. Then the files take their places that are to replace others.
-fn end<'a, H: Files, A: Write>(host: &H, done: Done<'a>, out: &mut A) -> Result<(), Trouble<'a>>
+fn end<'a, H: Files, A: Write>(host: &H, done: WorkDone<'a>, out: &mut A) -> Result<(), Trouble<'a>>
     ensures shown { OnOk result (Appends (A.contents out.old) (A.contents out.new) done.entry.text.items) }
     ensures fault { IfErr result (λ trouble. trouble.failure ≡ failed_device) }
 {
@@ -93,7 +93,7 @@ fn end<'a, H: Files, A: Write>(host: &H, done: Done<'a>, out: &mut A) -> Result<
         Ok(()) => done.take_places(host),
         Err(error) => {
             done.remove(host);
-            let failed = FailedCall::of(Call::Write, &error);
+            let failed = FailedCall::of(SystemCall::Write, &error);
             Err(Trouble::from(Fault::Io).because(Reason::Output(failed)))
         }
     }

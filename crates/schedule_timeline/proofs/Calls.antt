@@ -7,7 +7,7 @@ use Rattle.std.proofs.lemmas.List.Elements.{filter_map-append}
 use Rattle.std.proofs.lemmas.Grind.{common_steps}
 use Rattle.history.specs.declared.entry.Entry.{Entry}
 use Rattle.schedule_timeline.specs.declared.call.Call.{Call}
-use Rattle.schedule_timeline.specs.FirstCalls.{first_of}
+use Rattle.schedule_timeline.specs.FirstCalls.{earlier_of}
 use Rattle.schedule_timeline.specs.Timeline.{call_at, call_if, calls_that, first_call}
 
 pub enumerate_push : {X : Type 0} (n : ℕ) (xs : List X) (x : X) → enumerate_from n (xs ++ x ∷ []) ≡ enumerate_from n xs ++ (n + length xs, x) ∷ []
@@ -27,7 +27,7 @@ filter_map_more {X} {Y} h xs i d inside =
     ∙ ap (λ m. filter_map h (enumerate_from 0 (take i xs)) ++ cons_option (h (m, x)) []) (omega (arith, long))
 
 -- the first of a list and one more
-first_or : (calls : List Call) (call : Call) → slice_get (calls ++ call ∷ []) 0 ≡ first_of (slice_get calls 0) call
+first_or : (calls : List Call) (call : Call) → slice_get (calls ++ call ∷ []) 0 ≡ earlier_of (slice_get calls 0) call
 first_or [] call = refl
 first_or (c ∷ cs) call = refl
 
@@ -45,7 +45,7 @@ module _ (is : Entry → Bool) (log : List Entry) (i : ℕ) (d : Entry) where
       ∙ first_same (calls_that is (take i log))
 
   -- and one that is
-  pub first_if : i < length log → is (get_or log i d) ≡ true → first_call is (take (i + 1) log) ≡ first_of (first_call is (take i log)) (call_at (i, get_or log i d))
+  pub first_if : i < length log → is (get_or log i d) ≡ true → first_call is (take (i + 1) log) ≡ earlier_of (first_call is (take i log)) (call_at (i, get_or log i d))
   first_if inside found =
       let some : call_if is (i, get_or log i d) ≡ Some (call_at (i, get_or log i d)) = rw found refl in
       ap (λ (calls : List Call). slice_get calls 0) (filter_map_more (call_if is) log i d inside

@@ -5,7 +5,7 @@ use Rattle.std.proofs.lemmas.Bool.{cases_eq, eq-eqb, ne_eqb}
 use Rattle.history.specs.declared.entry.Entry.{Entry}
 use Rattle.schedule_timeline.specs.declared.call.Call.{Call}
 use Rattle.schedule_timeline.specs.declared.deed.Deed.{Deed}
-use Rattle.schedule_timeline.specs.FirstCalls.{AreFirst, first_of}
+use Rattle.schedule_timeline.specs.FirstCalls.{AreFirst, earlier_of}
 use Rattle.schedule_timeline.specs.Timeline.{call_at, does, first_call, is_region}
 use Rattle.schedule_timeline.proofs.Calls.{first_if, first_unless}
 
@@ -24,17 +24,17 @@ module _ (deed : Deed) (regions : ℕ) (log : List Entry) (i : ℕ) (d : Entry) 
       → ((r : ℕ) → does deed r (get_or log i d) ≡ is_region r (Some region)) → call ≡ call_at (i, get_or log i d)
       → length calls' ≡ length calls
       → ((r : ℕ) → r ≢ region → slice_index_or calls' r None ≡ slice_index_or calls r None)
-      → (region < length calls → slice_index_or calls' region None ≡ first_of (slice_index_or calls region None) call)
+      → (region < length calls → slice_index_or calls' region None ≡ earlier_of (slice_index_or calls region None) call)
       → AreFirst deed regions (take (i + 1) log) calls'
   noted region call inside before tells is long others this = record {
     all = long ∙ before.all;
     each = λ r few. elim (cases_eq r region) [
       | inl e ↦
-          let here = subst (λ q. slice_index_or calls' q None ≡ first_of (slice_index_or calls q None) call) (sym e)
+          let here = subst (λ q. slice_index_or calls' q None ≡ earlier_of (slice_index_or calls q None) call) (sym e)
           (this (subst (λ q. q < length calls) e (subst (λ n. r < n) (sym before.all) few))) in
           here
-          ∙ ap (λ (old : Option Call). first_of old call) (before.each r few)
-          ∙ ap (first_of (first_call (does deed r) (take i log))) is
+          ∙ ap (λ (old : Option Call). earlier_of old call) (before.each r few)
+          ∙ ap (earlier_of (first_call (does deed r) (take i log))) is
           ∙ sym (first_if (does deed r) log i d inside (tells r ∙ eq-eqb r region e))
       | inr apart ↦ others r apart ∙ before.each r few ∙ sym (first_unless (does deed r) log i d inside (tells r ∙ ne_eqb r region apart))
     ];

@@ -7,9 +7,9 @@ use Rattle.schedule_timeline.specs.declared.call.Call.{Call}
 use Rattle.schedule_timeline.specs.declared.deed.Deed.{Deed}
 
 -- the earlier call where there is one, or else this one
-abbrev pub first_of : Option Call → Call → Option Call
-first_of None call = Some call
-first_of (Some earlier) call = Some earlier
+abbrev pub earlier_of : Option Call → Call → Option Call
+earlier_of None call = Some call
+earlier_of (Some earlier) call = Some earlier
 
 -- of each of so many regions the first call of a history that does this to it
 pub record AreFirst (deed : Deed) (regions : ℕ) (log : List Entry) (calls : List (Option Call)) : Type 0 where

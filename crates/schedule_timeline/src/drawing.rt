@@ -67,31 +67,22 @@ fn top_of(worker: u32) -> u64
 /// Writes the beginning of the drawing, the figures and how bars look.
 fn begin(svg: &mut String, timeline: &Timeline) -> Result<(), AllocError> {
     let figures = Figures::of(timeline);
-    let height = top_of(figures.workers) + 100;
-    svg.push_str("<?xml version=\"1.0\" encoding=\"UTF-8\"?>\n")?;
-    svg.push_str(
-        "<svg xmlns=\"http://www.w3.org/2000/svg\" font-family=\"sans-serif\" font-size=\"12\"",
-    )?;
+    let (lines, workers) = (figures.lines, figures.workers);
+    let height = top_of(workers) + 100;
     writeln!(
         svg,
-        " width=\"1020\" height=\"{height}\" viewBox=\"0 0 1020 {height}\">"
+        r#"<?xml version="1.0" encoding="UTF-8"?>
+<svg xmlns="http://www.w3.org/2000/svg" font-family="sans-serif" font-size="12" width="1020" height="{height}" viewBox="0 0 1020 {height}">
+<title>A schedule of {lines} lines by {workers} workers</title>
+<desc>{figures}</desc>"#
     )?;
-    writeln!(
-        svg,
-        "<title>A schedule of {} lines by {} workers</title>",
-        figures.lines, figures.workers
-    )?;
-    writeln!(svg, "<desc>{figures}</desc>")?;
     svg.push_str(STYLES)?;
     writeln!(
         svg,
-        "<rect class=\"page\" width=\"1020\" height=\"{height}\"/>"
+        r#"<rect class="page" width="1020" height="{height}"/>
+<text x="10" y="22" font-size="14">{figures}</text>"#
     )?;
-    writeln!(
-        svg,
-        "<text x=\"10\" y=\"22\" font-size=\"14\">{figures}</text>"
-    )?;
-    write_axis(svg, figures.lines as u64)
+    write_axis(svg, lines as u64)
 }
 
 /// How the parts of the drawing look.
@@ -115,12 +106,11 @@ const STYLES: &str = r##"<style>
 /// Writes the first and the last line above the lanes.
 fn write_axis(svg: &mut String, lines: u64) -> Result<(), AllocError> {
     let y = TOP - 8;
-    writeln!(svg, "<text x=\"{LEFT}\" y=\"{y}\">line 2</text>")?;
-    let right = LEFT + LANE_WIDTH;
-    let last = lines.saturating_add(1);
+    let (right, last) = (LEFT + LANE_WIDTH, lines.saturating_add(1));
     writeln!(
         svg,
-        "<text x=\"{right}\" y=\"{y}\" text-anchor=\"end\">line {last}</text>"
+        r#"<text x="{LEFT}" y="{y}">line 2</text>
+<text x="{right}" y="{y}" text-anchor="end">line {last}</text>"#
     )
 }
 
@@ -133,13 +123,12 @@ fn draw_lane(
     several: usize,
 ) -> Result<(), AllocError> {
     let y = top_of(worker);
+    let base = y + 13;
     writeln!(
         svg,
-        "<text x=\"10\" y=\"{}\">worker {worker}</text>",
-        y + 13
+        r#"<text x="10" y="{base}">worker {worker}</text>
+<rect class="lane" x="{LEFT}" y="{y}" width="{LANE_WIDTH}" height="{BAR_HEIGHT}"/>"#
     )?;
-    write!(svg, "<rect class=\"lane\" x=\"{LEFT}\" y=\"{y}\"")?;
-    writeln!(svg, " width=\"{LANE_WIDTH}\" height=\"{BAR_HEIGHT}\"/>")?;
     let mut group = Group::empty();
     for bar in timeline.bars.iter() {
         if bar.claimed.worker == worker {
@@ -226,8 +215,10 @@ fn write_moments(svg: &mut String, bar: &Bar) -> Result<(), AllocError> {
 /// Writes a part of a bar, from one point to another.
 fn draw_part(svg: &mut String, class: &str, from: u64, to: u64, y: u64) -> Result<(), AllocError> {
     let width = to.saturating_sub(from).max(1);
-    write!(svg, "<rect class=\"{class}\" x=\"{from}\" y=\"{y}\"")?;
-    write!(svg, " width=\"{width}\" height=\"{BAR_HEIGHT}\"/>")
+    write!(
+        svg,
+        r#"<rect class="{class}" x="{from}" y="{y}" width="{width}" height="{BAR_HEIGHT}"/>"#
+    )
 }
 
 /// Writes one bar for several regions.
@@ -280,27 +271,34 @@ fn draw_freeing(svg: &mut String, freeing: &Freeing, scale: Scale) -> Result<(),
 /// Writes what the parts mean, and what is merged or left out.
 fn draw_legend(svg: &mut String, timeline: &Timeline, several: usize) -> Result<(), AllocError> {
     let y = top_of(timeline.schedule.workers()) + 16;
+    draw_classes(svg, y)?;
+    let (middle, base) = (y + 9, y + 13);
+    writeln!(
+        svg,
+        r#"<g class="f"><circle cx="767" cy="{middle}" r="3"/></g>
+<text x="776" y="{base}">a drain frees a region, and who takes it</text>"#
+    )?;
+    write_thinned(svg, timeline, several, y + 40)
+}
+
+/// Writes what the bars mean, so far below the top.
+fn draw_classes(svg: &mut String, y: u64) -> Result<(), AllocError>
+    requires { y ≤ 2 ^ 39 }
+{
     for (x, class, name) in [
         (10, "e", "being filled, even region"),
         (210, "o", "being filled, odd region"),
         (410, "w", "completed, not settled yet"),
         (620, "g", "several regions"),
     ] {
-        write!(
+        let (right, base) = (x + 32, y + 13);
+        writeln!(
             svg,
-            "<rect class=\"{class}\" x=\"{x}\" y=\"{y}\" width=\"24\""
+            r#"<rect class="{class}" x="{x}" y="{y}" width="24" height="{BAR_HEIGHT}"/>
+<text x="{right}" y="{base}">{name}</text>"#
         )?;
-        writeln!(svg, " height=\"{BAR_HEIGHT}\"/>")?;
-        writeln!(svg, "<text x=\"{}\" y=\"{}\">{name}</text>", x + 32, y + 13)?;
     }
-    writeln!(
-        svg,
-        "<g class=\"f\"><circle cx=\"767\" cy=\"{}\" r=\"3\"/></g>",
-        y + 9
-    )?;
-    write!(svg, "<text x=\"776\" y=\"{}\">", y + 13)?;
-    svg.push_str("a drain frees a region, and who takes it</text>\n")?;
-    write_thinned(svg, timeline, several, y + 40)
+    Ok(())
 }
 
 /// Writes which bars are merged and which marks are left out.
@@ -312,18 +310,16 @@ fn write_thinned(
 ) -> Result<(), AllocError> {
     let every = timeline.freeings.len().div_ceil(MAX_FREEINGS);
     if several > 1 {
-        write!(
+        writeln!(
             svg,
-            "<text x=\"10\" y=\"{y}\">A bar is of up to {several} regions, as"
+            r#"<text x="10" y="{y}">A bar is of up to {several} regions, as there are too many for one each.</text>"#
         )?;
-        svg.push_str(" there are too many for one each.</text>\n")?;
     }
     if every > 1 {
-        write!(
+        writeln!(
             svg,
-            "<text x=\"510\" y=\"{y}\">Of each {every} drains that freed a region one"
+            r#"<text x="510" y="{y}">Of each {every} drains that freed a region one is shown.</text>"#
         )?;
-        svg.push_str(" is shown.</text>\n")?;
     }
     Ok(())
 }

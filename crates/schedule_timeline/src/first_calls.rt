@@ -1,7 +1,7 @@
 //! The first call that does something to each region.
 ghost use Rattle.std.specs.Prelude.{◌≡◌, ◌≢◌, ◌<◌, ◌≤◌, ◌^◌, ℕ, IfOk, None, Some, length, slice_index_or};
 ghost use Rattle.schedule_timeline.specs.Timeline.{call_at, does, first_call};
-ghost use Rattle.schedule_timeline.specs.FirstCalls.{AreFirst, first_of};
+ghost use Rattle.schedule_timeline.specs.FirstCalls.{AreFirst, earlier_of};
 
 use crate::call::Call;
 use crate::deed::Deed;
@@ -31,7 +31,7 @@ pub(crate) fn first_calls(
 fn note(calls: &mut [Option<Call>], region: u32, call: Call)
     ensures all { length calls.new ≡ length calls.old }
     ensures others { (r : ℕ) → r ≢ region → slice_index_or calls.new r None ≡ slice_index_or calls.old r None }
-    ensures noted { region < length calls.old → slice_index_or calls.new region None ≡ first_of (slice_index_or calls.old region None) call }
+    ensures noted { region < length calls.old → slice_index_or calls.new region None ≡ earlier_of (slice_index_or calls.old region None) call }
 {
     let at = region as usize;
     if at < calls.len() && calls[at].is_none() {

@@ -12,7 +12,8 @@ use crate::workers::Workers;
 use collector::{Gate, collect_stream};
 use command_line::Collect;
 use command_support::{
-    Done, Stats, Stopwatch, TimedIntake, TimedOutlet, Trouble, ended, failed_between, image_and_out,
+    Stats, Stopwatch, TimedIntake, TimedOutlet, Trouble, WorkDone, ended, failed_between,
+    image_and_out,
 };
 use heap_image::{Fault, Intake, Outlet};
 use std::os::unix::fs::FileExt;
@@ -25,7 +26,7 @@ use std::time::Clock;
 pub fn answer<'a, R: Files + AllocGlobal + Threads + Wait + Clock + Sync>(
     rt: &R,
     asked: Collect<'a>,
-) -> Result<Done<'a>, Trouble<'a>>
+) -> Result<WorkDone<'a>, Trouble<'a>>
 where
     R::File: FileExt + Sync,
     ensures { IfOk result (λ done. IsFigures done.text.items) }

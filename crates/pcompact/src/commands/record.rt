@@ -13,10 +13,11 @@ use crate::workers::Workers;
 use collector::{Gate, record_stream};
 use command_line::Record;
 use command_support::{
-    Done, FileId, FileWord, Output, Phase, Role, Stats, Stopwatch, Target, TimedIntake,
-    TimedOutlet, Trouble, Watched, failed, must_differ, same_file,
+    FileId, FileTarget, FileWord, Output, Phase, Role, Stats, Stopwatch, TimedIntake, TimedOutlet,
+    Trouble, Watched, WorkDone, failed, must_differ, same_file,
 };
 use heap_image::{Fault, Intake, Outlet, ToWrite};
+use std::alloc::Global;
 use std::os::unix::fs::FileExt;
 use std::rt::Files;
 use std::sync::Wait;
@@ -28,7 +29,7 @@ use std::time::Clock;
 pub fn answer<'a, R: Files + AllocGlobal + Threads + Wait + Clock + Sync>(
     rt: &R,
     asked: Record<'a>,
-) -> Result<Done<'a>, Trouble<'a>>
+) -> Result<WorkDone<'a>, Trouble<'a>>
 where
     R::File: FileExt + Sync,
     ensures { IfOk result (λ done. IsFigures done.text.items) }
@@ -58,15 +59,27 @@ where
             Ok(both_ended(rt, line, out, schedule)?.with_stats(stats))
         }
         Err(fault) => {
-            let trouble = Trouble::from(fault)
-                .if_image(&image.into_inner().into_inner())
-                .if_failed(&out.file)
-                .if_failed(&schedule.file)
-                .if_workers(asked.workers);
-            schedule.abandon(rt);
-            Err(failed(rt, trouble, out))
+            let trouble = Trouble::from(fault).if_workers(asked.workers);
+            let image = image.into_inner().into_inner();
+            Err(failed_between_three(rt, trouble, &image, out, schedule))
         }
     }
+}
+
+/// Why `record` fails that met this trouble while it read an image and wrote two files.
+fn failed_between_three<'a, H: Files>(
+    host: &H,
+    trouble: Trouble<'a>,
+    image: &Watched<'a, H::File>,
+    out: Output<'a, H::File>,
+    schedule: Output<'a, H::File>,
+) -> Trouble<'a> {
+    let trouble = trouble
+        .if_image(image)
+        .if_failed(&out.file)
+        .if_failed(&schedule.file);
+    schedule.abandon(host);
+    failed(host, trouble, out)
 }
 
 /// A file to read, and two to write.
@@ -78,27 +91,69 @@ fn image_out_and_schedule<'a, H: Files + AllocGlobal>(
     host: &H,
     asked: &Record<'a>,
 ) -> Result<ImageOutAndSchedule<'a, H::File>, Trouble<'a>> {
-    let image = FileWord::new(Role::Image, asked.image);
-    let out = FileWord::new(Role::Out, asked.out);
-    let schedule = FileWord::new(Role::Schedule, asked.schedule);
-    if !asked.atomic {
-        must_differ(host.alloc(), image, out)?;
+    let named = Named {
+        image: FileWord::new(Role::Image, asked.image),
+        out: FileWord::new(Role::Out, asked.out),
+        schedule: FileWord::new(Role::Schedule, asked.schedule),
+    };
+    names_must_differ(host.alloc(), named, asked.atomic)?;
+    let image = Watched::open(host, named.image)?;
+    let (out, schedule) = targets_beside(host, &image, named, asked.atomic)?;
+    let (out, schedule) = begin_both(host, out, schedule)?;
+    Ok((image, out, schedule))
+}
+
+/// The words of the three files.
+#[derive(Clone, Copy)]
+struct Named<'a> {
+    image: FileWord<'a>,
+    out: FileWord<'a>,
+    schedule: FileWord<'a>,
+}
+
+/// The three must have other names, but for the first two where OUT is replaced.
+fn names_must_differ<'a>(alloc: Global, named: Named<'a>, atomic: bool) -> Result<(), Trouble<'a>> {
+    if !atomic {
+        must_differ(alloc, named.image, named.out)?;
     }
-    must_differ(host.alloc(), image, schedule)?;
-    must_differ(host.alloc(), out, schedule)?;
-    let image = Watched::open(host, image)?;
+    must_differ(alloc, named.image, named.schedule)?;
+    must_differ(alloc, named.out, named.schedule)
+}
+
+/// Two files to write, as they were found.
+type Targets<'a, F> = (FileTarget<'a, F>, FileTarget<'a, F>);
+
+/// The two files to write. Where two of the three are one file and may not be, both are left as they stood.
+fn targets_beside<'a, H: Files + AllocGlobal>(
+    host: &H,
+    image: &Watched<'a, H::File>,
+    named: Named<'a>,
+    atomic: bool,
+) -> Result<Targets<'a, H::File>, Trouble<'a>> {
     let id = image.id()?;
-    let out = Target::find(host, out, asked.atomic)?;
-    let schedule = Target::find(host, schedule, asked.atomic)?;
-    if let Some((one, other)) = one_file(host, (image.word(), id), &out, &schedule)? {
+    let out = FileTarget::find(host, named.out, atomic)?;
+    let schedule = FileTarget::find(host, named.schedule, atomic)?;
+    if let Some((one, other)) = one_file(host, (named.image, id), &out, &schedule)? {
         let same = same_file(host.alloc(), one, other);
         schedule.leave(host);
         out.leave(host);
         return Err(same?);
     }
+    Ok((out, schedule))
+}
+
+/// Two files that are written.
+type Outputs<'a, F> = (Output<'a, F>, Output<'a, F>);
+
+/// Begins to write both files.
+fn begin_both<'a, H: Files + AllocGlobal>(
+    host: &H,
+    out: FileTarget<'a, H::File>,
+    schedule: FileTarget<'a, H::File>,
+) -> Result<Outputs<'a, H::File>, Trouble<'a>> {
     let out = out.begin(host)?;
     match schedule.begin(host) {
-        Ok(schedule) => Ok((image, out, schedule)),
+        Ok(schedule) => Ok((out, schedule)),
         Err(trouble) => Err(failed(host, trouble, out)),
     }
 }
@@ -108,8 +163,8 @@ fn image_out_and_schedule<'a, H: Files + AllocGlobal>(
 fn one_file<'a, H: Files>(
     host: &H,
     (image, id): (FileWord<'a>, FileId),
-    out: &Target<'a, H::File>,
-    schedule: &Target<'a, H::File>,
+    out: &FileTarget<'a, H::File>,
+    schedule: &FileTarget<'a, H::File>,
 ) -> Result<Option<(FileWord<'a>, FileWord<'a>)>, Trouble<'a>> {
     Ok(if !out.is_replaced() && out.is(id) {
         Some((image, out.word()))
@@ -128,14 +183,14 @@ fn both_ended<'a, H: Files>(
     line: String,
     out: Output<'a, H::File>,
     schedule: Output<'a, H::File>,
-) -> Result<Done<'a>, Trouble<'a>>
+) -> Result<WorkDone<'a>, Trouble<'a>>
     ensures { IfOk result (λ done. done.text.items ≡ string_bytes line) }
 {
     let out = match out.finish(host) {
         Ok(out) => out,
         Err(trouble) => return Err(failed(host, trouble, schedule)),
     };
-    let mut done = Done {
+    let mut done = WorkDone {
         text: line.into_bytes(),
         out,
         schedule: None,

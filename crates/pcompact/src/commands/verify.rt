@@ -5,8 +5,8 @@ ghost use Rattle.pcompact.specs.Commands.Verify.{IsVerdictOf};
 use collector::{Verdict, verify};
 use command_line::Verify;
 use command_support::{
-    Difference, Done, Failure, FileWord, Laps, Phase, Role, Stats, Stopwatch, TimedIntake, Trouble,
-    two_inputs,
+    Difference, Failure, FileWord, Laps, Phase, Role, Stats, Stopwatch, TimedIntake, Trouble,
+    Watched, WorkDone, two_inputs,
 };
 use heap_image::{Fault, FromRead, Intake, read_image_by_threads};
 use std::alloc::Global;
@@ -18,14 +18,14 @@ use std::time::Clock;
 pub fn answer<'a, R: Files + AllocGlobal + Threads + Clock + Sync>(
     rt: &R,
     asked: Verify<'a>,
-) -> Result<Done<'a>, Trouble<'a>>
+) -> Result<WorkDone<'a>, Trouble<'a>>
     ensures { IfOk result (λ done. done.text.items ≡ codes "same\n") }
 {
     let (verdict, stats) = compared(rt, &asked)?;
     match difference(verdict) {
         None => {
             let text = Vec::from_slice(rt.alloc(), b"same\n")?;
-            Ok(Done::printing(text).with_stats(stats))
+            Ok(WorkDone::printing(text).with_stats(stats))
         }
         Some(difference) => {
             let after = FileWord::new(Role::After, asked.after);
@@ -65,9 +65,20 @@ fn compared<'a, R: Files + AllocGlobal + Threads + Clock + Sync>(
         .then(Phase::Compare, watch.elapsed(rt));
     match verdict {
         Ok(verdict) => Ok((verdict, Stats::of_comparison(watch, laps))),
-        Err(Unverified::Before(fault)) => Err(Trouble::from(fault).if_image(&before)),
-        Err(Unverified::After(fault)) => Err(Trouble::from(fault).if_image(&after)),
-        Err(Unverified::Neither(fault)) => Err(Trouble::from(fault)),
+        Err(unverified) => Err(trouble_of(unverified, &before, &after)),
+    }
+}
+
+/// Why the command fails that met this fault.
+fn trouble_of<'a, F: Drop>(
+    unverified: Unverified,
+    before: &Watched<'a, F>,
+    after: &Watched<'a, F>,
+) -> Trouble<'a> {
+    match unverified {
+        Unverified::Before(fault) => Trouble::from(fault).if_image(before),
+        Unverified::After(fault) => Trouble::from(fault).if_image(after),
+        Unverified::Neither(fault) => Trouble::from(fault),
     }
 }
 

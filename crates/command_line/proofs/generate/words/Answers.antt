@@ -1,35 +1,15 @@
-use Rattle.std.proofs.Common.{◌≡◌, ◌∙◌, ap, ap₂, false, codes}
+use Rattle.std.proofs.Common.{◌∙◌, ap}
 use Rattle.std.proofs.lemmas.Result.{IfOk-weaker}
-use Rattle.std.specs.Prelude.{◌||◌}
-use Rattle.clap.specs.Simple.{app_of_fields}
-use Rattle.clap.specs.Words.{app_of, new_app, with_rule}
-use Rattle.clap.specs.declared.builder.command.Command.TheViews.{out-Command}
+use Rattle.command_line.specs.Arguments.{with_replacement}
+use Rattle.command_line.specs.Commands.{with_generate_wishes}
 use Rattle.command_line.proofs.generate.words.Goals as goal
 
 pub returns-clause-app : goal.returns-clause-app
 returns-clause-app c =
-    let start : app_of c.about.result ≡ new_app (codes "generate") = ap app_of_fields c.about.ensures ∙ c.new.ensures.app in
-    let step0 = c.in_ok-arg.ensures.shape c.file.ensures.local ∙ ap₂ with_rule start c.file.ensures.rule in
-    let step1 = c.in_ok-arg-2.ensures.shape c.heap_words.ensures.local ∙ ap₂ with_rule step0 c.heap_words.ensures.rule in
-    let step2 = c.in_ok-arg-3.ensures.shape c.live.ensures.local ∙ ap₂ with_rule step1 c.live.ensures.rule in
-    let step3 = c.in_ok-arg-4.ensures.shape c.region_log.ensures.local ∙ ap₂ with_rule step2 c.region_log.ensures.rule in
-    let step4 = c.in_ok-arg-5.ensures.shape c.seed.ensures.local ∙ ap₂ with_rule step3 c.seed.ensures.rule in
-    let step5 = c.in_ok-arg-6.ensures.shape c.references.ensures.local ∙ ap₂ with_rule step4 c.references.ensures.rule in
-    let step6 = c.in_ok-arg-7.ensures.shape c.version.ensures.local ∙ ap₂ with_rule step5 c.version.ensures.rule in
-    let step7 = c.in_ok-arg-8.ensures.shape c.allowance.ensures.local ∙ ap₂ with_rule step6 c.allowance.ensures.rule in
-    let step8 = c.in_ok-arg-9.ensures.shape c.atomic.ensures.local ∙ ap₂ with_rule step7 c.atomic.ensures.rule in
-    IfOk-weaker c.arg-10.result _ _ (λ command added. added.shape c.verbose.ensures.local ∙ ap₂ with_rule step8 c.verbose.ensures.rule) c.arg-10.ensures
+    let step0 = c.in_ok-wanted.ensures.app ∙ ap with_generate_wishes (c.in_ok-with_needs.ensures.app) in
+    IfOk-weaker c.with_last.result _ _ (λ command is. is ∙ ap with_replacement step0) c.with_last.ensures.app
 
 pub returns-clause-local : goal.returns-clause-local
 returns-clause-local c =
-    let start : (out-Command c.about.result).has_globals ≡ false = ap (λ f. f.has_globals) c.about.ensures ∙ c.new.ensures.local in
-    let step0 = c.in_ok-arg.ensures.globals ∙ ap₂ ◌||◌ start c.file.ensures.local in
-    let step1 = c.in_ok-arg-2.ensures.globals ∙ ap₂ ◌||◌ step0 c.heap_words.ensures.local in
-    let step2 = c.in_ok-arg-3.ensures.globals ∙ ap₂ ◌||◌ step1 c.live.ensures.local in
-    let step3 = c.in_ok-arg-4.ensures.globals ∙ ap₂ ◌||◌ step2 c.region_log.ensures.local in
-    let step4 = c.in_ok-arg-5.ensures.globals ∙ ap₂ ◌||◌ step3 c.seed.ensures.local in
-    let step5 = c.in_ok-arg-6.ensures.globals ∙ ap₂ ◌||◌ step4 c.references.ensures.local in
-    let step6 = c.in_ok-arg-7.ensures.globals ∙ ap₂ ◌||◌ step5 c.version.ensures.local in
-    let step7 = c.in_ok-arg-8.ensures.globals ∙ ap₂ ◌||◌ step6 c.allowance.ensures.local in
-    let step8 = c.in_ok-arg-9.ensures.globals ∙ ap₂ ◌||◌ step7 c.atomic.ensures.local in
-    IfOk-weaker c.arg-10.result _ _ (λ command added. added.globals ∙ ap₂ ◌||◌ step8 c.verbose.ensures.local) c.arg-10.ensures
+    let step0 = c.in_ok-wanted.ensures.local c.in_ok-with_needs.ensures.local in
+    c.with_last.ensures.local step0

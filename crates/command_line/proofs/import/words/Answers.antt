@@ -4,6 +4,7 @@ use Rattle.std.specs.Prelude.{◌||◌}
 use Rattle.clap.specs.Simple.{app_of_fields}
 use Rattle.clap.specs.Words.{app_of, new_app, with_rule}
 use Rattle.clap.specs.declared.builder.command.Command.TheViews.{out-Command}
+use Rattle.command_line.specs.Arguments.{with_replacement}
 use Rattle.command_line.proofs.import.words.Goals as goal
 
 pub returns-clause-app : goal.returns-clause-app
@@ -13,9 +14,8 @@ returns-clause-app c =
     let step1 = c.in_ok-arg-2.ensures.shape c.file-2.ensures.local ∙ ap₂ with_rule step0 c.file-2.ensures.rule in
     let step2 = c.in_ok-arg-3.ensures.shape c.region_log.ensures.local ∙ ap₂ with_rule step1 c.region_log.ensures.rule in
     let step3 = c.in_ok-arg-4.ensures.shape c.allowance.ensures.local ∙ ap₂ with_rule step2 c.allowance.ensures.rule in
-    let step4 = c.in_ok-arg-5.ensures.shape c.flag.ensures.local ∙ ap₂ with_rule step3 c.flag.ensures.rule in
-    let step5 = c.in_ok-arg-6.ensures.shape c.atomic.ensures.local ∙ ap₂ with_rule step4 c.atomic.ensures.rule in
-    IfOk-weaker c.arg-7.result _ _ (λ command added. added.shape c.verbose.ensures.local ∙ ap₂ with_rule step5 c.verbose.ensures.rule) c.arg-7.ensures
+    let step4 = c.in_ok-command.ensures.shape c.flag.ensures.local ∙ ap₂ with_rule step3 c.flag.ensures.rule in
+    IfOk-weaker c.with_last.result _ _ (λ command is. is ∙ ap with_replacement step4) c.with_last.ensures.app
 
 pub returns-clause-local : goal.returns-clause-local
 returns-clause-local c =
@@ -24,6 +24,5 @@ returns-clause-local c =
     let step1 = c.in_ok-arg-2.ensures.globals ∙ ap₂ ◌||◌ step0 c.file-2.ensures.local in
     let step2 = c.in_ok-arg-3.ensures.globals ∙ ap₂ ◌||◌ step1 c.region_log.ensures.local in
     let step3 = c.in_ok-arg-4.ensures.globals ∙ ap₂ ◌||◌ step2 c.allowance.ensures.local in
-    let step4 = c.in_ok-arg-5.ensures.globals ∙ ap₂ ◌||◌ step3 c.flag.ensures.local in
-    let step5 = c.in_ok-arg-6.ensures.globals ∙ ap₂ ◌||◌ step4 c.atomic.ensures.local in
-    IfOk-weaker c.arg-7.result _ _ (λ command added. added.globals ∙ ap₂ ◌||◌ step5 c.verbose.ensures.local) c.arg-7.ensures
+    let step4 = c.in_ok-command.ensures.globals ∙ ap₂ ◌||◌ step3 c.flag.ensures.local in
+    c.with_last.ensures.local step4

@@ -1,35 +1,17 @@
-use Rattle.std.proofs.Common.{◌≡◌, ◌∙◌, ap, ap₂, false, codes}
+use Rattle.std.proofs.Common.{◌∙◌, ap}
 use Rattle.std.proofs.lemmas.Result.{IfOk-weaker}
-use Rattle.std.specs.Prelude.{◌||◌}
-use Rattle.clap.specs.Simple.{app_of_fields}
-use Rattle.clap.specs.Words.{app_of, new_app, with_rule}
-use Rattle.clap.specs.declared.builder.command.Command.TheViews.{out-Command}
+use Rattle.command_line.specs.Arguments.{with_look, with_replacement}
+use Rattle.command_line.specs.Commands.{with_picture_rules}
 use Rattle.command_line.proofs.timeline.words.Goals as goal
 
 pub returns-clause-app : goal.returns-clause-app
 returns-clause-app c =
-    let start : app_of c.after_help.result ≡ new_app (codes "timeline") = ap app_of_fields c.after_help.ensures ∙ ap app_of_fields c.about.ensures ∙ c.new.ensures.app in
-    let step0 = c.in_ok-arg.ensures.shape c.image.ensures.local ∙ ap₂ with_rule start c.image.ensures.rule in
-    let step1 = c.in_ok-arg-2.ensures.shape c.file.ensures.local ∙ ap₂ with_rule step0 c.file.ensures.rule in
-    let step2 = c.in_ok-arg-3.ensures.shape c.width.ensures.local ∙ ap₂ with_rule step1 c.width.ensures.rule in
-    let step3 = c.in_ok-arg-4.ensures.shape c.svg.ensures.local ∙ ap₂ with_rule step2 c.svg.ensures.rule in
-    let step4 = c.in_ok-arg-5.ensures.shape c.html.ensures.local ∙ ap₂ with_rule step3 c.html.ensures.rule in
-    let step5 = c.in_ok-arg-6.ensures.shape c.flag.ensures.local ∙ ap₂ with_rule step4 c.flag.ensures.rule in
-    let step6 = c.in_ok-arg-7.ensures.shape c.flag-2.ensures.local ∙ ap₂ with_rule step5 c.flag-2.ensures.rule in
-    let step7 = c.in_ok-arg-8.ensures.shape c.flag-3.ensures.local ∙ ap₂ with_rule step6 c.flag-3.ensures.rule in
-    let step8 = c.in_ok-arg-9.ensures.shape c.atomic.ensures.local ∙ ap₂ with_rule step7 c.atomic.ensures.rule in
-    IfOk-weaker c.arg-10.result _ _ (λ command added. added.shape c.verbose.ensures.local ∙ ap₂ with_rule step8 c.verbose.ensures.rule) c.arg-10.ensures
+    let step0 = c.in_ok-pictured.ensures.app ∙ ap with_picture_rules (c.in_ok-with_inputs.ensures.app) in
+    let step1 = c.in_ok-looking.ensures.app ∙ ap with_look step0 in
+    IfOk-weaker c.with_last.result _ _ (λ command is. is ∙ ap with_replacement step1) c.with_last.ensures.app
 
 pub returns-clause-local : goal.returns-clause-local
 returns-clause-local c =
-    let start : (out-Command c.after_help.result).has_globals ≡ false = ap (λ f. f.has_globals) c.after_help.ensures ∙ ap (λ f. f.has_globals) c.about.ensures ∙ c.new.ensures.local in
-    let step0 = c.in_ok-arg.ensures.globals ∙ ap₂ ◌||◌ start c.image.ensures.local in
-    let step1 = c.in_ok-arg-2.ensures.globals ∙ ap₂ ◌||◌ step0 c.file.ensures.local in
-    let step2 = c.in_ok-arg-3.ensures.globals ∙ ap₂ ◌||◌ step1 c.width.ensures.local in
-    let step3 = c.in_ok-arg-4.ensures.globals ∙ ap₂ ◌||◌ step2 c.svg.ensures.local in
-    let step4 = c.in_ok-arg-5.ensures.globals ∙ ap₂ ◌||◌ step3 c.html.ensures.local in
-    let step5 = c.in_ok-arg-6.ensures.globals ∙ ap₂ ◌||◌ step4 c.flag.ensures.local in
-    let step6 = c.in_ok-arg-7.ensures.globals ∙ ap₂ ◌||◌ step5 c.flag-2.ensures.local in
-    let step7 = c.in_ok-arg-8.ensures.globals ∙ ap₂ ◌||◌ step6 c.flag-3.ensures.local in
-    let step8 = c.in_ok-arg-9.ensures.globals ∙ ap₂ ◌||◌ step7 c.atomic.ensures.local in
-    IfOk-weaker c.arg-10.result _ _ (λ command added. added.globals ∙ ap₂ ◌||◌ step8 c.verbose.ensures.local) c.arg-10.ensures
+    let step0 = c.in_ok-pictured.ensures.local c.in_ok-with_inputs.ensures.local in
+    let step1 = c.in_ok-looking.ensures.local step0 in
+    c.with_last.ensures.local step1

@@ -4,20 +4,19 @@ use Rattle.std.specs.Prelude.{◌||◌}
 use Rattle.clap.specs.Simple.{app_of_fields}
 use Rattle.clap.specs.Words.{app_of, new_app, with_rule}
 use Rattle.clap.specs.declared.builder.command.Command.TheViews.{out-Command}
+use Rattle.command_line.specs.Arguments.{with_replacement}
 use Rattle.command_line.proofs.upgrade.words.Goals as goal
 
 pub returns-clause-app : goal.returns-clause-app
 returns-clause-app c =
     let start : app_of c.about.result ≡ new_app (codes "upgrade") = ap app_of_fields c.about.ensures ∙ c.new.ensures.app in
     let step0 = c.in_ok-arg.ensures.shape c.image.ensures.local ∙ ap₂ with_rule start c.image.ensures.rule in
-    let step1 = c.in_ok-arg-2.ensures.shape c.file.ensures.local ∙ ap₂ with_rule step0 c.file.ensures.rule in
-    let step2 = c.in_ok-arg-3.ensures.shape c.atomic.ensures.local ∙ ap₂ with_rule step1 c.atomic.ensures.rule in
-    IfOk-weaker c.arg-4.result _ _ (λ command added. added.shape c.verbose.ensures.local ∙ ap₂ with_rule step2 c.verbose.ensures.rule) c.arg-4.ensures
+    let step1 = c.in_ok-command.ensures.shape c.file.ensures.local ∙ ap₂ with_rule step0 c.file.ensures.rule in
+    IfOk-weaker c.with_last.result _ _ (λ command is. is ∙ ap with_replacement step1) c.with_last.ensures.app
 
 pub returns-clause-local : goal.returns-clause-local
 returns-clause-local c =
     let start : (out-Command c.about.result).has_globals ≡ false = ap (λ f. f.has_globals) c.about.ensures ∙ c.new.ensures.local in
     let step0 = c.in_ok-arg.ensures.globals ∙ ap₂ ◌||◌ start c.image.ensures.local in
-    let step1 = c.in_ok-arg-2.ensures.globals ∙ ap₂ ◌||◌ step0 c.file.ensures.local in
-    let step2 = c.in_ok-arg-3.ensures.globals ∙ ap₂ ◌||◌ step1 c.atomic.ensures.local in
-    IfOk-weaker c.arg-4.result _ _ (λ command added. added.globals ∙ ap₂ ◌||◌ step2 c.verbose.ensures.local) c.arg-4.ensures
+    let step1 = c.in_ok-command.ensures.globals ∙ ap₂ ◌||◌ step0 c.file.ensures.local in
+    c.with_last.ensures.local step1

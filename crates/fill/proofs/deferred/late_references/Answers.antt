@@ -1,7 +1,7 @@
 use Rattle.std.proofs.Common.{ℕ, sym, ap, ◌∙◌}
 use Rattle.heap_image.specs.HeapImage.{HasLiveList}
 use Rattle.summary.specs.Updates.{is_late_reference}
-use Rattle.fill.proofs.Late.{behind-parts, not_before, header_not_before, late_fits, late_sound}
+use Rattle.fill.proofs.Late.{behind-parts, not_before, header_not_before, late_sound}
 use Rattle.fill.proofs.Parts.{cut_behind}
 use Rattle.fill.proofs.deferred.late_references.Goals as goal
 
@@ -15,7 +15,6 @@ returns c =
     let header = c.moved_objects.ensures.header image s o.0 o.1 in
     record {
       region = o.4;
-      fits = late_fits image s d x c.requires.begins o.0 o.1 o.3 header (c.objects_keep_their_order.ensures.below image s o.0 o.1) (c.regions_to_fill.ensures.top image s);
       header = header_not_before image s d x c.requires.begins (c.update_then_clear.ensures.told image s)
           (ap (is_late_reference image) (sym o.3) ∙ c.update_then_clear.ensures.header image s o.0 o.1);
       once = λ p h. (let both = behind-parts image x p h in not_before image s d x c.requires.begins (c.update_then_clear.ensures.once image s) p both.0 both.1);

@@ -1,12 +1,10 @@
-use Rattle.std.proofs.Common.{◌≡◌, ◌∙◌, ◌<◌, ◌≤◌, ◌+◌, ◌==◌, ℕ, Bool, true, false, ap, ap₂, sym, subst, inl, inr, ◌⊎◌, refl, arith}
-use Rattle.std.specs.Prelude.{nat_lt, if◌then◌else◌}
-use Rattle.std.proofs.lemmas.Bool.{cases_Bool, false_from_ne_true, lt-ltb, ltb-true}
+use Rattle.std.proofs.Common.{◌≡◌, ◌∙◌, ◌<◌, true, false, sym, inl, inr, arith}
+use Rattle.std.proofs.lemmas.Bool.{cases_Bool, false_from_ne_true}
 use Rattle.std.proofs.lemmas.Bool.Decides.{leb_tells}
-use Rattle.heap_image.specs.HeapImage.{HeapImage, HasLiveList, end_of, is_live_word, live_words, size_at}
+use Rattle.heap_image.specs.HeapImage.{is_live_word}
 use Rattle.summary.specs.Compaction.{compact}
 use Rattle.summary.specs.LiveObjects.{object_at, object_count}
-use Rattle.summary.specs.NewAddresses.{new_address, new_end_of, prefix_end, stays}
-use Rattle.summary.specs.WordMoves.{slid}
+use Rattle.summary.specs.NewAddresses.{prefix_end}
 use Rattle.heap_map.proofs.Placed.{end, goes-up, place, stays-put}
 use Rattle.heap_map.proofs.laws.live_word_after.Goals as goal
 

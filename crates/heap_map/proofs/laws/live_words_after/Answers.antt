@@ -1,5 +1,5 @@
-use Rattle.std.proofs.Common.{◌≡◌, ◌∙◌, ◌<◌, ◌≤◌, ◌+◌, ◌-◌, ℕ, Bool, true, false, ap, sym, arith}
-use Rattle.heap_image.specs.HeapImage.{HeapImage, heap_words, is_live_word, live_words}
+use Rattle.std.proofs.Common.{◌-◌, arith}
+use Rattle.heap_image.specs.HeapImage.{heap_words, is_live_word}
 use Rattle.summary.specs.Compaction.{compact}
 use Rattle.summary.specs.NewAddresses.{new_top, prefix_end}
 use Rattle.summary.proofs.Blocks.{count_by-all}

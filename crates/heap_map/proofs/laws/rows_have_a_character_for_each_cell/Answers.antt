@@ -1,4 +1,4 @@
-use Rattle.std.proofs.Common.{◌≡◌, ◌∙◌, ◌+◌, ◌*◌, ℕ, List, [], ◌∷◌, ◌++◌, false, length, length-append, refl, ap, arith}
+use Rattle.std.proofs.Common.{◌≡◌, ◌*◌, ℕ, List, [], ◌∷◌, false, length, length-append, refl, arith}
 use Rattle.std.specs.Prelude.{flat_map}
 use Rattle.heap_map.specs.declared.area.Area.{Area}
 use Rattle.heap_map.specs.declared.area.Area.TheVariants.{Prefix, Fillers, Moving, Free, Mixed}

@@ -6,7 +6,7 @@ use Rattle.schedule_timeline.specs.declared.call.Call.{Call}
 use Rattle.schedule_timeline.specs.Timeline.{does, is_region}
 use Rattle.history.specs.declared.event.Event.TheVariants.{Claim}
 use Rattle.history.specs.declared.reply.Reply.TheVariants.{Yes}
-use Rattle.schedule_timeline.specs.FirstCalls.{AreFirst, first_of}
+use Rattle.schedule_timeline.specs.FirstCalls.{AreFirst, earlier_of}
 use Rattle.schedule_timeline.proofs.Tables.{noted, same}
 use Rattle.schedule_timeline.proofs.first_calls.first_calls.Goals as goal
 use Rattle.schedule_timeline.proofs.first_calls.first_calls.Goals.{in-Some, in_default}
@@ -29,7 +29,7 @@ loop-i-preserved c =
           (ap length items ∙ w.note.ensures.all ∙ ap length is)
           (λ r apart. ap (λ (list : List (Option Call)). slice_index_or list r None) items ∙ w.note.ensures.others r apart ∙ ap (λ (list : List (Option Call)). slice_index_or list r None) is)
           (λ few. ap (λ (list : List (Option Call)). slice_index_or list region None) items ∙ w.note.ensures.noted (subst (λ (list : List (Option Call)). region < length list) (sym is) few)
-          ∙ ap (λ (list : List (Option Call)). first_of (slice_index_or list region None) w.call_at.result) is)
+          ∙ ap (λ (list : List (Option Call)). earlier_of (slice_index_or list region None) w.call_at.result) is)
       | in_default w ↦
           same c.args.deed c.args.regions log c.loop-i.i other c.loop-i.calls.items c.match-region.calls.items c.loop-i-test.true c.loop-i.invariant
           (λ r. c.region.ensures r ∙ ap (is_region r) w.in_default.is) (ap (λ v. v.items) w.calls-is)

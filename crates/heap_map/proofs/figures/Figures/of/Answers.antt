@@ -1,4 +1,4 @@
-use Rattle.std.proofs.Common.{◌≡◌, ◌∙◌, ◌<◌, ◌≤◌, ◌+◌, ◌*◌, ◌-◌, ℕ, ap, ap₂, sym, subst, arith}
+use Rattle.std.proofs.Common.{◌≡◌, ◌∙◌, ◌<◌, ◌*◌, ℕ, ap, ap₂, subst, arith}
 use Rattle.heap_image.specs.HeapImage.{HeapImage, IsValid, heap_words, live_words, region_count, region_words}
 use Rattle.summary.specs.NewAddresses.{new_top, prefix_end}
 use Rattle.summary.specs.RegionData.{fill_count}

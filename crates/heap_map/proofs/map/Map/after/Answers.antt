@@ -1,14 +1,24 @@
-use Rattle.std.proofs.Common.{◌≡◌, ◌∙◌, ◌<◌, ◌≤◌, ◌+◌, ◌++◌, ◌∷◌, [], ℕ, List, zero-add, length, ap, sym, subst, arith}
+use Rattle.std.proofs.Common.{◌≡◌, ◌∙◌, ◌+◌, ◌++◌, ◌∷◌, [], List, zero-add, length, ap, sym, arith}
 use Rattle.std.specs.Prelude.{map}
 use Rattle.std.specs.List.{range_with_len}
 use Rattle.std.proofs.lemmas.List.FromFn.{length-map-range_with_len, map-range_with_len_more}
-use Rattle.heap_image.specs.HeapImage.{HeapImage, heap_words, last_end, live_words}
+use Rattle.heap_image.specs.HeapImage.{HeapImage, heap_words, live_words}
 use Rattle.summary.specs.Compaction.{compact, compacted_word}
 use Rattle.summary.specs.NewAddresses.{new_top, prefix_end}
 use Rattle.heap_map.specs.declared.cell.Cell.{Cell}
 use Rattle.heap_map.specs.Cells.{cell_at, cell_start}
-use Rattle.heap_map.proofs.Placed.{cell-same}
+use Rattle.heap_map.proofs.Placed.{cell-same, starts-ascend}
 use Rattle.heap_map.proofs.map.Map.after.Goals as goal
+
+pub cell-requires : goal.cell-requires
+cell-requires c =
+    let up = starts-ascend (heap_words c.args.image.now) c.min-count.result c.loop-i.i (omega arith) in
+    omega (arith, up, c.start_of-from.ensures.value, c.start_of-to.ensures.value)
+
+pub live_after-live-requires-clause-ordered : goal.live_after-live-requires-clause-ordered
+live_after-live-requires-clause-ordered c =
+    let up = starts-ascend (heap_words c.args.image.now) c.min-count.result c.loop-i.i (omega arith) in
+    omega (arith, up, c.start_of-from.ensures.value, c.start_of-to.ensures.value)
 
 pub loop-i-preserved : goal.loop-i-preserved
 loop-i-preserved c =

@@ -7,7 +7,7 @@ use Rattle.std.proofs.lemmas.Bool.{false≢true}
 use Rattle.std.proofs.lemmas.List.{with_items_is}
 use Rattle.history.specs.Slide.{Machine, AllowsWords}
 use Rattle.history.specs.WordMachine.{image_slide}
-use Rattle.history.specs.Ledger.{Tells, AreNoted}
+use Rattle.history.specs.Ledger.{Tells, AreWrittenBy}
 use Rattle.history.proofs.Ledgers.{copy_room, scheduler_refuses, ledger_leads}
 use Rattle.history.proofs.ledger.Ledger.step.Goals as goal
 use Rattle.history.proofs.ledger.Ledger.step.Goals.{then-not-allows-via-then-not-allows, then-not-allows-via-else-not-allows+then-not-allows_words}
@@ -34,8 +34,8 @@ returns-clause-leads c =
     let new : Ledger = record { scheduler = c.step.new.self; written = with_items c.args.self.now.written c.note.new.written } in
     let words : (w : Machine) → Tells old w → AllowsWords (image_slide c.args.plan.now) w c.args.event = λ w tells. (c.allows_words.ensures w tells).0 c.if-not-allows_words.false in
     let room = copy_room image c.regions-regions.ensures.valid old.scheduler.workers old c.args.worker c.args.event c.requires.kept (c.allows.ensures.0 c.if-not-allows.false) words in
-    let counts : AreNoted c.args.event old.written.items c.note.new.written = subst (λ (xs : List ℕ). AreNoted c.args.event xs c.note.new.written) c.deref_mut.ensures.value c.note.ensures in
+    let counts : AreWrittenBy c.args.event old.written.items c.note.new.written = subst (λ (xs : List ℕ). AreWrittenBy c.args.event xs c.note.new.written) c.deref_mut.ensures.value c.note.ensures in
     let long : length c.note.new.written ≡ old.written.len = omega (arith, c.note.auto.written, ap (length {A = ℕ}) c.deref_mut.ensures.value, old.written.ok.0) in
     let items : new.written.items ≡ c.note.new.written = with_items_is old.written c.note.new.written long in
-    let counts' : AreNoted c.args.event old.written.items new.written.items = subst (λ (xs : List ℕ). AreNoted c.args.event old.written.items xs) (sym items) counts in
+    let counts' : AreWrittenBy c.args.event old.written.items new.written.items = subst (λ (xs : List ℕ). AreWrittenBy c.args.event old.written.items xs) (sym items) counts in
     ledger_leads image old.scheduler.workers old new c.args.worker c.args.event c.in_ok-reply.reply c.requires.kept c.requires.worker c.in_ok-reply.ensures.ok words (λ d n is. (room d n is).0) counts'

@@ -1,4 +1,4 @@
-//! `Done`.
+//! `WorkDone`.
 ghost use Rattle.std.specs.Prelude.{◌≡◌, IfErr};
 ghost use Rattle.command_support.specs.Failure.{failed_device};
 
@@ -9,7 +9,7 @@ use std::rt::Files;
 
 /// What a command has done, but for its end.
 #[derive(Drop)]
-pub struct Done<'a> {
+pub struct WorkDone<'a> {
     /// What it prints.
     pub text: Vec<u8>,
     /// The new file for OUT, where it takes its place once all is printed.
@@ -20,12 +20,12 @@ pub struct Done<'a> {
     pub stats: Option<Stats>,
 }
 
-impl<'a> Done<'a> {
+impl<'a> WorkDone<'a> {
     /// It prints this, and no file takes the place of another.
-    pub fn printing(text: Vec<u8>) -> Done<'a>
+    pub fn printing(text: Vec<u8>) -> WorkDone<'a>
         ensures { result.text ≡ text }
     {
-        Done {
+        WorkDone {
             text,
             out: None,
             schedule: None,
@@ -34,10 +34,10 @@ impl<'a> Done<'a> {
     }
 
     /// And this is what the work took.
-    pub fn with_stats(self, stats: Stats) -> Done<'a>
+    pub fn with_stats(self, stats: Stats) -> WorkDone<'a>
         ensures { result.text ≡ self.entry.text }
     {
-        Done {
+        WorkDone {
             stats: Some(stats),
             ..self
         }

@@ -1,5 +1,5 @@
-//! `Target`.
-use crate::failed_call::{Call, FailedCall};
+//! `FileTarget`.
+use crate::failed_call::{FailedCall, SystemCall};
 use crate::file_id::FileId;
 use crate::file_word::FileWord;
 use crate::files::not_regular;
@@ -16,7 +16,7 @@ use std::{fs, io};
 
 /// A file to be written. It still is as it was found.
 #[derive(Drop)]
-pub struct Target<'a, F: Drop> {
+pub struct FileTarget<'a, F: Drop> {
     word: FileWord<'a>,
     /// What was there, or was made for want of it.
     found: Option<Metadata>,
@@ -32,7 +32,7 @@ enum Way<F: Drop> {
     Beside(PathBuf),
 }
 
-impl<'a, F: OpenFile + Drop> Target<'a, F> {
+impl<'a, F: OpenFile + Drop> FileTarget<'a, F> {
     /// Finds the file of this word: opens it for writing, and makes it if it isn't there; or, where
     /// it is to be replaced, looks at what is there.
     ///
@@ -42,21 +42,21 @@ impl<'a, F: OpenFile + Drop> Target<'a, F> {
         host: &H,
         word: FileWord<'a>,
         atomic: bool,
-    ) -> Result<Target<'a, F>, Trouble<'a>> {
+    ) -> Result<FileTarget<'a, F>, Trouble<'a>> {
         if atomic {
-            Target::beside(host, word)
+            FileTarget::beside(host, word)
         } else {
-            Target::in_place(host, word)
+            FileTarget::in_place(host, word)
         }
     }
 
     fn in_place<H: Files<File = F> + AllocGlobal>(
         host: &H,
         word: FileWord<'a>,
-    ) -> Result<Target<'a, F>, Trouble<'a>> {
-        let (file, is_new) = called(word, Call::Open, open(host, word.name))?;
-        match called(word, Call::Stat, file.metadata()) {
-            Ok(found) => Ok(Target {
+    ) -> Result<FileTarget<'a, F>, Trouble<'a>> {
+        let (file, is_new) = called(word, SystemCall::Open, open(host, word.name))?;
+        match called(word, SystemCall::Stat, file.metadata()) {
+            Ok(found) => Ok(FileTarget {
                 word,
                 found: Some(found),
                 way: Way::InPlace { file, is_new },
@@ -73,16 +73,10 @@ impl<'a, F: OpenFile + Drop> Target<'a, F> {
     fn beside<H: Files<File = F> + AllocGlobal>(
         host: &H,
         word: FileWord<'a>,
-    ) -> Result<Target<'a, F>, Trouble<'a>> {
-        let (place, found) = match fs::symlink_metadata(host, word.name) {
-            Ok(named) => standing(host, word, named.is_symlink())?,
-            Err(error) if error.kind() == ErrorKind::NotFound => {
-                (PathBuf::from_str(host.alloc(), word.name)?, None)
-            }
-            Err(error) => return Err(Trouble::of_call(word, FailedCall::of(Call::Stat, &error))),
-        };
+    ) -> Result<FileTarget<'a, F>, Trouble<'a>> {
+        let (place, found) = replaced(host, word)?;
         let way = Way::Beside(place);
-        Ok(Target { word, found, way })
+        Ok(FileTarget { word, found, way })
     }
 
     /// The file's word.
@@ -110,7 +104,7 @@ impl<'a, F: OpenFile + Drop> Target<'a, F> {
     pub fn is_same<H: Files<File = F>>(
         &self,
         host: &H,
-        other: &Target<'a, F>,
+        other: &FileTarget<'a, F>,
     ) -> Result<bool, Trouble<'a>> {
         match (&self.found, &other.found) {
             (Some(one), Some(other)) => Ok(FileId::of(one).is_same(FileId::of(other))),
@@ -135,22 +129,9 @@ impl<'a, F: OpenFile + Drop> Target<'a, F> {
         self,
         host: &H,
     ) -> Result<Output<'a, F>, Trouble<'a>> {
-        let Target { word, found, way } = self;
+        let FileTarget { word, found, way } = self;
         match way {
-            Way::InPlace { file, .. } => {
-                let (is_regular, len) = match found {
-                    Some(found) => (found.is_file(), found.len()),
-                    None => (false, 0),
-                };
-                if is_regular && len > 0 {
-                    called(word, Call::Empty, file.set_len(0))?;
-                }
-                Ok(Output {
-                    file: Watched::new(word, file),
-                    may_have_holes: is_regular,
-                    replacement: None,
-                })
-            }
+            Way::InPlace { file, .. } => begin_in_place(word, file, found),
             Way::Beside(place) => {
                 let (file, replacement) = Replacement::make(host, word, place, found.as_ref())?;
                 Ok(Output {
@@ -161,6 +142,26 @@ impl<'a, F: OpenFile + Drop> Target<'a, F> {
             }
         }
     }
+}
+
+/// Empties a file that is written where it stands.
+fn begin_in_place<'a, F: OpenFile + Drop>(
+    word: FileWord<'a>,
+    file: F,
+    found: Option<Metadata>,
+) -> Result<Output<'a, F>, Trouble<'a>> {
+    let (is_regular, len) = match found {
+        Some(found) => (found.is_file(), found.len()),
+        None => (false, 0),
+    };
+    if is_regular && len > 0 {
+        called(word, SystemCall::Empty, file.set_len(0))?;
+    }
+    Ok(Output {
+        file: Watched::new(word, file),
+        may_have_holes: is_regular,
+        replacement: None,
+    })
 }
 
 /// The file of this name, open for writing, and whether it was made.
@@ -197,24 +198,44 @@ fn writable<H: Files>(host: &H, name: &str) -> io::Result<Metadata> {
     OpenOptions::new().write(true).open(host, name)?.metadata()
 }
 
+/// The place of a file that is to be replaced, and what is told of it, or of one that isn't there yet.
+fn replaced<'a, H: Files + AllocGlobal>(
+    host: &H,
+    word: FileWord<'a>,
+) -> Result<(PathBuf, Option<Metadata>), Trouble<'a>> {
+    match fs::symlink_metadata(host, word.name) {
+        Ok(named) => standing(host, word, named.is_symlink()),
+        Err(error) if error.kind() == ErrorKind::NotFound => {
+            Ok((PathBuf::from_str(host.alloc(), word.name)?, None))
+        }
+        Err(error) => Err(Trouble::of_call(word, FailedCall::of(SystemCall::Stat, &error))),
+    }
+}
+
 /// The place of a file that is to be replaced, and what is told of it. It must be a regular file.
 fn standing<'a, H: Files + AllocGlobal>(
     host: &H,
     word: FileWord<'a>,
     is_link: bool,
 ) -> Result<(PathBuf, Option<Metadata>), Trouble<'a>> {
-    match fs::metadata(host, word.name) {
-        Ok(found) if found.is_file() => {}
-        Err(error) if error.kind() != ErrorKind::NotFound => {
-            return Err(Trouble::of_call(word, FailedCall::of(Call::Stat, &error)));
-        }
-        _ => {
-            return Err(not_regular(host.alloc(), word)?);
-        }
-    }
+    must_be_regular(host, word)?;
     let place = place_of(host, word, is_link)?;
-    let found = called(word, Call::Open, writable(host, word.name))?;
+    let found = called(word, SystemCall::Open, writable(host, word.name))?;
     Ok((place, Some(found)))
+}
+
+/// What a name leads to must be a regular file.
+fn must_be_regular<'a, H: Files + AllocGlobal>(
+    host: &H,
+    word: FileWord<'a>,
+) -> Result<(), Trouble<'a>> {
+    match fs::metadata(host, word.name) {
+        Ok(found) if found.is_file() => Ok(()),
+        Err(error) if error.kind() != ErrorKind::NotFound => {
+            Err(Trouble::of_call(word, FailedCall::of(SystemCall::Stat, &error)))
+        }
+        _ => Err(not_regular(host.alloc(), word)?),
+    }
 }
 
 /// The place of a file: its name, or where that leads if it is a link.
@@ -229,7 +250,7 @@ fn place_of<'a, H: Files + AllocGlobal>(
     match fs::canonicalize(host, word.name) {
         Ok(place) => Ok(place),
         Err(error) if error.kind() == ErrorKind::OutOfMemory => Err(Trouble::from(AllocError)),
-        Err(error) => Err(Trouble::of_call(word, FailedCall::of(Call::Stat, &error))),
+        Err(error) => Err(Trouble::of_call(word, FailedCall::of(SystemCall::Stat, &error))),
     }
 }
 
@@ -244,12 +265,12 @@ fn is_one_place<'a, H: Files>(
     }
     let first = called(
         one,
-        Call::Stat,
+        SystemCall::Stat,
         fs::metadata(host, folder_of(Path::new(one.name))),
     )?;
     let second = called(
         other,
-        Call::Stat,
+        SystemCall::Stat,
         fs::metadata(host, folder_of(Path::new(other.name))),
     )?;
     Ok(FileId::of(&first).is_same(FileId::of(&second)))

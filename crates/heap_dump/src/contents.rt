@@ -1,43 +1,43 @@
-//! `Extent`: what an object has besides its header.
+//! `Contents`: what an object has besides its header.
 use crate::field_type::{FieldType, IdSize};
 
 /// How many references and how many bytes of primitive data an object has.
 #[derive(Clone, Copy)]
-pub(crate) struct Extent {
+pub(crate) struct Contents {
     pub(crate) references: u64,
     pub(crate) data_bytes: u64,
 }
 
-impl Extent {
-    pub(crate) const EMPTY: Extent = Extent {
+impl Contents {
+    pub(crate) const EMPTY: Contents = Contents {
         references: 0,
         data_bytes: 0,
     };
 
-    /// The extent of an array of so many references.
-    pub(crate) fn of_references(count: u32) -> Extent {
-        Extent {
+    /// The contents of an array of so many references.
+    pub(crate) fn of_references(count: u32) -> Contents {
+        Contents {
             references: u64::from(count),
-            ..Extent::EMPTY
+            ..Contents::EMPTY
         }
     }
 
-    /// The extent of an array of so many primitive values of this type.
-    pub(crate) fn of_data(count: u32, element: FieldType) -> Extent {
-        Extent {
+    /// The contents of an array of so many primitive values of this type.
+    pub(crate) fn of_data(count: u32, element: FieldType) -> Contents {
+        Contents {
             data_bytes: u64::from(count) * element.data_bytes() as u64,
-            ..Extent::EMPTY
+            ..Contents::EMPTY
         }
     }
 
     /// With a value of this type more.
-    pub(crate) fn with(self, field: FieldType) -> Extent {
+    pub(crate) fn with(self, field: FieldType) -> Contents {
         match field {
-            FieldType::Reference => Extent {
+            FieldType::Reference => Contents {
                 references: self.references.saturating_add(1),
                 ..self
             },
-            _ => Extent {
+            _ => Contents {
                 data_bytes: self.data_bytes.saturating_add(field.data_bytes() as u64),
                 ..self
             },
@@ -45,14 +45,14 @@ impl Extent {
     }
 
     /// Both together.
-    pub(crate) fn plus(self, other: Extent) -> Extent {
-        Extent {
+    pub(crate) fn plus(self, other: Contents) -> Contents {
+        Contents {
             references: self.references.saturating_add(other.references),
             data_bytes: self.data_bytes.saturating_add(other.data_bytes),
         }
     }
 
-    /// How many words an object of this extent has in an image: its header, its references, and its data.
+    /// How many words an object of these contents has in an image: its header, its references, and its data.
     pub(crate) fn words(self) -> u64 {
         self.references
             .saturating_add(self.data_bytes.div_ceil(8))

@@ -2,7 +2,7 @@ use Rattle.std.proofs.Common.{sym, subst}
 use Rattle.std.proofs.lemmas.Result.{IfOk-weaker}
 use Rattle.heap_commands.specs.Timeline.{IsTimeline}
 use Rattle.heap_commands.proofs.Timelines.{figures_are_a_timeline}
-use Rattle.heap_commands.proofs.timeline.written.Goals as goal
+use Rattle.heap_commands.proofs.timeline.written_to.Goals as goal
 
 pub returns-in-Ok : goal.returns-in-Ok
 returns-in-Ok g c =

@@ -1,0 +1,23 @@
+use Rattle.std.proofs.Common.{◌≡◌, ◌∙◌, ap, ap₂, false, codes}
+use Rattle.std.proofs.lemmas.Result.{IfOk-weaker}
+use Rattle.std.specs.Prelude.{◌||◌}
+use Rattle.clap.specs.Simple.{app_of_fields}
+use Rattle.clap.specs.Words.{app_of, new_app, with_rule}
+use Rattle.clap.specs.declared.builder.command.Command.TheViews.{out-Command}
+use Rattle.command_line.proofs.map.with_cells.Goals as goal
+
+pub returns-clause-app : goal.returns-clause-app
+returns-clause-app c =
+    let start : app_of c.about.result ≡ new_app (codes "map") = ap app_of_fields c.about.ensures ∙ c.new.ensures.app in
+    let step0 = c.in_ok-arg.ensures.shape c.image.ensures.local ∙ ap₂ with_rule start c.image.ensures.rule in
+    let step1 = c.in_ok-arg-2.ensures.shape c.flag.ensures.local ∙ ap₂ with_rule step0 c.flag.ensures.rule in
+    let step2 = c.in_ok-arg-3.ensures.shape c.width.ensures.local ∙ ap₂ with_rule step1 c.width.ensures.rule in
+    IfOk-weaker c.arg-4.result _ _ (λ command added. added.shape c.svg.ensures.local ∙ ap₂ with_rule step2 c.svg.ensures.rule) c.arg-4.ensures
+
+pub returns-clause-local : goal.returns-clause-local
+returns-clause-local c =
+    let start : (out-Command c.about.result).has_globals ≡ false = ap (λ f. f.has_globals) c.about.ensures ∙ c.new.ensures.local in
+    let step0 = c.in_ok-arg.ensures.globals ∙ ap₂ ◌||◌ start c.image.ensures.local in
+    let step1 = c.in_ok-arg-2.ensures.globals ∙ ap₂ ◌||◌ step0 c.flag.ensures.local in
+    let step2 = c.in_ok-arg-3.ensures.globals ∙ ap₂ ◌||◌ step1 c.width.ensures.local in
+    IfOk-weaker c.arg-4.result _ _ (λ command added. added.globals ∙ ap₂ ◌||◌ step2 c.svg.ensures.local) c.arg-4.ensures

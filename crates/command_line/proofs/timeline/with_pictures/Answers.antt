@@ -1,0 +1,17 @@
+use Rattle.std.proofs.Common.{◌∙◌, ap, ap₂}
+use Rattle.std.proofs.lemmas.Result.{IfOk-weaker}
+use Rattle.std.specs.Prelude.{◌||◌}
+use Rattle.clap.specs.Words.{app_of, with_rule}
+use Rattle.command_line.proofs.timeline.with_pictures.Goals as goal
+
+pub returns-clause-app : goal.returns-clause-app
+returns-clause-app c =
+    let step0 = c.in_ok-arg.ensures.shape c.width.ensures.local ∙ ap (with_rule (app_of c.args.command)) c.width.ensures.rule in
+    let step1 = c.in_ok-arg-2.ensures.shape c.svg.ensures.local ∙ ap₂ with_rule step0 c.svg.ensures.rule in
+    IfOk-weaker c.arg-3.result _ _ (λ command added. added.shape c.html.ensures.local ∙ ap₂ with_rule step1 c.html.ensures.rule) c.arg-3.ensures
+
+pub returns-clause-local : goal.returns-clause-local
+returns-clause-local c start =
+    let step0 = c.in_ok-arg.ensures.globals ∙ ap₂ ◌||◌ start c.width.ensures.local in
+    let step1 = c.in_ok-arg-2.ensures.globals ∙ ap₂ ◌||◌ step0 c.svg.ensures.local in
+    IfOk-weaker c.arg-3.result _ _ (λ command added. added.globals ∙ ap₂ ◌||◌ step1 c.html.ensures.local) c.arg-3.ensures
