@@ -1,5 +1,5 @@
 -- Why workers end before all regions to fill are settled.
-use Rattle.std.specs.Prelude.{◌≡◌, ℕ, ◌<◌, ◌⊎◌}
+use Rattle.std.specs.Prelude.{◌≡◌, ℕ, ◌<◌, ◌⊎◌, Option, Some, None, Result, Ok, Err}
 use Rattle.heap_image.specs.HeapImage.{HeapImage}
 use Rattle.heap_image.specs.declared.fault.Fault.{Fault}
 use Rattle.heap_image.specs.declared.fault.Fault.TheVariants.{Gate}
@@ -21,6 +21,12 @@ MayRefuse may_refuse workers image = MayBeRefused (λ r. MayBeRefused (λ n. may
 abbrev pub MayHalt : (Fault → Type 0) → (ℕ → Type 0) → ℕ → Halt → Type 0
 MayHalt may_fail may_refuse regions Stopped = Unit {0}
 MayHalt may_fail may_refuse regions (Failed fault) = IsFaultOf may_fail fault ⊎ ((fault ≡ Gate) × MayBeRefused may_refuse regions)
+
+-- the fault that a worker which ended so has met itself
+unfoldable pub met_fault : Result Unit Halt → Option Fault
+met_fault (Ok _) = None
+met_fault (Err Stopped) = None
+met_fault (Err (Failed fault)) = Some fault
 
 -- a collection of the image by so many workers meets the fault: that of a fill, or the gate's, which may refuse
 abbrev pub IsLostTo : (Fault → Type 0) → (ℕ → ℕ → Type 0) → ℕ → HeapImage → Fault → Type 0

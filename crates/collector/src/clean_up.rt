@@ -9,10 +9,10 @@ use crate::valid::planned_image_is_valid;
 use fill::{clear_above, update_deferred_by_workers};
 use heap_image::{Fault, Image, ImageParts, roots_are_null_or_live};
 use region_cells::Cells;
-use std::thread;
 use std::thread::Threads;
 use summary::laws::compaction::compaction_is_valid;
 use summary::{Plan, Survey};
+use thread_row::for_each_mut;
 
 /// How many words are worth a thread of their own.
 const LEAST: usize = 16_384;
@@ -79,7 +79,7 @@ fn redirect_all(words: &mut [u64], plan: &Plan, workers: usize, threads: &(impl 
     {
         *w = plan.redirected(*w);
     };
-    thread::for_each_mut(threads, words, count, &redirect);
+    for_each_mut(threads, words, count, &redirect);
 }
 
 /// Puts the new address of each live object in the place of the old one, by so many threads at most.
@@ -95,7 +95,7 @@ fn redirect_live(live: &mut [u64], survey: &Survey, workers: usize, threads: &(i
     {
         *a = plan.new_address(marks, *a);
     };
-    thread::for_each_mut(threads, live, count, &redirect);
+    for_each_mut(threads, live, count, &redirect);
 }
 
 /// How many threads so many words are worth, of these workers.

@@ -19,10 +19,10 @@ use history::moves_of_images;
 use region_cells::Cells;
 use std::sync::Wait;
 use std::sync::atomic::{AtomicBool, Ordering};
-use std::thread;
 use std::thread::Threads;
 use summary::Survey;
 use summary::laws::region_data::regions_to_fill;
+use thread_row::for_each_mut;
 
 /// What the workers of one collection share.
 #[derive(Drop)]
@@ -261,5 +261,5 @@ where
         };
         own.work(number as u32, worker)
     };
-    thread::for_each_mut(threads, workers, count, &work);
+    for_each_mut(threads, workers, count, &work);
 }

@@ -30,9 +30,10 @@
 //! # What is only tested, or not said
 //!
 //! That a collection ends, that several threads run, and that fault 15 doesn't come: tests with gates show it. That the
-//! fault answered is the lowest worker's. That the schedule of `record` is what its own workers did: orders that a gate
-//! forces show it. That what a `Thief` takes was pushed, and that each number is taken once: two threads that steal show
-//! it. The order in which `take` asks. No contract says how long a call takes, nor that `verify` has memory enough.
+//! fault answered is the lowest worker's is proved of the function that picks it, and said by no clause of a public call.
+//! That the schedule of `record` is what its own workers did: orders that a gate forces show it. That what a `Thief` takes
+//! was pushed, and that each number is taken once: two threads that steal show it. The order in which `take` asks. No
+//! contract says how long a call takes, nor that `verify` has memory enough.
 #![tactic(auto)]
 
 mod clean_up;
@@ -46,8 +47,6 @@ mod gate;
 mod laws;
 mod outcome;
 mod prepared;
-#[cfg(test)]
-mod prepared_tests;
 mod reading;
 mod ready;
 mod record_streaming;

@@ -1,8 +1,8 @@
 //! `Prepared`: a collection over any desk, before any worker begins.
-ghost use Rattle.std.specs.Prelude.{◌≡◌, ◌<◌, ◌≤◌, ◌↔◌, ◌⊎◌, ℕ, [], All, vec_len, IfOk, IfErr, IfSome, slice_index_or, length, Err};
+ghost use Rattle.std.specs.Prelude.{◌≡◌, ◌<◌, ◌≤◌, ◌↔◌, ◌⊎◌, ℕ, [], All, vec_len, IfOk, IfErr, IfSome, slice_index_or, length, None, Err};
 ghost use Rattle.std.specs.Vec.{vec_capacity};
 ghost use Rattle.summary.specs.Compaction.{compact};
-ghost use Rattle.collector.specs.Halts.{IsLostTo};
+ghost use Rattle.collector.specs.Halts.{IsLostTo, met_fault};
 ghost use Rattle.collector.specs.Collections.{figures_of, AreNoneOrTooMany};
 ghost use Rattle.collector.specs.declared.worker.Halt.TheVariants.{Failed};
 
@@ -13,7 +13,7 @@ use crate::equipment::Equipment;
 use crate::gate::Gate;
 use crate::outcome::{Figures, Outcome};
 use crate::staff::Staff;
-use crate::worker::{Halt, Worker};
+use crate::worker::Worker;
 use heap_image::{Fault, Image};
 use history::MAX_WORKERS;
 use region_cells::Cells;
@@ -172,11 +172,13 @@ where
 /// The fault of the lowest worker that met one.
 pub(crate) fn first_fault<S>(workers: &[Worker<S>]) -> Option<Fault>
     ensures { IfSome result (λ fault. (k : ℕ) × (w : _) × (k < length workers.now)
-        × (slice_index_or workers.now k w ≡ w) × (w.end ≡ Err (Failed fault))) }
+        × (slice_index_or workers.now k w ≡ w) × (w.end ≡ Err (Failed fault))
+        × ((j : ℕ) (v : _) → j < k → met_fault (slice_index_or workers.now j v).end ≡ None)) }
 {
     for worker in workers {
-        if let Err(Halt::Failed(fault)) = worker.end {
-            return Some(fault);
+        let met = worker.fault();
+        if met.is_some() {
+            return met;
         }
     }
     None

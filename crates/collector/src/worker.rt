@@ -1,5 +1,6 @@
 //! `Worker`: one of those that fill regions.
 ghost use Rattle.std.specs.Prelude.{◌≡◌};
+ghost use Rattle.collector.specs.Halts.{met_fault};
 ghost use Rattle.collector.specs.declared.worker.Halt.TheVariants.{Failed};
 
 use crate::ready::Ready;
@@ -13,6 +14,19 @@ pub(crate) struct Worker<S> {
     pub(crate) ready: Ready,
     /// How it ended: well, if all regions to fill are settled.
     pub(crate) end: Result<(), Halt>,
+}
+
+impl<S> Worker<S> {
+    /// The fault that it has met itself, if any.
+    #[tactic(auto, unfolding(crate::specs::Halts::met_fault))]
+    pub(crate) fn fault(&self) -> Option<Fault>
+        ensures { result ≡ met_fault self.now.end }
+    {
+        match self.end {
+            Err(Halt::Failed(fault)) => Some(fault),
+            Ok(()) | Err(Halt::Stopped) => None,
+        }
+    }
 }
 
 /// Why a worker ends before all regions to fill are settled.

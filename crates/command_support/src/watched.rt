@@ -3,13 +3,11 @@ use crate::failed_call::{FailedCall, SystemCall};
 use crate::file_id::FileId;
 use crate::file_word::FileWord;
 use crate::trouble::{Trouble, called};
+use heap_image::FRONT_BYTES;
 use std::fs::{Metadata, OpenFile};
 use std::io::{Read, Seek, SeekFrom, Write};
 use std::rt::Files;
 use std::{fs, io};
-
-/// How many bytes are kept of those that a file gives first: the front of an image.
-const FRONT_BYTES: usize = 32;
 
 /// A file of the command line, which remembers the first bytes that it gave, and how a call on it
 /// failed. What it gives and takes is what the file gives and takes.

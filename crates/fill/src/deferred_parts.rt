@@ -28,7 +28,7 @@ impl<T: Threads + Sync> DeferredParts<'_, T> {
         requires { IsMovedPart self.now.plan.now first regions.old }
         ensures { IsUpdatedPart self.now.plan.now first (length regions.old) regions.new }
     {
-        match middle_cut(regions, self.plan, first, most) {
+        match first_cut(regions, self.plan, first, most) {
             Some(cut) => {
                 let (low, high) = regions.split_at_mut(cut);
                 self.update_both(low, high, first, most);
@@ -48,12 +48,11 @@ impl<T: Threads + Sync> DeferredParts<'_, T> {
     {
         planned_image_is_valid(self.plan);
         let middle = first + low.len() as u32;
-        let few = most / 2;
-        let others = most - few;
+        let others = most - 1;
         let mut lower = ||
             requires { IsMovedPart self.now.plan.now first low.now }
             ensures { IsUpdatedPart self.entry.now.plan.now first (length low.entry.now) low.exit.now }
-        { self.update(low, first, few) };
+        { self.update(low, first, 1) };
         let mut upper = ||
             requires { IsMovedPart self.now.plan.now middle high.now }
             ensures { IsUpdatedPart self.entry.now.plan.now middle (length high.entry.now) high.exit.now }
@@ -62,19 +61,21 @@ impl<T: Threads + Sync> DeferredParts<'_, T> {
     }
 }
 
-/// How many regions of a part come before a place in its middle at which it can be cut. None where the part has
-/// too few regions to fill for that, or has no such place in their upper half.
-fn middle_cut(regions: &[Region], plan: &Plan, first: u32, most: usize) -> Option<usize>
+/// How many regions of a part come before the place at which it is cut, which are the share of one of so many threads, and
+/// more only where a part can't be cut there. None where the part has too few regions to fill for two threads, or has no
+/// such place.
+fn first_cut(regions: &[Region], plan: &Plan, first: u32, most: usize) -> Option<usize>
     requires { IsMovedPart plan.now first regions.now }
     ensures most { IsSome result → 1 < most }
     ensures cut { IfSome result (λ cut. (cut ≤ length regions.now) × IsCut plan.now (first + cut)) }
 {
     let filled = plan.fill_regions().saturating_sub(first) as usize;
     let filled = filled.min(regions.len());
-    if most < 2 || filled < 2 * LEAST_REGIONS {
+    let most = most.min(filled / LEAST_REGIONS);
+    if most < 2 {
         return None;
     }
-    for cut in filled / 2..filled {
+    for cut in filled / most..filled {
         if is_cut(regions, plan, first, cut) {
             return Some(cut);
         }

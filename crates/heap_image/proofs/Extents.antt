@@ -10,7 +10,7 @@ use Rattle.std.specs.Int.{w64, to_le_bytes}
 use Rattle.std.specs.Io.KnownBytes.{Consumes}
 use Rattle.heap_image.specs.HeapImage.{AreBlocks}
 use Rattle.heap_image.specs.ImageText.{numbers}
-use Rattle.heap_image.specs.Extents.{AreHalves, AreRegionsOf, from_place, extent_end}
+use Rattle.heap_image.specs.Extents.{AreTwoParts, AreRegionsOf, from_place, extent_end}
 use Rattle.heap_image.specs.declared.side_by_side.Extent.{Extent}
 use Rattle.heap_image.proofs.Known.{consumes_more}
 
@@ -27,7 +27,7 @@ consumes_at (Some bytes) at n (Some ys) xs e h =
     h ∙ ap (λ l. xs ++ l) (sym rest)
 
 -- the regions of both halves are those of the whole
-pub joined : (known : Option (List ℕ)) (extent low high : Extent) (first second : List (List ℕ)) → AreHalves extent low high → AreRegionsOf known low first → AreRegionsOf known high second → AreRegionsOf known extent (first ++ second)
+pub joined : (known : Option (List ℕ)) (extent low high : Extent) (first second : List (List ℕ)) → AreTwoParts extent low high → AreRegionsOf known low first → AreRegionsOf known high second → AreRegionsOf known extent (first ++ second)
 joined known extent low high first second halves a b =
     let same_log : (log : ℕ) → log ≡ extent.region_log → (blocks : List (List ℕ)) → AreBlocks log blocks → AreBlocks extent.region_log blocks = λ log e blocks h. subst (λ l. AreBlocks l blocks) e h in
     let words : concat (first ++ second) ≡ concat first ++ concat second = concat-append first second in

@@ -24,7 +24,7 @@ pub record IsExtent (extent : Extent) : Type 0 where
   pub inside : extent_end extent < 2 ^ 64
 
 -- the first regions of an extent, and the others
-pub record AreHalves (extent low high : Extent) : Type 0 where
+pub record AreTwoParts (extent low high : Extent) : Type 0 where
   pub low_log : low.region_log ≡ extent.region_log
   pub high_log : high.region_log ≡ extent.region_log
   pub at : low.at ≡ extent.at

@@ -1,6 +1,6 @@
 //! Regions that several threads read side by side.
 ghost use Rattle.std.specs.Prelude.{◌≡◌, ◌++◌, ◌<◌, ◌≤◌, ◌^◌, IfSome};
-ghost use Rattle.heap_image.specs.Extents.{AreHalves, AreRegionsOf, IsExtent, extent_end, extent_words};
+ghost use Rattle.heap_image.specs.Extents.{AreRegionsOf, AreTwoParts, IsExtent, extent_end, extent_words};
 
 use crate::cursor::Cursor;
 use crate::incoming::Incoming;
@@ -10,6 +10,7 @@ use raw_region::Region;
 use std::alloc::Global;
 use std::thread;
 use std::thread::Threads;
+use thread_row::behind_an_empty_thread;
 
 /// How many words are worth a thread of their own.
 const LEAST_WORDS: usize = 65_536;
@@ -36,17 +37,18 @@ impl Extent {
         self.at.checked_add(8 * words)
     }
 
-    /// The first half of the regions, and the others.
-    fn halves(self) -> (Extent, Extent)
-        requires { IsExtent self }
-        ensures { AreHalves self result.0 result.1 }
+    /// The first of so many parts of the regions, and the others.
+    fn split(self, parts: usize) -> (Extent, Extent)
+        requires extent { IsExtent self }
+        requires some { 0 < parts }
+        ensures { AreTwoParts self result.0 result.1 }
     {
         let Extent {
             at,
             region_log,
             count,
         } = self;
-        let few = count / 2;
+        let few = count / parts;
         let low = Extent {
             at,
             region_log,
@@ -81,20 +83,41 @@ pub fn regions_at<S: Store>(
     requires { IsExtent extent }
     ensures { IfSome result (λ regions. AreRegionsOf (S.bytes store.now) extent regions.items) }
 {
-    if most < 2 || extent.words() < 2 * LEAST_WORDS {
+    let most = most.min(extent.words() / LEAST_WORDS);
+    if most < 2 {
         return regions_in_order(alloc, store, extent);
     }
-    let (low, high) = extent.halves();
-    let few = most / 2;
-    let others = most - few;
+    let in_row = move || -> Option<Vec<Region>>
+        requires { IsExtent extent × (most < 2 ^ 64) }
+        ensures { IfSome result (λ regions. AreRegionsOf (S.bytes store.entry.now) extent regions.items) }
+    { regions_in_row(alloc, store, extent, most, threads) };
+    behind_an_empty_thread(threads, in_row)
+}
+
+/// The regions of an extent, read by so many threads, of which this one starts the others. None as for [`regions_at`].
+fn regions_in_row<S: Store>(
+    alloc: Global,
+    store: &S,
+    extent: Extent,
+    most: usize,
+    threads: &(impl Threads + Sync),
+) -> Option<Vec<Region>>
+    requires { IsExtent extent }
+    ensures { IfSome result (λ regions. AreRegionsOf (S.bytes store.now) extent regions.items) }
+{
+    if most < 2 {
+        return regions_in_order(alloc, store, extent);
+    }
+    let (low, high) = extent.split(most);
+    let others = most - 1;
     let first = move || -> Option<Vec<Region>>
-        requires { IsExtent low × (few < 2 ^ 64) }
+        requires { IsExtent low }
         ensures { IfSome result (λ regions. AreRegionsOf (S.bytes store.entry.now) low regions.items) }
-    { regions_at(alloc, store, low, few, threads) };
+    { regions_in_order(alloc, store, low) };
     let second = move || -> Option<Vec<Region>>
         requires { IsExtent high × (others < 2 ^ 64) }
         ensures { IfSome result (λ regions. AreRegionsOf (S.bytes store.entry.now) high regions.items) }
-    { regions_at(alloc, store, high, others, threads) };
+    { regions_in_row(alloc, store, high, others, threads) };
     let (first, second) = thread::join(threads, first, second);
     both(first?, second?)
 }

@@ -16,8 +16,8 @@ use crate::crowd::Crowd;
 use crate::header;
 use crate::heap::Heap;
 use std::alloc::{AllocError, Global};
-use std::thread;
 use std::thread::Threads;
+use thread_row::for_each_mut;
 
 /// How many objects are a piece.
 pub const PIECE: usize = 64;
@@ -74,7 +74,7 @@ fn noted_sizes<T: Threads + Sync>(
             × AreTargets (with_live heap.now live.now) targets.now × (64 * piece < length live.now) }
         ensures { AreNoted (with_live heap.entry.now live.entry.now) piece sizes.new }
     { note_sizes(heap, live, targets, piece, sizes) };
-    thread::for_each_mut(crowd.threads, sizes.as_mut_slice(), count, &note);
+    for_each_mut(crowd.threads, sizes.as_mut_slice(), count, &note);
     Ok(sizes)
 }
 

@@ -3,11 +3,12 @@ ghost use Rattle.history.specs.State.{opening, unsettled};
 ghost use Rattle.history.specs.MoveTable.{MoveTable, IsMoveTable, IsAscending, IsFirstPlace, IsNextSource, Slides, table_of, is_before, has_source, region_count, pairs_before};
 
 use crate::moves::Moves;
+use heap_image::limits;
 use std::alloc::{AllocError, Global};
 use std::marker::Model;
 
 /// A table has at most so many regions.
-const MAX_REGIONS: usize = 16_384;
+const MAX_REGIONS: usize = limits::MAX_REGIONS as usize;
 
 /// A table of moves that was handed in. It takes no memory of its own: a count walks the pairs, and a
 /// source is searched for. `IndexedMoves` has both at hand.

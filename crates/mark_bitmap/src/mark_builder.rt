@@ -18,8 +18,8 @@ pub(crate) struct MarkBuilder<'a, T: Threads + Sync> {
 }
 
 impl<T: Threads + Sync> MarkBuilder<'_, T> {
-    /// Sets the end bits and the live bits of the addresses from `64 * start` on. More words than a share are cut in two
-    /// parts for two threads, and so on.
+    /// Sets the end bits and the live bits of the addresses from `64 * start` on. Of more words than a share each share but
+    /// the last is for a thread that this one starts.
     #[cycle(parts)]
     pub(crate) fn mark(&self, start: usize, ends: &mut [u64], live: &mut [u64])
         requires share { 0 < self.now.share }
@@ -33,9 +33,8 @@ impl<T: Threads + Sync> MarkBuilder<'_, T> {
             mark_part(self.image, self.begins, start, ends, live);
             return;
         }
-        let middle = ends.len().div_ceil(self.share) / 2 * self.share;
-        let (low_ends, high_ends) = ends.split_at_mut(middle);
-        let (low_live, high_live) = live.split_at_mut(middle);
+        let (low_ends, high_ends) = ends.split_at_mut(self.share);
+        let (low_live, high_live) = live.split_at_mut(self.share);
         self.mark_both(start, low_ends, low_live, high_ends, high_live);
     }
 

@@ -2,21 +2,15 @@
 ghost use Rattle.std.specs.Prelude.{◌≤◌, ◌<◌, None, IfSome};
 ghost use Rattle.heap_image.specs.Extents.{AreRegionsOf, extent_words};
 
-use heap_image::{Extent, FileStore, regions_at};
+use heap_image::limits::{MAX_HEAP_WORDS, MAX_REGION_LOG};
+use heap_image::{Extent, FRONT_BYTES, FileStore, regions_at};
 use raw_region::Region;
 use std::alloc::Global;
 use std::os::unix::fs::FileExt;
 use std::thread::Threads;
 
-/// How many bytes stand before the words.
-const FRONT_BYTES: usize = 32;
-
 /// Fewer words are read in order.
 const LEAST_WORDS: u64 = 131_072;
-
-const MAX_WORDS: u64 = 4_194_304;
-
-const MAX_REGION_LOG: u32 = 16;
 
 /// The words of an image's file, which several threads have read side by side.
 #[derive(Drop)]
@@ -64,7 +58,7 @@ fn extent_of(front: &[u8; FRONT_BYTES]) -> Option<Extent>
     let words = u64::from_le_bytes([
         front[16], front[17], front[18], front[19], front[20], front[21], front[22], front[23],
     ]);
-    if region_log > MAX_REGION_LOG || words < LEAST_WORDS || words > MAX_WORDS {
+    if region_log > MAX_REGION_LOG || words < LEAST_WORDS || words > MAX_HEAP_WORDS {
         return None;
     }
     Some(Extent {

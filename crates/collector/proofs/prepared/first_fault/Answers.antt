@@ -1,12 +1,23 @@
-use Rattle.std.proofs.Common.{sym, ap, ◌∙◌, Err}
+use Rattle.std.proofs.Common.{◌≡◌, Result, Ok, Err, IfSome, refl, sym}
+use Rattle.heap_image.specs.declared.fault.Fault.{Fault}
+use Rattle.collector.specs.declared.worker.Halt.{Halt}
+use Rattle.collector.specs.declared.worker.Halt.TheVariants.{Stopped, Failed}
+use Rattle.collector.specs.Halts.{met_fault}
 use Rattle.collector.proofs.prepared.first_fault.Goals as goal
 
-pub returns-in-Err-Failed : goal.returns-in-Err-Failed
-returns-in-Err-Failed g c =
-    let fault_is = rw c.in-Err-Failed.is at c.in-Err-Failed.field-0-is in (
-      c.loop-worker.worker-index,
-      c.worker-item.result,
-      c.loop-worker-test.true,
-      sym c.worker-item.is,
-      c.in-Err-Failed.is ∙ ap Err fault_is,
-    )
+-- What a worker met itself is how it ended.
+ended_so : (end : Result Unit Halt) (P : Fault → Type 0) → ((fault : Fault) → end ≡ Err (Failed fault) → P fault) → IfSome (met_fault end) P
+unfolding met_fault
+ended_so (Ok _) P holds = search
+ended_so (Err Stopped) P holds = search
+ended_so (Err (Failed fault)) P holds = holds fault refl
+
+pub returns-then-is_some : goal.returns-then-is_some
+returns-then-is_some g c = rw c.fault-met.ensures (ended_so c.worker-item.result.end _ (λ fault ended. (
+  c.loop-worker.worker-index,
+  c.worker-item.result,
+  c.loop-worker-test.true,
+  sym c.worker-item.is,
+  ended,
+  c.loop-worker.invariant,
+)))

@@ -12,4 +12,4 @@ abbrev pub decreases-DeferredParts::update_both-upper : goal.decreases-DeferredP
 decreases-DeferredParts::update_both-upper g l = 3 * l.others + 2
 
 abbrev pub decreases-DeferredParts::update_both-lower : goal.decreases-DeferredParts::update_both-lower
-decreases-DeferredParts::update_both-lower g l = 3 * l.few + 2
+decreases-DeferredParts::update_both-lower g l = 5

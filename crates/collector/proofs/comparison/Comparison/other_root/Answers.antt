@@ -1,5 +1,4 @@
 use Rattle.std.proofs.Common.{◌≡◌, ◌∙◌}
-use Rattle.heap_image.specs.HeapImage.{HeapImage}
 use Rattle.collector.proofs.comparison.Comparison.other_root.Goals as goal
 
 pub redirected-requires : goal.redirected-requires

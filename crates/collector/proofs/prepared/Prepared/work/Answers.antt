@@ -16,6 +16,8 @@ returns-in-Some-clause-fault g c =
     let count : length before ≡ workers.len = ap length c.as_mut_slice.ensures.value ∙ sym workers.ok.0 in
     let kept : length after ≡ length before = c.work_all.auto.workers in
     let own : workers.len ≡ length after = omega (arith, kept, count) in
-    let failed = subst (λ ws. HasFailed ws fault) (c.as_slice-2.ensures.value ∙ front_of workers.len after _ own) c.in-Some.ensures in
+    let lowest = c.in-Some.ensures in
+    let met : HasFailed c.as_slice-2.result.now fault = (lowest.0, lowest.1, lowest.2, lowest.3, lowest.4) in
+    let failed = subst (λ ws. HasFailed ws fault) (c.as_slice-2.ensures.value ∙ front_of workers.len after _ own) met in
     subst (λ (n : ℕ). IsLostTo may_fail may n survey fault) count
     (cause_of may_fail (λ r. MayBeRefused (λ k. may k r) (length before)) (fill_count survey) after fault c.work_all.ensures.halts failed)

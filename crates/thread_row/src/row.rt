@@ -1,0 +1,131 @@
+//! Work in parts, all of whose threads the caller starts.
+ghost use Rattle.std.specs.Prelude.{◌≡◌, ℕ, ◌+◌, ◌^◌, ◌<◌, ◌≤◌, length, slice_index_or};
+ghost use Rattle.std.specs.Fork.{AcceptsAt, ChangesAt, AcceptsEach, ChangesEach};
+ghost use Rattle.thread_row.specs.Parts.{HoldFrom, BecomeFrom};
+ghost use denote.Param.Send.{IsSync, IsSend};
+
+use std::thread;
+use std::thread::{Threads, join, join_mut};
+
+/// Calls `g`, beside a thread that does nothing: it takes the place where the system would let the first thread wait that
+/// `g` starts. Where `g` starts threads, it should start all of them itself.
+pub fn behind_an_empty_thread<R: Threads, G: FnOnce() -> B, B>(rt: &R, g: G) -> B
+    requires { G.pre g }
+    ensures { G.post g result }
+{
+    let (_, given) = join(rt, || {}, g);
+    given
+}
+
+/// Calls `f(i, &mut s[i])` at each place, in at most `threads` threads, the caller's among them, which starts the others and
+/// one that does nothing. With one thread or one place it starts none.
+pub fn for_each_mut<R: Threads + Sync, T: Send, F: Fn(usize, &mut T) + Sync>(
+    rt: &R,
+    s: &mut [T],
+    threads: usize,
+    f: &F,
+)
+    requires threads { 0 < threads }
+    requires accepts { AcceptsEach F.Fn f.now s.old }
+    ensures { ChangesEach F.Fn f.now s.old s.new }
+{
+    if threads < 2 || s.len() < 2 {
+        thread::for_each_mut(rt, s, 1, f);
+        return;
+    }
+    let share = s.len().div_ceil(threads);
+    Row { rt, f, share }.start(s);
+}
+
+/// What the threads share that work on a row.
+#[derive(Drop)]
+struct Row<'a, R: Threads + Sync, F: Sync> {
+    rt: &'a R,
+    f: &'a F,
+    /// How many places a thread takes.
+    share: usize,
+}
+
+impl<R: Threads + Sync, F: Sync> Row<'_, R, F> {
+    /// Calls `f` at each place, beside a thread that does nothing.
+    fn start<T: Send>(&self, s: &mut [T])
+    where
+        F: Fn(usize, &mut T),
+        requires share { 0 < self.now.share }
+        requires accepts { HoldFrom (AcceptsAt F.Fn self.now.f.now) 0 s.old }
+        ensures { BecomeFrom (ChangesAt F.Fn self.now.f.now) 0 s.old s.new }
+    {
+        let mut parts = ||
+            requires { (0 < self.now.share) × HoldFrom (AcceptsAt F.Fn self.now.f.now) 0 s.now }
+            ensures { BecomeFrom (ChangesAt F.Fn self.entry.now.f.now) 0 s.entry.now s.exit.now }
+        { self.work(0, s) };
+        join_mut(self.rt, &mut || {}, &mut parts);
+    }
+
+    /// Calls `f` at each place of a part that begins at place `base` of the whole.
+    #[cycle(parts)]
+    fn work<T: Send>(&self, base: usize, s: &mut [T])
+    where
+        F: Fn(usize, &mut T),
+        requires share { 0 < self.now.share }
+        requires room { base + length s.old < 2 ^ 64 }
+        requires accepts { HoldFrom (AcceptsAt F.Fn self.now.f.now) base s.old }
+        ensures { BecomeFrom (ChangesAt F.Fn self.now.f.now) base s.old s.new }
+    {
+        if s.len() <= self.share {
+            self.in_turn(base, s);
+            return;
+        }
+        let (first, rest) = s.split_at_mut(self.share);
+        self.both(base, first, rest);
+    }
+
+    /// Calls `f` at each place of two parts, the first of them in a new thread.
+    #[cycle(parts)]
+    fn both<T: Send>(&self, base: usize, first: &mut [T], rest: &mut [T])
+    where
+        F: Fn(usize, &mut T),
+        requires share { 0 < self.now.share }
+        requires some { 0 < length first.old }
+        requires room { base + length first.old + length rest.old < 2 ^ 64 }
+        requires first { HoldFrom (AcceptsAt F.Fn self.now.f.now) base first.old }
+        requires rest { HoldFrom (AcceptsAt F.Fn self.now.f.now) (base + length first.old) rest.old }
+        ensures first { BecomeFrom (ChangesAt F.Fn self.now.f.now) base first.old first.new }
+        ensures rest { BecomeFrom (ChangesAt F.Fn self.now.f.now) (base + length first.old) rest.old rest.new }
+    {
+        let up = base + first.len();
+        let mut front = ||
+            requires { (base + length first.now < 2 ^ 64) × HoldFrom (AcceptsAt F.Fn self.now.f.now) base first.now }
+            ensures { BecomeFrom (ChangesAt F.Fn self.entry.now.f.now) base first.entry.now first.exit.now }
+        { self.in_turn(base, first) };
+        let mut back = ||
+            requires { (0 < self.now.share) × (up + length rest.now < 2 ^ 64) × HoldFrom (AcceptsAt F.Fn self.now.f.now) up rest.now }
+            ensures { BecomeFrom (ChangesAt F.Fn self.entry.now.f.now) up rest.entry.now rest.exit.now }
+        { self.work(up, rest) };
+        join_mut(self.rt, &mut front, &mut back);
+    }
+
+    /// Calls `f` at each place of a part, in this thread.
+    fn in_turn<T: Send>(&self, base: usize, s: &mut [T])
+    where
+        F: Fn(usize, &mut T),
+        requires room { base + length s.old < 2 ^ 64 }
+        requires accepts { HoldFrom (AcceptsAt F.Fn self.now.f.now) base s.old }
+        ensures { BecomeFrom (ChangesAt F.Fn self.now.f.now) base s.old s.new }
+    {
+        let f = self.f;
+        let shifted = |k: usize, it: &mut T|
+            requires { (base + k < 2 ^ 64) × AcceptsAt F.Fn f.now (base + k) it.old }
+            ensures { ChangesAt F.Fn f.entry.now (base + k) it.old it.new }
+        { at_one(f, base + k, it) };
+        thread::for_each_mut(self.rt, s, 1, &shifted);
+    }
+}
+
+/// Calls `f` at one place.
+fn at_one<T, F: Fn(usize, &mut T)>(f: &F, i: usize, it: &mut T)
+    requires { AcceptsAt F.Fn f.now i it.old }
+    ensures { ChangesAt F.Fn f.now i it.old it.new }
+{
+    f(i, it);
+}
