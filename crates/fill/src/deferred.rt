@@ -52,7 +52,7 @@ pub fn update_deferred_by_workers(
 {
     let plan = survey.plan();
     whole_heap(plan);
-    DeferredParts { plan, threads }.update(regions, 0, workers);
+    DeferredParts { plan, threads }.start(regions, workers);
 }
 
 /// The whole heap is a part of itself, and its words are updated once that part is.

@@ -21,6 +21,23 @@ pub(crate) struct DeferredParts<'a, T: Threads + Sync> {
 }
 
 impl<T: Threads + Sync> DeferredParts<'_, T> {
+    /// Redirects the references of the deferred objects of a heap, by so many threads at most, and one that does nothing:
+    /// the system lets the first one wait that this thread starts.
+    pub(crate) fn start(&self, regions: &mut [Region], most: usize)
+        requires { IsMovedPart self.now.plan.now 0 regions.old }
+        ensures { IsUpdatedPart self.now.plan.now 0 (length regions.old) regions.new }
+    {
+        if first_cut(regions, self.plan, 0, most).is_none() {
+            update_regions(regions, self.plan, 0);
+            return;
+        }
+        let mut update = ||
+            requires { IsMovedPart self.now.plan.now 0 regions.now }
+            ensures { IsUpdatedPart self.entry.now.plan.now 0 (length regions.entry.now) regions.exit.now }
+        { self.update(regions, 0, most) };
+        join_mut(self.threads, &mut || {}, &mut update);
+    }
+
     /// Redirects the references of the deferred objects that begin in a part of the heap, whose first region is `first`,
     /// by so many threads at most.
     #[cycle(parts)]

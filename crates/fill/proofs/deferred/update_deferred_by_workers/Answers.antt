@@ -8,13 +8,13 @@ use Rattle.fill.proofs.deferred.update_deferred_by_workers.Goals as goal
 
 pub returns-clause-updated : goal.returns-clause-updated
 returns-clause-updated g c =
-    let done : List (List ℕ) = c.update.new.regions in
+    let done : List (List ℕ) = c.start.new.regions in
     subst (λ (image : HeapImage). concat done ≡ updated_words image) c.plan-plan.ensures
-    (c.whole_heap.ensures.updated c.args.regions.now done (subst (λ (image : HeapImage). c.args.regions.now ≡ moved_regions image) (sym c.plan-plan.ensures) c.requires) c.update.ensures)
+    (c.whole_heap.ensures.updated c.args.regions.now done (subst (λ (image : HeapImage). c.args.regions.now ≡ moved_regions image) (sym c.plan-plan.ensures) c.requires) c.start.ensures)
 
 pub returns-clause-compacted : goal.returns-clause-compacted
 returns-clause-compacted g c =
-    let done : List (List ℕ) = c.update.new.regions in
+    let done : List (List ℕ) = c.start.new.regions in
     subst (λ (image : HeapImage). cleared (new_top image) (concat done) ≡ (compact image).words) c.plan-plan.ensures
-    (ap (cleared (new_top c.plan-plan.result.now)) (c.whole_heap.ensures.updated c.args.regions.now done (subst (λ (image : HeapImage). c.args.regions.now ≡ moved_regions image) (sym c.plan-plan.ensures) c.requires) c.update.ensures)
+    (ap (cleared (new_top c.plan-plan.result.now)) (c.whole_heap.ensures.updated c.args.regions.now done (subst (λ (image : HeapImage). c.args.regions.now ≡ moved_regions image) (sym c.plan-plan.ensures) c.requires) c.start.ensures)
     ∙ c.whole_heap.ensures.compacted)
