@@ -1,7 +1,6 @@
 //! `TimedIntake`.
 use crate::stopwatch::Stopwatch;
-use heap_image::{Failed, Intake};
-use raw_region::Region;
+use heap_image::{Body, BodySize, Failed, Intake};
 use std::alloc::Global;
 use std::time::{Clock, Duration};
 
@@ -64,14 +63,9 @@ impl<H: Clock, I: Intake + Drop> Intake for TimedIntake<'_, H, I> {
         self.intake.failed()
     }
 
-    fn take_regions(
-        &mut self,
-        alloc: Global,
-        region_log: u32,
-        count: usize,
-    ) -> Option<Vec<Region>> {
-        let regions = self.intake.take_regions(alloc, region_log, count);
+    fn take_body(&mut self, alloc: Global, size: BodySize) -> Option<Body> {
+        let body = self.intake.take_body(alloc, size);
         self.came = self.watch.elapsed(self.clock);
-        regions
+        body
     }
 }

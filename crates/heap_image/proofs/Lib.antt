@@ -10,6 +10,7 @@ pub mod Pieces
 pub mod Reading
 pub mod Finds
 pub mod BlockWords
+pub mod Bodies
 pub mod Spans
 pub mod Parts
 pub mod LiveWords

@@ -70,6 +70,11 @@ consumes_of_device held None after read e h = tt
 consumes_of_device held (Some xs) None read e h = h
 consumes_of_device held (Some xs) (Some ys) read e h = ap (λ l. l ++ xs) (sym e) ∙ h
 
+pub consumes_to_device : (held : List ℕ) (before left : Option (List ℕ)) (read : List ℕ) → held ≡ [] → Consumes before (prepend_known held left) read → Consumes before left read
+consumes_to_device held None left read e h = tt
+consumes_to_device held (Some xs) None read e h = h
+consumes_to_device held (Some xs) (Some ys) read e h = h ∙ ap (λ l. read ++ (l ++ ys)) e
+
 -- where some bytes were taken, some were left
 pub some_taken : (before after : Option (List ℕ)) (xs : List ℕ) → 0 < length xs → Consumes before after xs → IfSome before (λ rest. 0 < length rest)
 some_taken None after xs some h = tt

@@ -6,6 +6,7 @@ pub mod Device
 pub mod StdDevices
 pub mod Incoming
 pub mod Bits
+pub mod Body
 pub mod Kept
 pub mod Refusals
 pub mod Reading

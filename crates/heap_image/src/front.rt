@@ -5,6 +5,7 @@ ghost use Rattle.heap_image.specs.HeapImage.{IsWithinLimits};
 ghost use Rattle.heap_image.specs.LengthCause.{length_causes, first_length_cause};
 ghost use Rattle.heap_image.specs.Refusals.{IsOfFront};
 
+use crate::body_size::BodySize;
 use crate::limits::{MAX_HEAP_WORDS, MAX_REGION_LOG, MAX_REGIONS, MIN_REGION_LOG};
 use crate::numbers::{u32_at, u64_at};
 use crate::{Fault, LengthCause};
@@ -85,6 +86,20 @@ impl Front {
             words: u64_at(bytes, 16),
             allowance: u64_at(bytes, 24),
         })
+    }
+
+    /// How much stands behind this front.
+    pub(crate) fn body_size(&self) -> BodySize
+        requires { IsWithinLimits self.now.region_log self.now.words self.now.count }
+        ensures region_log { result.region_log ≡ self.now.region_log }
+        ensures regions { result.regions * 2 ^ self.now.region_log ≡ self.now.words }
+        ensures numbers { result.numbers ≡ self.now.count }
+    {
+        BodySize {
+            region_log: self.region_log,
+            regions: (self.words >> self.region_log) as usize,
+            numbers: self.count as usize,
+        }
     }
 
     /// How many bytes the text has that begins with this front.

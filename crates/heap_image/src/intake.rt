@@ -1,10 +1,11 @@
 //! `Intake`: where the bytes of an image come from.
 ghost use Rattle.std.specs.Prelude.{◌≡◌, ◌<◌, ◌≤◌, ◌||◌, ◌*◌, ◌^◌, ℕ, List, Bool, Option, None, length, take, IsTrue, IfOk, IfSome, IsErr, is_err};
 ghost use Rattle.std.specs.Io.KnownBytes.{Consumes, IsAtEnd, ReadConsumes};
-ghost use Rattle.heap_image.specs.Extents.{AreRegions};
+ghost use Rattle.heap_image.specs.Body.{IsBody, body_words};
 
 use crate::Fault;
-use raw_region::Region;
+use crate::body::Body;
+use crate::body_size::BodySize;
 use std::alloc::Global;
 use std::io::Read;
 use thiserror::Error;
@@ -45,18 +46,12 @@ pub trait Intake {
     fn failed(&self) -> bool
         ensures { result ≡ has_failed self.now };
 
-    /// Takes the words of so many regions in a row, where it can take them otherwise than in order: so a file is read by
-    /// several threads. A device that can't, as one that leaves this method out, or doesn't succeed, takes nothing.
-    fn take_regions(
-        &mut self,
-        _alloc: Global,
-        _region_log: u32,
-        _count: usize,
-    ) -> Option<Vec<Region>>
-        requires log { _region_log ≤ 16 }
-        requires few { _count * 2 ^ _region_log ≤ 4194304 }
-        ensures taken { IfSome result
-            (λ regions. AreRegions _region_log _count (left self.old) (left self.new) regions.items) }
+    /// Takes what stands behind the front of an image, of this size, where it can take that otherwise than in order: so a file
+    /// is read by several threads. A device that can't, as one that leaves this method out, or doesn't succeed, takes nothing.
+    fn take_body(&mut self, _alloc: Global, _size: BodySize) -> Option<Body>
+        requires log { _size.region_log ≤ 16 }
+        requires few { body_words _size ≤ 8388608 }
+        ensures taken { IfSome result (IsBody _size (left self.old) (left self.new)) }
         ensures none { result ≡ None → left self.new ≡ left self.old }
         ensures failed { has_failed self.new ≡ has_failed self.old }
     {

@@ -24,6 +24,8 @@
 #![tactic(auto)]
 
 mod bits;
+mod body;
+mod body_size;
 mod check;
 mod crowd;
 mod cursor;
@@ -54,6 +56,8 @@ mod upgrading;
 mod write;
 
 pub use bits::Bits;
+pub use body::Body;
+pub use body_size::BodySize;
 pub use decoding::{decode, decode_by_threads};
 pub use encoding::encode;
 pub use fault::Fault;
@@ -69,7 +73,7 @@ pub use length_cause::LengthCause;
 pub use outlet::{Outlet, ToWrite, give_all};
 pub use reach::mark_from_roots;
 pub use read::{read_image, read_image_by_threads, read_image_by_workers};
-pub use side_by_side::{Extent, regions_at};
+pub use side_by_side::{Extent, body_at};
 pub use soundness::PIECE;
 pub use store::{FileStore, Store};
 pub use upgrading::{upgrade, upgrade_stream};

@@ -2,6 +2,7 @@
 ghost use Rattle.std.specs.Prelude.{◌≡◌, ◌≢◌, ◌<◌, ◌≤◌, ◌+◌, ◌*◌, ◌++◌, ◌⊎◌, ◌↔◌, ◌||◌, ◌^◌, ℕ, List, All, Option, Some, None, [], false, length, IfOk, OnOk, IfErr, IfSome, IsErrOf, IsTrue, option_map};
 ghost use Rattle.std.specs.List.{concat};
 ghost use Rattle.std.specs.Io.KnownBytes.{Consumes, IsAtEnd};
+ghost use Rattle.heap_image.specs.Body.{IsBody, body_words};
 ghost use Rattle.heap_image.specs.Device.{is_io};
 ghost use Rattle.heap_image.specs.HeapImage.{FormHeap, IsValid, IsWithinLimits, AreBlocks, image_of};
 ghost use Rattle.heap_image.specs.ImageText.{text, listed_text, front, numbers, front_faults, first_object_fault, first_some};
@@ -10,6 +11,8 @@ ghost use Rattle.heap_image.specs.Sizes.{AreSizes};
 ghost use Rattle.heap_image.specs.Refusals.{IsReason, IsOfReading, IsOfBody, LeavesRest};
 ghost use Rattle.heap_image.specs.Incoming.{IsInRange, FallsShort, expected, known_rest};
 
+use crate::body::Body;
+use crate::body_size::BodySize;
 use crate::crowd::Crowd;
 use crate::front::{FRONT_BYTES, Front};
 use crate::heap::Heap;
@@ -241,15 +244,7 @@ fn read_front<R: Intake>(reader: &mut R) -> Result<Front, Fault>
     Front::parse(&bytes)
 }
 
-/// What stands behind the front: the regions with the words, and the numbers behind them, live addresses or roots.
-#[derive(Drop)]
-struct Body {
-    regions: Vec<Region>,
-    tail: Vec<u64>,
-}
-
-/// Reads what stands behind this front, and no byte behind that. The words come at once where the reader
-/// can give them so, and else in order.
+/// Reads what stands behind this front, and no byte behind that. The reader gives it at once where it can, and else in order.
 fn read_body<R: Intake>(alloc: Global, reader: &mut R, front: Front) -> Result<Body, Fault>
     requires { IsWithinLimits front.region_log front.words front.count }
     ensures bytes { IfOk result
@@ -268,63 +263,34 @@ fn read_body<R: Intake>(alloc: Global, reader: &mut R, front: Front) -> Result<B
     ensures lost { (came : List ℕ) × Consumes (R.left reader.old) (R.left reader.new) came }
     ensures failed { R.has_failed reader.new ≡ (is_io result || R.has_failed reader.old) }
 {
-    let count = (front.words >> front.region_log) as usize;
-    match reader.take_regions(alloc, front.region_log, count) {
-        Some(regions) => read_behind(alloc, reader, regions, front.count),
-        None => read_body_in_order(alloc, reader, front),
+    let size = front.body_size();
+    match reader.take_body(alloc, size) {
+        Some(body) => Ok(body),
+        None => read_body_in_order(alloc, reader, size),
     }
 }
 
-/// Reads the numbers that stand behind the words, which have been read into these regions, and no byte behind them.
-fn read_behind<R: Intake>(
+/// Reads a body of this size, and no byte behind it. It takes no memory before a byte has come.
+fn read_body_in_order<R: Intake>(
     alloc: Global,
     reader: &mut R,
-    regions: Vec<Region>,
-    count: u32,
+    size: BodySize,
 ) -> Result<Body, Fault>
-    ensures regions { IfOk result (λ body. body.regions.items ≡ regions.items) }
-    ensures bytes { IfOk result
-        (λ body. Consumes (R.left reader.old) (R.left reader.new) (numbers body.tail.items)) }
-    ensures tail { IfOk result (λ body. length body.tail.items ≡ count) }
-    ensures tail_fit { IfOk result (λ body. All (λ a. a < 2 ^ 64) body.tail.items) }
+    requires log { size.region_log ≤ 16 }
+    requires some { 0 < body_words size }
+    requires few { body_words size ≤ 8388608 }
+    ensures body { IfOk result (IsBody size (R.left reader.old) (R.left reader.new)) }
     ensures truncated { result ≡ Err Fault.TruncatedBody → FallsShort
-        (R.left reader.old) (R.left reader.new) count }
-    ensures fault { IfErr result IsOfBody }
-    ensures lost { (came : List ℕ) × Consumes (R.left reader.old) (R.left reader.new) came }
-    ensures failed { R.has_failed reader.new ≡ (is_io result || R.has_failed reader.old) }
-{
-    let mut incoming = Incoming::new(count as usize);
-    let mut tail = vec![in alloc; 0u64; count as usize]?;
-    incoming.read(reader, tail.as_mut_slice())?;
-    Ok(Body { regions, tail })
-}
-
-/// Reads what stands behind this front, and no byte behind that. It takes no memory before a byte has come.
-fn read_body_in_order<R: Intake>(alloc: Global, reader: &mut R, front: Front) -> Result<Body, Fault>
-    requires { IsWithinLimits front.region_log front.words front.count }
-    ensures bytes { IfOk result
-        (λ body. Consumes (R.left reader.old) (R.left reader.new)
-        (numbers (concat body.regions.items) ++ numbers body.tail.items)) }
-    ensures regions { IfOk result (λ body. AreBlocks front.region_log body.regions.items) }
-    ensures fit { IfOk result (λ body. All (λ w. w < 2 ^ 64) (concat body.regions.items)) }
-    ensures words { IfOk result (λ body. length (concat body.regions.items) ≡ front.words) }
-    ensures tail { IfOk result (λ body. length body.tail.items ≡ front.count) }
-    ensures tail_fit { IfOk result (λ body. All (λ a. a < 2 ^ 64) body.tail.items) }
-    ensures truncated { result ≡ Err Fault.TruncatedBody → FallsShort
-        (R.left reader.old) (R.left reader.new) (front.words + front.count) }
+        (R.left reader.old) (R.left reader.new) (body_words size) }
     ensures memory { result ≡ Err Fault.Memory
         → IfSome (R.left reader.old) (λ rest. 0 < length rest) }
     ensures fault { IfErr result IsOfBody }
     ensures lost { (came : List ℕ) × Consumes (R.left reader.old) (R.left reader.new) came }
     ensures failed { R.has_failed reader.new ≡ (is_io result || R.has_failed reader.old) }
 {
-    let mut incoming = Incoming::new(front.words as usize + front.count as usize);
+    let mut incoming = Incoming::new(size.words());
     incoming.top_up(reader)?;
-    let count = (front.words >> front.region_log) as usize;
-    let regions = read_regions(alloc, &mut incoming, reader, front.region_log, count)?;
-    let mut tail = vec![in alloc; 0u64; front.count as usize]?;
-    incoming.read(reader, tail.as_mut_slice())?;
-    Ok(Body { regions, tail })
+    Body::read(alloc, &mut incoming, reader, size)
 }
 
 /// Reads the words of so many regions, each into a block of its own.

@@ -1,12 +1,13 @@
-//! Regions that several threads read side by side.
-ghost use Rattle.std.specs.Prelude.{◌≡◌, ◌++◌, ◌<◌, ◌≤◌, ◌^◌, IfSome};
-ghost use Rattle.heap_image.specs.Extents.{AreRegionsOf, AreTwoParts, IsExtent, extent_end, extent_words};
+//! The body of an image, which several threads read side by side.
+ghost use Rattle.std.specs.Prelude.{◌≡◌, ◌++◌, ◌<◌, ◌≤◌, ◌^◌, [], IfSome};
+ghost use Rattle.heap_image.specs.Body.{body_words};
+ghost use Rattle.heap_image.specs.Extents.{IsBodyOf, AreTwoParts, IsExtent, extent_end};
 
+use crate::body::Body;
+use crate::body_size::BodySize;
 use crate::cursor::Cursor;
 use crate::incoming::Incoming;
-use crate::read::read_regions;
 use crate::store::Store;
-use raw_region::Region;
 use std::alloc::Global;
 use std::thread;
 use std::thread::Threads;
@@ -15,140 +16,131 @@ use thread_row::behind_an_empty_thread;
 /// How many words are worth a thread of their own.
 const LEAST_WORDS: usize = 65_536;
 
-/// Regions in a row, whose words lie in a store from a place on.
+/// Where what stands behind the front of an image lies in a store, or a part of it.
 #[derive(Debug, Clone, Copy, PartialEq, Eq)]
 pub struct Extent {
     /// The place of the first byte.
     pub at: u64,
-    pub region_log: u32,
-    /// How many regions there are.
-    pub count: usize,
+    pub size: BodySize,
 }
 
 impl Extent {
     /// The place behind the last byte, where it is a number of 64 bits.
     pub fn end(self) -> Option<u64>
-        requires log { self.region_log ≤ 16 }
-        requires few { extent_words self ≤ 4194304 }
+        requires log { self.size.region_log ≤ 16 }
+        requires few { body_words self.size ≤ 8388608 }
         ensures end { IfSome result (λ end. end ≡ extent_end self) }
         ensures fits { IfSome result (λ end. IsExtent self) }
     {
-        let words = (self.count as u64) << self.region_log;
-        self.at.checked_add(8 * words)
+        self.at.checked_add(8 * self.size.words() as u64)
     }
 
-    /// The first of so many parts of the regions, and the others.
+    /// The first of so many parts, which has regions alone, and the others.
     fn split(self, parts: usize) -> (Extent, Extent)
         requires extent { IsExtent self }
         requires some { 0 < parts }
         ensures { AreTwoParts self result.0 result.1 }
     {
-        let Extent {
-            at,
-            region_log,
-            count,
-        } = self;
-        let few = count / parts;
-        let low = Extent {
-            at,
-            region_log,
-            count: few,
+        let Extent { at, size } = self;
+        let share = (size.words() / parts) >> size.region_log;
+        let few = share.min(size.regions);
+        let low = BodySize {
+            regions: few,
+            numbers: 0,
+            ..size
         };
-        let high = Extent {
-            at: at + 8 * ((few as u64) << region_log),
-            region_log,
-            count: count - few,
+        let high = BodySize {
+            regions: size.regions - few,
+            ..size
         };
-        (low, high)
-    }
-
-    /// How many words the regions have.
-    fn words(self) -> usize
-        requires { IsExtent self }
-        ensures { result ≡ extent_words self }
-    {
-        self.count << self.region_log
+        let behind = at + 8 * low.words() as u64;
+        (
+            Extent { at, size: low },
+            Extent {
+                at: behind,
+                size: high,
+            },
+        )
     }
 }
 
-/// The regions of an extent, read by so many threads at most, the caller's among them. None where the store has too few
+/// What lies in an extent, read by so many threads at most, the caller's among them. None where the store has too few
 /// bytes or fails, or where memory is refused.
-pub fn regions_at<S: Store>(
+pub fn body_at<S: Store>(
     alloc: Global,
     store: &S,
     extent: Extent,
     most: usize,
     threads: &(impl Threads + Sync),
-) -> Option<Vec<Region>>
+) -> Option<Body>
     requires { IsExtent extent }
-    ensures { IfSome result (λ regions. AreRegionsOf (S.bytes store.now) extent regions.items) }
+    ensures { IfSome result (IsBodyOf (S.bytes store.now) extent) }
 {
-    let most = most.min(extent.words() / LEAST_WORDS);
+    let most = most.min(extent.size.words() / LEAST_WORDS);
     if most < 2 {
-        return regions_in_order(alloc, store, extent);
+        return body_in_order(alloc, store, extent);
     }
-    let in_row = move || -> Option<Vec<Region>>
+    let in_row = move || -> Option<Body>
         requires { IsExtent extent × (most < 2 ^ 64) }
-        ensures { IfSome result (λ regions. AreRegionsOf (S.bytes store.entry.now) extent regions.items) }
-    { regions_in_row(alloc, store, extent, most, threads) };
+        ensures { IfSome result (IsBodyOf (S.bytes store.entry.now) extent) }
+    { body_in_row(alloc, store, extent, most, threads) };
     behind_an_empty_thread(threads, in_row)
 }
 
-/// The regions of an extent, read by so many threads, of which this one starts the others. None as for [`regions_at`].
-fn regions_in_row<S: Store>(
+/// What lies in an extent, read by so many threads, of which this one starts the others. None as for [`body_at`].
+fn body_in_row<S: Store>(
     alloc: Global,
     store: &S,
     extent: Extent,
     most: usize,
     threads: &(impl Threads + Sync),
-) -> Option<Vec<Region>>
+) -> Option<Body>
     requires { IsExtent extent }
-    ensures { IfSome result (λ regions. AreRegionsOf (S.bytes store.now) extent regions.items) }
+    ensures { IfSome result (IsBodyOf (S.bytes store.now) extent) }
 {
     if most < 2 {
-        return regions_in_order(alloc, store, extent);
+        return body_in_order(alloc, store, extent);
     }
     let (low, high) = extent.split(most);
     let others = most - 1;
-    let first = move || -> Option<Vec<Region>>
+    let first = move || -> Option<Body>
         requires { IsExtent low }
-        ensures { IfSome result (λ regions. AreRegionsOf (S.bytes store.entry.now) low regions.items) }
-    { regions_in_order(alloc, store, low) };
-    let second = move || -> Option<Vec<Region>>
+        ensures { IfSome result (IsBodyOf (S.bytes store.entry.now) low) }
+    { body_in_order(alloc, store, low) };
+    let second = move || -> Option<Body>
         requires { IsExtent high × (others < 2 ^ 64) }
-        ensures { IfSome result (λ regions. AreRegionsOf (S.bytes store.entry.now) high regions.items) }
-    { regions_in_row(alloc, store, high, others, threads) };
+        ensures { IfSome result (IsBodyOf (S.bytes store.entry.now) high) }
+    { body_in_row(alloc, store, high, others, threads) };
     let (first, second) = thread::join(threads, first, second);
     both(first?, second?)
 }
 
-/// The regions of an extent, read by one thread. None as for [`regions_at`].
-fn regions_in_order<S: Store>(alloc: Global, store: &S, extent: Extent) -> Option<Vec<Region>>
+/// What lies in an extent, read by one thread. None as for [`body_at`].
+fn body_in_order<S: Store>(alloc: Global, store: &S, extent: Extent) -> Option<Body>
     requires { IsExtent extent }
-    ensures { IfSome result (λ regions. AreRegionsOf (S.bytes store.now) extent regions.items) }
+    ensures { IfSome result (IsBodyOf (S.bytes store.now) extent) }
 {
     let mut cursor = Cursor::new(store, extent.at);
-    let mut incoming = Incoming::new(extent.words());
-    match read_regions(
-        alloc,
-        &mut incoming,
-        &mut cursor,
-        extent.region_log,
-        extent.count,
-    ) {
-        Ok(regions) => Some(regions),
+    let mut incoming = Incoming::new(extent.size.words());
+    match Body::read(alloc, &mut incoming, &mut cursor, extent.size) {
+        Ok(body) => Some(body),
         Err(_) => None,
     }
 }
 
-/// The regions of both. None where memory is refused.
-fn both(first: Vec<Region>, second: Vec<Region>) -> Option<Vec<Region>>
-    ensures { IfSome result (λ regions. regions.items ≡ first.items ++ second.items) }
+/// What both have, where no numbers stand behind the first regions. None where memory is refused.
+fn both(first: Body, second: Body) -> Option<Body>
+    requires { first.tail.items ≡ [] }
+    ensures { IfSome result (λ body. (body.regions.items ≡ first.regions.items ++ second.regions.items)
+        × (body.tail.items ≡ second.tail.items)) }
 {
-    let mut regions = first;
-    let mut others = second;
+    let mut regions = first.regions;
+    let mut others = second.regions;
     match regions.append(&mut others) {
-        Ok(()) => Some(regions),
+        Ok(()) => Some(Body {
+            regions,
+            tail: second.tail,
+        }),
         Err(_) => None,
     }
 }

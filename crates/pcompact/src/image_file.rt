@@ -1,8 +1,7 @@
 //! `ImageFile`.
 use crate::ahead::Ahead;
 use command_support::Watched;
-use heap_image::{Failed, Intake};
-use raw_region::Region;
+use heap_image::{Body, BodySize, Failed, Intake};
 use std::alloc::Global;
 use std::fs::OpenFile;
 use std::io::{Read, Seek};
@@ -11,7 +10,7 @@ use std::thread::Threads;
 
 /// The bytes of an image's file, which no contract tells.
 ///
-/// Of a large image in a regular file several threads read the words first, side by side. Any other file, as a pipe, is
+/// Of a large image in a regular file several threads read what stands behind the front first, side by side. Any other file, as a pipe, is
 /// read in order, and so is all of a regular one where a thread can't read its part: what is then wrong is found as of a
 /// pipe.
 #[derive(Drop)]
@@ -22,7 +21,7 @@ pub struct ImageFile<'a, F: Drop> {
 }
 
 impl<'a, F: Drop> ImageFile<'a, F> {
-    /// The bytes of this file, of which so many threads at most have read the words.
+    /// The bytes of this file, of which so many threads at most have read what stands behind the front.
     pub fn read_ahead<H: AllocGlobal + Threads + Sync>(
         host: &H,
         watched: Watched<'a, F>,
@@ -71,18 +70,13 @@ impl<F: Read + Seek + Drop> Intake for ImageFile<'_, F> {
         self.failed
     }
 
-    fn take_regions(
-        &mut self,
-        _alloc: Global,
-        region_log: u32,
-        count: usize,
-    ) -> Option<Vec<Region>> {
-        let Ahead { extent, regions } = self.ahead.take()?;
-        if extent.region_log != region_log || extent.count != count {
+    fn take_body(&mut self, _alloc: Global, size: BodySize) -> Option<Body> {
+        let Ahead { extent, body } = self.ahead.take()?;
+        if extent.size != size {
             return None;
         }
         if self.watched.pass(extent.at, extent.end()?) {
-            Some(regions)
+            Some(body)
         } else {
             None
         }

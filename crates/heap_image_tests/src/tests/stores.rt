@@ -1,12 +1,17 @@
-//! Regions that are read by several threads out of a store.
-use heap_image::{Extent, Failed, Store, regions_at};
+//! Bodies that are read by several threads out of a store.
+use heap_image::{BodySize, Extent, Failed, Store, body_at};
 use std::alloc::Global;
 use std::test::Fail;
 
-/// The region log of these tests, and how many regions are worth several threads.
-const LOG: u32 = 9;
+/// A body that is worth several threads. Its numbers are more than the share of one of three.
+const SIZE: BodySize = BodySize {
+    region_log: 9,
+    regions: 500,
+    numbers: 150_000,
+};
 
-const MANY: usize = 700;
+/// How many words that body has.
+const WORDS: u64 = 500 * 512 + 150_000;
 
 /// Bytes in memory, of which those behind a place can't be taken.
 #[derive(Drop)]
@@ -32,40 +37,45 @@ impl Store for Kept<'_> {
     }
 }
 
+/// Another word for each.
+fn mixed(word: u64) -> u64 {
+    word.wrapping_mul(0x9E37_79B9_7F4A_7C15)
+}
+
 /// Bytes of which no two words in a row are equal.
 fn bytes_of_words(alloc: Global, words: u64) -> Result<Vec<u8>, Fail> {
     let mut bytes = Vec::new(alloc);
     for word in 0..words {
-        let mixed = word.wrapping_mul(0x9E37_79B9_7F4A_7C15);
-        bytes.extend_from_slice(&mixed.to_le_bytes())?;
+        bytes.extend_from_slice(&mixed(word).to_le_bytes())?;
     }
     Ok(bytes)
 }
 
 #[test]
 fn each_word_is_read_by_any_number_of_threads(rt: HostRuntime) -> Result<(), Fail> {
-    let bytes = bytes_of_words(rt.alloc(), 5 + ((MANY as u64) << LOG))?;
+    let bytes = bytes_of_words(rt.alloc(), 5 + WORDS)?;
     let kept = Kept {
         bytes: bytes.as_slice(),
         fails_from: usize::MAX,
     };
-    let extent = Extent {
-        at: 40,
-        region_log: LOG,
-        count: MANY,
-    };
+    let extent = Extent { at: 40, size: SIZE };
     for most in [0, 1, 2, 3, 4, 8, 64] {
-        let Some(regions) = regions_at(rt.alloc(), &kept, extent, most, &rt) else {
-            return Err(Fail::new("no regions"));
+        let Some(body) = body_at(rt.alloc(), &kept, extent, most, &rt) else {
+            return Err(Fail::new("no body"));
         };
-        assert_eq!(rt; regions.len(), MANY);
+        assert_eq!(rt; body.regions.len(), SIZE.regions);
+        assert_eq!(rt; body.tail.len(), SIZE.numbers);
         let mut word = 5u64;
         let mut same = true;
-        for region in regions.iter() {
+        for region in body.regions.iter() {
             for read in region.words() {
-                same &= *read == word.wrapping_mul(0x9E37_79B9_7F4A_7C15);
+                same &= *read == mixed(word);
                 word = word.wrapping_add(1);
             }
+        }
+        for read in body.tail.iter() {
+            same &= *read == mixed(word);
+            word = word.wrapping_add(1);
         }
         assert!(rt; same);
     }
@@ -74,25 +84,21 @@ fn each_word_is_read_by_any_number_of_threads(rt: HostRuntime) -> Result<(), Fai
 
 #[test]
 fn a_byte_that_lacks_or_fails_gives_none(rt: HostRuntime) -> Result<(), Fail> {
-    let bytes = bytes_of_words(rt.alloc(), (MANY as u64) << LOG)?;
-    let extent = Extent {
-        at: 0,
-        region_log: LOG,
-        count: MANY,
-    };
+    let bytes = bytes_of_words(rt.alloc(), WORDS)?;
+    let extent = Extent { at: 0, size: SIZE };
     let last = bytes.len().saturating_sub(1);
     for most in [1, 2, 4] {
         let short = Kept {
             bytes: &bytes[..last],
             fails_from: usize::MAX,
         };
-        assert!(rt; regions_at(rt.alloc(), &short, extent, most, &rt).is_none());
+        assert!(rt; body_at(rt.alloc(), &short, extent, most, &rt).is_none());
         for fails_from in [0, last / 2, last / 8 * 7] {
             let failing = Kept {
                 bytes: bytes.as_slice(),
                 fails_from,
             };
-            assert!(rt; regions_at(rt.alloc(), &failing, extent, most, &rt).is_none());
+            assert!(rt; body_at(rt.alloc(), &failing, extent, most, &rt).is_none());
         }
     }
     Ok(())
@@ -101,14 +107,17 @@ fn a_byte_that_lacks_or_fails_gives_none(rt: HostRuntime) -> Result<(), Fail> {
 #[test]
 fn an_extent_ends_within_64_bits(rt: HostRuntime) -> Result<(), Fail> {
     let extent = Extent {
-        at: u64::MAX - 64,
-        region_log: 3,
-        count: 1,
+        at: u64::MAX - 80,
+        size: BodySize {
+            region_log: 3,
+            regions: 1,
+            numbers: 2,
+        },
     };
     assert_eq!(rt; extent.end(), Some(u64::MAX));
     assert_eq!(rt;
         Extent {
-            at: u64::MAX - 63,
+            at: u64::MAX - 79,
             ..extent
         }
         .end(),

@@ -1,0 +1,21 @@
+-- What stands behind the front of an image.
+use Rattle.std.specs.Prelude.{◌≡◌, ℕ, ◌+◌, ◌*◌, ◌^◌, ◌<◌, ◌++◌, All, Option, List, length}
+use Rattle.std.specs.List.{concat}
+use Rattle.std.specs.Io.KnownBytes.{Consumes}
+use Rattle.heap_image.specs.HeapImage.{AreBlocks}
+use Rattle.heap_image.specs.ImageText.{numbers}
+use Rattle.heap_image.specs.declared.body.Body.{Body}
+use Rattle.heap_image.specs.declared.body_size.BodySize.{BodySize}
+
+-- how many words the regions and the numbers behind them are
+abbrev pub body_words : BodySize → ℕ
+body_words size = size.regions * 2 ^ size.region_log + size.numbers
+
+-- a body of this size, whose words are the bytes that were known to be left before, and no longer are after
+pub record IsBody (size : BodySize) (before after : Option (List ℕ)) (body : Body) : Type 0 where
+  pub regions : AreBlocks size.region_log body.regions.items
+  pub count : length body.regions.items ≡ size.regions
+  pub fit : All (λ w. w < 2 ^ 64) (concat body.regions.items)
+  pub tail : length body.tail.items ≡ size.numbers
+  pub tail_fit : All (λ n. n < 2 ^ 64) body.tail.items
+  pub bytes : Consumes before after (numbers (concat body.regions.items) ++ numbers body.tail.items)
