@@ -12,8 +12,8 @@ use rayon::prelude::*;
 use std::alloc::{AllocError, Global};
 use std::thread::Threads;
 
-/// How many regions are worth a thread of their own.
-const LEAST: usize = 2048;
+/// How many regions are worth a thread of their own: to count fewer takes less time than to start one.
+const LEAST: usize = 8192;
 
 /// The counts of all regions, by so many threads at most.
 pub(crate) fn count_regions(
