@@ -99,11 +99,25 @@ fn are_all_noted(sizes: &[[u32; PIECE]], objects: usize) -> bool
     ensures { IsTrue result → (i : ℕ) → i < objects
         → 0 < slice_index (slice_index_or sizes.now (i / 64) []) (i % 64) }
 {
+    let whole = objects / PIECE;
     let mut all = true;
-    for i in 0..objects {
-        all &= sizes[i / PIECE][i % PIECE] > 0;
+    for piece in 0..whole {
+        all &= are_noted(&sizes[piece]);
     }
-    all
+    let rest = objects % PIECE;
+    all && (rest == 0 || are_noted(&sizes[whole][..rest]))
+}
+
+/// Whether each of these sizes is noted. It is asked by the least of them, of which a compiler makes a loop over several at
+/// a time.
+fn are_noted(sizes: &[u32]) -> bool
+    ensures { IsTrue result → (k : ℕ) → k < length sizes.now → 0 < slice_index sizes.now k }
+{
+    let mut least = u32::MAX;
+    for size in sizes {
+        least = least.min(*size);
+    }
+    least > 0
 }
 
 /// The size of the live object of this index, which has this header, or 0 where it isn't sound.
