@@ -5,8 +5,8 @@ mod queues;
 mod stress;
 mod upgraded;
 
-use crate::tests::{BASE_LIVE, BASE_WORDS, image_of};
 use collector::{Figures, Gate, OpenGate, Refusal, Verdict, collect, verify};
+use collector_samples::{BASE_LIVE, BASE_WORDS, DEAD, image_of};
 use crossbeam_utils::Backoff;
 use heap_image::{Fault, Image, encode, header};
 use std::alloc::{AllocError, Global};
@@ -14,9 +14,6 @@ use std::sync::Wait;
 use std::sync::atomic::{AtomicBool, AtomicU32, Ordering};
 use std::test::Fail;
 use std::thread::Threads;
-
-/// A word of no live object.
-const DEAD: u64 = 999;
 
 /// How often a gate looks whether the other worker has come.
 const TURNS: u32 = 1_000_000;

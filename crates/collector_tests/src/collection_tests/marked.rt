@@ -2,7 +2,8 @@
 //! queue and a set, and beside the collection of the same heap with a live list.
 use super::stress::{Heap, Shape, gives_by_two, reference, seeded_heap};
 use super::words_of;
-use crate::tests::{Seed, image_text, rooted_text};
+use crate::tests::Seed;
+use collector_samples::{image_text, rooted_text};
 use heap_image::{Fault, decode_by_threads, header};
 use std::alloc::{AllocError, Global};
 use std::collections::{BTreeSet, VecDeque};

@@ -1,11 +1,10 @@
 //! Collections whose gate shows who fills what: how the first regions are dealt, and how many workers run.
 use super::{FirstHeld, Heap, TURNS, base, four_regions, plain};
-use crate::gate_tests::Call::Before;
-use crate::gate_tests::{Awaits, RefusesTheFirst, linger};
-use collector::{Gate, OpenGate, Ready, Refusal, collect};
+use collector::{Gate, OpenGate, Refusal, collect};
+use collector_samples::Call::Before;
+use collector_samples::{Awaits, RefusesTheFirst, linger};
 use crossbeam_utils::Backoff;
 use heap_image::Fault;
-use std::alloc::{AllocError, Global};
 use std::sync::atomic::{AtomicU32, Ordering};
 use std::test::Fail;
 

@@ -1,6 +1,7 @@
 //! Heaps made from seeds, collected by 1 to 8 workers and compared with the plain compaction.
-use crate::tests::{Seed, image_text};
+use crate::tests::Seed;
 use collector::{OpenGate, collect};
+use collector_samples::image_text;
 use heap_image::{Fault, decode_by_threads, encode};
 use std::alloc::{AllocError, Global};
 use std::sync::Wait;

@@ -3,8 +3,8 @@ ghost use Rattle.std.specs.Prelude.{◌≡◌, IfOk};
 ghost use Rattle.heap_image.specs.ImageText.{text};
 ghost use Rattle.summary.specs.Compaction.{compact};
 
-use super::{BASE_LIVE, BASE_WORDS, MOVED_LIVE, MOVED_WORDS, image_text};
 use collector::{OpenGate, collect};
+use collector_samples::{BASE_LIVE, BASE_WORDS, MOVED_LIVE, MOVED_WORDS, image_text};
 use heap_image::{Fault, Image, decode, encode};
 use std::sync::Wait;
 use std::test::Fail;

@@ -1,8 +1,8 @@
 //! Verdicts on images with roots.
-use super::{
+use collector::{Verdict, verify};
+use collector_samples::{
     BASE_ROOTS, BASE_WORDS, Base, MOVED_LIVE, MOVED_ROOTS, MOVED_WORDS, image_text, rooted_text,
 };
-use collector::{Verdict, verify};
 use heap_image::{Fault, decode_by_threads};
 use std::alloc::Global;
 use std::test::Fail;

@@ -2,8 +2,8 @@
 use super::{
     Checked, Texts, Trickle, is_begun, is_too_short, is_unwritten, refused, slowly, streamed, whole,
 };
-use crate::tests::{BASE_ROOTS, BASE_WORDS, Base, MOVED_ROOTS, MOVED_WORDS, rooted_text};
 use collector::OpenGate;
+use collector_samples::{BASE_ROOTS, BASE_WORDS, Base, MOVED_ROOTS, MOVED_WORDS, rooted_text};
 use heap_image::{Fault, FromRead, ToWrite, upgrade_stream};
 use std::alloc::{AllocError, Global};
 use std::sync::Wait;

@@ -1,6 +1,6 @@
 //! Tests of recorded collections: the base heap's schedule, and orders that a gate forces.
-use crate::tests::{BASE_LIVE, BASE_WORDS, image_of};
 use collector::{Gate, OpenGate, Refusal, Verdict, record, verify};
+use collector_samples::{BASE_LIVE, BASE_WORDS, image_of};
 use heap_image::{Fault, Image, encode};
 use history::{End, Event, Reply, Schedule, replay, write_schedule};
 use std::alloc::Global;

@@ -1,7 +1,7 @@
 //! Recorded collections of heaps with roots, whose schedules tell nothing of roots.
 use super::{BASE_SCHEDULE, recorded_of, replays};
-use crate::tests::Base;
 use collector::OpenGate;
+use collector_samples::Base;
 use heap_image::{Image, decode_by_threads};
 use history::{Schedule, write_schedule};
 use std::alloc::Global;

@@ -7,7 +7,7 @@ use std::thread;
 const TURNS: u32 = 1_000_000;
 
 /// Waits until the flag is set, for so many turns at most. Whether it is.
-pub(crate) fn comes(flag: &AtomicBool) -> bool {
+fn comes(flag: &AtomicBool) -> bool {
     for _ in 0..TURNS {
         if flag.load(Ordering::SeqCst) {
             return true;
@@ -19,14 +19,16 @@ pub(crate) fn comes(flag: &AtomicBool) -> bool {
 
 /// A call of the gate for one of three regions.
 #[derive(Debug, Clone, Copy, PartialEq, Eq)]
-pub(crate) enum Call {
+pub enum Call {
+    /// Before the fill of this region.
     Before(u32),
+    /// After its completion.
     After(u32),
 }
 
 /// Holds two calls, each until another one has come: the pairs give the held call and the other.
 #[derive(Drop)]
-pub(crate) struct Awaits {
+pub struct Awaits {
     held: [(Call, Call); 2],
     came_before: [AtomicBool; 3],
     came_after: [AtomicBool; 3],
@@ -42,7 +44,8 @@ fn none_came() -> [AtomicBool; 3] {
 }
 
 impl Awaits {
-    pub(crate) fn new(held: [(Call, Call); 2]) -> Awaits {
+    /// None of the calls has come.
+    pub fn new(held: [(Call, Call); 2]) -> Awaits {
         Awaits {
             held,
             came_before: none_came(),
@@ -52,7 +55,7 @@ impl Awaits {
     }
 
     /// Whether each call that was waited for came.
-    pub(crate) fn is_kept(&self) -> bool {
+    pub fn is_kept(&self) -> bool {
         !self.waited_in_vain.load(Ordering::SeqCst)
     }
 
@@ -93,7 +96,7 @@ impl Gate for Awaits {
 const LONG: u32 = 100_000;
 
 /// Lets other threads run for long.
-pub(crate) fn linger() {
+pub fn linger() {
     for _ in 0..LONG {
         thread::yield_now();
     }
@@ -101,14 +104,15 @@ pub(crate) fn linger() {
 
 /// Refuses region 0 once another worker has come to fill a region, which it lets go on only long after that.
 #[derive(Drop)]
-pub(crate) struct RefusesTheFirst {
+pub struct RefusesTheFirst {
     other_came: AtomicBool,
     refused: AtomicBool,
     filled: AtomicU32,
 }
 
 impl RefusesTheFirst {
-    pub(crate) fn new() -> RefusesTheFirst {
+    /// No worker has come.
+    pub fn new() -> RefusesTheFirst {
         RefusesTheFirst {
             other_came: AtomicBool::new(false),
             refused: AtomicBool::new(false),
@@ -117,7 +121,7 @@ impl RefusesTheFirst {
     }
 
     /// Whether a region was refused while another worker was held, and none was filled.
-    pub(crate) fn is_kept(&self) -> bool {
+    pub fn is_kept(&self) -> bool {
         self.refused.load(Ordering::SeqCst) && self.filled.load(Ordering::SeqCst) == 0
     }
 }

@@ -6,10 +6,11 @@ mod holes;
 mod recorded;
 mod rooted;
 
-use crate::gate_tests::Awaits;
-use crate::gate_tests::Call::Before;
-use crate::tests::{BASE_LIVE, BASE_WORDS, MOVED_LIVE, MOVED_WORDS, image_of, image_text};
 use collector::{Figures, Gate, OpenGate, collect_stream};
+use collector_samples::Call::Before;
+use collector_samples::{
+    Awaits, BASE_LIVE, BASE_WORDS, MOVED_LIVE, MOVED_WORDS, image_of, image_text,
+};
 use heap_image::{Fault, FromRead, Image, Intake, Outlet, ToWrite, encode, header};
 use std::alloc::{AllocError, Global};
 use std::io;

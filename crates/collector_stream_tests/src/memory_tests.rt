@@ -1,8 +1,8 @@
 //! What the calls answer where memory is refused. The script tests/crate-allocations runs each of these tests with each
 //! allocation refused in turn.
 use crate::streaming_tests::Checked;
-use crate::tests::Base;
 use collector::{OpenGate, Ready, Refusal, Verdict, collect, collect_stream, verify};
+use collector_samples::Base;
 use heap_image::{Fault, FromRead, Image, ToWrite, decode_by_threads, encode};
 use std::alloc::{AllocError, Global};
 use std::sync::Wait;

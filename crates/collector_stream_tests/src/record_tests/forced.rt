@@ -1,9 +1,9 @@
 //! Recorded collections whose lines a gate forces into an order, or which it ends.
 use super::held::place_of;
 use super::{base, recorded};
-use crate::gate_tests::Call::{After, Before};
-use crate::gate_tests::{Awaits, RefusesTheFirst};
 use collector::{Refusal, record};
+use collector_samples::Call::{After, Before};
+use collector_samples::{Awaits, RefusesTheFirst};
 use heap_image::Fault;
 use history::Event;
 use std::test::Fail;

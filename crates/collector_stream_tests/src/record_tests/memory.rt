@@ -1,8 +1,8 @@
 //! What a recorded collection answers where memory is refused.
 use super::replays;
 use crate::memory_tests::are_right;
-use crate::tests::Base;
 use collector::{OpenGate, Outcome, Refusal, Verdict, record, verify};
+use collector_samples::Base;
 use heap_image::{Fault, decode_by_threads, encode};
 use history::Schedule;
 use std::alloc::Global;

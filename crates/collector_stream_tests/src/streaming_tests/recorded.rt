@@ -2,8 +2,8 @@
 use super::{Checked, Texts, Trickle, slid};
 use crate::memory_tests::are_right;
 use crate::record_tests::BASE_SCHEDULE;
-use crate::tests::Base;
 use collector::{Figures, OpenGate, record_stream};
+use collector_samples::Base;
 use heap_image::{Fault, FromRead, ToWrite, decode_by_threads, encode};
 use std::alloc::Global;
 use std::sync::Wait;

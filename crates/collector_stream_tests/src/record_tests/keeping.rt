@@ -1,7 +1,7 @@
 //! That a recorded collection keeps the image where memory is refused before a worker begins.
 use crate::memory_tests::{image, is_base};
-use crate::tests::Base;
 use collector::{Gate, OpenGate, Refusal, record};
+use collector_samples::Base;
 use heap_image::Fault;
 use std::alloc::Global;
 use std::sync::Wait;

@@ -1,0 +1,176 @@
+//! The base heap in both versions, its compaction, and the texts of heaps.
+use heap_image::{Image, decode_by_threads};
+use std::alloc::{AllocError, Global};
+use std::test::Fail;
+use std::thread::Threads;
+
+/// A word of no live object.
+pub const DEAD: u64 = 999;
+
+/// The words of the base heap, in regions of 8.
+pub const BASE_WORDS: [u64; 32] = [
+    0x0100_0002_0000_0003,
+    6,
+    21,
+    DEAD,
+    DEAD,
+    0x0100_0001_0000_0004,
+    13,
+    107,
+    108,
+    DEAD,
+    DEAD,
+    DEAD,
+    0x0100_0001_0000_0002,
+    1,
+    DEAD,
+    DEAD,
+    DEAD,
+    DEAD,
+    DEAD,
+    DEAD,
+    0x0100_0008_0000_000A,
+    21,
+    0,
+    6,
+    13,
+    1,
+    0,
+    21,
+    6,
+    129,
+    DEAD,
+    DEAD,
+];
+
+/// Where its live objects begin.
+pub const BASE_LIVE: [u64; 4] = [0, 5, 12, 20];
+
+/// The words of the base heap's compaction, with allowance 0.
+pub const MOVED_WORDS: [u64; 32] = [
+    0x0100_0002_0000_0003,
+    4,
+    10,
+    0x0100_0001_0000_0004,
+    8,
+    107,
+    108,
+    0x0100_0001_0000_0002,
+    1,
+    0x0100_0008_0000_000A,
+    10,
+    0,
+    4,
+    8,
+    1,
+    0,
+    10,
+    4,
+    129,
+    0,
+    0,
+    0,
+    0,
+    0,
+    0,
+    0,
+    0,
+    0,
+    0,
+    0,
+    0,
+    0,
+];
+
+/// Where its live objects begin.
+pub const MOVED_LIVE: [u64; 4] = [0, 3, 7, 9];
+
+/// Roots that reach the same objects.
+pub const BASE_ROOTS: [u64; 2] = [21, 0];
+
+/// The same roots of the compaction.
+pub const MOVED_ROOTS: [u64; 2] = [10, 0];
+
+/// The first eight bytes of an image with a live list.
+const MAGIC: u64 = 0x3130_5041_4548_4350;
+
+/// The first eight bytes of an image with roots.
+const ROOTED_MAGIC: u64 = 0x3230_5041_4548_4350;
+
+/// The image of region log 3 with these words and live addresses.
+pub fn image_of(
+    alloc: Global,
+    allowance: u64,
+    words: &[u64],
+    live: &[u64],
+    threads: &(impl Threads + Sync),
+) -> Result<Image, Fail> {
+    let text = image_text(alloc, (3, allowance), words, live)?;
+    Ok(decode_by_threads(alloc, text.as_slice(), threads)?)
+}
+
+/// The text of the image with this region log and allowance, and these words and live addresses.
+pub fn image_text(
+    alloc: Global,
+    sizes: (u64, u64),
+    words: &[u64],
+    live: &[u64],
+) -> Result<Vec<u8>, AllocError> {
+    text_of(alloc, MAGIC, sizes, words, live)
+}
+
+/// The text of the image with this region log and allowance, and these words and roots.
+pub fn rooted_text(
+    alloc: Global,
+    sizes: (u64, u64),
+    words: &[u64],
+    roots: &[u64],
+) -> Result<Vec<u8>, AllocError> {
+    text_of(alloc, ROOTED_MAGIC, sizes, words, roots)
+}
+
+/// The base heap, in either version.
+#[derive(Clone, Copy)]
+pub enum Base {
+    /// Version 1.
+    WithLiveList,
+    /// Version 2.
+    WithRoots,
+}
+
+impl Base {
+    /// Its text with this allowance.
+    pub fn text(self, alloc: Global, allowance: u64) -> Result<Vec<u8>, AllocError> {
+        match self {
+            Base::WithLiveList => image_text(alloc, (3, allowance), &BASE_WORDS, &BASE_LIVE),
+            Base::WithRoots => rooted_text(alloc, (3, allowance), &BASE_WORDS, &BASE_ROOTS),
+        }
+    }
+}
+
+fn text_of(
+    alloc: Global,
+    magic: u64,
+    (region_log, allowance): (u64, u64),
+    words: &[u64],
+    numbers: &[u64],
+) -> Result<Vec<u8>, AllocError> {
+    let front = [
+        magic,
+        region_log | (numbers.len() as u64) << 32,
+        words.len() as u64,
+        allowance,
+    ];
+    let mut text = Vec::new(alloc);
+    for part in [front.as_slice(), words, numbers] {
+        put_words(&mut text, part)?;
+    }
+    Ok(text)
+}
+
+fn put_words(text: &mut Vec<u8>, words: &[u64]) -> Result<(), AllocError> {
+    for word in words {
+        text.extend_from_slice(&word.to_le_bytes())?;
+    }
+    Ok(())
+}
