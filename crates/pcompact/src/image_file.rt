@@ -10,9 +10,9 @@ use std::thread::Threads;
 
 /// The bytes of an image's file, which no contract tells.
 ///
-/// Of a large image in a regular file several threads read what stands behind the front first, side by side. Any other file, as a pipe, is
-/// read in order, and so is all of a regular one where a thread can't read its part: what is then wrong is found as of a
-/// pipe.
+/// Of a large image in a regular file several threads read what stands behind the front first, side by side. Any other
+/// file, as a pipe, is read in order, and so is all of a regular one where a thread can't read its part: what is then wrong
+/// is found as of a pipe.
 #[derive(Drop)]
 pub struct ImageFile<'a, F: Drop> {
     watched: Watched<'a, F>,
