@@ -6,6 +6,7 @@ ghost use Rattle.history.specs.ImageMoves.{image_table};
 use crate::collection_desk::CollectionDesk;
 use crate::staff::Staff;
 use heap_image::{Fault, Image};
+use mark_bitmap::Marks;
 use std::alloc::Global;
 use std::thread::Threads;
 use summary::Survey;
@@ -30,20 +31,26 @@ where
     D::Seat: Drop,
 {
     /// For this image, with 1 to 64 workers, by as many threads. The only fault is want of memory.
+    ///
+    /// What was seen of the image when it was read is freed once the marks are made, so that what comes next has its room.
     pub(crate) fn of(
         alloc: Global,
-        image: &Image,
+        image: &mut Image,
         workers: u32,
         threads: &(impl Threads + Sync),
     ) -> Result<Equipment<D>, Fault>
         requires some { 0 < workers }
         requires few { workers ≤ 64 }
-        ensures survey { IfOk result (λ made. made.survey ≡ image.now) }
+        ensures survey { IfOk result (λ made. made.survey ≡ image.old) }
         ensures workers { IfOk result (λ made. vec_len made.staff.workers ≡ workers) }
         ensures seats { IfOk result (λ made. All (λ w. D.serves made.desk w.seat) made.staff.workers.items) }
+        ensures same { image.new ≡ image.old }
         ensures fault { IfErr result (λ fault. fault ≡ Memory) }
     {
-        let survey = Survey::by_workers(alloc, image, workers as usize, threads)?;
+        let count = workers as usize;
+        let marks = Marks::by_workers(alloc, image, count, threads)?;
+        image.forget_seen();
+        let survey = Survey::with_marks(alloc, image, marks, count, threads)?;
         let (desk, seats) = D::open(alloc, survey.plan(), workers)?;
         let staff = Staff::new(alloc, survey.plan(), seats)?;
         Ok(Equipment {

@@ -92,7 +92,7 @@ where
     /// is tested first, isn't 1 to 64, and 11 where memory is refused.
     pub(crate) fn new(
         alloc: Global,
-        image: Image,
+        mut image: Image,
         workers: u32,
         threads: &(impl Threads + Sync),
     ) -> Result<Prepared<D>, (Image, Fault)>
@@ -106,7 +106,7 @@ where
         if workers == 0 || workers > MAX_WORKERS {
             return Err((image, Fault::Workers));
         }
-        let equipment = match Equipment::of(alloc, &image, workers, threads) {
+        let equipment = match Equipment::of(alloc, &mut image, workers, threads) {
             Ok(equipment) => equipment,
             Err(fault) => return Err((image, fault)),
         };

@@ -212,6 +212,15 @@ impl Image {
         }
     }
 
+    /// Frees what was seen of the live objects when the image was read: the bits of [`begins`](Image::begins) and the
+    /// [`sizes`](Image::sizes). The image itself stays as it is.
+    pub fn forget_seen(&mut self)
+        ensures { self.new ≡ self.old }
+    {
+        self.begins = None;
+        self.sizes = None;
+    }
+
     /// The roots, in any order; none in an image of version 1. Each is 0, which is null, or 1 plus the address of a live
     /// object.
     pub fn roots(&self) -> &[u64]

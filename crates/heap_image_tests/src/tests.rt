@@ -249,13 +249,16 @@ fn the_base_is_read_and_written(rt: HostRuntime) -> Result<(), Fail> {
 #[test]
 fn sizes_are_kept_where_threads_check(rt: HostRuntime) -> Result<(), Fail> {
     let text = base_text(rt.alloc())?;
-    let image = decode_by_threads(rt.alloc(), text.as_slice(), &rt)?;
+    let mut image = decode_by_threads(rt.alloc(), text.as_slice(), &rt)?;
     let last = match image.sizes() {
         Some([first, ..]) => first[3],
         _ => 0,
     };
     assert_eq!(rt; image.live().get(3), Some(&20));
     assert_eq!(rt; last, 10);
+    image.forget_seen();
+    assert!(rt; image.begins().is_none() && image.sizes().is_none());
+    assert_eq!(rt; encode(rt.alloc(), &image)?.as_slice(), text.as_slice());
     Ok(())
 }
 

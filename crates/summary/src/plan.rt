@@ -47,7 +47,8 @@ impl Model for Plan {
 }
 
 impl Plan {
-    /// The plan of an image with these marks. The regions are counted by as many threads as there are processors.
+    /// The plan of an image with these marks. The regions are counted by as many threads as there are
+    /// processors, at most.
     ///
     /// The only error is [`Fault::Memory`], where memory is refused.
     pub fn of(

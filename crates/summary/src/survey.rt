@@ -31,7 +31,7 @@ impl Model for Survey {
 }
 
 impl Survey {
-    /// The survey of an image. As many threads as there are processors make the marks and count the regions.
+    /// The survey of an image. As many threads as there are processors, at most, make the marks and count the regions.
     ///
     /// The only error is [`Fault::Memory`], where memory is refused.
     pub fn of(
@@ -56,6 +56,24 @@ impl Survey {
         ensures fault { IfErr result (λ fault. fault ≡ Memory) }
     {
         let marks = Marks::by_workers(alloc, image, workers, threads)?;
+        Survey::with_marks(alloc, image, marks, workers, threads)
+    }
+
+    /// The survey of an image with these marks. So many threads count the regions at most, the caller's among them; 0 is
+    /// taken for 1.
+    ///
+    /// The only error is [`Fault::Memory`], where memory is refused.
+    pub fn with_marks(
+        alloc: Global,
+        image: &Image,
+        marks: Marks,
+        workers: usize,
+        threads: &(impl Threads + Sync),
+    ) -> Result<Survey, Fault>
+        requires { marks ≡ image.now }
+        ensures survey { IfOk result (λ survey. survey ≡ image.now) }
+        ensures fault { IfErr result (λ fault. fault ≡ Memory) }
+    {
         let plan = Plan::by_workers(alloc, image, &marks, workers, threads)?;
         Ok(Survey { marks, plan })
     }
