@@ -2,8 +2,8 @@
 //! allocation refused in turn.
 use crate::streaming_tests::Checked;
 use collector::{OpenGate, Ready, Refusal, Verdict, collect, collect_stream, verify};
-use collector_samples::Base;
 use heap_image::{Fault, FromRead, Image, ToWrite, decode_by_threads, encode};
+use heap_samples::Base;
 use std::alloc::{AllocError, Global};
 use std::sync::Wait;
 use std::thread::Threads;

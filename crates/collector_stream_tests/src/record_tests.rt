@@ -1,7 +1,7 @@
 //! Tests of recorded collections: the base heap's schedule, and orders that a gate forces.
 use collector::{Gate, OpenGate, Refusal, Verdict, record, verify};
-use collector_samples::{BASE_LIVE, BASE_WORDS, image_of};
 use heap_image::{Fault, Image, encode};
+use heap_samples::{BASE_LIVE, BASE_WORDS, Settings, image_of};
 use history::{End, Event, Reply, Schedule, replay, write_schedule};
 use std::alloc::Global;
 use std::sync::Wait;
@@ -42,7 +42,13 @@ pub(crate) const BASE_SCHEDULE: &str = "schedule 1 1
 
 /// The base heap with this allowance.
 fn base(alloc: Global, allowance: u64, threads: &(impl Threads + Sync)) -> Result<Image, Fail> {
-    image_of(alloc, allowance, &BASE_WORDS, &BASE_LIVE, threads)
+    image_of(
+        alloc,
+        Settings::of_base(allowance),
+        &BASE_WORDS,
+        &BASE_LIVE,
+        threads,
+    )
 }
 
 /// The schedule of the base heap's collection under a gate, where its image is the right one.

@@ -7,11 +7,12 @@ mod recorded;
 mod rooted;
 
 use collector::{Figures, Gate, OpenGate, collect_stream};
+use collector_samples::Awaits;
 use collector_samples::Call::Before;
-use collector_samples::{
-    Awaits, BASE_LIVE, BASE_WORDS, MOVED_LIVE, MOVED_WORDS, image_of, image_text,
-};
 use heap_image::{Fault, FromRead, Image, Intake, Outlet, ToWrite, encode, header};
+use heap_samples::{
+    BASE_LIVE, BASE_WORDS, MOVED_LIVE, MOVED_WORDS, Settings, image_of, image_text,
+};
 use std::alloc::{AllocError, Global};
 use std::io;
 use std::io::{Read, Write};
@@ -106,14 +107,32 @@ fn texts_of(alloc: Global, before: &Image, after: &Image) -> Result<Texts, Alloc
 
 /// Of the base heap with allowance 0.
 fn slid(alloc: Global, threads: &(impl Threads + Sync)) -> Result<Texts, Fail> {
-    let before = image_of(alloc, 0, &BASE_WORDS, &BASE_LIVE, threads)?;
-    let after = image_of(alloc, 0, &MOVED_WORDS, &MOVED_LIVE, threads)?;
+    let before = image_of(
+        alloc,
+        Settings::of_base(0),
+        &BASE_WORDS,
+        &BASE_LIVE,
+        threads,
+    )?;
+    let after = image_of(
+        alloc,
+        Settings::of_base(0),
+        &MOVED_WORDS,
+        &MOVED_LIVE,
+        threads,
+    )?;
     Ok(texts_of(alloc, &before, &after)?)
 }
 
 /// Of the base heap with allowance 2, whose first region stays.
 pub(crate) fn with_prefix(alloc: Global, threads: &(impl Threads + Sync)) -> Result<Texts, Fail> {
-    let before = image_of(alloc, 2, &BASE_WORDS, &BASE_LIVE, threads)?;
+    let before = image_of(
+        alloc,
+        Settings::of_base(2),
+        &BASE_WORDS,
+        &BASE_LIVE,
+        threads,
+    )?;
     let after = compact_plainly(alloc, &before)?;
     Ok(texts_of(alloc, &before, &after)?)
 }
@@ -355,7 +374,7 @@ fn no_malicious_image_is_collected(rt: HostRuntime) -> Result<(), Fail> {
         let mut words = BASE_WORDS;
         assert!(rt; at < words.len());
         words[at] = word;
-        let text = image_text(rt.alloc(), (3, 0), &words, &BASE_LIVE)?;
+        let text = image_text(rt.alloc(), Settings::of_base(0), &words, &BASE_LIVE)?;
         let answer = refused(rt.alloc(), &rt, text.as_slice());
         assert_eq!(rt; answer, Some(Err(fault)));
     }

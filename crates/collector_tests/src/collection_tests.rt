@@ -6,9 +6,9 @@ mod stress;
 mod upgraded;
 
 use collector::{Figures, Gate, OpenGate, Refusal, Verdict, collect, verify};
-use collector_samples::{BASE_LIVE, BASE_WORDS, DEAD, image_of};
 use crossbeam_utils::Backoff;
 use heap_image::{Fault, Image, encode, header};
+use heap_samples::{BASE_LIVE, BASE_WORDS, DEAD, Settings, image_of};
 use std::alloc::{AllocError, Global};
 use std::sync::Wait;
 use std::sync::atomic::{AtomicBool, AtomicU32, Ordering};
@@ -33,7 +33,8 @@ struct Heap<'a> {
 
 impl Heap<'_> {
     fn image(&self, alloc: Global, threads: &(impl Threads + Sync)) -> Result<Image, Fail> {
-        image_of(alloc, self.allowance, self.words, self.live, threads)
+        let settings = Settings::of_base(self.allowance);
+        image_of(alloc, settings, self.words, self.live, threads)
     }
 
     /// The figures of a collection by so many workers, whose image is the right one.

@@ -3,9 +3,9 @@ mod library;
 mod roots;
 
 use collector::{Gate, OpenGate, Ready, Thief, Verdict, verify};
-use collector_samples::{BASE_LIVE, BASE_WORDS, DEAD, MOVED_LIVE, MOVED_WORDS, image_of};
 use crossbeam_deque::Steal;
 use heap_image::Image;
+use heap_samples::{BASE_LIVE, BASE_WORDS, DEAD, MOVED_LIVE, MOVED_WORDS, Settings, image_of};
 use std::alloc::{AllocError, Global};
 use std::test::Fail;
 use std::thread;
@@ -14,20 +14,38 @@ use summary::compact_plainly;
 
 #[test]
 fn the_first_difference_decides(rt: HostRuntime) -> Result<(), Fail> {
-    let base = image_of(rt.alloc(), 0, &BASE_WORDS, &BASE_LIVE, &rt)?;
-    let moved = image_of(rt.alloc(), 0, &MOVED_WORDS, &MOVED_LIVE, &rt)?;
+    let base = image_of(
+        rt.alloc(),
+        Settings::of_base(0),
+        &BASE_WORDS,
+        &BASE_LIVE,
+        &rt,
+    )?;
+    let moved = image_of(
+        rt.alloc(),
+        Settings::of_base(0),
+        &MOVED_WORDS,
+        &MOVED_LIVE,
+        &rt,
+    )?;
     assert_eq!(rt; verify(rt.alloc(), &base, &moved, &rt)?, Verdict::Same);
     assert_eq!(rt; verify(rt.alloc(), &base, &base, &rt)?, Verdict::Word(1));
 
     let mut words = MOVED_WORDS;
     words[18] = 130;
-    let other_word = image_of(rt.alloc(), 0, &words, &MOVED_LIVE, &rt)?;
+    let other_word = image_of(rt.alloc(), Settings::of_base(0), &words, &MOVED_LIVE, &rt)?;
     assert_eq!(rt;
         verify(rt.alloc(), &base, &other_word, &rt)?,
         Verdict::Word(18)
     );
 
-    let generous = image_of(rt.alloc(), 2, &BASE_WORDS, &BASE_LIVE, &rt)?;
+    let generous = image_of(
+        rt.alloc(),
+        Settings::of_base(2),
+        &BASE_WORDS,
+        &BASE_LIVE,
+        &rt,
+    )?;
     let with_filler = compact_plainly(rt.alloc(), &generous)?;
     assert_eq!(rt;
         verify(rt.alloc(), &base, &with_filler, &rt)?,
@@ -52,8 +70,8 @@ fn the_live_list_decides_last(rt: HostRuntime) -> Result<(), Fail> {
         0,
         0,
     ];
-    let before = image_of(rt.alloc(), 0, &words, &[0], &rt)?;
-    let after = image_of(rt.alloc(), 0, &words, &[1], &rt)?;
+    let before = image_of(rt.alloc(), Settings::of_base(0), &words, &[0], &rt)?;
+    let after = image_of(rt.alloc(), Settings::of_base(0), &words, &[1], &rt)?;
     assert_eq!(rt; verify(rt.alloc(), &before, &after, &rt)?, Verdict::Live(0));
     Ok(())
 }
@@ -94,7 +112,13 @@ fn seeded_image(
     for a in 0..192 {
         words.push(seeded_word(&mut seed, live.as_slice(), sizes.as_slice(), a))?;
     }
-    image_of(alloc, allowance, words.as_slice(), live.as_slice(), threads)
+    image_of(
+        alloc,
+        Settings::of_base(allowance),
+        words.as_slice(),
+        live.as_slice(),
+        threads,
+    )
 }
 
 /// The word at `a`: of an object a header, then references, the half of its words, then plain numbers.

@@ -10,7 +10,8 @@ mod seeded;
 
 use claim_board::{Board, Pass};
 use fill::{clear_above, fill_region, update_deferred};
-use heap_image::{Fault, Image, decode_by_threads};
+use heap_image::{Fault, Image};
+use heap_samples::{BASE_LIVE, DEAD, Settings, base_image};
 use history::moves_of_images;
 use raw_region::Region;
 use region_cells::Cells;
@@ -21,12 +22,6 @@ use std::thread::Threads;
 use summary::Survey;
 use summary::laws::region_data::regions_to_fill;
 
-/// A word of no live object.
-const DEAD: u64 = 999;
-
-/// The first eight bytes of an image.
-const MAGIC: u64 = 0x3130_5041_4548_4350;
-
 /// The headers of the objects of the base heap.
 const FIRST: u64 = 0x0100_0002_0000_0003;
 
@@ -36,16 +31,8 @@ const THIRD: u64 = 0x0100_0001_0000_0002;
 
 const FOURTH: u64 = 0x0100_0008_0000_000a;
 
-/// The words of the base heap: four regions of 8 words.
-const BASE: [[u64; 8]; 4] = [
-    [FIRST, 6, 21, DEAD, DEAD, SECOND, 13, 107],
-    [108, DEAD, DEAD, DEAD, THIRD, 1, DEAD, DEAD],
-    [DEAD, DEAD, DEAD, DEAD, FOURTH, 21, 0, 6],
-    [13, 1, 0, 21, 6, 129, DEAD, DEAD],
-];
-
-/// Where its objects begin.
-const BASE_LIVE: [u64; 4] = [0, 5, 12, 20];
+/// The words of its last region.
+const LAST_REGION: [u64; 8] = [13, 1, 0, 21, 6, 129, DEAD, DEAD];
 
 /// Headers of objects without references, of so many words.
 const ONE: u64 = 0x0100_0000_0000_0001;
@@ -67,32 +54,8 @@ fn image_of(
     live: &[u64],
     threads: &(impl Threads + Sync),
 ) -> Result<Image, Fail> {
-    sized_image(alloc, (3, allowance), words.as_flattened(), live, threads)
-}
-
-/// The image with this region log and allowance.
-fn sized_image(
-    alloc: Global,
-    (region_log, allowance): (u64, u64),
-    words: &[u64],
-    live: &[u64],
-    threads: &(impl Threads + Sync),
-) -> Result<Image, Fail> {
-    let live_count = live.len() as u64;
-    let counts = region_log | live_count << 32;
-    let front = [MAGIC, counts, words.len() as u64, allowance];
-    let mut bytes = Vec::new(alloc);
-    for part in [front.as_slice(), words, live] {
-        put_words(&mut bytes, part)?;
-    }
-    Ok(decode_by_threads(alloc, bytes.as_slice(), threads)?)
-}
-
-fn put_words(bytes: &mut Vec<u8>, words: &[u64]) -> Result<(), AllocError> {
-    for word in words {
-        bytes.extend_from_slice(&word.to_le_bytes())?;
-    }
-    Ok(())
+    let settings = Settings::of_base(allowance);
+    heap_samples::image_of(alloc, settings, words.as_flattened(), live, threads)
 }
 
 /// A heap whose regions are to be filled.
@@ -230,14 +193,14 @@ fn words_from_the_new_top_up_are_cleared(rt: HostRuntime) -> Result<(), Fail> {
 
 #[test]
 fn the_base_heap_is_filled(rt: HostRuntime) -> Result<(), Fail> {
-    let image = image_of(rt.alloc(), 0, &BASE, &BASE_LIVE, &rt)?;
+    let image = base_image(rt.alloc(), 0, &BASE_LIVE)?;
     let found = fill_all(rt.alloc(), image, &[1, 2, 0, 1, 2], &rt)?;
     assert_eq!(rt; found.told.as_slice(), [1, 2, 3].as_slice());
     let moved = [
         [FIRST, 4, 10, SECOND, 8, 107, 108, THIRD],
         [1, FOURTH, 21, 0, 6, 13, 1, 0],
         [21, 6, 129, DEAD, FOURTH, 21, 0, 6],
-        BASE[3],
+        LAST_REGION,
     ];
     assert_eq!(rt; found.moved.as_slice(), moved.as_flattened());
     let compacted = [
@@ -252,14 +215,14 @@ fn the_base_heap_is_filled(rt: HostRuntime) -> Result<(), Fail> {
 
 #[test]
 fn the_base_heap_is_filled_behind_a_prefix(rt: HostRuntime) -> Result<(), Fail> {
-    let image = image_of(rt.alloc(), 2, &BASE, &BASE_LIVE, &rt)?;
+    let image = base_image(rt.alloc(), 2, &BASE_LIVE)?;
     let found = fill_all(rt.alloc(), image, &[1, 2, 0], &rt)?;
     assert_eq!(rt; found.told.as_slice(), [2, 3].as_slice());
     let moved = [
         [FIRST, 6, 12, FILLER + 1, 0, SECOND, 13, 107],
         [108, THIRD, 1, FOURTH, 21, 0, 6, 13],
         [1, 0, 21, 6, 129, 21, 0, 6],
-        BASE[3],
+        LAST_REGION,
     ];
     assert_eq!(rt; found.moved.as_slice(), moved.as_flattened());
     let compacted = [

@@ -1,67 +1,18 @@
 //! Tests of what no clause says: that calls succeed, and how a picture looks. `tests/fuzz` compares many more heaps with
 //! a model.
-use heap_image::{Image, decode};
+use heap_image::Image;
 use heap_map::{Area, Cell, Glyphs, MAX_CELLS, Picture, Shade, Style};
+use heap_samples::{BASE_LIVE, base_image};
 use std::alloc::Global;
 use std::test::Fail;
 use std::thread::Threads;
 use summary::Survey;
-
-/// The text of the base heap of docs/HEAP.md, but for its allowance.
-const BASE: [u64; 32] = [
-    0x0100_0002_0000_0003,
-    6,
-    21,
-    999,
-    999,
-    0x0100_0001_0000_0004,
-    13,
-    107,
-    108,
-    999,
-    999,
-    999,
-    0x0100_0001_0000_0002,
-    1,
-    999,
-    999,
-    999,
-    999,
-    999,
-    999,
-    0x0100_0008_0000_000A,
-    21,
-    0,
-    6,
-    13,
-    1,
-    0,
-    21,
-    6,
-    129,
-    999,
-    999,
-];
 
 /// Letters without colours.
 const LETTERS: Style = Style {
     glyphs: Glyphs::Letters,
     is_coloured: false,
 };
-
-/// The image of the base heap with this allowance and these live objects.
-fn image_of(alloc: Global, allowance: u64, live: &[u64]) -> Result<Image, Fail> {
-    let mut bytes = Vec::new(alloc);
-    bytes.extend_from_slice(b"PCHEAP01")?;
-    bytes.extend_from_slice(&3u32.to_le_bytes())?;
-    bytes.extend_from_slice(&(live.len().min(32) as u32).to_le_bytes())?;
-    bytes.extend_from_slice(&32u64.to_le_bytes())?;
-    bytes.extend_from_slice(&allowance.to_le_bytes())?;
-    for word in BASE.iter().chain(live.iter()) {
-        bytes.extend_from_slice(&word.to_le_bytes())?;
-    }
-    Ok(decode(alloc, bytes.as_slice())?)
-}
 
 /// The picture of an image before its collection and after it.
 fn picture_of<T: Threads + Sync>(
@@ -107,7 +58,7 @@ fn the_rows_of_the_base_heap(rt: HostRuntime) -> Result<(), Fail> {
         ),
     ];
     for (allowance, strips) in rows {
-        let image = image_of(rt.alloc(), allowance, &[0, 5, 12, 20])?;
+        let image = base_image(rt.alloc(), allowance, &BASE_LIVE)?;
         let text = picture_of(rt.alloc(), &image, 4, &rt)?.text(rt.alloc(), LETTERS)?;
         assert_eq!(rt; strips_of(text.as_str()), strips);
     }
@@ -116,7 +67,7 @@ fn the_rows_of_the_base_heap(rt: HostRuntime) -> Result<(), Fail> {
 
 #[test]
 fn a_picture_is_told_whole(rt: HostRuntime) -> Result<(), Fail> {
-    let image = image_of(rt.alloc(), 2, &[0, 5, 12, 20])?;
+    let image = base_image(rt.alloc(), 2, &BASE_LIVE)?;
     let text = picture_of(rt.alloc(), &image, 1000, &rt)?.text(rt.alloc(), LETTERS)?;
     let whole = "words 32 live 19 dead 13 prefix 8 top 21 filled 3\n\
         before |###__####___##______##########__|\n       |pppffpppmmmmmmmmmmmmmmmmmmmmmm--|\n\
@@ -129,7 +80,7 @@ fn a_picture_is_told_whole(rt: HostRuntime) -> Result<(), Fail> {
 
 #[test]
 fn without_a_live_object_all_is_free(rt: HostRuntime) -> Result<(), Fail> {
-    let image = image_of(rt.alloc(), 0, &[])?;
+    let image = base_image(rt.alloc(), 0, &[])?;
     let survey = Survey::of(rt.alloc(), &image, &rt)?;
     let picture = Picture::of(rt.alloc(), &image, &survey, 2)?;
     let text = picture.text(rt.alloc(), LETTERS)?;
@@ -144,7 +95,7 @@ fn without_a_live_object_all_is_free(rt: HostRuntime) -> Result<(), Fail> {
 
 #[test]
 fn blocks_and_colours(rt: HostRuntime) -> Result<(), Fail> {
-    let image = image_of(rt.alloc(), 2, &[0, 5, 12, 20])?;
+    let image = base_image(rt.alloc(), 2, &BASE_LIVE)?;
     let picture = picture_of(rt.alloc(), &image, 4, &rt)?;
     let blocks = Style {
         glyphs: Glyphs::Blocks,
@@ -169,7 +120,7 @@ fn blocks_and_colours(rt: HostRuntime) -> Result<(), Fail> {
 
 #[test]
 fn a_drawing_has_a_title_for_each_cell(rt: HostRuntime) -> Result<(), Fail> {
-    let image = image_of(rt.alloc(), 2, &[0, 5, 12, 20])?;
+    let image = base_image(rt.alloc(), 2, &BASE_LIVE)?;
     let svg = picture_of(rt.alloc(), &image, 32, &rt)?.svg(rt.alloc())?;
     // One of the drawing, and of each cell before and after.
     assert_eq!(rt; svg.as_str().matches("<title>").count(), 1 + 2 * 32);

@@ -1,47 +1,12 @@
 //! Tests of what no clause says: that the worked texts are taken, which line each mistake is told of, and the texts of the
 //! errors. `tests/fuzz` takes many more texts both ways.
 use heap_image::{Fault, Image, decode, encode};
+use heap_samples::Base;
 use heap_text::{Expected, TextError, assemble, write_text};
 use std::alloc::{AllocError, Global};
 use std::test::Fail;
 
-/// The words of the base heap of docs/HEAP.md.
-const BASE: [u64; 32] = [
-    0x0100_0002_0000_0003,
-    6,
-    21,
-    999,
-    999,
-    0x0100_0001_0000_0004,
-    13,
-    107,
-    108,
-    999,
-    999,
-    999,
-    0x0100_0001_0000_0002,
-    1,
-    999,
-    999,
-    999,
-    999,
-    999,
-    999,
-    0x0100_0008_0000_000A,
-    21,
-    0,
-    6,
-    13,
-    1,
-    0,
-    21,
-    6,
-    129,
-    999,
-    999,
-];
-
-/// Its text in version 2, with roots 21 and 0.
+/// The base heap's text in version 2, with roots 21 and 0.
 const ROOTED: &str = "heap version 2
 region-log 3
 words 32
@@ -81,20 +46,6 @@ roots
 @0 dead 8 words 0 1 2 3 4 5 6 18446744073709551615
 ";
 
-/// The bytes of an image of the base heap, with these numbers behind the words.
-fn image_bytes(alloc: Global, magic: &[u8], numbers: &[u64]) -> Result<Vec<u8>, AllocError> {
-    let mut bytes = Vec::new(alloc);
-    bytes.extend_from_slice(magic)?;
-    bytes.extend_from_slice(&3u32.to_le_bytes())?;
-    bytes.extend_from_slice(&u32::try_from(numbers.len()).unwrap_or(0).to_le_bytes())?;
-    bytes.extend_from_slice(&32u64.to_le_bytes())?;
-    bytes.extend_from_slice(&0u64.to_le_bytes())?;
-    for number in BASE.iter().chain(numbers) {
-        bytes.extend_from_slice(&number.to_le_bytes())?;
-    }
-    Ok(bytes)
-}
-
 /// Whether an image has this text, and the text this image.
 fn agree(alloc: Global, bytes: &[u8], text: &str) -> Result<bool, Fail> {
     let image: Image = decode(alloc, bytes)?;
@@ -106,13 +57,9 @@ fn agree(alloc: Global, bytes: &[u8], text: &str) -> Result<bool, Fail> {
 
 #[test]
 fn the_base_heap_is_written_and_assembled(rt: HostRuntime) -> Result<(), Fail> {
-    let rooted = image_bytes(rt.alloc(), b"PCHEAP02".as_slice(), [21, 0].as_slice())?;
+    let rooted = Base::WithRoots.text(rt.alloc(), 0)?;
     assert!(rt; agree(rt.alloc(), rooted.as_slice(), ROOTED)?);
-    let listed = image_bytes(
-        rt.alloc(),
-        b"PCHEAP01".as_slice(),
-        [0, 5, 12, 20].as_slice(),
-    )?;
+    let listed = Base::WithLiveList.text(rt.alloc(), 0)?;
     assert!(rt; agree(rt.alloc(), listed.as_slice(), LISTED)?);
     Ok(())
 }

@@ -28,7 +28,5 @@ mod mark_builder;
 mod marks;
 mod objects;
 mod part_bits;
-#[cfg(test)]
-mod tests;
 
 pub use marks::Marks;

@@ -68,7 +68,7 @@ impl Marks {
     }
 
     /// As [`of`](Marks::of), by a thread for so many words of bits each.
-    pub(crate) fn in_shares(
+    fn in_shares(
         alloc: Global,
         image: &Image,
         share: usize,

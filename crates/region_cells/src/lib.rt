@@ -32,8 +32,6 @@ mod placed;
 mod slots;
 mod source;
 mod target;
-#[cfg(test)]
-mod tests;
 
 pub use cells::Cells;
 pub use heap_image::ImageParts as Parts;

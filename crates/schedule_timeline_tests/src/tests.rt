@@ -1,7 +1,8 @@
 //! Tests of what no clause says: that calls succeed, and how a timeline looks. `tests/timeline` compares many more
 //! schedules with a model, and runs the pages.
-use heap_image::{Fault, Image, decode};
+use heap_image::Fault;
 use heap_map::{Glyphs, Style};
+use heap_samples::{BASE_LIVE, base_image};
 use history::read_schedule;
 use schedule_timeline::{Bar, Call, Ending, Figures, Freeing, Timeline};
 use std::alloc::Global;
@@ -9,43 +10,7 @@ use std::test::Fail;
 use std::thread::Threads;
 use summary::Survey;
 
-/// The text of the base heap of docs/HEAP.md.
-const BASE: [u64; 32] = [
-    0x0100_0002_0000_0003,
-    6,
-    21,
-    999,
-    999,
-    0x0100_0001_0000_0004,
-    13,
-    107,
-    108,
-    999,
-    999,
-    999,
-    0x0100_0001_0000_0002,
-    1,
-    999,
-    999,
-    999,
-    999,
-    999,
-    999,
-    0x0100_0008_0000_000A,
-    21,
-    0,
-    6,
-    13,
-    1,
-    0,
-    21,
-    6,
-    129,
-    999,
-    999,
-];
-
-/// Two workers on it. The second has region 1 in hand in the end.
+/// Two workers on the base heap. The second has region 1 in hand in the end.
 const SCHEDULE: &[u8] = b"schedule 1 2
 0 claim 0 yes
 0 copy 0 8 ok
@@ -63,27 +28,13 @@ const LETTERS: Style = Style {
     is_coloured: false,
 };
 
-/// The image of the base heap.
-fn base_image(alloc: Global) -> Result<Image, Fail> {
-    let mut bytes = Vec::new(alloc);
-    bytes.extend_from_slice(b"PCHEAP01")?;
-    bytes.extend_from_slice(&3u32.to_le_bytes())?;
-    bytes.extend_from_slice(&4u32.to_le_bytes())?;
-    bytes.extend_from_slice(&32u64.to_le_bytes())?;
-    bytes.extend_from_slice(&0u64.to_le_bytes())?;
-    for word in BASE.iter().chain([0, 5, 12, 20].iter()) {
-        bytes.extend_from_slice(&word.to_le_bytes())?;
-    }
-    Ok(decode(alloc, bytes.as_slice())?)
-}
-
 /// The timeline of a schedule's text on the base heap.
 fn timeline_of<T: Threads + Sync>(
     alloc: Global,
     text: &[u8],
     threads: &T,
 ) -> Result<Timeline, Fail> {
-    let image = base_image(alloc)?;
+    let image = base_image(alloc, 0, &BASE_LIVE)?;
     let survey = Survey::of(alloc, &image, threads)?;
     let schedule = read_schedule(alloc, text)?;
     Ok(Timeline::of(alloc, &image, &survey, &schedule)?)
@@ -176,7 +127,7 @@ fn a_drawing_has_a_title_for_each_bar(rt: HostRuntime) -> Result<(), Fail> {
 
 #[test]
 fn a_page_has_the_moves_and_the_schedule(rt: HostRuntime) -> Result<(), Fail> {
-    let image = base_image(rt.alloc())?;
+    let image = base_image(rt.alloc(), 0, &BASE_LIVE)?;
     let survey = Survey::of(rt.alloc(), &image, &rt)?;
     let schedule = read_schedule(rt.alloc(), SCHEDULE)?;
     let timeline = Timeline::of(rt.alloc(), &image, &survey, &schedule)?;
@@ -191,7 +142,7 @@ fn a_page_has_the_moves_and_the_schedule(rt: HostRuntime) -> Result<(), Fail> {
 
 #[test]
 fn a_line_that_is_not_taken_is_told(rt: HostRuntime) -> Result<(), Fail> {
-    let image = base_image(rt.alloc())?;
+    let image = base_image(rt.alloc(), 0, &BASE_LIVE)?;
     let survey = Survey::of(rt.alloc(), &image, &rt)?;
     let schedule = read_schedule(rt.alloc(), b"schedule 1 1\n0 poll ?\n0 settle 0 ?\n")?;
     match Timeline::of(rt.alloc(), &image, &survey, &schedule) {

@@ -4,22 +4,14 @@ ghost use Rattle.std.specs.Prelude.{◌≡◌};
 mod rooted;
 mod seeded;
 
-use heap_image::{Image, decode_by_threads};
+use heap_image::Image;
+use heap_samples::{Object, Settings, plain_words};
 use mark_bitmap::Marks;
 use raw_region::Region;
 use std::alloc::{AllocError, Global};
 use std::test::Fail;
 use std::thread::Threads;
 use summary::{Plan, Survey};
-
-/// A word of no live object.
-const DEAD: u64 = 999;
-
-/// The first eight bytes of an image.
-const MAGIC: u64 = 0x3130_5041_4548_4350;
-
-/// An address and a size.
-type Object = (u64, u64);
 
 /// The objects of the base heap: 32 words in regions of 8.
 const BASE: [Object; 4] = [(0, 3), (5, 4), (12, 2), (20, 10)];
@@ -72,46 +64,13 @@ fn image_of(
     (region_log, len, allowance): (u64, u64, u64),
     objects: &[Object],
 ) -> Result<Image, Fail> {
+    let settings = Settings {
+        region_log,
+        allowance,
+    };
+    let words = plain_words(alloc, len, objects)?;
     let live = Vec::from_iter(alloc, objects.iter().map(|object| object.0))?;
-    let live_count = live.len() as u64;
-    let front = [MAGIC, region_log | live_count << 32, len, allowance];
-    decoded(threads, alloc, front, objects, live.as_slice())
-}
-
-/// The image with this front, the words of a heap of such objects, and behind them these numbers.
-fn decoded(
-    threads: &(impl Threads + Sync),
-    alloc: Global,
-    front: [u64; 4],
-    objects: &[Object],
-    numbers: &[u64],
-) -> Result<Image, Fail> {
-    let words = Vec::from_iter(alloc, (0..front[2]).map(|a| word_at(objects, a)))?;
-    let mut bytes = Vec::new(alloc);
-    for part in [front.as_slice(), words.as_slice(), numbers] {
-        put_words(&mut bytes, part)?;
-    }
-    Ok(decode_by_threads(alloc, bytes.as_slice(), threads)?)
-}
-
-fn put_words(bytes: &mut Vec<u8>, words: &[u64]) -> Result<(), AllocError> {
-    for word in words {
-        bytes.extend_from_slice(&word.to_le_bytes())?;
-    }
-    Ok(())
-}
-
-/// The word at address `a` of such a heap.
-fn word_at(objects: &[Object], a: u64) -> u64 {
-    for (begin, size) in objects {
-        if a == *begin {
-            return 1 << 56 | *size;
-        }
-        if *begin < a && a - *begin < *size {
-            return 0;
-        }
-    }
-    DEAD
+    heap_samples::image_of(alloc, settings, words.as_slice(), live.as_slice(), threads)
 }
 
 /// The prefix end, the new top and the number of regions to fill, and then the new addresses.

@@ -10,8 +10,6 @@
 #![tactic(auto)]
 
 mod chains;
-#[cfg(test)]
-mod tests;
 mod work_order;
 
 pub use work_order::WorkOrder;

@@ -1,8 +1,8 @@
 //! That a recorded collection keeps the image where memory is refused before a worker begins.
 use crate::memory_tests::{image, is_base};
 use collector::{Gate, OpenGate, Refusal, record};
-use collector_samples::Base;
 use heap_image::Fault;
+use heap_samples::Base;
 use std::alloc::Global;
 use std::sync::Wait;
 use std::sync::atomic::{AtomicBool, Ordering};

@@ -2,8 +2,8 @@
 use super::replays;
 use crate::memory_tests::are_right;
 use collector::{OpenGate, Outcome, Refusal, Verdict, record, verify};
-use collector_samples::Base;
 use heap_image::{Fault, decode_by_threads, encode};
+use heap_samples::Base;
 use history::Schedule;
 use std::alloc::Global;
 use std::sync::Wait;

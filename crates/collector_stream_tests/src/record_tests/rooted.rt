@@ -1,8 +1,8 @@
 //! Recorded collections of heaps with roots, whose schedules tell nothing of roots.
 use super::{BASE_SCHEDULE, recorded_of, replays};
 use collector::OpenGate;
-use collector_samples::Base;
 use heap_image::{Image, decode_by_threads};
+use heap_samples::Base;
 use history::{Schedule, write_schedule};
 use std::alloc::Global;
 use std::sync::Wait;

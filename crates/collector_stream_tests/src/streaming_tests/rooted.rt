@@ -3,8 +3,8 @@ use super::{
     Checked, Texts, Trickle, is_begun, is_too_short, is_unwritten, refused, slowly, streamed, whole,
 };
 use collector::OpenGate;
-use collector_samples::{BASE_ROOTS, BASE_WORDS, Base, MOVED_ROOTS, MOVED_WORDS, rooted_text};
 use heap_image::{Fault, FromRead, ToWrite, upgrade_stream};
+use heap_samples::{BASE_ROOTS, BASE_WORDS, Base, MOVED_ROOTS, MOVED_WORDS, Settings, rooted_text};
 use std::alloc::{AllocError, Global};
 use std::sync::Wait;
 use std::test::Fail;
@@ -21,8 +21,8 @@ fn texts(
     after: Heap<'_>,
 ) -> Result<Texts, AllocError> {
     Ok(Texts {
-        before: rooted_text(alloc, (3, allowance), before.0, before.1)?,
-        after: rooted_text(alloc, (3, allowance), after.0, after.1)?,
+        before: rooted_text(alloc, Settings::of_base(allowance), before.0, before.1)?,
+        after: rooted_text(alloc, Settings::of_base(allowance), after.0, after.1)?,
     })
 }
 
@@ -66,7 +66,7 @@ fn upgraded(alloc: Global) -> Result<Texts, Fault> {
     upgrade_stream(alloc, &mut FromRead::new(old.as_slice()), &mut writer)?;
     Ok(Texts {
         before: writer.into_inner(),
-        after: rooted_text(alloc, (3, 0), &MOVED_WORDS, &[1, 4, 8, 10])?,
+        after: rooted_text(alloc, Settings::of_base(0), &MOVED_WORDS, &[1, 4, 8, 10])?,
     })
 }
 
@@ -139,7 +139,7 @@ fn is_refused<R: Threads + Wait + Sync>(
     (words, roots): Heap<'_>,
     fault: Fault,
 ) -> Result<bool, AllocError> {
-    let mut text = rooted_text(alloc, (3, 0), words, roots)?;
+    let mut text = rooted_text(alloc, Settings::of_base(0), words, roots)?;
     let is_right = refused(alloc, rt, &text) == Some(Err(fault));
     text.push(0)?;
     Ok(is_right && refused(alloc, rt, &text) == Some(Err(fault)))

@@ -4,8 +4,8 @@ ghost use Rattle.heap_image.specs.ImageText.{text};
 ghost use Rattle.summary.specs.Compaction.{compact};
 
 use collector::{OpenGate, collect};
-use collector_samples::{BASE_LIVE, BASE_WORDS, MOVED_LIVE, MOVED_WORDS, image_text};
 use heap_image::{Fault, Image, decode, encode};
+use heap_samples::{BASE_LIVE, BASE_WORDS, MOVED_LIVE, MOVED_WORDS, Settings, image_text};
 use std::sync::Wait;
 use std::test::Fail;
 use std::thread::Threads;
@@ -26,10 +26,10 @@ fn text_after<R: AllocGlobal + Threads + Wait + Sync>(
 
 #[test]
 fn the_base_heap_is_collected(rt: HostRuntime) -> Result<(), Fail> {
-    let before = image_text(rt.alloc(), (3, 0), &BASE_WORDS, &BASE_LIVE)?;
+    let before = image_text(rt.alloc(), Settings::of_base(0), &BASE_WORDS, &BASE_LIVE)?;
     let image = decode(rt.alloc(), before.as_slice())?;
     let after = text_after(&rt, image)?;
-    let moved = image_text(rt.alloc(), (3, 0), &MOVED_WORDS, &MOVED_LIVE)?;
+    let moved = image_text(rt.alloc(), Settings::of_base(0), &MOVED_WORDS, &MOVED_LIVE)?;
     assert_eq!(rt; after.as_slice(), moved.as_slice());
     Ok(())
 }

@@ -1,9 +1,10 @@
 //! Verdicts on images with roots.
 use collector::{Verdict, verify};
-use collector_samples::{
-    BASE_ROOTS, BASE_WORDS, Base, MOVED_LIVE, MOVED_ROOTS, MOVED_WORDS, image_text, rooted_text,
-};
 use heap_image::{Fault, decode_by_threads};
+use heap_samples::{
+    BASE_ROOTS, BASE_WORDS, Base, MOVED_LIVE, MOVED_ROOTS, MOVED_WORDS, Settings, image_text,
+    rooted_text,
+};
 use std::alloc::Global;
 use std::test::Fail;
 use std::thread::Threads;
@@ -28,7 +29,7 @@ fn verdict_on(
     roots: &[u64],
 ) -> Result<Verdict, Fault> {
     let before = Base::WithRoots.text(alloc, 0)?;
-    let after = rooted_text(alloc, (3, 0), words, roots)?;
+    let after = rooted_text(alloc, Settings::of_base(0), words, roots)?;
     verdict(alloc, threads, &before, &after)
 }
 
@@ -62,8 +63,8 @@ fn the_least_root_decides_last(rt: HostRuntime) -> Result<(), Fail> {
 #[test]
 fn another_version_is_another_shape(rt: HostRuntime) -> Result<(), Fail> {
     let alloc = rt.alloc();
-    let listed = image_text(alloc, (3, 0), &MOVED_WORDS, &MOVED_LIVE)?;
-    let rooted = rooted_text(alloc, (3, 0), &MOVED_WORDS, &MOVED_ROOTS)?;
+    let listed = image_text(alloc, Settings::of_base(0), &MOVED_WORDS, &MOVED_LIVE)?;
+    let rooted = rooted_text(alloc, Settings::of_base(0), &MOVED_WORDS, &MOVED_ROOTS)?;
     let (old, new) = (
         Base::WithLiveList.text(alloc, 0)?,
         Base::WithRoots.text(alloc, 0)?,
@@ -79,8 +80,8 @@ fn another_version_is_another_shape(rt: HostRuntime) -> Result<(), Fail> {
 #[test]
 fn versions_differ_with_nothing_live(rt: HostRuntime) -> Result<(), Fail> {
     let alloc = rt.alloc();
-    let listed = image_text(alloc, (3, 0), &[0; 8], &[])?;
-    let rooted = rooted_text(alloc, (3, 0), &[0; 8], &[])?;
+    let listed = image_text(alloc, Settings::of_base(0), &[0; 8], &[])?;
+    let rooted = rooted_text(alloc, Settings::of_base(0), &[0; 8], &[])?;
     assert_eq!(rt; verdict(alloc, &rt, &listed, &rooted)?, Verdict::Shape);
     assert_eq!(rt; verdict(alloc, &rt, &rooted, &listed)?, Verdict::Shape);
     Ok(())
@@ -99,8 +100,8 @@ fn the_live_list_decides_before_the_roots(rt: HostRuntime) -> Result<(), Fail> {
         0,
         0,
     ];
-    let before = rooted_text(rt.alloc(), (3, 0), &words, &[0, 1])?;
-    let after = rooted_text(rt.alloc(), (3, 0), &words, &[0, 2])?;
+    let before = rooted_text(rt.alloc(), Settings::of_base(0), &words, &[0, 1])?;
+    let after = rooted_text(rt.alloc(), Settings::of_base(0), &words, &[0, 2])?;
     let found = verdict(rt.alloc(), &rt, &before, &after)?;
     assert_eq!(rt; found, Verdict::Live(0));
     Ok(())

@@ -5,9 +5,10 @@ ghost use Rattle.heap_image.specs.HeapImage.{region_count};
 ghost use Rattle.history.specs.MoveTable.{region_count as table_regions};
 ghost use Rattle.claim_board.specs.Boards.{moves as moves_of, identity, board_of};
 
-use crate::tests::{BASE, BASE_LIVE, Heap, fill, heap_of, image_of};
+use crate::tests::{Heap, fill, heap_of};
 use claim_board::{Board, Opening, Pass, Right};
 use heap_image::Fault;
+use heap_samples::{BASE_LIVE, base_image};
 use history::{GivenMoves, Moves};
 use region_cells::Cells;
 use std::alloc::Global;
@@ -20,7 +21,7 @@ fn base_heap<T: Threads + Sync>(alloc: Global, threads: &T) -> Result<(Heap, Pas
     ensures pass { IfOk result (λ made. board_of made.1 ≡ identity made.0.board) }
     ensures regions { IfOk result (λ made. region_count made.0.cells ≡ 4) }
 {
-    let image = image_of(alloc, 0, &BASE, &BASE_LIVE, threads)?;
+    let image = base_image(alloc, 0, &BASE_LIVE)?;
     let (heap, pass) = heap_of(alloc, image, threads)?;
     if heap.survey.plan().regions() != 4 {
         return Err(Fail::from("not four regions"));

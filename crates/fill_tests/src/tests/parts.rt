@@ -1,9 +1,10 @@
 //! Deferred objects of larger heaps, updated by several threads.
 
 use crate::tests::overwritten::filled_below;
-use crate::tests::{DEAD, Heap, heap_of, joined, sized_image};
+use crate::tests::{Heap, heap_of, joined};
 use fill::{clear_above, update_deferred_by_workers};
 use heap_image::Image;
+use heap_samples::{DEAD, Settings, image_of};
 use std::alloc::{AllocError, Global};
 use std::sync::Wait;
 use std::test::Fail;
@@ -81,8 +82,9 @@ fn deferred_objects_are_updated_in_parts(rt: HostRuntime) -> Result<(), Fail> {
     let starts = region_starts(alloc)?;
     let mut expected = objects_apart(alloc, LIVE)?;
     expected.resize(words.len(), 0)?;
+    let settings = Settings::of_base(0);
     for workers in [0, 1, 2, 3, 4, 8, 64] {
-        let image = sized_image(alloc, (3, 0), words.as_slice(), starts.as_slice(), &rt)?;
+        let image = image_of(alloc, settings, words.as_slice(), starts.as_slice(), &rt)?;
         assert!(rt;
             compacted_by(&rt, alloc, image, workers)? == expected,
             "{workers}"
@@ -109,7 +111,7 @@ fn one_object_over_all_regions_is_of_one_part(rt: HostRuntime) -> Result<(), Fai
     let mut expected = one_object(alloc, 0)?;
     expected.pop();
     expected.push(0)?;
-    let image = sized_image(alloc, (3, 0), words.as_slice(), &[1], &rt)?;
+    let image = image_of(alloc, Settings::of_base(0), words.as_slice(), &[1], &rt)?;
     assert!(rt; compacted_by(&rt, alloc, image, 4)? == expected);
     Ok(())
 }

@@ -4,10 +4,10 @@ ghost use Rattle.history.specs.ImageMoves.{image_table};
 ghost use Rattle.claim_board.specs.Recorders.{moves as moves_of, worker_count};
 ghost use Rattle.claim_board.specs.Tickets.{IsUnused};
 
-use crate::tests::{BASE, BASE_LIVE, image_of};
 use claim_board::{Desk, Done, Recorder, Ticket};
 use fill::fill_region;
 use heap_image::{Fault, Image};
+use heap_samples::{BASE_LIVE, base_image};
 use history::{GivenMoves, Moves, moves_of_images, write_schedule};
 use region_cells::Cells;
 use std::alloc::{AllocError, Global};
@@ -135,7 +135,7 @@ fn base_schedule<R: Threads + Wait + Sync>(
     allowance: u64,
     rt: &R,
 ) -> Result<Vec<u8>, Fail> {
-    let image = image_of(alloc, allowance, &BASE, &BASE_LIVE, rt)?;
+    let image = base_image(alloc, allowance, &BASE_LIVE)?;
     let heap = heap_of(alloc, image, rt)?;
     for region in 0..4 {
         let _filled = fill_recorded(&heap, region, rt)?;
@@ -184,7 +184,7 @@ fn foreign_fault<W: Wait>(
 
 #[test]
 fn a_region_that_is_not_to_be_filled_is_refused(rt: HostRuntime) -> Result<(), Fail> {
-    let image = image_of(rt.alloc(), 0, &BASE, &BASE_LIVE, &rt)?;
+    let image = base_image(rt.alloc(), 0, &BASE_LIVE)?;
     let heap = heap_of(rt.alloc(), image, &rt)?;
     let fault = Some(Fault::Overwritten(3));
     assert_eq!(rt; foreign_fault(&heap, rt.alloc(), 3, &rt)?, fault);

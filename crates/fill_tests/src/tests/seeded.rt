@@ -2,9 +2,10 @@
 ghost use Rattle.std.specs.Prelude.{◌≡◌};
 ghost use Rattle.claim_board.specs.Boards.{identity, board_of};
 
-use crate::tests::{DEAD, Heap, Outcome, ended, fill, heap_of, joined, sized_image};
+use crate::tests::{Heap, Outcome, ended, fill, heap_of, joined};
 use claim_board::Pass;
 use heap_image::{Fault, Image};
+use heap_samples::{DEAD, Settings, image_of};
 use std::alloc::{AllocError, Global};
 use std::sync::Wait;
 use std::test::Fail;
@@ -163,13 +164,11 @@ fn seeded_image(
     let objects = seeded_objects(alloc, seed, region_words, len)?;
     let words = seeded_words(alloc, seed, objects.as_slice(), len)?;
     let live = begins(alloc, objects.as_slice())?;
-    sized_image(
-        alloc,
-        (region_log, allowance),
-        words.as_slice(),
-        live.as_slice(),
-        threads,
-    )
+    let settings = Settings {
+        region_log,
+        allowance,
+    };
+    image_of(alloc, settings, words.as_slice(), live.as_slice(), threads)
 }
 
 /// Which of the regions whose claim is granted is filled next.

@@ -1,14 +1,12 @@
 //! Heaps with roots: what they reach is compacted, and each root follows its object.
-use crate::tests::{BASE, SLID_REPORT, decoded};
-use heap_image::Image;
+use crate::tests::{BASE, SLID_REPORT};
+use heap_image::{Image, decode_by_threads};
+use heap_samples::{Settings, plain_words, rooted_text};
 use mark_bitmap::Marks;
 use std::alloc::Global;
 use std::test::Fail;
 use std::thread::Threads;
 use summary::{Plan, compact_plainly};
-
-/// The first eight bytes of an image with roots.
-const MAGIC: u64 = 0x3230_5041_4548_4350;
 
 /// The base heap, whose objects have no references here, with this allowance and these roots.
 fn base_with(
@@ -17,8 +15,9 @@ fn base_with(
     allowance: u64,
     roots: &[u64],
 ) -> Result<Image, Fail> {
-    let front = [MAGIC, 3 | (roots.len() as u64) << 32, 32, allowance];
-    decoded(threads, alloc, front, &BASE, roots)
+    let words = plain_words(alloc, 32, &BASE)?;
+    let text = rooted_text(alloc, Settings::of_base(allowance), words.as_slice(), roots)?;
+    Ok(decode_by_threads(alloc, text.as_slice(), threads)?)
 }
 
 /// Whether its compaction has these roots, and these live addresses.

@@ -2,8 +2,9 @@
 ghost use Rattle.std.specs.Prelude.{◌≡◌, ◌<◌};
 ghost use Rattle.heap_image.specs.HeapImage.{region_count};
 
-use crate::tests::{Object, image_of};
+use crate::tests::image_of;
 use heap_image::Image;
+use heap_samples::Object;
 use mark_bitmap::Marks;
 use std::alloc::{AllocError, Global};
 use std::test::Fail;

@@ -1,5 +1,5 @@
-//! The base heap in both versions, its compaction, and the texts of heaps.
-use heap_image::{Image, decode_by_threads};
+//! The base heap in both versions and its compaction, and the texts and images of heaps.
+use heap_image::{Image, decode, decode_by_threads};
 use std::alloc::{AllocError, Global};
 use std::test::Fail;
 use std::thread::Threads;
@@ -97,36 +97,80 @@ const MAGIC: u64 = 0x3130_5041_4548_4350;
 /// The first eight bytes of an image with roots.
 const ROOTED_MAGIC: u64 = 0x3230_5041_4548_4350;
 
-/// The image of region log 3 with these words and live addresses.
+/// What a text tells of its heap beside the words and the numbers behind them.
+#[derive(Clone, Copy)]
+pub struct Settings {
+    pub region_log: u64,
+    pub allowance: u64,
+}
+
+impl Settings {
+    /// Regions of 8 words, as the base heap has, with this allowance.
+    pub fn of_base(allowance: u64) -> Settings {
+        Settings {
+            region_log: 3,
+            allowance,
+        }
+    }
+}
+
+/// An address and a size in words.
+pub type Object = (u64, u64);
+
+/// The words of a heap whose objects have no references, and only zeros behind their headers.
+pub fn plain_words(alloc: Global, len: u64, objects: &[Object]) -> Result<Vec<u64>, AllocError> {
+    Vec::from_iter(alloc, (0..len).map(|a| plain_word(objects, a)))
+}
+
+/// The word at address `a` of such a heap.
+fn plain_word(objects: &[Object], a: u64) -> u64 {
+    for (begin, size) in objects {
+        if a == *begin {
+            return 1 << 56 | *size;
+        }
+        if *begin < a && a - *begin < *size {
+            return 0;
+        }
+    }
+    DEAD
+}
+
+/// The text of the image with these words and live addresses.
+pub fn image_text(
+    alloc: Global,
+    settings: Settings,
+    words: &[u64],
+    live: &[u64],
+) -> Result<Vec<u8>, AllocError> {
+    text_of(alloc, MAGIC, settings, words, live)
+}
+
+/// The text of the image with these words and roots.
+pub fn rooted_text(
+    alloc: Global,
+    settings: Settings,
+    words: &[u64],
+    roots: &[u64],
+) -> Result<Vec<u8>, AllocError> {
+    text_of(alloc, ROOTED_MAGIC, settings, words, roots)
+}
+
+/// The image with these words and live addresses, which several threads check.
 pub fn image_of(
     alloc: Global,
-    allowance: u64,
+    settings: Settings,
     words: &[u64],
     live: &[u64],
     threads: &(impl Threads + Sync),
 ) -> Result<Image, Fail> {
-    let text = image_text(alloc, (3, allowance), words, live)?;
+    let text = image_text(alloc, settings, words, live)?;
     Ok(decode_by_threads(alloc, text.as_slice(), threads)?)
 }
 
-/// The text of the image with this region log and allowance, and these words and live addresses.
-pub fn image_text(
-    alloc: Global,
-    sizes: (u64, u64),
-    words: &[u64],
-    live: &[u64],
-) -> Result<Vec<u8>, AllocError> {
-    text_of(alloc, MAGIC, sizes, words, live)
-}
-
-/// The text of the image with this region log and allowance, and these words and roots.
-pub fn rooted_text(
-    alloc: Global,
-    sizes: (u64, u64),
-    words: &[u64],
-    roots: &[u64],
-) -> Result<Vec<u8>, AllocError> {
-    text_of(alloc, ROOTED_MAGIC, sizes, words, roots)
+/// The image of the base heap with this allowance and these live addresses.
+pub fn base_image(alloc: Global, allowance: u64, live: &[u64]) -> Result<Image, Fail> {
+    let text = image_text(alloc, Settings::of_base(allowance), &BASE_WORDS, live)?;
+    Ok(decode(alloc, text.as_slice())?)
 }
 
 /// The base heap, in either version.
@@ -141,9 +185,10 @@ pub enum Base {
 impl Base {
     /// Its text with this allowance.
     pub fn text(self, alloc: Global, allowance: u64) -> Result<Vec<u8>, AllocError> {
+        let settings = Settings::of_base(allowance);
         match self {
-            Base::WithLiveList => image_text(alloc, (3, allowance), &BASE_WORDS, &BASE_LIVE),
-            Base::WithRoots => rooted_text(alloc, (3, allowance), &BASE_WORDS, &BASE_ROOTS),
+            Base::WithLiveList => image_text(alloc, settings, &BASE_WORDS, &BASE_LIVE),
+            Base::WithRoots => rooted_text(alloc, settings, &BASE_WORDS, &BASE_ROOTS),
         }
     }
 }
@@ -151,15 +196,15 @@ impl Base {
 fn text_of(
     alloc: Global,
     magic: u64,
-    (region_log, allowance): (u64, u64),
+    settings: Settings,
     words: &[u64],
     numbers: &[u64],
 ) -> Result<Vec<u8>, AllocError> {
     let front = [
         magic,
-        region_log | (numbers.len() as u64) << 32,
+        settings.region_log | (numbers.len() as u64) << 32,
         words.len() as u64,
-        allowance,
+        settings.allowance,
     ];
     let mut text = Vec::new(alloc);
     for part in [front.as_slice(), words, numbers] {

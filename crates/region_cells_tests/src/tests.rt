@@ -5,11 +5,12 @@ ghost use Rattle.history.specs.MoveTable.{region_count as table_regions};
 ghost use Rattle.claim_board.specs.Boards.{moves as moves_of, identity, board_of, caller};
 ghost use Rattle.claim_board.specs.Tickets.{IsTicketOf};
 
-use crate::{Cells, Target};
 use claim_board::{Board, Opening, Pass, Right, Ticket, one_more_source_is_drained};
 use heap_image::{Fault, Image, decode_by_threads};
+use heap_samples::{BASE_LIVE, BASE_WORDS, DEAD, Settings, base_image, rooted_text};
 use history::{GivenMoves, Moves};
 use mark_bitmap::Marks;
+use region_cells::{Cells, Target};
 use std::alloc::{AllocError, Global};
 use std::sync::Wait;
 use std::sync::atomic::{AtomicBool, Ordering};
@@ -21,68 +22,11 @@ use summary::laws::compaction::blocks_of_regions;
 
 mod memory;
 
-/// A word of no live object.
-const DEAD: u64 = 999;
-
-/// The first eight bytes of an image with a live list.
-const MAGIC: u64 = 0x3130_5041_4548_4350;
-
-/// The first eight bytes of an image with roots.
-const ROOTED_MAGIC: u64 = 0x3230_5041_4548_4350;
-
 /// The moves of the base heap, each as destination and source.
 const PAIRS: [(u32, u32); 4] = [(0, 1), (1, 2), (1, 3), (2, 3)];
 
 /// How often a reader looks whether the other one reads too.
 const TURNS: u32 = 1_000_000;
-
-/// The words of the base heap: four regions of 8 words.
-const BASE: [[u64; 8]; 4] = [
-    [
-        0x0100_0002_0000_0003,
-        6,
-        21,
-        DEAD,
-        DEAD,
-        0x0100_0001_0000_0004,
-        13,
-        107,
-    ],
-    [108, DEAD, DEAD, DEAD, 0x0100_0001_0000_0002, 1, DEAD, DEAD],
-    [DEAD, DEAD, DEAD, DEAD, 0x0100_0008_0000_000a, 21, 0, 6],
-    [13, 1, 0, 21, 6, 129, DEAD, DEAD],
-];
-
-/// Where its live objects begin.
-const LIVE: [u64; 4] = [0, 5, 12, 20];
-
-/// The text of the base heap, which begins with these eight bytes, and has these live objects or these roots.
-fn text_of(alloc: Global, magic: u64, numbers: &[u64]) -> Result<Vec<u8>, AllocError> {
-    let front = [magic, 3 | (numbers.len() as u64) << 32, 32, 0];
-    let mut bytes = Vec::new(alloc);
-    for part in [front.as_slice(), BASE.as_flattened(), numbers] {
-        put_words(&mut bytes, part)?;
-    }
-    Ok(bytes)
-}
-
-/// The image of that text.
-fn image_of(
-    alloc: Global,
-    magic: u64,
-    numbers: &[u64],
-    threads: &(impl Threads + Sync),
-) -> Result<Image, Fail> {
-    let text = text_of(alloc, magic, numbers)?;
-    Ok(decode_by_threads(alloc, text.as_slice(), threads)?)
-}
-
-fn put_words(bytes: &mut Vec<u8>, words: &[u64]) -> Result<(), AllocError> {
-    for word in words {
-        bytes.extend_from_slice(&word.to_le_bytes())?;
-    }
-    Ok(())
-}
 
 /// The cells of the base heap with these live objects, and its plan.
 fn base_cells<T: Threads + Sync>(
@@ -94,7 +38,7 @@ fn base_cells<T: Threads + Sync>(
     ensures regions { IfOk result (λ base. region_count base.0 ≡ 4) }
     ensures region_log { IfOk result (λ base. base.0.region_log ≡ 3) }
 {
-    cells_of(alloc, image_of(alloc, MAGIC, live, threads)?, threads)
+    cells_of(alloc, base_image(alloc, 0, live)?, threads)
 }
 
 /// The cells of a heap of four regions, and its plan.
@@ -414,10 +358,11 @@ fn read_by_two<R: Threads + Wait + Sync>(
 #[test]
 fn a_region_is_read_by_many_or_written_by_one(rt: HostRuntime) -> Result<(), Fail> {
     let alloc = rt.alloc();
-    let (cells, _plan) = base_cells(alloc, LIVE.as_slice(), &rt)?;
+    let (cells, _plan) = base_cells(alloc, BASE_LIVE.as_slice(), &rt)?;
     let overwritten = Some(Fault::Overwritten(1));
     let (words, fault) = words_beside_a_writing(&cells, alloc, &rt)?;
-    assert_eq!(rt; (words, fault), (BASE[1], overwritten));
+    assert_eq!(rt; words.as_slice(), &BASE_WORDS[8..16]);
+    assert_eq!(rt; fault, overwritten);
     let words = [
         7,
         7,
@@ -437,7 +382,7 @@ fn a_region_is_read_by_many_or_written_by_one(rt: HostRuntime) -> Result<(), Fai
 #[test]
 fn a_region_that_was_put_back_has_moved(rt: HostRuntime) -> Result<(), Fail> {
     let alloc = rt.alloc();
-    let (cells, plan) = base_cells(alloc, LIVE.as_slice(), &rt)?;
+    let (cells, plan) = base_cells(alloc, BASE_LIVE.as_slice(), &rt)?;
     assert_eq!(rt; put_back(&cells, &plan, alloc, &rt)?, 3);
     let overwritten = Some(Fault::Overwritten(3));
     let pairs = [(0, 3)];
@@ -452,7 +397,7 @@ fn a_region_that_was_put_back_has_moved(rt: HostRuntime) -> Result<(), Fail> {
 
 #[test]
 fn cells_do_not_end_with_nothing_filled(rt: HostRuntime) -> Result<(), Fail> {
-    let (cells, _plan) = base_cells(rt.alloc(), LIVE.as_slice(), &rt)?;
+    let (cells, _plan) = base_cells(rt.alloc(), BASE_LIVE.as_slice(), &rt)?;
     assert_eq!(rt; cells.into_regions().err(), Some(Fault::Overwritten(0)));
     Ok(())
 }
@@ -484,8 +429,8 @@ fn a_heap_without_objects_is_left_as_it_was(rt: HostRuntime) -> Result<(), Fail>
     assert_eq!(rt; (parts.region_log, parts.allowance), (3, 0));
     assert_eq!(rt; (parts.regions.len(), parts.live.len()), (4, 0));
     assert!(rt; parts.roots.is_none());
-    for (region, words) in parts.regions.iter().zip(BASE.iter()) {
-        assert_eq!(rt; region.words(), words.as_slice());
+    for (region, words) in parts.regions.iter().zip(BASE_WORDS.chunks_exact(8)) {
+        assert_eq!(rt; region.words(), words);
     }
     Ok(())
 }
@@ -493,7 +438,8 @@ fn a_heap_without_objects_is_left_as_it_was(rt: HostRuntime) -> Result<(), Fail>
 #[test]
 fn roots_are_handed_on(rt: HostRuntime) -> Result<(), Fail> {
     let alloc = rt.alloc();
-    let image = image_of(alloc, ROOTED_MAGIC, [0, 0].as_slice(), &rt)?;
+    let text = rooted_text(alloc, Settings::of_base(0), &BASE_WORDS, &[0, 0])?;
+    let image = decode_by_threads(alloc, text.as_slice(), &rt)?;
     let (cells, _plan) = cells_of(alloc, image, &rt)?;
     let Ok(parts) = cells.into_regions() else {
         return Err(Fail::from("nothing is to be filled"));
@@ -507,7 +453,7 @@ fn roots_are_handed_on(rt: HostRuntime) -> Result<(), Fail> {
 
 /// Whether two threads saw each other's source of region 3.
 fn met_in_region_3<R: Threads + Wait + Sync>(alloc: Global, rt: &R) -> Result<(bool, bool), Fail> {
-    let (cells, _plan) = base_cells(alloc, LIVE.as_slice(), rt)?;
+    let (cells, _plan) = base_cells(alloc, BASE_LIVE.as_slice(), rt)?;
     let fill = [true, true, true, false];
     let (moves, board, mut pass) = board_over(alloc, fill, PAIRS.as_slice())?;
     let Some((first, second)) = last_tickets(&board, &moves, &mut pass) else {

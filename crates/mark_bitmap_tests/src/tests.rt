@@ -1,51 +1,18 @@
 //! Heaps whose marks are known.
+ghost use Rattle.std.specs.Prelude.{◌≡◌, ◌≤◌};
+ghost use Rattle.heap_image.specs.HeapImage.{heap_words};
+
 mod seeded;
 
-use crate::Marks;
-use heap_image::{Image, decode_by_threads};
-use std::alloc::{AllocError, Global};
+use heap_image::Image;
+use heap_samples::{BASE_LIVE, DEAD, Object, Settings, base_image, image_of, plain_words};
+use mark_bitmap::Marks;
+use std::alloc::Global;
 use std::test::Fail;
 use std::thread::Threads;
 
 /// An object of one word, without references.
 const ONE_WORD: u64 = 0x0100_0000_0000_0001;
-
-/// A word of no live object.
-const DEAD: u64 = 999;
-
-/// The first eight bytes of an image.
-const MAGIC: u64 = 0x3130_5041_4548_4350;
-
-/// An address and a size.
-type Object = (u64, u64);
-
-/// The image with these words and live addresses.
-fn image_of(
-    threads: &(impl Threads + Sync),
-    alloc: Global,
-    region_log: u64,
-    words: &[u64],
-    live: &[u64],
-) -> Result<Image, Fail> {
-    let front = [
-        MAGIC,
-        region_log | (live.len() as u64) << 32,
-        words.len() as u64,
-        0,
-    ];
-    let mut bytes = Vec::new(alloc);
-    for part in [front.as_slice(), words, live] {
-        put_words(&mut bytes, part)?;
-    }
-    Ok(decode_by_threads(alloc, bytes.as_slice(), threads)?)
-}
-
-fn put_words(bytes: &mut Vec<u8>, words: &[u64]) -> Result<(), AllocError> {
-    for word in words {
-        bytes.extend_from_slice(&word.to_le_bytes())?;
-    }
-    Ok(())
-}
 
 /// The image of a heap whose objects, each given by its address and size, have no references and only zeros behind their
 /// headers.
@@ -56,56 +23,23 @@ fn plain_image(
     len: u64,
     objects: &[Object],
 ) -> Result<Image, Fail> {
-    let words: Vec<u64> = (0..len).map(|a| plain_word(objects, a)).collect(alloc)?;
+    let words = plain_words(alloc, len, objects)?;
     let live: Vec<u64> = objects.iter().map(|object| object.0).collect(alloc)?;
     image_of(
-        threads,
         alloc,
-        region_log,
+        plainly(region_log),
         words.as_slice(),
         live.as_slice(),
-    )
-}
-
-/// The word at address `a` of such a heap.
-fn plain_word(objects: &[Object], a: u64) -> u64 {
-    for (begin, size) in objects {
-        if a == *begin {
-            return 1 << 56 | *size;
-        }
-        if *begin < a && a - *begin < *size {
-            return 0;
-        }
-    }
-    DEAD
-}
-
-/// Four objects, with references, over four regions of 8 words.
-fn base_image(threads: &(impl Threads + Sync), alloc: Global) -> Result<Image, Fail> {
-    let first = [
-        0x0100_0002_0000_0003,
-        6,
-        21,
-        DEAD,
-        DEAD,
-        0x0100_0001_0000_0004,
-        13,
-        107,
-    ];
-    let second = [108, DEAD, DEAD, DEAD, 0x0100_0001_0000_0002, 1, DEAD, DEAD];
-    let third = [DEAD, DEAD, DEAD, DEAD, 0x0100_0008_0000_000a, 21, 0, 6];
-    let fourth = [13, 1, 0, 21, 6, 129, DEAD, DEAD];
-    let mut words: Vec<u64> = Vec::new(alloc);
-    for region in [first, second, third, fourth] {
-        words.extend_from_slice(region.as_slice())?;
-    }
-    image_of(
         threads,
-        alloc,
-        3,
-        words.as_slice(),
-        [0, 5, 12, 20].as_slice(),
     )
+}
+
+/// Regions of this log, and no allowance.
+fn plainly(region_log: u64) -> Settings {
+    Settings {
+        region_log,
+        allowance: 0,
+    }
 }
 
 /// The live words before each block in its region.
@@ -124,7 +58,7 @@ fn block_sums(alloc: Global, image: &Image) -> Result<Vec<u32>, Fail> {
 
 #[test]
 fn base_heap_has_its_bits(rt: HostRuntime) -> Result<(), Fail> {
-    let image = base_image(&rt, rt.alloc())?;
+    let image = base_image(rt.alloc(), 0, &BASE_LIVE)?;
     let marks = Marks::of(rt.alloc(), &image)?;
     let begins: Vec<u64> = (0..40).filter(|a| marks.is_begin(*a)).collect(rt.alloc())?;
     let ends: Vec<u64> = (0..40).filter(|a| marks.is_end(*a)).collect(rt.alloc())?;
@@ -135,7 +69,7 @@ fn base_heap_has_its_bits(rt: HostRuntime) -> Result<(), Fail> {
 
 #[test]
 fn base_heap_answers(rt: HostRuntime) -> Result<(), Fail> {
-    let image = base_image(&rt, rt.alloc())?;
+    let image = base_image(rt.alloc(), 0, &BASE_LIVE)?;
     let marks = Marks::of(rt.alloc(), &image)?;
     assert_eq!(rt; image.len(), 32);
     let counts = [
@@ -169,6 +103,38 @@ fn several_workers_make_the_same_marks(rt: HostRuntime) -> Result<(), Fail> {
     Ok(())
 }
 
+/// Whether both have the same bits.
+fn are_alike(marks: &Marks, others: &Marks, len: u64) -> bool
+    requires inside { len ≤ heap_words marks.now }
+    requires others_inside { len ≤ heap_words others.now }
+{
+    for a in 0..len {
+        if marks.is_begin(a) != others.is_begin(a)
+            || marks.is_end(a) != others.is_end(a)
+            || marks.live_bits(a / 64) != others.live_bits(a / 64)
+        {
+            return false;
+        }
+    }
+    true
+}
+
+/// Where the parts of two threads meet, at 1,048,640, an object lies.
+#[test]
+fn two_threads_make_the_same_marks(rt: HostRuntime) -> Result<(), Fail> {
+    let objects = [
+        (5, 700_000),
+        (800_000, 500_000),
+        (1_300_001, 1),
+        (2_000_000, 97_152),
+    ];
+    let image = plain_image(&rt, rt.alloc(), 16, 2_097_152, objects.as_slice())?;
+    let marks = Marks::of(rt.alloc(), &image)?;
+    let shared = Marks::by_workers(rt.alloc(), &image, 2, &rt)?;
+    assert!(rt; are_alike(&marks, &shared, image.len()));
+    Ok(())
+}
+
 #[test]
 fn an_object_of_one_word_has_both_bits(rt: HostRuntime) -> Result<(), Fail> {
     let words = [
@@ -181,7 +147,7 @@ fn an_object_of_one_word_has_both_bits(rt: HostRuntime) -> Result<(), Fail> {
         106,
         107,
     ];
-    let image = image_of(&rt, rt.alloc(), 3, words.as_slice(), [0, 2, 3].as_slice())?;
+    let image = image_of(rt.alloc(), plainly(3), words.as_slice(), &[0, 2, 3], &rt)?;
     let marks = Marks::of(rt.alloc(), &image)?;
     let both: Vec<u64> = (0..8)
         .filter(|a| marks.is_begin(*a) && marks.is_end(*a))
@@ -229,7 +195,7 @@ fn blocks_count_from_their_own_region(rt: HostRuntime) -> Result<(), Fail> {
 
 #[test]
 fn a_search_ends_at_its_bound(rt: HostRuntime) -> Result<(), Fail> {
-    let image = base_image(&rt, rt.alloc())?;
+    let image = base_image(rt.alloc(), 0, &BASE_LIVE)?;
     let marks = Marks::of(rt.alloc(), &image)?;
     let begins = [
         marks.next_begin_before(13, 21),

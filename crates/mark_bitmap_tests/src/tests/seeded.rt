@@ -2,8 +2,9 @@
 ghost use Rattle.std.specs.Prelude.{◌≡◌, ◌≤◌};
 ghost use Rattle.heap_image.specs.HeapImage.{heap_words};
 
-use crate::Marks;
-use crate::tests::{Object, plain_image};
+use crate::tests::plain_image;
+use heap_samples::Object;
+use mark_bitmap::Marks;
 use std::alloc::{AllocError, Global};
 use std::test::Fail;
 use std::thread::Threads;
@@ -136,25 +137,7 @@ fn seed_agrees(
     let objects = seeded_objects(alloc, Seed(seed), len)?;
     let image = plain_image(threads, alloc, region_log, len, objects.as_slice())?;
     let marks = Marks::of(alloc, &image)?;
-    let shared = Marks::in_shares(alloc, &image, 1 + (seed % 3) as usize, threads)?;
-    let len = image.len();
-    Ok(marks_agree(&marks, objects.as_slice(), len) && are_alike(&marks, &shared, len))
-}
-
-/// Whether both have the same bits.
-fn are_alike(marks: &Marks, others: &Marks, len: u64) -> bool
-    requires inside { len ≤ heap_words marks.now }
-    requires others_inside { len ≤ heap_words others.now }
-{
-    for a in 0..len {
-        if marks.is_begin(a) != others.is_begin(a)
-            || marks.is_end(a) != others.is_end(a)
-            || marks.live_bits(a / 64) != others.live_bits(a / 64)
-        {
-            return false;
-        }
-    }
-    true
+    Ok(marks_agree(&marks, objects.as_slice(), image.len()))
 }
 
 fn marks_agree(marks: &Marks, objects: &[Object], len: u64) -> bool

@@ -1,0 +1,12 @@
+//! What the tests of several crates share: the base heap of docs/HEAP.md, its compaction, and the texts and images of heaps
+//! that a test makes.
+//!
+//! No contract says anything of them: the tests that use them say what they are.
+#![tactic(auto)]
+
+mod heaps;
+
+pub use heaps::{
+    BASE_LIVE, BASE_ROOTS, BASE_WORDS, Base, DEAD, MOVED_LIVE, MOVED_ROOTS, MOVED_WORDS, Object,
+    Settings, base_image, image_of, image_text, plain_words, rooted_text,
+};
