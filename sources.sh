@@ -7,7 +7,7 @@
 #   kit TEXT            the Rattle kit that proved and built it
 #   needs TEXT          the system that it runs on
 
-# Runs a command with the words given and then the folders of code and specs, in the folder of the repository.
+# Runs a command, in the folder of the repository, on the folders of code and specs.
 over_sources() (
     cd -- "$top" || exit
     for crate in crates/*; do
