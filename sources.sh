@@ -56,3 +56,10 @@ find_program() {
     done
     return 1
 }
+
+# Prints where the program is that fits the sources, or why there is none.
+program_path() {
+    find_program && printf '%s\n' "$top/$folder/pcompact" && return
+    printf '%s\n' "$why" >&2
+    return 1
+}
