@@ -1,4 +1,5 @@
-# What the scripts install and uninstall share. They set `does`, which says what they do, and read this file.
+# What the scripts install and uninstall share. They set `top`, the folder of the repository, and `does`, which says what they
+# do, and read this file.
 
 # What ./uninstall reads below the prefix: lines `file CHECKSUM PLACE`, and `folder PLACE` for each that ./install made. A
 # PLACE is told from the prefix on, `.` for the prefix itself; that of a folder above it is a whole path.
@@ -35,6 +36,8 @@ read_words() {
             usage
             exit
             ;;
+        # No shell puts the home folder there.
+        --prefix='~'/*) prefix=${HOME:-}/${1#*/} ;;
         --prefix=*) prefix=${1#*=} ;;
         --prefix)
             [ $# != 1 ] || misused
@@ -50,6 +53,12 @@ read_words() {
     prefix=${prefix%"$line."}
     prefix=${prefix%/}
     case $prefix in *"$line"*) fail 2 'a folder with a line break in its path is not taken' ;; esac
+}
+
+# Waits while another call of these scripts is at work, where files can be locked.
+take_turn() {
+    exec 9<"$top/share/prefix.sh"
+    flock 9 2>/dev/null || :
 }
 
 # The checksum of a file.
