@@ -229,6 +229,6 @@ def fish(helps: Helps) -> str:
     lines += [fish_option('""', option) for option in helps.program.options]
     lines += [f"complete -c pcompact -n '__pcompact_is help' -a '{names(helps)}'"]
     for it in helps.commands:
-        lines += [f"complete -c pcompact -n '__pcompact_is {it.name}' -F"] if it.arguments else []
+        lines += [f"complete -c pcompact -n '__pcompact_is {it.name}' -F"] if it.arguments and it.name != "help" else []
         lines += [fish_option(it.name, option) for option in it.options]
     return FISH % {"made": MADE, "lines": "\n".join(lines)}

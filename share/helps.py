@@ -66,7 +66,7 @@ class Help:
             raise ValueError(f"the help of {name} doesn't begin with a line of what it does and one of its usage")
         del sections[usage[0]]
         return cls(name, first, usage[0].removeprefix("Usage: "),
-                   [(name.strip("<>"), text) for name, text in items(sections.pop("Arguments:", []))],
+                   [(name.strip("<>[]."), text) for name, text in items(sections.pop("Arguments:", []))],
                    [option_of(line) for line in sections.pop("Options:", [])], sections)
 
 
@@ -89,17 +89,13 @@ def items(lines: list[str]) -> list[tuple[str, str]]:
 class Helps:
     program: Help
     version: str
-    # In the order of the program's help. The command `help` has no options here.
+    # In the order of the program's help.
     commands: list[Help]
 
     @classmethod
     def of(cls, program: pathlib.Path) -> "Helps":
         whole = Help.of("pcompact", printed(program, "--help"))
-        commands = [
-            Help(name, text, "pcompact help [COMMAND]", [], [], {}) if name == "help"
-            else Help.of(name, printed(program, name, "--help"))
-            for name, text in items(whole.sections["Commands:"])
-        ]
+        commands = [Help.of(name, printed(program, "help", name)) for name, _ in items(whole.sections["Commands:"])]
         return cls(whole, printed(program, "--version").strip(), commands)
 
 

@@ -108,9 +108,7 @@ def option_head(option: Option) -> str:
 def synopsis(usage: str) -> str:
     """A usage, in which what stands for another word is italic."""
     def marked(word: str) -> str:
-        if word.startswith("["):
-            return f"[{italic(word.strip('[]'))}]"
-        return italic(word.strip("<>")) if word.startswith("<") else bold(word)
+        return re.sub(r"<?(\w+)>?", lambda it: italic(it[1]), word) if word[0] in "[<" else bold(word)
     return " ".join(marked(word) for word in usage.split())
 
 

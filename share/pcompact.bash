@@ -57,7 +57,7 @@ _pcompact_takes() {
     assemble) options='--atomic --verbose -h --help' most=2 ;;
     map) options='--after --width --svg --letters --color --no-color --atomic --verbose -h --help' most=1 ;;
     timeline) options='--width --svg --html --letters --color --no-color --atomic --verbose -h --help' most=2 ;;
-    help) options='' most=0 ;;
+    help) options='' most=1 ;;
     esac
 }
 
