@@ -102,7 +102,7 @@ fn faults_while_written_and_after<W: Wait>(
 }
 
 /// What readings and writings of the base heap find, one after the other.
-#[derive(Drop)]
+#[derive(Clone, Copy)]
 struct Found {
     read: [u64; 8],
     fault_while_read: Option<Fault>,
@@ -144,7 +144,7 @@ fn a_region_is_read_by_many_or_written_by_one(rt: HostRuntime) -> Result<(), Fai
         0x0100_0001_0000_0002,
         1,
     ];
-    equal(&rt, found.written, written);
+    equal_items(&rt, found.written.as_slice(), written.as_slice());
     equal(
         &rt,
         found.faults_while_written_and_after,

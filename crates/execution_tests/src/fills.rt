@@ -1,9 +1,12 @@
 //! Fills of heaps whose compactions are known.
+ghost use Rattle.std.specs.Prelude.{◌≡◌};
+ghost use Rattle.claim_board.specs.Boards.{identity, board_of};
 
 use crate::checks::equal_items;
-use crate::heaps::{Outcome, fill_in_order, heap_of, joined, outcome_of};
+use crate::heaps::{Heap, fill_in_order, heap_of, joined, moved_and_compacted};
+use claim_board::Pass;
 use fill::clear_above;
-use heap_image::Image;
+use heap_image::{Fault, Image};
 use heap_samples::{BASE_LIVE, DEAD, Settings, base_image, image_of};
 use raw_region::Region;
 use std::alloc::{AllocError, Global};
@@ -36,7 +39,35 @@ const FOUR: u64 = 0x0100_0000_0000_0004;
 /// The header of a filler of one word; one of more words has more by their number less one.
 const FILLER: u64 = 0x0200_0000_0000_0001;
 
-/// What fills of this image in this order leave.
+/// The sources of which the fills of a heap told the last drain, and the words of its regions once they are filled and
+/// once the heap is compacted.
+#[derive(Drop)]
+struct Outcome {
+    sources: Vec<u32>,
+    moved: Vec<u64>,
+    compacted: Vec<u64>,
+}
+
+/// What fills of this heap in this order leave.
+fn filled_heap<W: Wait>(
+    heap: Heap,
+    pass: Pass,
+    alloc: Global,
+    order: &[u32],
+    wait: &W,
+) -> Result<Outcome, Fault>
+    requires { board_of pass ≡ identity heap.board }
+{
+    let sources = fill_in_order(&heap, pass, alloc, order, wait)?;
+    let (moved, compacted) = moved_and_compacted(alloc, heap)?;
+    Ok(Outcome {
+        sources,
+        moved,
+        compacted,
+    })
+}
+
+/// What they leave of this image.
 fn filled_image<R: Threads + Wait + Sync>(
     alloc: Global,
     image: Image,
@@ -44,8 +75,7 @@ fn filled_image<R: Threads + Wait + Sync>(
     rt: &R,
 ) -> Result<Outcome, Fail> {
     let (heap, pass) = heap_of(alloc, image, rt)?;
-    let sources = fill_in_order(&heap, pass, alloc, order, rt)?;
-    Ok(outcome_of(alloc, heap, sources)?)
+    Ok(filled_heap(heap, pass, alloc, order, rt)?)
 }
 
 /// What fills in this order leave of the heap of these words and live addresses, in regions of 8 words with this

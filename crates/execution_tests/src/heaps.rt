@@ -141,27 +141,13 @@ pub fn fill_below<W: Wait>(
     Ok(true)
 }
 
-/// The sources of which the fills of a heap told the last drain, and the words of its regions once they are filled and
-/// once the heap is compacted.
-#[derive(Drop)]
-pub struct Outcome {
-    pub sources: Vec<u32>,
-    pub moved: Vec<u64>,
-    pub compacted: Vec<u64>,
-}
-
-/// What fills that told of these sources have left.
-pub fn outcome_of(alloc: Global, heap: Heap, sources: Vec<u32>) -> Result<Outcome, Fault> {
+/// The words of a heap's regions, which are filled, and those once the heap is compacted.
+pub fn moved_and_compacted(alloc: Global, heap: Heap) -> Result<(Vec<u64>, Vec<u64>), Fault> {
     let Heap { survey, cells, .. } = heap;
-    let (moved, compacted) = moved_and_compacted(alloc, cells, &survey)?;
-    Ok(Outcome {
-        sources,
-        moved,
-        compacted,
-    })
+    moved_and_compacted_cells(alloc, cells, &survey)
 }
 
-fn moved_and_compacted(
+fn moved_and_compacted_cells(
     alloc: Global,
     cells: Cells,
     survey: &Survey,

@@ -76,8 +76,8 @@ fn a_fill_meets_a_region_that_is_written(rt: HostRuntime) -> Result<(), Fail> {
     Ok(())
 }
 
-/// The faults of a writing of region 1 that is given up, of a fill of region 0 and of a writing of that; and of how many
-/// sources the fill told the last drain.
+/// The faults of a writing of region 1 that is given up, of a fill of region 0 and of a writing of that; and of how
+/// many sources the fill told the last drain.
 type Spoiled = ([Option<Fault>; 3], usize);
 
 fn spoil<W: Wait>(heap: &Heap, pass: Pass, alloc: Global, wait: &W) -> Result<Spoiled, Fail>
@@ -90,14 +90,27 @@ fn spoil<W: Wait>(heap: &Heap, pass: Pass, alloc: Global, wait: &W) -> Result<Sp
     Ok(([given_up, filled, written], count))
 }
 
-/// These of the base heap, and the fault with which its cells end.
+/// These, and the fault with which the cells end.
+fn spoil_to_the_end<W: Wait>(
+    heap: Heap,
+    pass: Pass,
+    alloc: Global,
+    wait: &W,
+) -> Result<(Spoiled, Option<Fault>), Fail>
+    requires pass { board_of pass ≡ identity heap.board }
+    requires regions { region_count heap.cells ≡ 4 }
+{
+    let found = spoil(&heap, pass, alloc, wait)?;
+    Ok((found, end_fault_of(heap)))
+}
+
+/// The same in the base heap.
 fn spoil_base<R: Threads + Wait + Sync>(
     alloc: Global,
     rt: &R,
 ) -> Result<(Spoiled, Option<Fault>), Fail> {
     let (heap, pass) = base_heap(alloc, rt)?;
-    let found = spoil(&heap, pass, alloc, rt)?;
-    Ok((found, end_fault_of(heap)))
+    spoil_to_the_end(heap, pass, alloc, rt)
 }
 
 #[test]
@@ -111,30 +124,45 @@ fn a_fill_meets_a_source_that_was_given_up(rt: HostRuntime) -> Result<(), Fail> 
     Ok(())
 }
 
-/// Whether all regions below `end` of the base heap are filled, the faults of a reading and a writing of a region then,
-/// and the fault with which its cells end.
-fn faults_once_filled<R: Threads + Wait + Sync>(
-    alloc: Global,
+/// Whether all regions below one were filled, and the faults of a reading and a writing of a region then.
+type Filled = (bool, [Option<Fault>; 2]);
+
+/// These, with the regions below `end` filled, and the fault with which the cells end.
+fn fill_to_the_end<R: AllocGlobal + Wait>(
+    heap: Heap,
+    pass: Pass,
     end: u32,
     region: u32,
     rt: &R,
-) -> Result<(bool, [Option<Fault>; 2], Option<Fault>), Fail>
+) -> Result<(Filled, Option<Fault>), Fail>
+    requires pass { board_of pass ≡ identity heap.board }
+    requires regions { region_count heap.cells ≡ 4 }
+    requires inside { region < 4 }
+{
+    let are_filled = fill_below(&heap, pass, rt.alloc(), end, rt)?;
+    let faults = read_and_write_faults(&heap.cells, rt.alloc(), region, rt)?;
+    Ok(((are_filled, faults), end_fault_of(heap)))
+}
+
+/// The same in the base heap.
+fn fill_base<R: AllocGlobal + Threads + Wait + Sync>(
+    end: u32,
+    region: u32,
+    rt: &R,
+) -> Result<(Filled, Option<Fault>), Fail>
     requires { region < 4 }
 {
-    let (heap, pass) = base_heap(alloc, rt)?;
-    let are_filled = fill_below(&heap, pass, alloc, end, rt)?;
-    let faults = read_and_write_faults(&heap.cells, alloc, region, rt)?;
-    Ok((are_filled, faults, end_fault_of(heap)))
+    let (heap, pass) = base_heap(rt.alloc(), rt)?;
+    fill_to_the_end(heap, pass, end, region, rt)
 }
 
 #[test]
 fn a_region_that_was_filled_is_not_opened(rt: HostRuntime) -> Result<(), Fail> {
     equal(
         &rt,
-        faults_once_filled(rt.alloc(), 2, 1, &rt)?,
+        fill_base(2, 1, &rt)?,
         (
-            true,
-            [Some(Fault::Overwritten(1)); 2],
+            (true, [Some(Fault::Overwritten(1)); 2]),
             Some(Fault::Overwritten(2)),
         ),
     );
@@ -145,8 +173,8 @@ fn a_region_that_was_filled_is_not_opened(rt: HostRuntime) -> Result<(), Fail> {
 fn the_region_that_stays_was_given_up(rt: HostRuntime) -> Result<(), Fail> {
     equal(
         &rt,
-        faults_once_filled(rt.alloc(), 3, 3, &rt)?,
-        (true, [None; 2], Some(Fault::Overwritten(3))),
+        fill_base(3, 3, &rt)?,
+        ((true, [None; 2]), Some(Fault::Overwritten(3))),
     );
     Ok(())
 }

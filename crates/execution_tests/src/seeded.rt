@@ -3,7 +3,7 @@ ghost use Rattle.std.specs.Prelude.{◌≡◌};
 ghost use Rattle.claim_board.specs.Boards.{identity, board_of};
 
 use crate::checks::equal;
-use crate::heaps::{Heap, Outcome, fill, heap_of, joined, outcome_of};
+use crate::heaps::{Heap, fill, heap_of, joined, moved_and_compacted};
 use claim_board::Pass;
 use heap_image::{Fault, Image};
 use heap_samples::{DEAD, Settings, image_of};
@@ -28,7 +28,7 @@ enum Shape {
 }
 
 /// Numbers that look like chance, the same in each run.
-#[derive(Drop)]
+#[derive(Clone, Copy)]
 struct Seed(u64);
 
 impl Seed {
@@ -181,7 +181,7 @@ fn seeded_words_and_live(
 }
 
 /// Which of the regions whose claim is granted is filled next.
-#[derive(Drop)]
+#[derive(Clone, Copy)]
 enum Order {
     Lowest,
     Highest,
@@ -240,31 +240,46 @@ fn fill_ordered<W: Wait>(
     Ok(true)
 }
 
-/// What fills in this order leave.
-fn filled<R: Threads + Wait + Sync>(
+/// The words of the compaction of this image by fills in this order.
+fn compacted_image<R: Threads + Wait + Sync>(
     alloc: Global,
     image: Image,
     order: Order,
     rt: &R,
-) -> Result<Outcome, Fail> {
+) -> Result<Vec<u64>, Fail> {
     let (heap, pass) = heap_of(alloc, image, rt)?;
-    let sources = read_sources(&heap, pass, alloc, order, rt)?;
-    Ok(outcome_of(alloc, heap, sources)?)
+    compacted_heap(heap, pass, alloc, order, rt)
 }
 
-/// The sources of which fills in this order told the last drain, if they are those that another region reads.
-fn read_sources<W: Wait>(
+/// The same of this heap.
+fn compacted_heap<W: Wait>(
+    heap: Heap,
+    pass: Pass,
+    alloc: Global,
+    order: Order,
+    wait: &W,
+) -> Result<Vec<u64>, Fail>
+    requires { board_of pass ≡ identity heap.board }
+{
+    fill_and_compare_sources(&heap, pass, alloc, order, wait)?;
+    let (_moved, compacted) = moved_and_compacted(alloc, heap)?;
+    Ok(compacted)
+}
+
+/// Fills in this order. Fails unless the sources of which the fills told the last drain are those that another region
+/// reads.
+fn fill_and_compare_sources<W: Wait>(
     heap: &Heap,
     pass: Pass,
     alloc: Global,
     order: Order,
     wait: &W,
-) -> Result<Vec<u32>, Fail>
+) -> Result<(), Fail>
     requires { board_of pass ≡ identity heap.now.board }
 {
     let sources = drained_sources(heap, pass, alloc, order, wait)?;
     if sources == read_by_others(alloc, heap.survey.plan())? {
-        Ok(sources)
+        Ok(())
     } else {
         Err(Fail::from("other sources were told"))
     }
@@ -315,8 +330,19 @@ fn order_agrees<R: Threads + Wait + Sync>(
     order: Order,
 ) -> Result<bool, Fail> {
     let image = seeded_image(alloc, &mut Seed(seed), sizes, rt)?;
+    image_agrees(alloc, image, order, rt)
+}
+
+/// Whether fills in this order leave the plain compaction of this image.
+fn image_agrees<R: Threads + Wait + Sync>(
+    alloc: Global,
+    image: Image,
+    order: Order,
+    rt: &R,
+) -> Result<bool, Fail> {
     let plain = plain_words(alloc, &image)?;
-    Ok(filled(alloc, image, order, rt)?.compacted == plain)
+    let compacted = compacted_image(alloc, image, order, rt)?;
+    Ok(compacted == plain)
 }
 
 /// Whether fills of the heap that this seed makes leave its plain compaction in each order.

@@ -92,7 +92,7 @@ pub fn moves_of_four(alloc: Global, pairs: &[(u32, u32)]) -> Result<GivenMoves, 
 
 /// A board over these moves, and the pass of its one worker.
 pub fn board_for_one<M: Moves>(alloc: Global, moves: &M) -> Result<(Board, Pass), Fail>
-    ensures moves { IfOk result (λ made. moves_of made.0 ≡ moves.now) }
+    ensures moves { IfOk result (λ made. moves_of made.0 ≡ M.table moves.now) }
     ensures pass { IfOk result (λ made. board_of made.1 ≡ identity made.0) }
 {
     let (board, mut passes) = Board::new(alloc, moves, 1)?;
