@@ -1,5 +1,5 @@
 //! The base heap, whose regions are read, written and put back.
-ghost use Rattle.std.specs.Prelude.{◌≡◌, ◌<◌, IfOk};
+ghost use Rattle.std.specs.Prelude.{◌≡◌, IfOk};
 ghost use Rattle.heap_image.specs.HeapImage.{region_count};
 
 use crate::checks::{equal, equal_items, holds};

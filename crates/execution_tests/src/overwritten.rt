@@ -127,6 +127,22 @@ fn a_fill_meets_a_source_that_was_given_up(rt: HostRuntime) -> Result<(), Fail> 
 /// Whether all regions below one were filled, and the faults of a reading and a writing of a region then.
 type Filled = (bool, [Option<Fault>; 2]);
 
+fn fill_and_open<R: AllocGlobal + Wait>(
+    heap: &Heap,
+    pass: Pass,
+    end: u32,
+    region: u32,
+    rt: &R,
+) -> Result<Filled, Fail>
+    requires pass { board_of pass ≡ identity heap.now.board }
+    requires regions { region_count heap.now.cells ≡ 4 }
+    requires inside { region < 4 }
+{
+    let are_filled = fill_below(heap, pass, rt.alloc(), end, rt)?;
+    let faults = read_and_write_faults(&heap.cells, rt.alloc(), region, rt)?;
+    Ok((are_filled, faults))
+}
+
 /// These, with the regions below `end` filled, and the fault with which the cells end.
 fn fill_to_the_end<R: AllocGlobal + Wait>(
     heap: Heap,
@@ -139,9 +155,8 @@ fn fill_to_the_end<R: AllocGlobal + Wait>(
     requires regions { region_count heap.cells ≡ 4 }
     requires inside { region < 4 }
 {
-    let are_filled = fill_below(&heap, pass, rt.alloc(), end, rt)?;
-    let faults = read_and_write_faults(&heap.cells, rt.alloc(), region, rt)?;
-    Ok(((are_filled, faults), end_fault_of(heap)))
+    let found = fill_and_open(&heap, pass, end, region, rt)?;
+    Ok((found, end_fault_of(heap)))
 }
 
 /// The same in the base heap.

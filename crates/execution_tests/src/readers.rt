@@ -2,8 +2,7 @@
 ghost use Rattle.std.specs.Prelude.{◌≡◌, ◌<◌, IfSome};
 ghost use Rattle.heap_image.specs.HeapImage.{region_count};
 ghost use Rattle.history.specs.MoveTable.{region_count as table_regions};
-ghost use Rattle.claim_board.specs.Boards.{moves as moves_of, identity, board_of, caller};
-ghost use Rattle.claim_board.specs.Tickets.{IsTicketOf};
+ghost use Rattle.claim_board.specs.Boards.{moves as moves_of, identity, board_of};
 
 use crate::cells::base_cells;
 use crate::checks::equal;
