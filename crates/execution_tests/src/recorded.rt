@@ -4,13 +4,16 @@ ghost use Rattle.history.specs.ImageMoves.{image_table};
 ghost use Rattle.claim_board.specs.Recorders.{moves as moves_of, worker_count};
 ghost use Rattle.claim_board.specs.Tickets.{IsUnused};
 
+use crate::checks::{equal, equal_items};
+use crate::heaps::survey_and_cells;
+use crate::setups::moves_of_four;
 use claim_board::{Desk, Done, Recorder, Ticket};
 use fill::fill_region;
-use heap_image::{Fault, Image};
+use heap_image::Fault;
 use heap_samples::{BASE_LIVE, base_image};
-use history::{GivenMoves, Moves, moves_of_images, write_schedule};
+use history::{Schedule, moves_of_images, write_schedule};
 use region_cells::Cells;
-use std::alloc::{AllocError, Global};
+use std::alloc::Global;
 use std::sync::Wait;
 use std::test::Fail;
 use std::thread::Threads;
@@ -72,16 +75,21 @@ struct RecordedHeap {
     ghost alone: { worker_count recorder ≡ 1 },
 }
 
-fn heap_of<T: Threads + Sync>(
+/// The base heap with this allowance, of whose fills none is recorded yet.
+fn base_heap<T: Threads + Sync>(
     alloc: Global,
-    image: Image,
+    allowance: u64,
     threads: &T,
 ) -> Result<RecordedHeap, Fail> {
-    let survey = Survey::of(alloc, &image, threads)?;
+    let image = base_image(alloc, allowance, &BASE_LIVE)?;
+    let (survey, cells) = survey_and_cells(alloc, image, threads)?;
+    heap_with_recorder(alloc, survey, cells)
+}
+
+fn heap_with_recorder(alloc: Global, survey: Survey, cells: Cells) -> Result<RecordedHeap, Fail>
+    requires { cells ≡ survey }
+{
     let recorder = Recorder::new(alloc, survey.plan(), 1)?;
-    let Ok(cells) = Cells::of(alloc, image, survey.plan()) else {
-        return Err(Fail::from(AllocError));
-    };
     Ok(RecordedHeap {
         survey,
         cells,
@@ -135,13 +143,23 @@ fn base_schedule<R: Threads + Wait + Sync>(
     allowance: u64,
     rt: &R,
 ) -> Result<Vec<u8>, Fail> {
-    let image = base_image(alloc, allowance, &BASE_LIVE)?;
-    let heap = heap_of(alloc, image, rt)?;
+    let heap = base_heap(alloc, allowance, rt)?;
+    fill_four(&heap, rt)?;
+    Ok(write_schedule(alloc, &schedule_of(heap))?)
+}
+
+/// Tries to fill the four regions in ascending order.
+fn fill_four<W: Wait>(heap: &RecordedHeap, wait: &W) -> Result<(), Fault> {
     for region in 0..4 {
-        let _filled = fill_recorded(&heap, region, rt)?;
+        let _filled = fill_recorded(heap, region, wait)?;
     }
+    Ok(())
+}
+
+/// What the recorder of a heap has kept.
+fn schedule_of(heap: RecordedHeap) -> Schedule {
     let RecordedHeap { recorder, .. } = heap;
-    Ok(write_schedule(alloc, &recorder.into_schedule())?)
+    recorder.into_schedule()
 }
 
 /// A ticket of a recorder of four regions, all to be filled.
@@ -149,11 +167,7 @@ fn other_ticket<W: Wait>(alloc: Global, region: u32, wait: &W) -> Result<Ticket,
     requires { region < 4 }
     ensures { IfOk result (λ ticket. (ticket.region ≡ region) × IsUnused ticket) }
 {
-    let fill = Vec::from_slice(alloc, [true; 4].as_slice())?;
-    let moves = GivenMoves::new(fill, Vec::new(alloc)).ok_or("no table of moves")?;
-    if moves.regions() != 4 {
-        return Err(Fail::from("not four regions"));
-    }
+    let moves = moves_of_four(alloc, [].as_slice())?;
     let recorder = Recorder::new(alloc, &moves, 1)?;
     let mut seat = 0;
     match recorder.claim(&mut seat, region, wait)? {
@@ -162,7 +176,7 @@ fn other_ticket<W: Wait>(alloc: Global, region: u32, wait: &W) -> Result<Ticket,
     }
 }
 
-/// What a fill of the heap meets that is handed a ticket of another recorder.
+/// The fault that a fill of the heap meets that is handed a ticket of another recorder.
 fn foreign_fault<W: Wait>(
     heap: &RecordedHeap,
     alloc: Global,
@@ -182,22 +196,31 @@ fn foreign_fault<W: Wait>(
     }
 }
 
+/// The fault that a fill of region 3 of the base heap meets, and whether nothing was recorded.
+fn fault_at_region_3<R: Threads + Wait + Sync>(
+    alloc: Global,
+    rt: &R,
+) -> Result<(Option<Fault>, bool), Fail> {
+    let heap = base_heap(alloc, 0, rt)?;
+    let fault = foreign_fault(&heap, alloc, 3, rt)?;
+    Ok((fault, schedule_of(heap).is_empty()))
+}
+
 #[test]
 fn a_region_that_is_not_to_be_filled_is_refused(rt: HostRuntime) -> Result<(), Fail> {
-    let image = base_image(rt.alloc(), 0, &BASE_LIVE)?;
-    let heap = heap_of(rt.alloc(), image, &rt)?;
-    let fault = Some(Fault::Overwritten(3));
-    assert_eq!(rt; foreign_fault(&heap, rt.alloc(), 3, &rt)?, fault);
-    let RecordedHeap { recorder, .. } = heap;
-    assert!(rt; recorder.into_schedule().is_empty());
+    equal(
+        &rt,
+        fault_at_region_3(rt.alloc(), &rt)?,
+        (Some(Fault::Overwritten(3)), true),
+    );
     Ok(())
 }
 
 #[test]
 fn the_words_are_noted_before_each_drain(rt: HostRuntime) -> Result<(), Fail> {
-    let text = base_schedule(rt.alloc(), 0, &rt)?;
-    assert_eq!(rt; text.as_slice(), SLID.as_bytes());
-    let text = base_schedule(rt.alloc(), 2, &rt)?;
-    assert_eq!(rt; text.as_slice(), BEHIND_PREFIX.as_bytes());
+    for (allowance, schedule) in [(0, SLID), (2, BEHIND_PREFIX)] {
+        let text = base_schedule(rt.alloc(), allowance, &rt)?;
+        equal_items(&rt, text.as_slice(), schedule.as_bytes());
+    }
     Ok(())
 }

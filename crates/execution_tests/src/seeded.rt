@@ -2,7 +2,8 @@
 ghost use Rattle.std.specs.Prelude.{◌≡◌};
 ghost use Rattle.claim_board.specs.Boards.{identity, board_of};
 
-use crate::tests::{Heap, Outcome, ended, fill, heap_of, joined};
+use crate::checks::equal;
+use crate::heaps::{Heap, fill, heap_of, joined, moved_and_compacted};
 use claim_board::Pass;
 use heap_image::{Fault, Image};
 use heap_samples::{DEAD, Settings, image_of};
@@ -27,7 +28,7 @@ enum Shape {
 }
 
 /// Numbers that look like chance, the same in each run.
-#[derive(Drop)]
+#[derive(Clone, Copy)]
 struct Seed(u64);
 
 impl Seed {
@@ -159,20 +160,28 @@ fn seeded_image(
     (region_log, region_words): (u64, u64),
     threads: &(impl Threads + Sync),
 ) -> Result<Image, Fail> {
-    let len = region_words.wrapping_mul(8);
-    let allowance = seed.below(5).wrapping_mul(region_words / 2);
-    let objects = seeded_objects(alloc, seed, region_words, len)?;
-    let words = seeded_words(alloc, seed, objects.as_slice(), len)?;
-    let live = begins(alloc, objects.as_slice())?;
     let settings = Settings {
         region_log,
-        allowance,
+        allowance: seed.below(5).wrapping_mul(region_words / 2),
     };
+    let (words, live) = seeded_words_and_live(alloc, seed, region_words)?;
     image_of(alloc, settings, words.as_slice(), live.as_slice(), threads)
 }
 
+/// The words of eight regions, and the addresses of the objects in them.
+fn seeded_words_and_live(
+    alloc: Global,
+    seed: &mut Seed,
+    region_words: u64,
+) -> Result<(Vec<u64>, Vec<u64>), AllocError> {
+    let len = region_words.wrapping_mul(8);
+    let objects = seeded_objects(alloc, seed, region_words, len)?;
+    let words = seeded_words(alloc, seed, objects.as_slice(), len)?;
+    Ok((words, begins(alloc, objects.as_slice())?))
+}
+
 /// Which of the regions whose claim is granted is filled next.
-#[derive(Drop)]
+#[derive(Clone, Copy)]
 enum Order {
     Lowest,
     Highest,
@@ -197,7 +206,7 @@ impl Order {
 fn fill_first<W: Wait>(
     heap: &Heap,
     pass: &mut Pass,
-    told: &mut Vec<u32>,
+    sources: &mut Vec<u32>,
     regions: &[u32],
     wait: &W,
 ) -> Result<bool, Fault>
@@ -205,7 +214,7 @@ fn fill_first<W: Wait>(
     ensures { board_of pass.new ≡ identity heap.now.board }
 {
     for region in regions {
-        if fill(heap, pass, told, *region, wait)? {
+        if fill(heap, pass, sources, *region, wait)? {
             return Ok(true);
         }
     }
@@ -216,7 +225,7 @@ fn fill_first<W: Wait>(
 fn fill_ordered<W: Wait>(
     heap: &Heap,
     pass: &mut Pass,
-    told: &mut Vec<u32>,
+    sources: &mut Vec<u32>,
     order: &mut Order,
     wait: &W,
 ) -> Result<bool, Fault>
@@ -224,31 +233,75 @@ fn fill_ordered<W: Wait>(
 {
     for _ in 0..heap.survey.plan().fill_regions() {
         let regions = order.next();
-        if !fill_first(heap, pass, told, regions.as_slice(), wait)? {
+        if !fill_first(heap, pass, sources, regions.as_slice(), wait)? {
             return Ok(false);
         }
     }
     Ok(true)
 }
 
-/// What fills in this order told and left.
-fn outcome<R: Threads + Wait + Sync>(
+/// The words of the compaction of this image by fills in this order.
+fn compacted_image<R: Threads + Wait + Sync>(
     alloc: Global,
     image: Image,
-    mut order: Order,
+    order: Order,
     rt: &R,
-) -> Result<Outcome, Fail> {
-    let (heap, mut pass) = heap_of(alloc, image, rt)?;
-    let mut told = Vec::with_capacity(alloc, heap.survey.plan().regions() as usize)?;
-    if !fill_ordered(&heap, &mut pass, &mut told, &mut order, rt)? {
-        return Err(Fail::from("no region is granted"));
+) -> Result<Vec<u64>, Fail> {
+    let (heap, pass) = heap_of(alloc, image, rt)?;
+    compacted_heap(heap, pass, alloc, order, rt)
+}
+
+/// The same of this heap.
+fn compacted_heap<W: Wait>(
+    heap: Heap,
+    pass: Pass,
+    alloc: Global,
+    order: Order,
+    wait: &W,
+) -> Result<Vec<u64>, Fail>
+    requires { board_of pass ≡ identity heap.board }
+{
+    fill_and_compare_sources(&heap, pass, alloc, order, wait)?;
+    let (_moved, compacted) = moved_and_compacted(alloc, heap)?;
+    Ok(compacted)
+}
+
+/// Fills in this order. Fails unless the sources of which the fills told the last drain are those that another region
+/// reads.
+fn fill_and_compare_sources<W: Wait>(
+    heap: &Heap,
+    pass: Pass,
+    alloc: Global,
+    order: Order,
+    wait: &W,
+) -> Result<(), Fail>
+    requires { board_of pass ≡ identity heap.now.board }
+{
+    let sources = drained_sources(heap, pass, alloc, order, wait)?;
+    if sources == read_by_others(alloc, heap.survey.plan())? {
+        Ok(())
+    } else {
+        Err(Fail::from("other sources were told"))
     }
-    let sources = read_by_others(alloc, heap.survey.plan())?;
-    told.sort_unstable();
-    if told != sources {
-        return Err(Fail::from("other sources were told"));
+}
+
+/// The sources of which fills in this order told the last drain, ascending.
+fn drained_sources<W: Wait>(
+    heap: &Heap,
+    mut pass: Pass,
+    alloc: Global,
+    mut order: Order,
+    wait: &W,
+) -> Result<Vec<u32>, Fail>
+    requires { board_of pass ≡ identity heap.now.board }
+{
+    let mut sources = Vec::with_capacity(alloc, heap.survey.plan().regions() as usize)?;
+    if fill_ordered(heap, &mut pass, &mut sources, &mut order, wait)? {
+        sources.sort_unstable();
+        Ok(sources)
+    } else {
+        Err(Fail::from("no region is granted"))
     }
-    ended(alloc, heap, told)
 }
 
 /// The regions that another region reads.
@@ -262,6 +315,12 @@ fn read_by_others(alloc: Global, plan: &Plan) -> Result<Vec<u32>, AllocError> {
     Ok(sources)
 }
 
+/// The words of the plain compaction.
+fn plain_words(alloc: Global, image: &Image) -> Result<Vec<u64>, Fault> {
+    let plain = compact_plainly(alloc, image)?.into_parts();
+    Ok(joined(alloc, plain.regions.as_slice())?)
+}
+
 /// Whether fills in this order leave the plain compaction of the heap that this seed makes.
 fn order_agrees<R: Threads + Wait + Sync>(
     rt: &R,
@@ -271,9 +330,19 @@ fn order_agrees<R: Threads + Wait + Sync>(
     order: Order,
 ) -> Result<bool, Fail> {
     let image = seeded_image(alloc, &mut Seed(seed), sizes, rt)?;
-    let plain = compact_plainly(alloc, &image)?.into_parts();
-    let found = outcome(alloc, image, order, rt)?;
-    Ok(found.compacted == joined(alloc, plain.regions.as_slice())?)
+    image_agrees(alloc, image, order, rt)
+}
+
+/// Whether fills in this order leave the plain compaction of this image.
+fn image_agrees<R: Threads + Wait + Sync>(
+    alloc: Global,
+    image: Image,
+    order: Order,
+    rt: &R,
+) -> Result<bool, Fail> {
+    let plain = plain_words(alloc, &image)?;
+    let compacted = compacted_image(alloc, image, order, rt)?;
+    Ok(compacted == plain)
 }
 
 /// Whether fills of the heap that this seed makes leave its plain compaction in each order.
@@ -294,9 +363,13 @@ fn seed_agrees<R: Threads + Wait + Sync>(
 #[test]
 fn seeded_heaps_are_compacted_in_each_order(rt: HostRuntime) -> Result<(), Fail> {
     for seed in 0..12 {
-        assert!(rt; seed_agrees(&rt, rt.alloc(), seed, (3, 8))?, "seed {seed}");
-        assert!(rt; seed_agrees(&rt, rt.alloc(), seed, (4, 16))?, "seed {seed}");
-        assert!(rt; seed_agrees(&rt, rt.alloc(), seed, (5, 32))?, "seed {seed}");
+        for sizes in [(3, 8), (4, 16), (5, 32)] {
+            equal(
+                &rt,
+                (seed, sizes, seed_agrees(&rt, rt.alloc(), seed, sizes)?),
+                (seed, sizes, true),
+            );
+        }
     }
     Ok(())
 }

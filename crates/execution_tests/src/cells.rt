@@ -1,0 +1,297 @@
+//! The base heap, whose regions are read, written and put back.
+ghost use Rattle.std.specs.Prelude.{◌≡◌, IfOk};
+ghost use Rattle.heap_image.specs.HeapImage.{region_count};
+
+use crate::checks::{equal, equal_items, holds};
+use crate::setups::{
+    base_of_four, cells_and_plan, end_fault, opening, read_and_write_faults, read_fault, right,
+    write_fault,
+};
+use heap_image::{Fault, decode_by_threads};
+use heap_samples::{BASE_LIVE, BASE_WORDS, DEAD, Settings, rooted_text};
+use region_cells::{Cells, Parts, Target};
+use std::alloc::Global;
+use std::process::Abort;
+use std::sync::Wait;
+use std::test::Fail;
+use std::thread::Threads;
+use summary::Plan;
+use summary::laws::compaction::blocks_of_regions;
+
+/// The cells of the base heap with these live objects, and its plan.
+pub fn base_cells<T: Threads + Sync>(
+    alloc: Global,
+    live: &[u64],
+    threads: &T,
+) -> Result<(Cells, Plan), Fail>
+    ensures plan { IfOk result (λ made. made.1 ≡ made.0) }
+    ensures regions { IfOk result (λ made. region_count made.0 ≡ 4) }
+    ensures region_log { IfOk result (λ made. made.0.region_log ≡ 3) }
+{
+    Ok(cells_and_plan(alloc, base_of_four(alloc, 0, live)?, threads)?)
+}
+
+/// The words of region 1 by a source, and the fault of a writing while that is open.
+fn words_and_fault_while_read<W: Wait>(
+    cells: &Cells,
+    alloc: Global,
+    wait: &W,
+) -> Result<([u64; 8], Option<Fault>), Fail>
+    requires regions { region_count cells.now ≡ 4 }
+    requires region_log { cells.now.region_log ≡ 3 }
+{
+    let source = cells.read(opening(alloc, 1)?, wait)?;
+    let fault = write_fault(cells, alloc, 1, wait);
+    let mut words = [0; 8];
+    for i in 0..8 {
+        words[i] = source.get(i);
+    }
+    source.close().give_up();
+    Ok((words, fault?))
+}
+
+/// The words of region 0 once some were slid, filled, set and copied from region 1.
+fn written_words<W: Wait>(cells: &Cells, alloc: Global, wait: &W) -> Result<[u64; 8], Fail>
+    requires regions { region_count cells.now ≡ 4 }
+    requires region_log { cells.now.region_log ≡ 3 }
+{
+    let mut target = cells.write(right(alloc, 0)?, wait)?;
+    target.slide(5, 3, 2);
+    target.fill(0, 2, 7);
+    target.set(2, 9);
+    let copied = copy_words(cells, &mut target, alloc, wait);
+    let mut words = [0; 8];
+    for i in 0..8 {
+        words[i] = target.get(i);
+    }
+    target.give_up();
+    copied?;
+    Ok(words)
+}
+
+/// Copies three words of region 1 to the end of a target.
+fn copy_words<W: Wait>(
+    cells: &Cells,
+    target: &mut Target<'_>,
+    alloc: Global,
+    wait: &W,
+) -> Result<(), Fail>
+    requires image { target.old.image ≡ cells.now }
+    requires regions { region_count cells.now ≡ 4 }
+    requires region_log { cells.now.region_log ≡ 3 }
+    ensures { target.new.image ≡ target.old.image }
+{
+    let source = cells.read(opening(alloc, 1)?, wait)?;
+    source.copy_into(target, 3, 5, 3);
+    source.close().give_up();
+    Ok(())
+}
+
+/// The faults of region 1 while it is written, and once it was given up.
+fn faults_while_written_and_after<W: Wait>(
+    cells: &Cells,
+    alloc: Global,
+    wait: &W,
+) -> Result<[[Option<Fault>; 2]; 2], Fail>
+    requires { region_count cells.now ≡ 4 }
+{
+    let target = cells.write(right(alloc, 1)?, wait)?;
+    let meanwhile = read_and_write_faults(cells, alloc, 1, wait);
+    target.give_up();
+    Ok([meanwhile?, read_and_write_faults(cells, alloc, 1, wait)?])
+}
+
+/// What readings and writings of the base heap find, one after the other.
+#[derive(Clone, Copy)]
+struct Found {
+    read: [u64; 8],
+    fault_while_read: Option<Fault>,
+    written: [u64; 8],
+    faults_while_written_and_after: [[Option<Fault>; 2]; 2],
+}
+
+fn read_and_write<W: Wait>(cells: &Cells, alloc: Global, wait: &W) -> Result<Found, Fail>
+    requires regions { region_count cells.now ≡ 4 }
+    requires region_log { cells.now.region_log ≡ 3 }
+{
+    let (read, fault_while_read) = words_and_fault_while_read(cells, alloc, wait)?;
+    Ok(Found {
+        read,
+        fault_while_read,
+        written: written_words(cells, alloc, wait)?,
+        faults_while_written_and_after: faults_while_written_and_after(cells, alloc, wait)?,
+    })
+}
+
+fn read_and_write_base<R: Threads + Wait + Sync>(alloc: Global, rt: &R) -> Result<Found, Fail> {
+    let (cells, _plan) = base_cells(alloc, BASE_LIVE.as_slice(), rt)?;
+    read_and_write(&cells, alloc, rt)
+}
+
+#[test]
+fn a_region_is_read_by_many_or_written_by_one(rt: HostRuntime) -> Result<(), Fail> {
+    let found = read_and_write_base(rt.alloc(), &rt)?;
+    let overwritten = Some(Fault::Overwritten(1));
+    equal_items(&rt, found.read.as_slice(), &BASE_WORDS[8..16]);
+    equal(&rt, found.fault_while_read, overwritten);
+    let written = [
+        7,
+        7,
+        9,
+        0x0100_0001_0000_0004,
+        13,
+        DEAD,
+        0x0100_0001_0000_0002,
+        1,
+    ];
+    equal_items(&rt, found.written.as_slice(), written.as_slice());
+    equal(
+        &rt,
+        found.faults_while_written_and_after,
+        [[overwritten; 2]; 2],
+    );
+    Ok(())
+}
+
+/// Puts region 3 back, which lies above the new top, so that its words stay.
+fn put_back<W: Wait>(cells: &Cells, plan: &Plan, alloc: Global, wait: &W) -> Result<u32, Fail>
+    requires same { plan.now ≡ cells.now }
+    requires regions { region_count cells.now ≡ 4 }
+    requires region_log { cells.now.region_log ≡ 3 }
+{
+    blocks_of_regions();
+    if plan.new_top() > 24 {
+        return Err(Fail::from("region 3 is to be filled"));
+    }
+    let target = cells.write(right(alloc, 3)?, wait)?;
+    let (written, placed) = target.put();
+    written.give_up();
+    Ok(placed.region())
+}
+
+/// The region that was put back, and the faults of a reading and a writing of it then.
+fn put_back_and_faults<W: Wait>(
+    cells: &Cells,
+    plan: &Plan,
+    alloc: Global,
+    wait: &W,
+) -> Result<(u32, [Option<Fault>; 2]), Fail>
+    requires same { plan.now ≡ cells.now }
+    requires regions { region_count cells.now ≡ 4 }
+    requires region_log { cells.now.region_log ≡ 3 }
+{
+    let region = put_back(cells, plan, alloc, wait)?;
+    Ok((region, read_and_write_faults(cells, alloc, 3, wait)?))
+}
+
+/// The region of the base heap that was put back, the faults that its cell tells, and that of the end.
+fn put_back_in_base<R: Threads + Wait + Sync>(
+    alloc: Global,
+    live: &[u64],
+    rt: &R,
+) -> Result<(u32, [Option<Fault>; 2], Option<Fault>), Fail> {
+    let (cells, plan) = base_cells(alloc, live, rt)?;
+    let (region, faults) = put_back_and_faults(&cells, &plan, alloc, rt)?;
+    Ok((region, faults, end_fault(cells)))
+}
+
+#[test]
+fn a_region_that_was_put_back_has_moved(rt: HostRuntime) -> Result<(), Fail> {
+    equal(
+        &rt,
+        put_back_in_base(rt.alloc(), BASE_LIVE.as_slice(), &rt)?,
+        (
+            3,
+            [Some(Fault::Overwritten(3)); 2],
+            Some(Fault::Overwritten(0)),
+        ),
+    );
+    Ok(())
+}
+
+#[test]
+fn a_region_that_is_not_to_be_filled_was_put_back(rt: HostRuntime) -> Result<(), Fail> {
+    equal(
+        &rt,
+        put_back_in_base(rt.alloc(), [].as_slice(), &rt)?,
+        (
+            3,
+            [Some(Fault::Overwritten(3)); 2],
+            Some(Fault::Overwritten(3)),
+        ),
+    );
+    Ok(())
+}
+
+#[test]
+fn cells_do_not_end_with_nothing_filled(rt: HostRuntime) -> Result<(), Fail> {
+    let (cells, _plan) = base_cells(rt.alloc(), BASE_LIVE.as_slice(), &rt)?;
+    equal(&rt, end_fault(cells), Some(Fault::Overwritten(0)));
+    Ok(())
+}
+
+/// The faults of a writing of region 2 where nothing is live, which is given up, and of the end.
+fn faults_of_a_dead_region<R: Threads + Wait + Sync>(
+    alloc: Global,
+    rt: &R,
+) -> Result<(Option<Fault>, Option<Fault>), Fail> {
+    let (cells, _plan) = base_cells(alloc, [].as_slice(), rt)?;
+    let fault = write_fault(&cells, alloc, 2, rt)?;
+    Ok((fault, end_fault(cells)))
+}
+
+#[test]
+fn a_region_that_is_not_to_be_filled_was_given_up(rt: HostRuntime) -> Result<(), Fail> {
+    equal(
+        &rt,
+        faults_of_a_dead_region(rt.alloc(), &rt)?,
+        (None, Some(Fault::Overwritten(2))),
+    );
+    Ok(())
+}
+
+/// The fault of a reading where nothing is live, and the parts of the heap then.
+fn parts_once_read<R: Threads + Wait + Sync>(
+    alloc: Global,
+    rt: &R,
+) -> Result<(Option<Fault>, Parts), Fail> {
+    let (cells, _plan) = base_cells(alloc, [].as_slice(), rt)?;
+    let fault = read_fault(&cells, alloc, 1, rt)?;
+    Ok((fault, cells.into_regions()?))
+}
+
+/// Ends the test where these are not the parts of the base heap without a live object.
+fn are_of_dead_base(rt: &impl Abort, parts: &Parts) {
+    equal(rt, (parts.region_log, parts.allowance), (3, 0));
+    equal(rt, (parts.regions.len(), parts.live.len()), (4, 0));
+    holds(rt, parts.roots.is_none());
+    for (region, words) in parts.regions.iter().zip(BASE_WORDS.chunks_exact(8)) {
+        equal_items(rt, region.words(), words);
+    }
+}
+
+#[test]
+fn a_heap_without_objects_is_left_as_it_was(rt: HostRuntime) -> Result<(), Fail> {
+    let (fault, parts) = parts_once_read(rt.alloc(), &rt)?;
+    equal(&rt, fault, None);
+    are_of_dead_base(&rt, &parts);
+    Ok(())
+}
+
+/// The parts of the image with this text, of whose cells none is used.
+fn parts_of<T: Threads + Sync>(alloc: Global, text: &[u8], threads: &T) -> Result<Parts, Fault> {
+    let image = decode_by_threads(alloc, text, threads)?;
+    let (cells, _plan) = cells_and_plan(alloc, image, threads)?;
+    cells.into_regions()
+}
+
+#[test]
+fn roots_are_handed_on(rt: HostRuntime) -> Result<(), Fail> {
+    let text = rooted_text(rt.alloc(), Settings::of_base(0), &BASE_WORDS, &[0, 0])?;
+    let parts = parts_of(rt.alloc(), text.as_slice(), &rt)?;
+    match &parts.roots {
+        Some(roots) => equal_items(&rt, roots.as_slice(), [0, 0].as_slice()),
+        None => return Err(Fail::from("no roots")),
+    }
+    Ok(())
+}

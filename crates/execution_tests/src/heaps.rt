@@ -1,0 +1,177 @@
+//! Heaps whose regions are filled by the one worker of a board, and what the fills leave.
+ghost use Rattle.std.specs.Prelude.{◌≡◌, IfOk};
+ghost use Rattle.history.specs.ImageMoves.{image_table};
+ghost use Rattle.claim_board.specs.Boards.{moves as moves_of, identity, board_of};
+
+use crate::setups::{board_for_one, cells_of, end_fault};
+use claim_board::{Board, Pass};
+use fill::{clear_above, fill_region, update_deferred};
+use heap_image::{Fault, Image};
+use history::moves_of_images;
+use raw_region::Region;
+use region_cells::Cells;
+use std::alloc::{AllocError, Global};
+use std::sync::Wait;
+use std::test::Fail;
+use std::thread::Threads;
+use summary::Survey;
+use summary::laws::region_data::regions_to_fill;
+
+/// A heap whose regions are to be filled.
+#[derive(Drop)]
+pub struct Heap {
+    pub survey: Survey,
+    pub cells: Cells,
+    pub board: Board,
+    ghost cells_are: { cells ≡ survey },
+    ghost moves_are: { moves_of board ≡ image_table survey },
+}
+
+/// A heap, and the pass of its one worker.
+pub fn heap_of<T: Threads + Sync>(
+    alloc: Global,
+    image: Image,
+    threads: &T,
+) -> Result<(Heap, Pass), Fail>
+    ensures pass { IfOk result (λ made. board_of made.1 ≡ identity made.0.board) }
+    ensures image { IfOk result (λ made. made.0.cells ≡ image) }
+{
+    let (survey, cells) = survey_and_cells(alloc, image, threads)?;
+    heap_with_board(alloc, survey, cells)
+}
+
+/// The survey and the cells of an image.
+pub fn survey_and_cells<T: Threads + Sync>(
+    alloc: Global,
+    image: Image,
+    threads: &T,
+) -> Result<(Survey, Cells), Fault>
+    ensures survey { IfOk result (λ made. made.0 ≡ image) }
+    ensures cells { IfOk result (λ made. made.1 ≡ image) }
+{
+    let survey = Survey::of(alloc, &image, threads)?;
+    let cells = cells_of(alloc, image, survey.plan())?;
+    Ok((survey, cells))
+}
+
+fn heap_with_board(alloc: Global, survey: Survey, cells: Cells) -> Result<(Heap, Pass), Fail>
+    requires { cells ≡ survey }
+    ensures pass { IfOk result (λ made. board_of made.1 ≡ identity made.0.board) }
+    ensures cells { IfOk result (λ made. made.0.cells ≡ cells) }
+{
+    let (board, pass) = board_for_one(alloc, survey.plan())?;
+    let heap = Heap {
+        survey,
+        cells,
+        board,
+    };
+    Ok((heap, pass))
+}
+
+/// Claims, fills and settles a region, and adds the sources of which it told the last drain. False where the region is
+/// not to be filled, or cannot be claimed.
+pub fn fill<W: Wait>(
+    heap: &Heap,
+    pass: &mut Pass,
+    sources: &mut Vec<u32>,
+    region: u32,
+    wait: &W,
+) -> Result<bool, Fault>
+    requires { board_of pass.old ≡ identity heap.now.board }
+    ensures { board_of pass.new ≡ identity heap.now.board }
+{
+    moves_of_images();
+    regions_to_fill();
+    let _regions = heap.survey.plan().regions();
+    if region >= heap.survey.plan().fill_regions() {
+        return Ok(false);
+    }
+    let Some(ticket) = heap.board.claim(pass, region) else {
+        return Ok(false);
+    };
+    let mut on_last = |source: u32| {
+        let _ = sources.push(source);
+    };
+    let (done, placed) = fill_region(
+        &heap.board,
+        &heap.cells,
+        &heap.survey,
+        pass,
+        ticket,
+        &mut on_last,
+        wait,
+    )?;
+    heap.board.settle(pass, done);
+    Ok(placed.region() == region)
+}
+
+/// Tries to fill the regions in this order, and answers the sources of which the fills told the last drain.
+pub fn fill_in_order<W: Wait>(
+    heap: &Heap,
+    mut pass: Pass,
+    alloc: Global,
+    order: &[u32],
+    wait: &W,
+) -> Result<Vec<u32>, Fault>
+    requires { board_of pass ≡ identity heap.now.board }
+{
+    let mut sources = Vec::with_capacity(alloc, heap.survey.plan().regions() as usize)?;
+    for region in order {
+        fill(heap, &mut pass, &mut sources, *region, wait)?;
+    }
+    Ok(sources)
+}
+
+/// Whether all regions below this one are filled, in ascending order.
+pub fn fill_below<W: Wait>(
+    heap: &Heap,
+    mut pass: Pass,
+    alloc: Global,
+    end: u32,
+    wait: &W,
+) -> Result<bool, Fault>
+    requires { board_of pass ≡ identity heap.now.board }
+{
+    let mut sources = Vec::new(alloc);
+    for region in 0..end {
+        if !fill(heap, &mut pass, &mut sources, region, wait)? {
+            return Ok(false);
+        }
+    }
+    Ok(true)
+}
+
+/// The words of a heap's regions, which are filled, and those once the heap is compacted.
+pub fn moved_and_compacted(alloc: Global, heap: Heap) -> Result<(Vec<u64>, Vec<u64>), Fault> {
+    let Heap { survey, cells, .. } = heap;
+    moved_and_compacted_cells(alloc, cells, &survey)
+}
+
+fn moved_and_compacted_cells(
+    alloc: Global,
+    cells: Cells,
+    survey: &Survey,
+) -> Result<(Vec<u64>, Vec<u64>), Fault>
+    requires { cells ≡ survey.now }
+{
+    let mut parts = cells.into_regions()?;
+    let moved = joined(alloc, parts.regions.as_slice())?;
+    update_deferred(parts.regions.as_mut_slice(), survey);
+    clear_above(parts.regions.as_mut_slice(), survey.plan().new_top());
+    Ok((moved, joined(alloc, parts.regions.as_slice())?))
+}
+
+/// The words of these regions, one after the other.
+pub fn joined(alloc: Global, regions: &[Region]) -> Result<Vec<u64>, AllocError> {
+    let mut words = Vec::new(alloc);
+    for region in regions {
+        words.extend_from_slice(region.words())?;
+    }
+    Ok(words)
+}
+
+/// The fault with which the cells of a heap end, if they don't give their regions.
+pub fn end_fault_of(heap: Heap) -> Option<Fault> {
+    let Heap { cells, .. } = heap;
+    end_fault(cells)
+}

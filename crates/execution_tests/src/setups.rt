@@ -1,0 +1,192 @@
+//! The cells of a heap of four regions, and what reads and writes them without a fill: openings and rights of boards of
+//! their own.
+ghost use Rattle.std.specs.Prelude.{◌≡◌, ◌<◌, IfOk};
+ghost use Rattle.heap_image.specs.HeapImage.{region_count};
+ghost use Rattle.history.specs.MoveTable.{region_count as table_regions};
+ghost use Rattle.claim_board.specs.Boards.{moves as moves_of, identity, board_of};
+
+use claim_board::{Board, Opening, Pass, Right};
+use heap_image::{Fault, Image};
+use heap_samples::base_image;
+use history::{GivenMoves, Moves};
+use mark_bitmap::Marks;
+use region_cells::Cells;
+use std::alloc::Global;
+use std::sync::Wait;
+use std::test::Fail;
+use std::thread::Threads;
+use summary::Plan;
+
+/// The base heap with this allowance and these live objects, which has four regions of 8 words.
+pub fn base_of_four(alloc: Global, allowance: u64, live: &[u64]) -> Result<Image, Fail>
+    ensures regions { IfOk result (λ image. region_count image ≡ 4) }
+    ensures region_log { IfOk result (λ image. image.region_log ≡ 3) }
+{
+    let image = base_image(alloc, allowance, live)?;
+    let is_right = image.regions() == 4 && image.region_log() == 3;
+    if is_right {
+        Ok(image)
+    } else {
+        Err(Fail::from("not four regions of 8 words"))
+    }
+}
+
+/// The plan of an image.
+pub fn plan_of<T: Threads + Sync>(alloc: Global, image: &Image, threads: &T) -> Result<Plan, Fault>
+    ensures { IfOk result (λ plan. plan ≡ image.now) }
+{
+    let marks = Marks::of(alloc, image)?;
+    Plan::of(alloc, image, &marks, threads)
+}
+
+/// The cells of an image by its plan.
+pub fn cells_of(alloc: Global, image: Image, plan: &Plan) -> Result<Cells, Fault>
+    requires { plan.now ≡ image }
+    ensures { IfOk result (λ cells. cells ≡ image) }
+{
+    match Cells::of(alloc, image, plan) {
+        Ok(cells) => Ok(cells),
+        Err(_) => Err(Fault::Memory),
+    }
+}
+
+/// The cells of an image, and its plan.
+pub fn cells_and_plan<T: Threads + Sync>(
+    alloc: Global,
+    image: Image,
+    threads: &T,
+) -> Result<(Cells, Plan), Fault>
+    ensures plan { IfOk result (λ made. made.1 ≡ made.0) }
+    ensures image { IfOk result (λ made. made.0 ≡ image) }
+{
+    let plan = plan_of(alloc, &image, threads)?;
+    let cells = cells_of(alloc, image, &plan)?;
+    Ok((cells, plan))
+}
+
+/// A board over four regions, all to be filled, with these pairs of a destination and a source, and the pass of its one
+/// worker.
+pub fn board_of_four(alloc: Global, pairs: &[(u32, u32)]) -> Result<(GivenMoves, Board, Pass), Fail>
+    ensures moves { IfOk result (λ made. moves_of made.1 ≡ made.0) }
+    ensures pass { IfOk result (λ made. board_of made.2 ≡ identity made.1) }
+    ensures regions { IfOk result (λ made. table_regions made.0 ≡ 4) }
+{
+    let moves = moves_of_four(alloc, pairs)?;
+    let (board, pass) = board_for_one(alloc, &moves)?;
+    Ok((moves, board, pass))
+}
+
+/// The moves of four regions, all to be filled, with these pairs.
+pub fn moves_of_four(alloc: Global, pairs: &[(u32, u32)]) -> Result<GivenMoves, Fail>
+    ensures { IfOk result (λ moves. table_regions moves ≡ 4) }
+{
+    let fill = Vec::from_slice(alloc, [true; 4].as_slice())?;
+    let pairs = Vec::from_slice(alloc, pairs)?;
+    let moves = GivenMoves::new(fill, pairs).ok_or("no table of moves")?;
+    if moves.regions() == 4 {
+        Ok(moves)
+    } else {
+        Err(Fail::from("not four regions"))
+    }
+}
+
+/// A board over these moves, and the pass of its one worker.
+pub fn board_for_one<M: Moves>(alloc: Global, moves: &M) -> Result<(Board, Pass), Fail>
+    ensures moves { IfOk result (λ made. moves_of made.0 ≡ M.table moves.now) }
+    ensures pass { IfOk result (λ made. board_of made.1 ≡ identity made.0) }
+{
+    let (board, mut passes) = Board::new(alloc, moves, 1)?;
+    let pass = passes.pop().ok_or("no pass")?;
+    Ok((board, pass))
+}
+
+/// The opening by which region 0 reads this one.
+pub fn opening(alloc: Global, source: u32) -> Result<Opening, Fail>
+    ensures { IfOk result (λ opening. opening.source < 4) }
+{
+    let (moves, board, mut pass) = board_of_four(alloc, [(0, source)].as_slice())?;
+    let Some(mut ticket) = board.claim(&mut pass, 0) else {
+        return Err(Fail::from("region 0 was not claimed"));
+    };
+    let opening = ticket.open(&moves);
+    ticket.give_up();
+    match opening {
+        Some(opening) => Ok(opening),
+        None => Err(Fail::from("region 0 has no source")),
+    }
+}
+
+/// The right to write this region.
+pub fn right(alloc: Global, region: u32) -> Result<Right, Fail>
+    requires { region < 4 }
+    ensures { IfOk result (λ right. right.region ≡ region) }
+{
+    let (_moves, board, mut pass) = board_of_four(alloc, [].as_slice())?;
+    let Some(mut ticket) = board.claim(&mut pass, region) else {
+        return Err(Fail::from("the region was not claimed"));
+    };
+    let right = ticket.right();
+    ticket.give_up();
+    match right {
+        Some(right) => Ok(right),
+        None => Err(Fail::from("the ticket has no right")),
+    }
+}
+
+/// The fault that a reading of the region meets.
+pub fn read_fault<W: Wait>(
+    cells: &Cells,
+    alloc: Global,
+    region: u32,
+    wait: &W,
+) -> Result<Option<Fault>, Fail>
+    requires { region_count cells.now ≡ 4 }
+{
+    match cells.read(opening(alloc, region)?, wait) {
+        Ok(source) => {
+            source.close().give_up();
+            Ok(None)
+        }
+        Err(fault) => Ok(Some(fault)),
+    }
+}
+
+/// The fault that a writing of the region meets, which is given up.
+pub fn write_fault<W: Wait>(
+    cells: &Cells,
+    alloc: Global,
+    region: u32,
+    wait: &W,
+) -> Result<Option<Fault>, Fail>
+    requires regions { region_count cells.now ≡ 4 }
+    requires inside { region < 4 }
+{
+    match cells.write(right(alloc, region)?, wait) {
+        Ok(target) => {
+            target.give_up();
+            Ok(None)
+        }
+        Err(fault) => Ok(Some(fault)),
+    }
+}
+
+/// The faults that a reading of the region and then a writing of it meet.
+pub fn read_and_write_faults<W: Wait>(
+    cells: &Cells,
+    alloc: Global,
+    region: u32,
+    wait: &W,
+) -> Result<[Option<Fault>; 2], Fail>
+    requires regions { region_count cells.now ≡ 4 }
+    requires inside { region < 4 }
+{
+    Ok([
+        read_fault(cells, alloc, region, wait)?,
+        write_fault(cells, alloc, region, wait)?,
+    ])
+}
+
+/// The fault with which the cells end, if they don't give their regions.
+pub fn end_fault(cells: Cells) -> Option<Fault> {
+    cells.into_regions().err()
+}
