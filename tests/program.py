@@ -4,11 +4,20 @@ import pathlib
 import re
 import shutil
 import subprocess
+import sys
 from collections.abc import Callable
 
 TOP = pathlib.Path(__file__).resolve().parent.parent
-BUILT = TOP / "out" / "pcompact" / "pcompact"
 SECONDS = 60
+
+
+def built() -> pathlib.Path:
+    """The program that fits the sources as they stand."""
+    words = ["sh", "-c", 'top=$1; . "$top/sources.sh"; program_path', "sh", TOP]
+    done = subprocess.run(words, capture_output=True, text=True)
+    if done.returncode:
+        sys.exit(f"There is no program to try: {done.stderr.strip()}; ./prove builds it.")
+    return pathlib.Path(done.stdout.removesuffix("\n"))
 
 
 @dataclasses.dataclass(frozen=True)

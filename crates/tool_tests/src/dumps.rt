@@ -2,7 +2,7 @@
 //! that no command asks for. `tests/import_rows.py` has the words, figures and errors of other dumps.
 use crate::checks::equal;
 use crate::dump_writer::Writer;
-use heap_dump::{ImportError, Options, Problem, import};
+use heap_dump::{ImportError, Imported, Options, Problem, import};
 use heap_image::{FromRead, Image, Intake};
 use std::alloc::{AllocError, Global};
 use std::io;
@@ -109,19 +109,25 @@ impl Read for Trickle<'_> {
     }
 }
 
-/// Whether a dump gives the words of the sample, where the second reading is slow and fails after so many bytes. It fails
-/// exactly where the device has.
-fn gives_sample_slowly(alloc: Global, bytes: &[u8], limit: usize) -> Result<bool, ImportError> {
+/// Whether a dump gives the words of the sample, where the second reading is slow and fails after so many bytes. None where
+/// the device is told to have failed.
+fn gives_sample_slowly(
+    alloc: Global,
+    bytes: &[u8],
+    limit: usize,
+) -> Result<Option<bool>, ImportError> {
     let mut first = FromRead::new(Trickle {
         bytes,
         limit: usize::MAX,
     });
     let mut second = FromRead::new(Trickle { bytes, limit });
-    let answer = import(alloc, &mut first, &mut second, SMALL);
-    if second.failed() == answer.is_ok() {
-        return Ok(false);
+    match import(alloc, &mut first, &mut second, SMALL) {
+        Ok(Imported { image, .. }) => {
+            Ok(Some(has_words(&image, &SAMPLE_WORDS) && !second.failed()))
+        }
+        Err(ImportError::Input) if second.failed() => Ok(None),
+        Err(error) => Err(error),
     }
-    Ok(has_words(&answer?.image, &SAMPLE_WORDS))
 }
 
 #[test]
@@ -129,21 +135,26 @@ fn a_slow_reader_is_served_and_a_failing_one_told(rt: HostRuntime) -> Result<(),
     let dump = sample(rt.alloc())?;
     let bytes = dump.as_slice();
     for limit in [0, 1, 19, 40, 41, bytes.len()] {
-        let answer = gives_sample_slowly(rt.alloc(), bytes, limit);
-        equal(&rt, answer, Err(ImportError::Input));
+        equal(&rt, gives_sample_slowly(rt.alloc(), bytes, limit)?, None);
     }
-    let answer = gives_sample_slowly(rt.alloc(), bytes, bytes.len() + 1);
-    equal(&rt, answer, Ok(true));
+    let served = gives_sample_slowly(rt.alloc(), bytes, bytes.len() + 1)?;
+    equal(&rt, served, Some(true));
     Ok(())
 }
 
-/// Why the two readings of a dump give no image, if they give none.
-fn refusal(alloc: Global, first: &[u8], second: &[u8], options: Options) -> Option<ImportError> {
+/// Why the two readings of a dump give no image, if they give none. Refused memory is an error of the test.
+fn refusal(
+    alloc: Global,
+    first: &[u8],
+    second: &[u8],
+    options: Options,
+) -> Result<Option<ImportError>, ImportError> {
     let mut first = FromRead::new(first);
     let mut second = FromRead::new(second);
     match import(alloc, &mut first, &mut second, options) {
-        Ok(_) => None,
-        Err(error) => Some(error),
+        Ok(_) => Ok(None),
+        Err(ImportError::Memory) => Err(ImportError::Memory),
+        Err(error) => Ok(Some(error)),
     }
 }
 
@@ -160,7 +171,7 @@ fn changed_dump(alloc: Global) -> Result<Vec<u8>, AllocError> {
 fn a_dump_that_changes_is_told(rt: HostRuntime) -> Result<(), Fail> {
     let dump = sample(rt.alloc())?;
     let changed = changed_dump(rt.alloc())?;
-    let error = refusal(rt.alloc(), dump.as_slice(), changed.as_slice(), SMALL);
+    let error = refusal(rt.alloc(), dump.as_slice(), changed.as_slice(), SMALL)?;
     let told = ImportError::Malformed {
         offset: 40,
         problem: Problem::Changed,
@@ -177,7 +188,7 @@ fn regions_of_a_size_that_no_image_has_are_refused(rt: HostRuntime) -> Result<()
         region_log: Some(17),
         ..SMALL
     };
-    let error = refusal(rt.alloc(), dump.as_slice(), dump.as_slice(), larger);
+    let error = refusal(rt.alloc(), dump.as_slice(), dump.as_slice(), larger)?;
     equal(&rt, error, Some(ImportError::RegionLog(17)));
     Ok(())
 }

@@ -1,0 +1,160 @@
+"""The man page of pcompact."""
+import re
+import textwrap
+
+from helps import Help, Helps, Option
+
+# When the texts below were last changed.
+DATE = "2026-11-26"
+WIDTH = 78
+ESCAPES = {"\\": r"\e", "^": r"\(ha", "~": r"\(ti", "`": r"\(ga"}
+
+DESCRIPTION = """\
+*pcompact* compacts the heap of a garbage-collected program, as it stands in a file: a heap image. The live objects slide to
+the low end of the heap, in place and in order, by up to 64 workers that share the regions of the heap, each a thread, and
+every reference is redirected. It is the full collection of OpenJDK's Parallel Compact collector, and it is proved that what
+it writes is the heap that the definitions say.
+
+*import*, *generate*, *assemble* and *upgrade* make images. *summary*, *order*, *text* and *map* show what stands in one, and
+what a collection will do. *collect* and *record* collect one, *verify* checks a collection, and *replay* and *timeline*
+follow what *record* has written down of the workers.
+
+Options may stand before and behind the arguments of a command. Behind *--* every word is an argument.
+"""
+
+FILES = """\
+A fault may leave the files to write empty, or with a beginning of what they should have. With *--atomic* a new file
+_.pcompact-N.tmp_ is made beside each, which takes its place only once the command has ended well. Where the command is killed
+the new file may stay, and it can be removed.
+"""
+
+ENVIRONMENT = [
+    ("GLIBC_TUNABLES", "What the C library is told of memory. The script that starts the program asks for huge pages by it, "
+                       "where it isn't set."),
+    ("LC_ALL, LC_CTYPE, LANG", "*map* and *timeline* draw with blocks where the first of these that is set and not empty names "
+                               "UTF-8, and else with letters."),
+]
+
+LAUNCHER_STATUS = ("70", "the script that starts the program in the repository has found none that fits the sources")
+
+EXAMPLES = [
+    ("An image of the heap dump of a Java virtual machine, and what its collection would leave:",
+     ["pcompact import heap.hprof heap.pcheap", "pcompact map heap.pcheap --after"]),
+    ("A collection by four workers, and whether it was right:",
+     ["pcompact collect heap.pcheap after.pcheap --workers 4 --atomic", "pcompact verify heap.pcheap after.pcheap"]),
+    ("A collection in place, which tells how long each phase took:",
+     ["pcompact collect heap.pcheap heap.pcheap --workers 4 --atomic --stats"]),
+]
+
+SEE_ALSO = """\
+*jcmd*(1), *jmap*(1), *mallopt*(3)
+
+The repository of Pithondlu has the formats of all files and the faults in _docs/FORMATS.md_, the definitions in _docs/HEAP.md_,
+what is proved in _docs/PROMISES.md_, and an example of each command in _docs/TOUR.md_.
+"""
+
+
+def escaped(text: str) -> str:
+    return "".join(ESCAPES.get(it, it) for it in text)
+
+
+def literal(text: str) -> str:
+    """What is typed as it stands here, whose dashes are no hyphens."""
+    return escaped(text).replace("-", r"\-")
+
+
+def bold(text: str) -> str:
+    return rf"\fB{literal(text)}\fP"
+
+
+def italic(text: str) -> str:
+    return rf"\fI{literal(text)}\fP"
+
+
+def line_of(text: str) -> str:
+    """A line of text that isn't taken for a request."""
+    return rf"\&{text}" if text.startswith((".", "'")) else text
+
+
+def wrapped(text: str) -> list[str]:
+    lines = textwrap.wrap(text, WIDTH, break_long_words=False, break_on_hyphens=False)
+    return [line_of(line) for line in lines]
+
+
+def prose(text: str) -> list[str]:
+    """Lines of a text in which *this* is bold and _this_ italic. A blank line ends a paragraph."""
+    lines = []
+    for paragraph in text.strip("\n").split("\n\n"):
+        marked = re.sub(r"\*(\S+?)\*", lambda it: bold(it[1]), escaped(" ".join(paragraph.split())))
+        marked = re.sub(r"(?<!\w)_(\S+?)_(?!\w)", lambda it: italic(it[1]), marked)
+        lines += [".PP", *wrapped(marked)]
+    return lines[1:]
+
+
+def sentence(text: str) -> list[str]:
+    """A line of help, as a sentence."""
+    return wrapped(re.sub(r"--[a-z-]+", lambda it: bold(it[0]), escaped(text.rstrip(".") + ".")))
+
+
+def item(head: str, lines: list[str]) -> list[str]:
+    return [".TP", head, *lines]
+
+
+def option_head(option: Option) -> str:
+    value = f" {italic(option.value)}" if option.value else ""
+    return ", ".join(bold(it) for it in option.spellings) + value
+
+
+def synopsis(usage: str) -> str:
+    """A usage, in which what stands for another word is italic."""
+    def marked(word: str) -> str:
+        return re.sub(r"<?(\w+)>?", lambda it: italic(it[1]), word) if word[0] in "[<" else bold(word)
+    return " ".join(marked(word) for word in usage.split())
+
+
+def example(lines: list[str]) -> list[str]:
+    return [".PP", ".RS 4", ".EX", *(literal(line.strip()) for line in lines), ".EE", ".RE"]
+
+
+def command(it: Help) -> list[str]:
+    lines = [f".SS {it.name}", synopsis(it.usage), ".PP", *sentence(it.about)]
+    for name, text in it.arguments:
+        lines += item(italic(name), sentence(text))
+    for option in it.options:
+        if option.name != "--help":
+            lines += item(option_head(option), sentence(option.text))
+    for title, shown in it.sections.items():
+        lines += [".PP", title, *example(shown)]
+    return lines
+
+
+def exit_status(program: Help) -> list[str]:
+    lines = []
+    for number, text in [line.split(None, 1) for line in program.sections["Exit status:"]] + [LAUNCHER_STATUS]:
+        lines += item(bold(number), sentence(text[0].upper() + text[1:]))
+    return lines
+
+
+def page(helps: Helps) -> str:
+    about = helps.program.about
+    lines = [
+        r'.\" Made by share/make from the help of the program.',
+        f'.TH PCOMPACT 1 "{DATE}" "{helps.version}" "User Commands"',
+        ".SH NAME", rf"pcompact \- {escaped(about[0].lower() + about[1:])}",
+        ".SH SYNOPSIS", f"{bold('pcompact')} {italic('COMMAND')} [{italic('OPTIONS')}] [{italic('ARGUMENTS')}]",
+        ".SH DESCRIPTION", *prose(DESCRIPTION),
+        ".SH OPTIONS", "Each command takes the first of these too.",
+    ]
+    for option in helps.program.options:
+        lines += item(option_head(option), sentence(option.text))
+    lines += [".SH COMMANDS"]
+    for it in helps.commands:
+        lines += command(it)
+    lines += [".SH EXIT STATUS", *exit_status(helps.program), ".SH ENVIRONMENT"]
+    for names, text in ENVIRONMENT:
+        lines += item(", ".join(bold(name) for name in names.split(", ")), prose(text))
+    lines += [".SH FILES", *prose(FILES), ".SH EXAMPLES"]
+    for text, shown in EXAMPLES:
+        lines += [*prose(text), *example(shown), ".PP"]
+    lines[-1:] = [".SH SEE ALSO", *prose(SEE_ALSO)]
+    return "\n".join(lines) + "\n"

@@ -1,0 +1,65 @@
+# Which program fits the sources as they stand: what the scripts pcompact, prove, install and test share.
+# A script sets `top`, the folder of the repository, and reads this file.
+#
+# dist/ and out/pcompact/ each hold a program and a stamp, whose lines are a word and what it stands for:
+#   sources CHECKSUM    of crates.txt, HANDLES, and the code and specs of each crate that doesn't only test
+#   program CHECKSUM    of the program beside the stamp
+#   kit TEXT            the Rattle kit that proved and built it
+#   needs TEXT          the system that it runs on
+
+# Runs a command, in the folder of the repository, on the folders of code and specs.
+over_sources() (
+    cd -- "$top" || exit
+    for crate in crates/*; do
+        case $crate in *_tests | *_samples) continue ;; esac
+        set -- "$@" "$crate/src"
+        [ ! -d "$crate/specs" ] || set -- "$@" "$crate/specs"
+    done
+    "$@"
+)
+
+# Prints the path and checksum of each file of code and specs below these folders.
+sum_files() {
+    find "$@" -type f '(' -name '*.rt' -o -name '*.antt' ')' -print0 | LC_ALL=C sort -z | xargs -0 sha256sum
+}
+
+# Prints the checksum of the sources as they stand.
+sources_sum() {
+    {
+        sed '/^#/d; /^[a-z_]*_\(tests\|samples\)[ :]/d' "$top/crates.txt"
+        cat "$top/HANDLES"
+        over_sources sum_files
+    } | sha256sum | cut -d ' ' -f 1
+}
+
+# Prints what the stamp of a folder has behind a word.
+stamped() {
+    sed -n "s/^$2 //p" "$top/$1/stamp" 2>/dev/null
+}
+
+# Whether a folder's program was built from sources of this checksum, is the one that its stamp names, and starts here.
+# Else `why` is the reason.
+fits() {
+    why="$1/pcompact wasn't built from these sources"
+    [ "$2" = "$(stamped "$1" sources)" ] || return 1
+    why="$1/pcompact isn't the program of its stamp"
+    [ "$(sha256sum <"$top/$1/pcompact" | cut -d ' ' -f 1)" = "$(stamped "$1" program)" ] 2>/dev/null || return 1
+    why="$1/pcompact doesn't start on this machine (it needs $(stamped "$1" needs))"
+    "$top/$1/pcompact" --version >/dev/null 2>&1
+}
+
+# Finds the program that fits the sources: out/pcompact if it was proved here, or dist. Sets `folder`, or else `why`.
+find_program() {
+    sum=$(sources_sum)
+    for folder in out/pcompact dist; do
+        ! fits "$folder" "$sum" || return 0
+    done
+    return 1
+}
+
+# Prints where the program is that fits the sources, or why there is none.
+program_path() {
+    find_program && printf '%s\n' "$top/$folder/pcompact" && return
+    printf '%s\n' "$why" >&2
+    return 1
+}
