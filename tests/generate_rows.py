@@ -19,7 +19,8 @@ WISHES = [
     Wanted(8, 3, 0, 25, 2, 0, 1), Wanted(8, 3, 100, 100, 2, 0, 2), Wanted(8, 3, 13, 0, 1, 5, 3),
     Wanted(512, 3, 1, 25, 1, 2, 0), Wanted(512, 9, 99, 100, 2, 0, 2**64 - 1), Wanted(4096, 4, 30, 0, 2, 2**64 - 1, 4),
     Wanted(4096, 12, 100, 25, 1, 0, 5), Wanted(16384, 3, 75, 50, 2, 100, 6), Wanted(65536, 16, 50, 25, 2, 0, 7),
-    Wanted(65536, 9, 10, 90, 1, 1000, 2**63),
+    Wanted(65536, 9, 10, 90, 1, 1000, 2**63), Wanted(32, 3, 60, 50, 2, 5, 35), Wanted(32, 3, 60, 50, 1, 5, 35),
+    Wanted(512, 3, 60, 50, 2, 5, 35), Wanted(512, 3, 60, 50, 2, 5, 36),
 ]
 
 
@@ -39,6 +40,14 @@ def try_wishes(tried: Tried) -> None:
         tried.run("summary heap", Answer(0, collection.report()))
         collected = Answer(0, collection.figures(), made={"out": model.encode(collection.compaction())})
         tried.run("collect heap out --workers 2", collected)
+
+
+def try_shares(tried: Tried) -> None:
+    """Heaps of which each share of a hundred lives, and the rest are references."""
+    for percent in range(101):
+        wanted = Wanted(256, 3, percent, 100 - percent, 2, 5, percent)
+        image, line = generated(wanted)
+        tried.run(words_of(wanted), Answer(0, line, made={"out": model.encode(image)}))
 
 
 def try_words(tried: Tried) -> None:
@@ -62,7 +71,9 @@ def try_words(tried: Tried) -> None:
 def try_no_heaps(tried: Tried) -> None:
     """Wishes that no image has. Nothing is changed."""
     tried.write("kept", OLD)
-    for words, log, said in ((1000, 9, "1000 words are not a multiple of the 512 words of a region"),
+    for words, log, said in ((12, 3, "12 words are not a multiple of the 8 words of a region"),
+                             (1000, 9, "1000 words are not a multiple of the 512 words of a region"),
+                             (131080, 3, "131080 words are 16385 regions, where 16384 are the most"),
                              (262144, 3, "262144 words are 32768 regions, where 16384 are the most")):
         for flag in ("", " --atomic"):
             wish = f"--words {words} --region-log {log} --live 50 --seed 1{flag}"
@@ -78,6 +89,9 @@ def try_files(tried: Tried) -> None:
     (tried.folder / "a_folder").mkdir()
     tried.run(f"generate a_folder {SMALL}", fault(FAULT_13))
     tried.run(f"generate nothing/out {SMALL}", fault(FAULT_13))
+    tried.run(f"generate nothing/out {SMALL} --verbose", Answer(1, err=(
+        "pcompact: fault 13 input or output\npcompact: file IMAGE nothing/out\npcompact: call open\n"
+        "pcompact: reason no such file or folder\n")))
     tried.run(f"generate /dev/full {SMALL}", fault(FAULT_13))
     tried.run(f"generate /dev/full {SMALL} --atomic", Answer(2, err="pcompact: not a regular file\n"))
     with FULL.open("wb") as full:
@@ -105,4 +119,4 @@ def try_rows(tried: Tried) -> None:
             tried.is_wrong(f"{words}: another checksum")
 
 
-GROUPS = (try_wishes, try_words, try_no_heaps, try_files, try_rows)
+GROUPS = (try_wishes, try_shares, try_words, try_no_heaps, try_files, try_rows)

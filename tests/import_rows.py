@@ -2,6 +2,7 @@
 import dataclasses
 import os
 import pathlib
+import re
 
 import dump_model
 import dump_writer
@@ -16,6 +17,66 @@ CUT = f"byte {len(DUMP) - 1}: the dump ends here, inside a record"
 NAME = "byte 0: this is no heap dump of version 1.0.1 or 1.0.2"
 SAME = Answer(2, err="pcompact: same file\n")
 IRREGULAR = Answer(2, err="pcompact: not a regular file\n")
+
+
+# A dump with an object of each kind, worked by hand: a gap of a word behind the class, one of 513 before the last array, roots
+# and references that lead nowhere. Its image in regions of 8 words with allowance 5, as text, and that of its live objects.
+SAMPLE_TEXT = f"""\
+heap version 2
+region-log 3
+words 24
+allowance 5
+roots @7 @10
+@0 dead 7 words {model.header(6, 5)} 0 0 0 0 8 0
+@7 object 3 refs @14 data 67305985
+@10 object 4 refs @7 null null
+@14 object 3 data 578437695752307201 9
+@17 dead 7 of 0
+"""
+SAMPLE_LINE = "words 24 objects 4 roots 2 live 3 dead 1 dropped-gaps 1 unresolved 2\n"
+LIVE_TEXT = """\
+heap version 2
+region-log 3
+words 16
+allowance 5
+roots @0 @3
+@0 object 3 refs @7 data 67305985
+@3 object 4 refs @0 null null
+@7 object 3 data 578437695752307201 9
+@10 dead 6 of 0
+"""
+LIVE_LINE = "words 16 objects 3 roots 2 live 3 dead 0 dropped-gaps 0 unresolved 2\n"
+
+
+def sample() -> bytes:
+    writer = dump_writer.Writer()
+    writer.record(0x01, b"name")
+    heap = b"".join(writer.root(tag, id_) for tag, id_ in ((0x08, 312), (0x05, 312), (0x01, 336), (0xFF, 999), (0x07, 0)))
+    heap += writer.instance(312, 256, [(2, 4472), (10, 0x01020304)]) + writer.references(336, [312, 0, 999])
+    writer.record(0x1C, heap)
+    writer.record(0x1C, writer.primitives(4472, 8, list(range(1, 10))) + writer.class_(256, 0, [2, 10], [(2, 312)]))
+    return writer.record(0x2C, b"").text()
+
+
+def heap_dump(*pieces: bytes) -> bytes:
+    """A dump with these records of its heap."""
+    return dump_writer.Writer().record(0x0C, b"".join(pieces)).text()
+
+
+def malformed_dumps() -> list[tuple[bytes, str]]:
+    """Dumps with one mistake, and what is said of each."""
+    to = dump_writer.Writer()
+    no_class = "the class of this object, or one above it, is not in the dump or is above itself"
+    other_size = "an instance of 1 bytes, where the fields of its class have another number"
+    return [
+        (heap_dump(b"\x09", to.id(1)), "byte 40: tag 9 is that of no record of a heap"),
+        (heap_dump(to.references(0, [])), "byte 40: an object with id 0, which is null"),
+        (heap_dump(to.references(8, []), to.primitives(8, 8, [])), "byte 65: a second object with id 8"),
+        (heap_dump(to.instance(8, 16)), f"byte 40: {no_class}"),
+        (heap_dump(to.instance(8, 16, [(8, 1)]), to.class_(16, 0, [5], [(2, 0)])), f"byte 40: {other_size}"),
+        (dump_writer.Writer().record(0x77, b"\1\2\3").text(), "byte 43: the dump ends without a heap"),
+        (dump_writer.Writer().record(0x1C, b"").text(), "byte 40: the dump ends without the end of its heap"),
+    ]
 
 
 def imported(data: bytes, name: str = "out", **options) -> Answer:
@@ -57,6 +118,32 @@ def try_collected(tried: Tried, data: bytes) -> None:
     after = model.Collection(model.decode(whole.image))
     tried.run("summary whole", Answer(0, after.report()))
     tried.run("collect whole out --workers 2", Answer(0, after.figures(), made={"out": model.encode(after.compaction())}))
+
+
+def try_sample(tried: Tried) -> None:
+    """The dump that was worked by hand, whole and of its live objects alone; and each beginning of it."""
+    tried.write("dump", sample())
+    for words, line, text in (("", SAMPLE_LINE, SAMPLE_TEXT), (" --live-only", LIVE_LINE, LIVE_TEXT)):
+        tried.run(f"import dump out --region-log 3 --allowance 5{words}", Answer(0, line))
+        tried.run("text out", Answer(0, text))
+    for length in range(len(sample())):
+        tried.write("dump", sample()[:length])
+        told = re.compile(rf"pcompact: byte {length}: .+\n")
+        tried.run("import dump out --region-log 3", Answer(1, err=told, made={"out": None}))
+
+
+def try_malformed_dumps(tried: Tried) -> None:
+    """Dumps with one mistake, and heaps that have too many words."""
+    for data, said in malformed_dumps():
+        tried.write("dump", data)
+        tried.run("import dump out --region-log 3", refused(said, {"out": None}))
+    to = dump_writer.Writer()
+    heap = [to.primitives(8, 11, [0] * 131_072), to.references(4_000_000, []), to.root(0x05, 4_000_000)]
+    tried.write("dump", heap_dump(*heap))
+    many = "131074 words, and 131072 are the most"
+    tried.run("import dump out --region-log 3", refused(f"the heap has {many}; with --live-only it has 1", {"out": None}))
+    tried.write("dump", heap_dump(*heap, to.root(0x05, 8)))
+    tried.run("import dump out --region-log 3 --live-only", refused(f"the reachable objects have {many}", {"out": None}))
 
 
 def try_refused_dumps(tried: Tried) -> None:
@@ -129,4 +216,4 @@ def try_import_files(tried: Tried) -> None:
         tried.is_wrong("a dump that was named twice is changed")
 
 
-GROUPS = (try_imports, try_refused_dumps, try_import_words, try_import_files)
+GROUPS = (try_imports, try_sample, try_malformed_dumps, try_refused_dumps, try_import_words, try_import_files)

@@ -67,8 +67,9 @@ def try_rows(tried: Tried) -> None:
         tried.run(f"map image --after --letters {width}", Answer(0, WHOLE))
     tried.run("map image --letters --width 1", Answer(0, f"{WHOLE.splitlines()[0]}\nbefore |:|\n       |x|\n{LEGEND}"))
     tried.write("image", image([999] * 32, []))
-    tried.run("map image --letters --width 3", Answer(
-        0, f"words 32 live 0 dead 32 prefix 0 top 0 filled 0\nbefore |___|\n       |---|\n{LEGEND}"))
+    for width in (2, 3):
+        tried.run(f"map image --letters --width {width}", Answer(0, (
+            f"words 32 live 0 dead 32 prefix 0 top 0 filled 0\nbefore |{'_' * width}|\n       |{'-' * width}|\n{LEGEND}")))
 
 
 def try_words(tried: Tried) -> None:
@@ -93,15 +94,21 @@ def try_looks(tried: Tried) -> None:
         tried.run("map image --width 4", answer, env=environment(**names))
         tried.run("map image --width 4 --letters", letters, env=environment(**names))
         tried.run("map image --width 4 --no-color --color", answer, env=environment(**names))
-    tried.run("map image --width 4 --letters --color", Answer(0, coloured(line)))
+    before = f"before |{coloured('+::+', BEFORE)}|\n       |{coloured('fmmx', BEFORE)}|\n"
+    tried.run("map image --width 4 --letters --color", Answer(0, f"{line}{before}{LEGEND}"))
+    after = f"after  |{coloured('+#:_', AFTER)}|\n       |{coloured('fmx-', AFTER)}|\n"
+    tried.run("map image --after --width 4 --letters --color", Answer(0, f"{line}{before}{after}{LEGEND}"))
+    both = "before |▓▒▒▓|\n       |fmmx|\nafter  |▓█▒▁|\n       |fmx-|\n"
+    tried.run("map image --after --width 4", Answer(0, f"{line}{both}{BLOCK_LEGEND}"), env=environment(LANG="C.UTF-8"))
 
 
-def coloured(line: str) -> str:
-    """The base heap with M = 2 in four cells, in colours: yellow fillers, green and magenta."""
-    def row(marks: str) -> str:
-        return "".join(f"\x1b[{colour}m{mark}\x1b[0m" for colour, mark in zip((33, 32, 32, 35), marks))
+# The colours of the base heap with M = 2 in four cells: yellow fillers, green, magenta and cyan.
+BEFORE = (33, 32, 32, 35)
+AFTER = (33, 32, 35, 36)
 
-    return f"{line}before |{row('+::+')}|\n       |{row('fmmx')}|\n{LEGEND}"
+
+def coloured(marks: str, colours: tuple[int, ...]) -> str:
+    return "".join(f"\x1b[{colour}m{mark}\x1b[0m" for colour, mark in zip(colours, marks))
 
 
 def try_terminal(tried: Tried) -> None:
@@ -144,6 +151,7 @@ def try_drawings(tried: Tried) -> None:
               ("x2", "words 16 to 23: 5 live, several"), ("e0", "words 24 to 31: 0 live, free")]
     if cells_of(root) != wanted:
         tried.is_wrong(f"a drawing has other cells: {cells_of(root)}")
+    try_drawing_of_words(tried)
     patterns = {pattern.get("id"): pattern for pattern in root.iter(f"{SVG}pattern")}
     looks = {(rect.get("fill-opacity"), path.get("d"))
              for pattern in patterns.values() for rect, path in [list(pattern)]}
@@ -153,6 +161,17 @@ def try_drawings(tried: Tried) -> None:
     for name in ("prefix", "prefix with fillers", "moving", "free", "several", "none lives", "few", "half", "most", "all live"):
         if name not in texts:
             tried.is_wrong(f"a drawing has no legend for {name}")
+
+
+def try_drawing_of_words(tried: Tried) -> None:
+    """The base heap with M = 2 in a cell for each word: one title of the drawing, and one of each cell."""
+    tried.run("map image --after --svg drawn --width 32", Answer(0, WHOLE.splitlines(True)[0]))
+    text = tried.read("drawn")
+    titles = [title for _, title in cells_of(drawing(tried, "drawn"))]
+    if len(titles) != 64 or text.count(b"<title>") != 65 or "words 3 to 3: 0 live, prefix with fillers" not in titles:
+        tried.is_wrong(f"a drawing has other titles: {titles}")
+    if not text.startswith(b"<?xml") or not text.endswith(b"</svg>\n"):
+        tried.is_wrong("a drawing begins or ends otherwise")
 
 
 def try_large_drawings(tried: Tried) -> None:

@@ -1,9 +1,10 @@
 """What `tests/commands` runs of `text` and `assemble`: the rows of docs/FORMATS.md, "Heap text"."""
+import dataclasses
 import pathlib
 
 from cases import BASE
 from heap_model import Wanted, generated
-from model import encode, header
+from model import Image, decode, encode, header
 from program import TOP, Answer, Tried, fault, usage
 
 FULL = pathlib.Path("/dev/full")
@@ -26,35 +27,75 @@ ROOTED_COUNTS = "words 32 roots 2 live 4\n"
 OLD = b"what stood there before" * 40
 REFERENCE = "`null`, or `@` and an address below 32"
 NUMBER = "a number below 2^64, decimal and without leading zeros"
+VERSION = "`heap version 1` or `heap version 2`"
+REGION_LOG = "`region-log K`, where K is 3 to 16"
+WORDS = "`words N`, where N is 1 to 4194304 and makes whole regions, 16384 at most"
+ALLOWANCE = "`allowance M`, where M is a number below 2^64"
+ROOTS = "`roots`, and behind it `null` or `@` and an address for each root"
+DEAD = "`of` and a number, or `words` and numbers, behind the number of dead words"
+# A heap without objects and roots, whose words all differ.
+NO_OBJECTS = encode(Image(2, 3, 2**64 - 1, [*range(7), 2**64 - 1], []))
+NO_OBJECTS_TEXT = """\
+heap version 2
+region-log 3
+words 8
+allowance 18446744073709551615
+roots
+@0 dead 8 words 0 1 2 3 4 5 6 18446744073709551615
+"""
 
 # In the text of the base heap with roots: what is changed into what, the line that is told, and what it says.
 MISTAKES = [
-    ("heap version 2", "heap version 3", 1, "`heap version 1` or `heap version 2`"),
-    ("region-log 3", "region-log 2", 2, "`region-log K`, where K is 3 to 16"),
-    ("words 32", "words 36", 3, "`words N`, where N is 1 to 4194304 and makes whole regions, 16384 at most"),
-    ("allowance 0", "allowance -1", 4, "`allowance M`, where M is a number below 2^64"),
-    ("roots @20", "root @20", 5, "`roots`, and behind it `null` or `@` and an address for each root"),
+    ("heap version 2", "heap version 3", 1, VERSION),
+    ("heap version 2", "heap  version 2", 1, VERSION),
+    ("region-log 3", "region-log 2", 2, REGION_LOG),
+    ("region-log 3", "region-log 17", 2, REGION_LOG),
+    *(("words 32", f"words {number}", 3, WORDS) for number in ("0", "36", "032", "32\r", "4194312", "131080")),
+    ("allowance 0", "allowance -1", 4, ALLOWANCE),
+    ("allowance 0", "allowance", 4, ALLOWANCE),
+    ("allowance 0", "allowance 18446744073709551616", 4, ALLOWANCE),
+    ("roots @20", "root @20", 5, ROOTS),
     ("roots @20", "roots 20", 5, REFERENCE),
+    ("roots @20", "roots @32", 5, REFERENCE),
+    ("roots @20 null", "roots @20 null ", 5, REFERENCE),
     ("null\n", "null" + " null" * 31 + "\n", 5, "32 roots at most"),
-    ("@0 object", "@1 object", 6, "a line that begins with `@0`"),
+    *(("@0 object", f"{begin} object", 6, "a line that begins with `@0`") for begin in ("@1", "0", "@00", "\n@0")),
     ("@0 object", "@0 thing", 6, "`object` or `dead` behind the address"),
+    ("@0 object 3", "@0 object 0", 6, "the size of the object, header included: 1 to 32"),
     ("@0 object 3", "@0 object 33", 6, "the size of the object, header included: 1 to 32"),
     ("@0 object 3 refs", "@0 object 3 links", 6, "`refs` or `data` behind the size"),
     ("@0 object 3", "@0 object 4", 6, "3 references and data words in all"),
-    ("refs @5 @20", "refs @5 @32", 6, REFERENCE),
-    ("refs @5 @20", "refs @5  @20", 6, REFERENCE),
-    ("107 108", "107 0108", 8, NUMBER),
+    *(("refs @5 @20", f"refs{fields}", 6, REFERENCE)
+      for fields in (" @5 @32", " @5  @20", " @5 @20 ", " @5 20", " data 6 21", "")),
+    *(("data 107 108", f"data{numbers}", 8, NUMBER)
+      for numbers in (" 107 0108", " 107 +108", " 107 18446744073709551616", "")),
     ("2 of 999\n@5", "1 of 999\n@4 dead 1 of 999\n@5", 8, "an object at @4, since dead words in a row have one line"),
+    ("@3 dead 2", "@3 dead 0", 7, "the number of dead words: 1 to 29"),
     ("@3 dead 2", "@3 dead 30", 7, "the number of dead words: 1 to 29"),
-    ("2 of 999", "2 all 999", 7, "`of` and a number, or `words` and numbers, behind the number of dead words"),
+    ("2 of 999", "2 all 999", 7, DEAD),
+    ("2 of 999", "2", 7, DEAD),
+    ("2 of 999", "2 of", 7, NUMBER),
     ("2 of 999", "2 words 999", 7, "2 numbers behind `words`"),
     ("2 of 999", "2 words 999 999", 7, "`of` and one number, since the words are equal"),
     ("2 of 999", "2 of 999 999", 7, "the end of the line"),
     ("@30 dead 2 of 999\n", "", 13, "a line that begins with `@30`"),
     ("@30 dead 2 of 999\n", "@30 dead 2 of 999", 13, "a newline at the end of the line"),
     ("@30 dead 2 of 999\n", "@30 dead 2 of 999\n@32 dead 1 of 0\n", 14, "no more lines, since all words are there"),
+    ("@30 dead 2 of 999\n", "@30 dead 2 of 999\n\n", 14, "no more lines, since all words are there"),
     ("refs @0\n", "refs @1\n", 6, "a valid object, where this is fault 7 header at 1"),
+    ("roots @20 null", "roots @20 @3", 7, "a valid object, where this is fault 7 header at 3"),
     ("roots @20 null", "roots null", 6, "dead words, since nothing leads to @0 from the roots"),
+    ("@20 @5 data 129\n@30 dead 2 of 999", f"@20 @30 data 129\n@30 dead 2 words {header(2, 0)} 5", 13,
+     "an object at @30, to which a root or a reference leads"),
+]
+
+# Texts that end early: the line that they lack, and what it should be.
+BEGINNINGS = [
+    ("heap version 2\n", 2, REGION_LOG),
+    ("heap version 2\nregion-log 3\n", 3, WORDS),
+    ("heap version 2\nregion-log 3\nwords 8\n", 4, ALLOWANCE),
+    ("heap version 2\nregion-log 3\nwords 8\nallowance 0\n", 5, ROOTS),
+    ("heap version 1\nregion-log 3\nwords 8\nallowance 0\n", 5, "a line that begins with `@0`"),
 ]
 
 
@@ -63,7 +104,8 @@ def mistake(line: int, expected: str) -> Answer:
 
 
 def try_both_ways(tried: Tried) -> None:
-    for content, text, counts in ((BASE, BASE_TEXT, BASE_COUNTS), (ROOTED, ROOTED_TEXT, ROOTED_COUNTS)):
+    for content, text, counts in ((BASE, BASE_TEXT, BASE_COUNTS), (ROOTED, ROOTED_TEXT, ROOTED_COUNTS),
+                                  (NO_OBJECTS, NO_OBJECTS_TEXT, "words 8 roots 0 live 0\n")):
         tried.write("heap", content)
         tried.run("text heap", Answer(0, text))
         tried.run("text --verbose heap", Answer(0, text))
@@ -88,8 +130,14 @@ def try_mistakes(tried: Tried) -> None:
     tried.run("assemble lines made", mistake(6, "dead words, since nothing leads to @0 from the roots"))
     tried.write("lines", ROOTED_TEXT.replace("null\n", "@30\n", 1).replace("@30 dead 2 of 999", f"@30 dead 2 words {header(2, 0)} 5"))
     tried.run("assemble lines made", mistake(13, "an object at @30, to which a root or a reference leads"))
-    tried.write("lines", "")
-    tried.run("assemble lines made", mistake(1, "`heap version 1` or `heap version 2`"))
+    for text, line, expected in [("", 1, VERSION), *BEGINNINGS]:
+        tried.write("lines", text)
+        tried.run("assemble lines made", mistake(line, expected))
+    tried.write("lines", NO_OBJECTS_TEXT.replace("roots", "roots" + " null" * 8))
+    made = encode(dataclasses.replace(decode(NO_OBJECTS), tail=[0] * 8))
+    tried.run("assemble lines made", Answer(0, "words 8 roots 8 live 0\n", made={"made": made}))
+    tried.write("lines", NO_OBJECTS_TEXT.replace("roots", "roots" + " null" * 9))
+    tried.run("assemble lines made", mistake(5, "8 roots at most"))
     tried.write("lines", OLD)
     tried.run("assemble lines made", mistake(1, "a newline at the end of the line"))
     told = "pcompact: TEXT line 1: expected a newline at the end of the line\n"

@@ -52,6 +52,8 @@ def try_looks(tried: Tried) -> None:
         tried.run("timeline image schedule --width 1", answer, env=environment(**names))
         tried.run("timeline image schedule --width 1 --letters --verbose", letters, env=environment(**names))
     tried.run("timeline image schedule --width 1 --letters --color", lanes("\x1b[32m#\x1b[0m", "\x1b[35mx\x1b[0m"))
+    coloured = lanes("\x1b[32m█\x1b[0m", "\x1b[35mx\x1b[0m", BLOCK_HANDS)
+    tried.run("timeline image schedule --width 1 --color", coloured, env=environment(LANG="C.UTF-8"))
     tried.run("timeline image schedule --width 1 --letters --color --no-color", letters)
     tried.run("timeline image schedule --letters", lanes("#" * 19, marks_of()))
     for flag, has_colours in (("", True), ("--no-color", False)):
@@ -88,6 +90,8 @@ def try_files(tried: Tried) -> None:
     tried.run("timeline image schedule --svg /dev/full --atomic", Answer(2, err="pcompact: not a regular file\n"))
     tried.write("wrong", ONE_WORKER.replace("0 claim 1 yes", "0 claim 1 no"))
     tried.write("malformed", ONE_WORKER.replace("0 claim 1 yes", "0 claim 1 maybe"))
+    tried.write("early", "schedule 1 1\n0 poll ?\n0 settle 0 ?\n")
+    tried.run("timeline image early", fault("14 schedule line 3"))
     for name in ("wrong", "malformed"):
         tried.run(f"timeline image {name}", fault("14 schedule line 8"))
         tried.run(f"timeline image {name} --html kept --atomic", fault("14 schedule line 8"))

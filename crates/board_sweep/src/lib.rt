@@ -21,8 +21,6 @@
 mod report;
 mod sweeper;
 mod tally;
-#[cfg(test)]
-mod tests;
 mod two_workers;
 
 pub use two_workers::sweep_with_two_workers;

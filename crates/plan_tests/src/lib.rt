@@ -4,4 +4,16 @@
 #![tactic(auto)]
 
 #[cfg(test)]
-mod tests;
+mod addresses;
+#[cfg(test)]
+mod checks;
+#[cfg(test)]
+mod known_heaps;
+#[cfg(test)]
+mod redirected;
+#[cfg(test)]
+mod regions;
+#[cfg(test)]
+mod rooted;
+#[cfg(test)]
+mod seeded;

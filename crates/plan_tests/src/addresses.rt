@@ -1,0 +1,119 @@
+//! Where the objects of heaps go.
+ghost use Rattle.std.specs.Prelude.{◌≡◌};
+
+use crate::checks::{equal, holds_at};
+use crate::known_heaps::{BASE, BASE_SIZES, Sizes, image_of};
+use heap_image::{Fault, Image};
+use heap_samples::Object;
+use std::alloc::Global;
+use std::test::Fail;
+use std::thread::Threads;
+use summary::Survey;
+
+/// A heap, and its figures: the prefix end, the new top and the number of regions to fill, and then the new addresses.
+type Row = (Sizes, &'static [Object], &'static [u64]);
+
+/// The figures of an image with this survey.
+fn figures(alloc: Global, image: &Image, survey: &Survey) -> Result<Vec<u64>, Fault>
+    requires { survey.now ≡ image.now }
+{
+    let (plan, marks) = (survey.plan(), survey.marks());
+    let mut figures = Vec::new(alloc);
+    figures.push(plan.prefix_end())?;
+    figures.push(plan.new_top())?;
+    figures.push(u64::from(plan.fill_regions()))?;
+    for a in image.live() {
+        figures.push(plan.new_address(marks, *a))?;
+    }
+    Ok(figures)
+}
+
+/// The figures of an image.
+fn image_figures<T: Threads + Sync>(
+    threads: &T,
+    alloc: Global,
+    image: &Image,
+) -> Result<Vec<u64>, Fault> {
+    let survey = Survey::of(alloc, image, threads)?;
+    figures(alloc, image, &survey)
+}
+
+/// Whether the heap of a row has its figures.
+fn slides<T: Threads + Sync>(threads: &T, alloc: Global, row: &Row) -> Result<bool, Fail> {
+    let (sizes, objects, expected) = *row;
+    let image = image_of(threads, alloc, sizes, objects)?;
+    let found = image_figures(threads, alloc, &image)?;
+    Ok(found.as_slice() == expected)
+}
+
+/// The base heap, by its allowance.
+const BASE_ROWS: [Row; 4] = [
+    ((3, 32, 0), &BASE, &[0, 19, 3, 0, 3, 7, 9]),
+    ((3, 32, 1), &BASE, &[0, 19, 3, 0, 3, 7, 9]),
+    ((3, 32, 2), &BASE, &[8, 21, 3, 0, 5, 9, 11]),
+    ((3, 32, u64::MAX), &BASE, &[24, 30, 4, 0, 5, 12, 20]),
+];
+
+#[test]
+fn objects_of_the_base_heap_slide(rt: HostRuntime) -> Result<(), Fail> {
+    for (row, heap) in BASE_ROWS.iter().enumerate() {
+        holds_at(&rt, slides(&rt, rt.alloc(), heap)?, row);
+    }
+    Ok(())
+}
+
+/// Heaps whose prefix ends at or before their last live word's region.
+const PREFIX_ROWS: [Row; 4] = [
+    ((3, 16, 8), &[(0, 4), (10, 2)], &[8, 10, 2, 0, 8]),
+    ((3, 24, 14), &[(2, 2), (20, 3)], &[16, 19, 3, 2, 16]),
+    ((3, 24, 13), &[(2, 2), (20, 3)], &[8, 11, 2, 2, 8]),
+    ((3, 32, 5), &[], &[0, 0, 0]),
+];
+
+#[test]
+fn prefixes_are_cut_at_the_last_live_end(rt: HostRuntime) -> Result<(), Fail> {
+    for (row, heap) in PREFIX_ROWS.iter().enumerate() {
+        holds_at(&rt, slides(&rt, rt.alloc(), heap)?, row);
+    }
+    Ok(())
+}
+
+/// Heaps that are one object, one region, or have blocks that begin within objects.
+const BLOCK_ROWS: [Row; 6] = [
+    ((3, 32, 0), &[(0, 32)], &[32, 32, 4, 0]),
+    ((3, 8, 0), &[(0, 1), (2, 1), (3, 5)], &[0, 7, 1, 0, 1, 2]),
+    ((3, 8, 1), &[(0, 1), (2, 1), (3, 5)], &[8, 8, 1, 0, 2, 3]),
+    (
+        (9, 512, 0),
+        &[(0, 1), (130, 2), (300, 4), (511, 1)],
+        &[0, 8, 1, 0, 1, 3, 7],
+    ),
+    ((9, 1024, 0), &[(10, 700), (900, 3)], &[0, 703, 2, 0, 700]),
+    ((3, 32, 0), &[(1, 20)], &[0, 20, 3, 0]),
+];
+
+#[test]
+fn blocks_and_whole_heaps(rt: HostRuntime) -> Result<(), Fail> {
+    for (row, heap) in BLOCK_ROWS.iter().enumerate() {
+        holds_at(&rt, slides(&rt, rt.alloc(), heap)?, row);
+    }
+    Ok(())
+}
+
+/// The new top that the survey of an image tells, and the first object that its marks tell from address 6 on.
+fn survey_findings<T: Threads + Sync>(
+    threads: &T,
+    alloc: Global,
+    image: &Image,
+) -> Result<(u64, Option<u64>), Fault> {
+    let survey = Survey::of(alloc, image, threads)?;
+    Ok((survey.plan().new_top(), survey.marks().next_begin(6)))
+}
+
+#[test]
+fn a_survey_has_marks_and_plan(rt: HostRuntime) -> Result<(), Fail> {
+    let image = image_of(&rt, rt.alloc(), BASE_SIZES, &BASE)?;
+    let found = survey_findings(&rt, rt.alloc(), &image)?;
+    equal(&rt, found, (19, Some(12)));
+    Ok(())
+}

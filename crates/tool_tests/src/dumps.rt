@@ -1,0 +1,194 @@
+//! Dumps that a device gives slowly or fails to give, or that change between the two readings, and regions of a size
+//! that no command asks for. `tests/import_rows.py` has the words, figures and errors of other dumps.
+use crate::checks::equal;
+use crate::dump_writer::Writer;
+use heap_dump::{ImportError, Imported, Options, Problem, import};
+use heap_image::{FromRead, Image, Intake};
+use std::alloc::{AllocError, Global};
+use std::io;
+use std::io::Read;
+use std::test::Fail;
+
+/// In regions of eight words, with allowance 5.
+const SMALL: Options = Options {
+    region_log: Some(3),
+    allowance: 5,
+    live_only: false,
+};
+
+/// The words of the heap of [`sample`].
+const SAMPLE_WORDS: [u64; 24] = [
+    0x0100_0005_0000_0006,
+    0,
+    0,
+    0,
+    0,
+    8,
+    0,
+    0x0100_0001_0000_0003,
+    15,
+    0x0403_0201,
+    0x0100_0003_0000_0004,
+    8,
+    0,
+    0,
+    0x0100_0000_0000_0003,
+    0x0807_0605_0403_0201,
+    9,
+    0,
+    0,
+    0,
+    0,
+    0,
+    0,
+    0,
+];
+
+/// Roots, an instance and an array of references.
+fn first_records(alloc: Global) -> Result<Writer, AllocError> {
+    let mut heap = Writer::new(alloc);
+    heap.root(0x08, 312, &[0; 8])?;
+    heap.root(0x05, 312, &[])?;
+    heap.root(0x01, 336, &[0; 8])?;
+    heap.root(0xFF, 999, &[])?;
+    heap.root(0x07, 0, &[])?;
+    heap.instance(312, 256, &[0, 0, 0, 0, 0, 0, 0x11, 0x78, 1, 2, 3, 4])?;
+    heap.references(336, &[312, 0, 999])?;
+    Ok(heap)
+}
+
+/// An array of bytes, and the class of the instance.
+fn last_records(alloc: Global) -> Result<Writer, AllocError> {
+    let mut heap = Writer::new(alloc);
+    heap.bytes(4472, &[1, 2, 3, 4, 5, 6, 7, 8, 9])?;
+    heap.class(256, 312, &[2, 10])?;
+    Ok(heap)
+}
+
+/// A dump with an object of each kind: a gap of a word behind the class, and one of 513 before the last array.
+fn sample(alloc: Global) -> Result<Vec<u8>, AllocError> {
+    let mut dump = Writer::dump(alloc)?;
+    dump.record(0x01, b"name")?;
+    dump.record(0x1C, first_records(alloc)?.as_slice())?;
+    dump.record(0x1C, last_records(alloc)?.as_slice())?;
+    dump.record(0x2C, b"")?;
+    Ok(dump.into_bytes())
+}
+
+/// Whether an image has these words.
+fn has_words(image: &Image, words: &[u64]) -> bool {
+    let mut all = image.len() == words.len() as u64;
+    for (address, word) in words.iter().enumerate() {
+        let address = address as u64;
+        all = all && address < image.len() && image.word(address) == *word;
+    }
+    all
+}
+
+/// A reader that gives a byte at a time, and fails once it has given `limit`.
+#[derive(Drop)]
+struct Trickle<'a> {
+    bytes: &'a [u8],
+    limit: usize,
+}
+
+impl Read for Trickle<'_> {
+    fn read(&mut self, buf: &mut [u8]) -> io::Result<usize> {
+        if self.limit == 0 {
+            return Err(io::Error::from(io::ErrorKind::Other));
+        }
+        self.limit -= 1;
+        match (self.bytes.split_first(), buf.first_mut()) {
+            (Some((byte, rest)), Some(place)) => {
+                *place = *byte;
+                self.bytes = rest;
+                Ok(1)
+            }
+            _ => Ok(0),
+        }
+    }
+}
+
+/// Whether a dump gives the words of the sample, where the second reading is slow and fails after so many bytes. None where
+/// the device is told to have failed.
+fn gives_sample_slowly(
+    alloc: Global,
+    bytes: &[u8],
+    limit: usize,
+) -> Result<Option<bool>, ImportError> {
+    let mut first = FromRead::new(Trickle {
+        bytes,
+        limit: usize::MAX,
+    });
+    let mut second = FromRead::new(Trickle { bytes, limit });
+    match import(alloc, &mut first, &mut second, SMALL) {
+        Ok(Imported { image, .. }) => {
+            Ok(Some(has_words(&image, &SAMPLE_WORDS) && !second.failed()))
+        }
+        Err(ImportError::Input) if second.failed() => Ok(None),
+        Err(error) => Err(error),
+    }
+}
+
+#[test]
+fn a_slow_reader_is_served_and_a_failing_one_told(rt: HostRuntime) -> Result<(), Fail> {
+    let dump = sample(rt.alloc())?;
+    let bytes = dump.as_slice();
+    for limit in [0, 1, 19, 40, 41, bytes.len()] {
+        equal(&rt, gives_sample_slowly(rt.alloc(), bytes, limit)?, None);
+    }
+    let served = gives_sample_slowly(rt.alloc(), bytes, bytes.len() + 1)?;
+    equal(&rt, served, Some(true));
+    Ok(())
+}
+
+/// Why the two readings of a dump give no image, if they give none. Refused memory is an error of the test.
+fn refusal(
+    alloc: Global,
+    first: &[u8],
+    second: &[u8],
+    options: Options,
+) -> Result<Option<ImportError>, ImportError> {
+    let mut first = FromRead::new(first);
+    let mut second = FromRead::new(second);
+    match import(alloc, &mut first, &mut second, options) {
+        Ok(_) => Ok(None),
+        Err(ImportError::Memory) => Err(ImportError::Memory),
+        Err(error) => Ok(Some(error)),
+    }
+}
+
+/// A dump with an array of two references in place of the one of the sample.
+fn changed_dump(alloc: Global) -> Result<Vec<u8>, AllocError> {
+    let mut heap = Writer::new(alloc);
+    heap.references(336, &[312, 0])?;
+    let mut dump = Writer::dump(alloc)?;
+    dump.record(0x0C, heap.as_slice())?;
+    Ok(dump.into_bytes())
+}
+
+#[test]
+fn a_dump_that_changes_is_told(rt: HostRuntime) -> Result<(), Fail> {
+    let dump = sample(rt.alloc())?;
+    let changed = changed_dump(rt.alloc())?;
+    let error = refusal(rt.alloc(), dump.as_slice(), changed.as_slice(), SMALL)?;
+    let told = ImportError::Malformed {
+        offset: 40,
+        problem: Problem::Changed,
+    };
+    equal(&rt, error, Some(told));
+    Ok(())
+}
+
+#[test]
+fn regions_of_a_size_that_no_image_has_are_refused(rt: HostRuntime) -> Result<(), Fail> {
+    let mut dump = Writer::dump(rt.alloc())?;
+    dump.record(0x1C, &[])?;
+    let larger = Options {
+        region_log: Some(17),
+        ..SMALL
+    };
+    let error = refusal(rt.alloc(), dump.as_slice(), dump.as_slice(), larger)?;
+    equal(&rt, error, Some(ImportError::RegionLog(17)));
+    Ok(())
+}
