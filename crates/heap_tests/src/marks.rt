@@ -6,7 +6,7 @@ use crate::answers::are_right;
 use crate::checks::{equal, holds};
 use crate::texts::regions_of;
 use heap_image::{Fault, Image, decode};
-use heap_samples::{BASE_LIVE, Base, DEAD, Object, base_image, image_of, plain_words};
+use heap_samples::{BASE_LIVE, Base, DEAD, Object, base_image, image_of, image_text, plain_words};
 use mark_bitmap::Marks;
 use std::alloc::{AllocError, Global};
 use std::process::Abort;
@@ -156,18 +156,28 @@ fn are_made_alike(
     Ok(are_alike(&marks, &shared, image.len()))
 }
 
-/// Where the parts of two threads meet, at 1,048,640, an object lies.
-#[test]
-fn two_threads_make_the_same_marks(rt: HostRuntime) -> Result<(), Fail> {
+/// Whether two threads make the same marks of a large heap as one. Where their parts meet, at 1,048,640, an object lies.
+fn large_comes_through(alloc: Global, threads: &(impl Threads + Sync)) -> Result<bool, Fault> {
     let objects = [
         (5, 700_000),
         (800_000, 500_000),
         (1_300_001, 1),
         (2_000_000, 97_152),
     ];
-    let image = plain_image(&rt, rt.alloc(), (16, 2_097_152), &objects)?;
-    holds(&rt, are_made_alike(&rt, rt.alloc(), &image)?);
-    Ok(())
+    let live = objects.map(|object| object.0);
+    let words = plain_words(alloc, 2_097_152, &objects)?;
+    let text = image_text(alloc, regions_of(16), words.as_slice(), &live)?;
+    are_made_alike(threads, alloc, &decode(alloc, text.as_slice())?)
+}
+
+/// The script tests/crate-allocations runs this with each allocation refused in turn.
+#[test]
+fn two_threads_make_the_same_marks_and_refused_memory_is_told(rt: HostRuntime) {
+    let answers = [
+        large_comes_through(rt.alloc(), &rt),
+        large_comes_through(rt.alloc(), &rt),
+    ];
+    holds(&rt, are_right(&answers));
 }
 
 /// Whether the base heap with allowance 2 has the same marks by one worker and by two.
