@@ -152,8 +152,20 @@ fn are_made_alike(
     image: &Image,
 ) -> Result<bool, Fault> {
     let marks = Marks::of(alloc, image)?;
+    Ok(are_shared_alike(threads, alloc, image, &marks)?)
+}
+
+/// Whether two workers make these marks of their image.
+fn are_shared_alike(
+    threads: &(impl Threads + Sync),
+    alloc: Global,
+    image: &Image,
+    marks: &Marks,
+) -> Result<bool, AllocError>
+    requires { marks.now ≡ image.now }
+{
     let shared = Marks::by_workers(alloc, image, 2, threads)?;
-    Ok(are_alike(&marks, &shared, image.len()))
+    Ok(are_alike(marks, &shared, image.len()))
 }
 
 /// Whether two threads make the same marks of a large heap as one. Where their parts meet, at 1,048,640, an object lies.
