@@ -16,7 +16,5 @@
 #![tactic(auto)]
 
 mod row;
-#[cfg(test)]
-mod tests;
 
 pub use row::{behind_an_empty_thread, for_each_mut};

@@ -1,5 +1,7 @@
 //! Tests of the causes of fault 4, and of their texts.
-use super::{fault_of, front};
+use crate::answers::fault_of;
+use crate::checks::equal;
+use crate::texts::front;
 use heap_image::{Fault, LengthCause};
 use std::test::Fail;
 
@@ -17,8 +19,8 @@ fn each_cause_of_a_length(rt: HostRuntime) -> Result<(), Fail> {
     ];
     for (region_log, count, words, cause) in causes {
         let front = front(region_log, count, words);
-        assert_eq!(rt; fault_of(&rt, rt.alloc(), &front), Fault::Length);
-        assert_eq!(rt; LengthCause::of(&front), Some(cause));
+        equal(&rt, fault_of(&rt, rt.alloc(), &front), Fault::Length);
+        equal(&rt, LengthCause::of(&front), Some(cause));
     }
     Ok(())
 }
@@ -26,9 +28,9 @@ fn each_cause_of_a_length(rt: HostRuntime) -> Result<(), Fail> {
 #[test]
 fn other_fronts_have_no_such_cause(rt: HostRuntime) {
     for (region_log, count, words) in [(3, 32, 32), (2, 0, 0), (17, 0, 0), (8, 0, 4_194_304)] {
-        assert_eq!(rt; LengthCause::of(&front(region_log, count, words)), None);
+        equal(&rt, LengthCause::of(&front(region_log, count, words)), None);
     }
-    assert_eq!(rt; LengthCause::of(&[0; 32]), None);
+    equal(&rt, LengthCause::of(&[0; 32]), None);
 }
 
 #[test]
@@ -53,7 +55,7 @@ fn causes_have_their_texts(rt: HostRuntime) -> Result<(), Fail> {
         ),
     ];
     for (cause, text) in texts {
-        assert_eq!(rt; format!(in rt.alloc(); "{cause}")?.as_str(), text);
+        equal(&rt, format!(in rt.alloc(); "{cause}")?.as_str(), text);
     }
     Ok(())
 }

@@ -2,10 +2,12 @@
 ghost use Rattle.std.specs.Prelude.{◌≡◌, ◌≤◌};
 ghost use Rattle.heap_image.specs.HeapImage.{heap_words};
 
-use crate::tests::plain_image;
+use crate::checks::holds_at;
+use crate::marks::plain_marks;
 use heap_samples::Object;
 use mark_bitmap::Marks;
 use std::alloc::{AllocError, Global};
+use std::process::Abort;
 use std::test::Fail;
 use std::thread::Threads;
 
@@ -129,15 +131,14 @@ fn sizes_agree(marks: &Marks, objects: &[Object]) -> bool {
 
 /// Whether the marks of the heap that this seed makes are those that are searched and counted.
 fn seed_agrees(
-    threads: &(impl Threads + Sync),
+    rt: &(impl Abort + Threads + Sync),
     alloc: Global,
     seed: u64,
     (region_log, len): (u64, u64),
 ) -> Result<bool, Fail> {
     let objects = seeded_objects(alloc, Seed(seed), len)?;
-    let image = plain_image(threads, alloc, region_log, len, objects.as_slice())?;
-    let marks = Marks::of(alloc, &image)?;
-    Ok(marks_agree(&marks, objects.as_slice(), image.len()))
+    let marks = plain_marks(rt, alloc, (region_log, len), objects.as_slice())?;
+    Ok(marks_agree(&marks, objects.as_slice(), len))
 }
 
 fn marks_agree(marks: &Marks, objects: &[Object], len: u64) -> bool
@@ -156,12 +157,10 @@ fn marks_agree(marks: &Marks, objects: &[Object], len: u64) -> bool
 
 #[test]
 fn seeded_heaps_have_the_marks_that_are_counted(rt: HostRuntime) -> Result<(), Fail> {
-    for seed in 0..20 {
-        assert!(rt; seed_agrees(&rt, rt.alloc(), seed, (3, 24))?, "seed {seed}");
-        assert!(rt;
-            seed_agrees(&rt, rt.alloc(), seed, (7, 384))?,
-            "seed {seed}"
-        );
+    for seed in 0..20u64 {
+        let small = seed_agrees(&rt, rt.alloc(), seed, (3, 24))?;
+        let large = seed_agrees(&rt, rt.alloc(), seed, (7, 384))?;
+        holds_at(&rt, small && large, seed as usize);
     }
     Ok(())
 }

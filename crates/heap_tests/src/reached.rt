@@ -1,7 +1,11 @@
 //! What roots reach: graphs of some shapes, and thousands of small heaps beside a plain marking program.
-use super::roots::{is_live, object, rooted_text};
-use super::{PAIR, refused};
+use crate::answers::refused;
+use crate::checks::{equal, holds, holds_at};
+use crate::refusals::PAIR;
+use crate::roots::{is_live, object, text_with_roots, try_live};
+use crate::texts::regions_of;
 use heap_image::{Fault, decode, decode_by_threads, header};
+use heap_samples::rooted_text;
 use std::alloc::{AllocError, Global};
 use std::collections::{BTreeSet, VecDeque};
 use std::process::Abort;
@@ -12,59 +16,57 @@ use std::thread::Threads;
 fn a_cycle_is_followed_once(rt: HostRuntime) -> Result<(), Fail> {
     let link = object(2, 1);
     let words = [link, 5, link, 3, link, 1, link, 7];
-    assert!(rt; is_live(&rt, rt.alloc(), &words, &[1], &[0, 4])?);
-    assert!(rt; is_live(&rt, rt.alloc(), &words, &[3], &[2])?);
-    assert!(rt; is_live(&rt, rt.alloc(), &words, &[5, 7, 3], &[0, 2, 4, 6])?);
+    let rows: [(&[u64], &[u64]); 3] = [(&[1], &[0, 4]), (&[3], &[2]), (&[5, 7, 3], &[0, 2, 4, 6])];
+    try_live(&rt, rt.alloc(), &words, &rows)?;
     Ok(())
 }
 
 /// How many objects an array refers to.
 const ELEMENTS: u64 = 65_535;
 
-/// A heap of an array that refers to all other objects, which have no references.
-#[test]
-fn an_array_reaches_all(rt: HostRuntime) -> Result<(), Fail> {
+/// The words of an array that refers to all other objects, which have no references.
+fn array_words(alloc: Global) -> Result<Vec<u64>, AllocError> {
     let array = ELEMENTS + 1;
-    let mut words = Vec::from_iter(rt.alloc(), (array..array + ELEMENTS).map(|a| a + 1))?;
+    let mut words = Vec::from_iter(alloc, (array..array + ELEMENTS).map(|a| a + 1))?;
     words.insert(0, object(array, ELEMENTS))?;
     words.resize((array + ELEMENTS) as usize, object(1, 0))?;
     words.push(999)?;
-    let text = rooted_text(rt.alloc(), 3, &words, &[1])?;
+    Ok(words)
+}
+
+#[test]
+fn an_array_reaches_all(rt: HostRuntime) -> Result<(), Fail> {
+    let words = array_words(rt.alloc())?;
+    let text = text_with_roots(rt.alloc(), &words, &[1])?;
     let image = decode_by_threads(rt.alloc(), &text, &rt)?;
-    assert_eq!(rt; image.live().len() as u64, ELEMENTS + 1);
-    assert_eq!(rt; image.live().first().copied(), Some(0));
-    assert!(rt;
-        image
-            .live()
-            .iter()
-            .skip(1)
-            .copied()
-            .eq(array..array + ELEMENTS)
-    );
+    equal(&rt, image.live().len() as u64, ELEMENTS + 1);
+    equal(&rt, image.live().first().copied(), Some(0));
+    let elements = ELEMENTS + 1..2 * ELEMENTS + 1;
+    holds(&rt, image.live().iter().skip(1).copied().eq(elements));
     Ok(())
 }
 
 /// How many objects a list has.
 const LINKS: u64 = 1 << 20;
 
-/// A list whose objects lie scattered: of each two neighbours in it the addresses are far apart.
-#[test]
-fn a_list_of_a_million_objects_is_reached(rt: HostRuntime) -> Result<(), Fail> {
-    let mut words = Vec::new(rt.alloc());
+/// The words of a list whose objects lie scattered: of each two neighbours in it the addresses are far apart.
+fn list_words(alloc: Global) -> Result<Vec<u64>, AllocError> {
+    let mut words = Vec::new(alloc);
     for link in 0..LINKS {
         let next = link.wrapping_mul(1_103_515_245).wrapping_add(12_345) % LINKS;
         words.push(object(2, 1))?;
         words.push(2 * next + 1)?;
     }
-    let text = rooted_text(rt.alloc(), 16, &words, &[1])?;
+    Ok(words)
+}
+
+#[test]
+fn a_list_of_a_million_objects_is_reached(rt: HostRuntime) -> Result<(), Fail> {
+    let words = list_words(rt.alloc())?;
+    let text = rooted_text(rt.alloc(), regions_of(16), &words, &[1])?;
     let image = decode(rt.alloc(), &text)?;
-    assert!(rt;
-        image
-            .live()
-            .iter()
-            .copied()
-            .eq((0..LINKS).map(|link| 2 * link))
-    );
+    let links = (0..LINKS).map(|link| 2 * link);
+    holds(&rt, image.live().iter().copied().eq(links));
     Ok(())
 }
 
@@ -173,11 +175,16 @@ impl Search<'_> {
         Ok(())
     }
 
-    /// Finds all that these roots reach.
-    fn run(&mut self, roots: &[u64]) -> Result<(), AllocError> {
+    /// Finds what these roots lead to.
+    fn find_all(&mut self, roots: &[u64]) -> Result<(), AllocError> {
         for root in roots {
             self.find(*root)?;
         }
+        Ok(())
+    }
+
+    /// Finds all that is reached from what was found.
+    fn follow_all(&mut self) -> Result<(), AllocError> {
         for _ in 0..self.words.len() {
             if let Some(a) = self.queue.pop_front() {
                 self.follow(a)?;
@@ -204,16 +211,18 @@ impl Search<'_> {
         None
     }
 
+    /// The first field of the object at `a` that leads out of the heap.
+    fn beyond_from(&self, a: u64) -> Option<Fault> {
+        let mut fields = 0..header::references(self.word(a));
+        fields
+            .find(|field| self.reference(a, *field) > self.words.len() as u64)
+            .map(|field| Fault::Reference(a, field))
+    }
+
     /// The first reference that leads out of the heap.
     fn beyond(&self) -> Option<Fault> {
-        for a in self.found.iter() {
-            for field in 0..header::references(self.word(*a)) {
-                if self.reference(*a, field) > self.words.len() as u64 {
-                    return Some(Fault::Reference(*a, field));
-                }
-            }
-        }
-        None
+        let mut found = self.found.iter().copied();
+        found.find_map(|a| self.beyond_from(a))
     }
 
     /// What is first wrong with these roots or what they reach.
@@ -240,7 +249,8 @@ fn plainly_marked(
         found: BTreeSet::new(alloc),
         queue: VecDeque::new(alloc),
     };
-    search.run(roots)?;
+    search.find_all(roots)?;
+    search.follow_all()?;
     match search.fault(roots) {
         Some(fault) => Ok(Err(fault)),
         None => Ok(Ok(Vec::from_iter(alloc, search.found.iter().copied())?)),
@@ -253,17 +263,25 @@ fn agrees(rt: &(impl Abort + Threads + Sync), alloc: Global, heap: u64) -> Resul
     let roots = roots_of(alloc, heap)?;
     match plainly_marked(alloc, &words, &roots)? {
         Ok(live) => is_live(rt, alloc, &words, &roots, &live),
-        Err(fault) => {
-            let text = rooted_text(alloc, 3, &words, &roots)?;
-            Ok(refused(rt, decode_by_threads(alloc, &text, rt)) == fault)
-        }
+        Err(fault) => Ok(found_fault(rt, alloc, &words, &roots)? == fault),
     }
+}
+
+/// The fault of a heap that must be refused.
+fn found_fault(
+    rt: &(impl Abort + Threads + Sync),
+    alloc: Global,
+    words: &[u64],
+    roots: &[u64],
+) -> Result<Fault, AllocError> {
+    let text = text_with_roots(alloc, words, roots)?;
+    Ok(refused(rt, decode_by_threads(alloc, &text, rt)))
 }
 
 #[test]
 fn small_heaps_are_read_as_a_plain_program_marks_them(rt: HostRuntime) -> Result<(), Fail> {
-    for heap in 0..6_000 {
-        assert!(rt; agrees(&rt, rt.alloc(), heap)?, "heap {heap}");
+    for heap in 0..6_000u64 {
+        holds_at(&rt, agrees(&rt, rt.alloc(), heap)?, heap as usize);
     }
     Ok(())
 }

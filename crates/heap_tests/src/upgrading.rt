@@ -1,9 +1,13 @@
 //! Images with a live list, upgraded to ones with roots.
-use super::roots::rooted_text;
-use super::{BASE, Full, Trickle, allowing_two, are_right, base_text, front, text_of};
+use crate::answers::{are_right, is_text};
+use crate::checks::{equal, equal_at, equal_bytes, equal_words, holds};
+use crate::devices::{Full, Trickle};
+use crate::roots::text_with_roots;
+use crate::texts::base_text;
 use heap_image::{
-    Fault, FromRead, Intake, Outlet, ToWrite, decode_by_threads, encode, upgrade, upgrade_stream,
+    Fault, FromRead, Image, Intake, Outlet, ToWrite, decode_by_threads, upgrade, upgrade_stream,
 };
+use heap_samples::{BASE_LIVE, BASE_WORDS, Base, Settings, image_text, rooted_text};
 use std::alloc::{AllocError, Global};
 use std::process::Abort;
 use std::test::Fail;
@@ -13,11 +17,7 @@ use std::thread::Threads;
 const ROOTS: [u64; 4] = [1, 6, 13, 21];
 
 /// The number of roots that `upgrade_stream` answers, and what it writes.
-fn upgraded(
-    alloc: Global,
-    threads: &(impl Threads + Sync),
-    bytes: &[u8],
-) -> (Result<u32, Fault>, Vec<u8>) {
+fn upgraded(alloc: Global, bytes: &[u8]) -> (Result<u32, Fault>, Vec<u8>) {
     let mut writer = ToWrite::new(Vec::new(alloc));
     let answer = upgrade_stream(alloc, &mut FromRead::new(bytes), &mut writer);
     (answer, writer.into_inner())
@@ -25,26 +25,28 @@ fn upgraded(
 
 #[test]
 fn the_base_is_upgraded_and_stays_so(rt: HostRuntime) -> Result<(), Fail> {
-    let (count, text) = upgraded(rt.alloc(), &rt, base_text(rt.alloc())?.as_slice());
-    assert_eq!(rt; count, Ok(4));
-    assert_eq!(rt; text, rooted_text(rt.alloc(), 3, &BASE[..32], &ROOTS)?);
-    assert_eq!(rt; text.len(), 320);
+    let (count, text) = upgraded(rt.alloc(), base_text(rt.alloc())?.as_slice());
+    equal(&rt, count, Ok(4));
+    equal(&rt, text.len(), 320);
+    let wanted = text_with_roots(rt.alloc(), &BASE_WORDS, &ROOTS)?;
+    equal_bytes(&rt, text.as_slice(), wanted.as_slice());
     let image = decode_by_threads(rt.alloc(), text.as_slice(), &rt)?;
-    assert_eq!(rt; image.live(), &BASE[32..]);
-    let (count, again) = upgraded(rt.alloc(), &rt, text.as_slice());
-    assert_eq!(rt; count, Ok(4));
-    assert_eq!(rt; again, text);
+    equal_words(&rt, image.live(), &BASE_LIVE);
+    let (count, again) = upgraded(rt.alloc(), text.as_slice());
+    equal(&rt, count, Ok(4));
+    equal_bytes(&rt, again.as_slice(), text.as_slice());
     Ok(())
 }
 
 #[test]
 fn a_heap_with_no_object_has_no_root(rt: HostRuntime) -> Result<(), Fail> {
     let words = [999; 32];
-    let old = text_of(rt.alloc(), front(3, 0, 32), &words)?;
-    let (count, text) = upgraded(rt.alloc(), &rt, old.as_slice());
-    assert_eq!(rt; count, Ok(0));
-    assert_eq!(rt; text, rooted_text(rt.alloc(), 3, &words, &[])?);
-    assert_eq!(rt; text.len(), 288);
+    let old = image_text(rt.alloc(), Settings::of_base(0), &words, &[])?;
+    let (count, text) = upgraded(rt.alloc(), old.as_slice());
+    equal(&rt, count, Ok(0));
+    equal(&rt, text.len(), 288);
+    let wanted = text_with_roots(rt.alloc(), &words, &[])?;
+    equal_bytes(&rt, text.as_slice(), wanted.as_slice());
     Ok(())
 }
 
@@ -52,31 +54,37 @@ fn a_heap_with_no_object_has_no_root(rt: HostRuntime) -> Result<(), Fail> {
 fn no_beginning_of_an_image_is_upgraded(rt: HostRuntime) -> Result<(), Fail> {
     let text = base_text(rt.alloc())?;
     for n in 0..text.len() {
-        let (answer, written) = upgraded(rt.alloc(), &rt, &text[..n]);
+        let (answer, written) = upgraded(rt.alloc(), &text[..n]);
         let fault = if n < 32 {
             Fault::TruncatedHeader
         } else {
             Fault::TruncatedBody
         };
-        assert_eq!(rt; answer, Err(fault), "at {n}");
-        assert!(rt; written.is_empty());
+        equal_at(&rt, (answer, written.len()), (Err(fault), 0), n);
     }
     Ok(())
+}
+
+/// What an upgrade answers where the reader fails at byte `limit`, which of both devices have failed then, and how much is
+/// written.
+fn broken(alloc: Global, text: &[u8], limit: usize) -> (Result<u32, Fault>, [bool; 2], usize) {
+    let mut reader = FromRead::new(Trickle {
+        bytes: text,
+        step: 7,
+        limit,
+    });
+    let mut writer = ToWrite::new(Vec::new(alloc));
+    let answer = upgrade_stream(alloc, &mut reader, &mut writer);
+    let failed = [reader.failed(), writer.failed()];
+    (answer, failed, writer.into_inner().len())
 }
 
 #[test]
 fn a_reader_fails_at_each_byte(rt: HostRuntime) -> Result<(), Fail> {
     let text = base_text(rt.alloc())?;
     for limit in 0..=text.len() {
-        let mut broken = FromRead::new(Trickle {
-            bytes: text.as_slice(),
-            step: 7,
-            limit,
-        });
-        let mut writer = ToWrite::new(Vec::new(rt.alloc()));
-        let answer = upgrade_stream(rt.alloc(), &mut broken, &mut writer);
-        assert_eq!(rt; answer, Err(Fault::Io), "at {limit}");
-        assert!(rt; broken.failed() && !writer.failed() && writer.into_inner().is_empty());
+        let found = broken(rt.alloc(), text.as_slice(), limit);
+        equal_at(&rt, found, (Err(Fault::Io), [true, false], 0), limit);
     }
     Ok(())
 }
@@ -90,20 +98,20 @@ fn begun(rt: &impl Abort, alloc: Global, old: &[u8], limit: usize, fails: bool) 
         fails,
     });
     let answer = upgrade_stream(alloc, &mut FromRead::new(old), &mut full);
-    assert_eq!(rt; answer, Err(Fault::Io), "at {limit}");
-    assert!(rt; full.failed());
+    equal_at(rt, answer, Err(Fault::Io), limit);
+    holds(rt, full.failed());
     full.into_inner().bytes
 }
 
 #[test]
 fn a_writer_is_full_at_each_byte(rt: HostRuntime) -> Result<(), Fail> {
     let old = base_text(rt.alloc())?;
-    let text = rooted_text(rt.alloc(), 3, &BASE[..32], &ROOTS)?;
+    let text = text_with_roots(rt.alloc(), &BASE_WORDS, &ROOTS)?;
     for limit in 0..text.len() {
         let taken = begun(&rt, rt.alloc(), &old, limit, false);
-        assert_eq!(rt; taken.as_slice(), &text[..limit]);
+        equal_bytes(&rt, taken.as_slice(), &text[..limit]);
         let taken = begun(&rt, rt.alloc(), &old, limit, true);
-        assert_eq!(rt; taken.as_slice(), &text[..limit]);
+        equal_bytes(&rt, taken.as_slice(), &text[..limit]);
     }
     Ok(())
 }
@@ -117,8 +125,8 @@ struct Texts {
 
 fn both_texts(alloc: Global) -> Result<Texts, AllocError> {
     Ok(Texts {
-        old: allowing_two(base_text(alloc)?),
-        new: allowing_two(rooted_text(alloc, 3, &BASE[..32], &ROOTS)?),
+        old: Base::WithLiveList.text(alloc, 2)?,
+        new: rooted_text(alloc, Settings::of_base(2), &BASE_WORDS, &ROOTS)?,
     })
 }
 
@@ -130,16 +138,24 @@ fn is_upgraded(
     texts: &Texts,
 ) -> Result<bool, Fault> {
     match upgrade(alloc, decode_by_threads(alloc, &texts.old, threads)?) {
-        Ok(new) => Ok(encode(alloc, &new)? == texts.new),
-        Err((same, fault)) if encode(alloc, &same)? == texts.old => Err(fault),
-        Err(_) => Ok(false),
+        Ok(new) => is_text(alloc, &new, &texts.new),
+        Err((same, fault)) => is_refused(alloc, &same, &texts.old, fault),
+    }
+}
+
+/// This fault where the image that came back has its text, and else false.
+fn is_refused(alloc: Global, back: &Image, text: &[u8], fault: Fault) -> Result<bool, Fault> {
+    if is_text(alloc, back, text)? {
+        Err(fault)
+    } else {
+        Ok(false)
     }
 }
 
 /// Whether an image with roots is upgraded to itself, which takes no memory.
 fn stays(alloc: Global, threads: &(impl Threads + Sync), texts: &Texts) -> Result<bool, Fault> {
     match upgrade(alloc, decode_by_threads(alloc, &texts.new, threads)?) {
-        Ok(same) => Ok(encode(alloc, &same)? == texts.new),
+        Ok(same) => is_text(alloc, &same, &texts.new),
         Err(_) => Ok(false),
     }
 }
@@ -175,5 +191,5 @@ fn refused_memory_is_told(rt: HostRuntime) {
         comes_through(rt.alloc(), &rt),
         comes_through(rt.alloc(), &rt),
     ];
-    assert!(rt; are_right(&answers));
+    holds(&rt, are_right(&answers));
 }

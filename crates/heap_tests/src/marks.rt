@@ -1,0 +1,333 @@
+//! Heaps whose marks are known.
+ghost use Rattle.std.specs.Prelude.{◌≡◌, ◌≤◌, IfOk};
+ghost use Rattle.heap_image.specs.HeapImage.{heap_words};
+
+use crate::answers::are_right;
+use crate::checks::{equal, holds};
+use crate::texts::regions_of;
+use heap_image::{Fault, Image, decode};
+use heap_samples::{BASE_LIVE, Base, DEAD, Object, base_image, image_of, image_text, plain_words};
+use mark_bitmap::Marks;
+use std::alloc::{AllocError, Global};
+use std::process::Abort;
+use std::test::Fail;
+use std::thread::Threads;
+
+/// An object of one word, without references.
+const ONE_WORD: u64 = 0x0100_0000_0000_0001;
+
+/// The marks of the base heap.
+fn base_marks(rt: &impl Abort, alloc: Global) -> Result<Marks, Fail>
+    ensures { IfOk result (λ marks. heap_words marks ≡ 32) }
+{
+    let image = base_image(alloc, 0, &BASE_LIVE)?;
+    holds(rt, image.len() == 32);
+    Ok(Marks::of(alloc, &image)?)
+}
+
+/// The image of a heap with this region log and so many words, whose objects have no references and only zeros behind their
+/// headers.
+pub fn plain_image(
+    threads: &(impl Threads + Sync),
+    alloc: Global,
+    (region_log, len): (u64, u64),
+    objects: &[Object],
+) -> Result<Image, Fail> {
+    let words = plain_words(alloc, len, objects)?;
+    let live: Vec<u64> = objects.iter().map(|object| object.0).collect(alloc)?;
+    image_of(
+        alloc,
+        regions_of(region_log),
+        words.as_slice(),
+        live.as_slice(),
+        threads,
+    )
+}
+
+/// The marks of such a heap.
+pub fn plain_marks(
+    rt: &(impl Abort + Threads + Sync),
+    alloc: Global,
+    sizes: (u64, u64),
+    objects: &[Object],
+) -> Result<Marks, Fail>
+    ensures { IfOk result (λ marks. heap_words marks ≡ sizes.1) }
+{
+    let image = plain_image(rt, alloc, sizes, objects)?;
+    holds(rt, image.len() == sizes.1);
+    Ok(Marks::of(alloc, &image)?)
+}
+
+/// Whether objects begin at these addresses below 600 and no others.
+fn are_begins(marks: &Marks, wanted: &[u64]) -> bool {
+    let begins = (0..600).filter(|a| marks.is_begin(*a));
+    begins.eq(wanted.iter().copied())
+}
+
+/// Whether objects end at these addresses below 600 and no others.
+fn are_ends(marks: &Marks, wanted: &[u64]) -> bool {
+    let ends = (0..600).filter(|a| marks.is_end(*a));
+    ends.eq(wanted.iter().copied())
+}
+
+#[test]
+fn base_heap_has_its_bits(rt: HostRuntime) -> Result<(), Fail> {
+    let marks = base_marks(&rt, rt.alloc())?;
+    holds(&rt, are_begins(&marks, &BASE_LIVE));
+    holds(&rt, are_ends(&marks, &[2, 8, 13, 29]));
+    Ok(())
+}
+
+#[test]
+fn base_heap_answers(rt: HostRuntime) -> Result<(), Fail> {
+    check_answers(&rt, &base_marks(&rt, rt.alloc())?);
+    Ok(())
+}
+
+/// Fails where a query of the base heap's marks has another answer.
+fn check_answers(rt: &impl Abort, marks: &Marks)
+    requires { heap_words marks.now ≡ 32 }
+{
+    let counts = [
+        marks.live_words(0, 32),
+        marks.live_words(7, 13),
+        marks.live_words(25, 25),
+    ];
+    equal(rt, counts, [19, 3, 0]);
+    let begins = [marks.next_begin(13), marks.next_begin(21)];
+    equal(rt, begins, [Some(20), None]);
+    let ends = [marks.next_end(21), marks.next_end(32)];
+    equal(rt, ends, [Some(29), None]);
+    let live = [marks.next_live(3), marks.next_live(30)];
+    equal(rt, live, [Some(5), None]);
+    holds(rt, marks.is_begin(20));
+    equal(rt, marks.size_at(20), 10);
+}
+
+/// How many words are live in a heap of 512 words by the marks that so many workers make, and whether these are its ends.
+fn seen_by(
+    threads: &(impl Threads + Sync),
+    alloc: Global,
+    image: &Image,
+    workers: usize,
+    ends: &[u64],
+) -> Result<(u64, bool), AllocError>
+    requires { heap_words image.now ≡ 512 }
+{
+    let marks = Marks::by_workers(alloc, image, workers, threads)?;
+    Ok((marks.live_words(0, 512), are_ends(&marks, ends)))
+}
+
+#[test]
+fn several_workers_make_the_same_marks(rt: HostRuntime) -> Result<(), Fail> {
+    let image = plain_image(&rt, rt.alloc(), (9, 512), &[(60, 200), (260, 252)])?;
+    holds(&rt, image.len() == 512);
+    for workers in [0, 1, 3] {
+        let seen = seen_by(&rt, rt.alloc(), &image, workers, &[259, 511])?;
+        equal(&rt, seen, (452, true));
+    }
+    Ok(())
+}
+
+/// Whether both have the same bits.
+fn are_alike(marks: &Marks, others: &Marks, len: u64) -> bool
+    requires inside { len ≤ heap_words marks.now }
+    requires others_inside { len ≤ heap_words others.now }
+{
+    for a in 0..len {
+        if marks.is_begin(a) != others.is_begin(a)
+            || marks.is_end(a) != others.is_end(a)
+            || marks.live_bits(a / 64) != others.live_bits(a / 64)
+        {
+            return false;
+        }
+    }
+    true
+}
+
+/// Whether two workers make the same marks of an image as one.
+fn are_made_alike(
+    threads: &(impl Threads + Sync),
+    alloc: Global,
+    image: &Image,
+) -> Result<bool, Fault> {
+    let marks = Marks::of(alloc, image)?;
+    Ok(are_shared_alike(threads, alloc, image, &marks)?)
+}
+
+/// Whether two workers make these marks of their image.
+fn are_shared_alike(
+    threads: &(impl Threads + Sync),
+    alloc: Global,
+    image: &Image,
+    marks: &Marks,
+) -> Result<bool, AllocError>
+    requires { marks.now ≡ image.now }
+{
+    let shared = Marks::by_workers(alloc, image, 2, threads)?;
+    Ok(are_alike(marks, &shared, image.len()))
+}
+
+/// Whether two threads make the same marks of a large heap as one. Where their parts meet, at 1,048,640, an object lies.
+fn large_comes_through(alloc: Global, threads: &(impl Threads + Sync)) -> Result<bool, Fault> {
+    let objects = [
+        (5, 700_000),
+        (800_000, 500_000),
+        (1_300_001, 1),
+        (2_000_000, 97_152),
+    ];
+    let live = objects.map(|object| object.0);
+    let words = plain_words(alloc, 2_097_152, &objects)?;
+    let text = image_text(alloc, regions_of(16), words.as_slice(), &live)?;
+    are_made_alike(threads, alloc, &decode(alloc, text.as_slice())?)
+}
+
+/// The script tests/crate-allocations runs this with each allocation refused in turn.
+#[test]
+fn two_threads_make_the_same_marks_and_refused_memory_is_told(rt: HostRuntime) {
+    let answers = [
+        large_comes_through(rt.alloc(), &rt),
+        large_comes_through(rt.alloc(), &rt),
+    ];
+    holds(&rt, are_right(&answers));
+}
+
+/// Whether the base heap with allowance 2 has the same marks by one worker and by two.
+fn base_comes_through(alloc: Global, threads: &(impl Threads + Sync)) -> Result<bool, Fault> {
+    let text = Base::WithLiveList.text(alloc, 2)?;
+    are_made_alike(threads, alloc, &decode(alloc, text.as_slice())?)
+}
+
+/// The script tests/crate-allocations runs this with each allocation refused in turn.
+#[test]
+fn refused_memory_is_told(rt: HostRuntime) {
+    let answers = [
+        base_comes_through(rt.alloc(), &rt),
+        base_comes_through(rt.alloc(), &rt),
+    ];
+    holds(&rt, are_right(&answers));
+}
+
+/// The marks of a heap of 8 words, whose first two objects have one word.
+fn small_marks(alloc: Global, threads: &(impl Threads + Sync)) -> Result<Marks, Fail> {
+    let words = [
+        ONE_WORD,
+        DEAD,
+        ONE_WORD,
+        0x0100_0002_0000_0005,
+        3,
+        4,
+        106,
+        107,
+    ];
+    let image = image_of(alloc, regions_of(3), &words, &[0, 2, 3], threads)?;
+    Ok(Marks::of(alloc, &image)?)
+}
+
+#[test]
+fn an_object_of_one_word_has_both_bits(rt: HostRuntime) -> Result<(), Fail> {
+    let marks = small_marks(rt.alloc(), &rt)?;
+    let both = (0..8).filter(|a| marks.is_begin(*a) && marks.is_end(*a));
+    holds(&rt, both.eq([0, 2].iter().copied()));
+    equal(&rt, marks.block_words(), 8);
+    Ok(())
+}
+
+#[test]
+fn live_bits_of_64_addresses(rt: HostRuntime) -> Result<(), Fail> {
+    let objects = [(1, 1), (60, 6), (127, 1)];
+    let marks = plain_marks(&rt, rt.alloc(), (7, 128), &objects)?;
+    let bits = [marks.live_bits(0), marks.live_bits(1), marks.live_bits(2)];
+    equal(&rt, bits, [0xf000_0000_0000_0002, 0x8000_0000_0000_0003, 0]);
+    Ok(())
+}
+
+/// The live words before each block in its region, in a heap of so many words.
+fn block_sums(alloc: Global, marks: &Marks, len: u64) -> Result<Vec<u32>, AllocError>
+    requires { heap_words marks.now ≡ len }
+{
+    let blocks = len.checked_div(marks.block_words()).unwrap_or(0);
+    let mut sums = Vec::new(alloc);
+    for b in 0..blocks {
+        sums.push(marks.block_live(b))?;
+    }
+    Ok(sums)
+}
+
+#[test]
+fn blocks_of_one_region(rt: HostRuntime) -> Result<(), Fail> {
+    let objects = [(0, 1), (130, 2), (300, 4), (511, 1)];
+    let marks = plain_marks(&rt, rt.alloc(), (9, 512), &objects)?;
+    let sums = block_sums(rt.alloc(), &marks, 512)?;
+    equal(&rt, sums.as_slice(), [0, 1, 3, 7].as_slice());
+    Ok(())
+}
+
+#[test]
+fn blocks_count_from_their_own_region(rt: HostRuntime) -> Result<(), Fail> {
+    let marks = plain_marks(&rt, rt.alloc(), (9, 1024), &[(10, 700), (900, 3)])?;
+    let sums = block_sums(rt.alloc(), &marks, 1024)?;
+    let wanted = [0, 118, 246, 374, 0, 128, 198, 198];
+    equal(&rt, sums.as_slice(), wanted.as_slice());
+    Ok(())
+}
+
+#[test]
+fn a_search_ends_at_its_bound(rt: HostRuntime) -> Result<(), Fail> {
+    check_bounds(&rt, &base_marks(&rt, rt.alloc())?);
+    Ok(())
+}
+
+/// Fails where a search in the base heap doesn't end at its bound.
+fn check_bounds(rt: &impl Abort, marks: &Marks) {
+    let begins = [
+        marks.next_begin_before(13, 21),
+        marks.next_begin_before(13, 20),
+        marks.next_begin_before(20, 20),
+    ];
+    equal(rt, begins, [Some(20), None, None]);
+    let live = [
+        marks.next_live_before(3, 32),
+        marks.next_live_before(3, 5),
+        marks.next_live_before(30, 32),
+    ];
+    equal(rt, live, [Some(5), None, None]);
+    let dead = [
+        marks.next_dead_before(5, 10),
+        marks.next_dead_before(5, 9),
+        marks.next_dead_before(30, 32),
+        marks.next_dead_before(9, 5),
+        marks.next_dead_before(99, 100),
+    ];
+    equal(rt, dead, [Some(9), None, Some(30), None, Some(99)]);
+}
+
+#[test]
+fn a_run_over_several_words_of_bits_is_seen_to_its_bound(rt: HostRuntime) -> Result<(), Fail> {
+    check_run(
+        &rt,
+        &plain_marks(&rt, rt.alloc(), (9, 512), &[(60, 200), (260, 252)])?,
+    );
+    Ok(())
+}
+
+/// Fails where a search in that heap doesn't end at its bound.
+fn check_run(rt: &impl Abort, marks: &Marks) {
+    let live = [
+        marks.next_live_before(0, 60),
+        marks.next_live_before(0, 61),
+        marks.next_live_before(0, 512),
+    ];
+    equal(rt, live, [None, Some(60), Some(60)]);
+    let dead = [
+        marks.next_dead_before(60, 128),
+        marks.next_dead_before(60, 512),
+        marks.next_dead_before(60, 513),
+    ];
+    equal(rt, dead, [None, None, Some(512)]);
+    let begins = [
+        marks.next_begin_before(61, 260),
+        marks.next_begin_before(61, 261),
+    ];
+    equal(rt, begins, [None, Some(260)]);
+}
