@@ -1,5 +1,5 @@
 //! Boards over moves that are handed in, and their passes.
-ghost use Rattle.std.specs.Prelude.{◌≡◌, ◌≤◌, ◌<◌, IfOk, OnOk};
+ghost use Rattle.std.specs.Prelude.{◌≡◌, ◌≤◌, ◌<◌, IfOk, OnOk, IfSome, OnSome};
 ghost use Rattle.history.specs.MoveTable.{region_count};
 ghost use Rattle.claim_board.specs.Boards.{moves as moves_of, identity, board_of, AllOf};
 
@@ -46,15 +46,26 @@ pub fn board_with(
 }
 
 /// The last of the passes.
-pub fn take(board: &Board, passes: &mut Vec<Pass>) -> Result<Pass, Fail>
+pub fn take(board: &Board, passes: &mut Vec<Pass>) -> Option<Pass>
     requires { AllOf (identity board.now) passes.old.items }
-    ensures pass { IfOk result (λ pass. board_of pass ≡ identity board.now) }
-    ensures rest { OnOk result (AllOf (identity board.now) passes.new.items) }
+    ensures pass { IfSome result (λ pass. board_of pass ≡ identity board.now) }
+    ensures rest { OnSome result (AllOf (identity board.now) passes.new.items) }
 {
     let Some(pass) = passes.pop() else {
-        return Err(Fail::new("no pass is left"));
+        return None;
     };
-    Ok(pass)
+    Some(pass)
+}
+
+/// The last two passes.
+pub fn take_two(board: &Board, passes: &mut Vec<Pass>) -> Result<(Pass, Pass), Fail>
+    requires { AllOf (identity board.now) passes.old.items }
+    ensures pass { IfOk result (λ two. (board_of two.0 ≡ identity board.now) × (board_of two.1 ≡ identity board.now)) }
+    ensures rest { OnOk result (AllOf (identity board.now) passes.new.items) }
+{
+    let last = take(board, passes).ok_or("no pass is left")?;
+    let before = take(board, passes).ok_or("only one pass is left")?;
+    Ok((before, last))
 }
 
 /// Gives a pass back.
@@ -137,25 +148,24 @@ fn meeting(board: &Board, zero: &mut Pass, one: &mut Pass) -> Option<Met>
 }
 
 /// What the two workers of a board met. Their passes are given back.
-fn met(board: &Board, passes: &mut Vec<Pass>) -> Result<Met, Fail>
+fn meet_and_part(board: &Board, passes: &mut Vec<Pass>) -> Result<Met, Fail>
     requires { AllOf (identity board.now) passes.old.items }
     ensures { OnOk result (AllOf (identity board.now) passes.new.items) }
 {
     if board.moves().regions() < 2 {
         return Err(Fail::new("there are four regions"));
     }
-    let mut one = take(board, passes)?;
-    let mut zero = take(board, passes)?;
-    let met = meeting(board, &mut zero, &mut one);
+    let (mut zero, mut one) = take_two(board, passes)?;
+    let found = meeting(board, &mut zero, &mut one);
     put(board, passes, zero)?;
     put(board, passes, one)?;
-    Ok(met.ok_or("region 0 is free, and reads region 1")?)
+    Ok(found.ok_or("region 0 is free, and reads region 1")?)
 }
 
 #[test]
 fn two_passes_meet(rt: HostRuntime) -> Result<(), Fail> {
     let (board, mut passes) = board_with(rt.alloc(), &BASE_FILLED, &BASE_PAIRS, 2)?;
-    let found = met(&board, &mut passes)?;
+    let found = meet_and_part(&board, &mut passes)?;
     let wanted = Met {
         pair: (0, 1),
         drained: Drained::Last,
@@ -174,7 +184,7 @@ fn poll(board: &Board, passes: &mut Vec<Pass>, kept: usize) -> Result<bool, Fail
     requires { AllOf (identity board.now) passes.old.items }
     ensures { OnOk result (AllOf (identity board.now) passes.new.items) }
 {
-    let mut pass = take(board, passes)?;
+    let mut pass = take(board, passes).ok_or("no pass is left")?;
     let all = board.poll(&mut pass);
     if passes.len() < kept {
         put(board, passes, pass)?;
@@ -206,7 +216,7 @@ fn is_opened(board: &Board, passes: &mut Vec<Pass>) -> bool
     if board.moves().regions() != 4 {
         return false;
     }
-    let Ok(mut pass) = take(board, passes) else {
+    let Some(mut pass) = take(board, passes) else {
         return false;
     };
     let front = [board.look(&mut pass, 0), board.look(&mut pass, 1)];

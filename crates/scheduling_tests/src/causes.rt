@@ -1,12 +1,13 @@
 //! Why a line of a schedule is refused.
 use crate::checks::{equal, equal_at};
-use crate::replays::{RECORDED, survey_of};
+use crate::replays::{RECORDED, base_survey};
 use heap_image::Fault;
-use heap_samples::Base;
 use history::LineCause::{NotAllowed, OtherReply};
 use history::{LineCause, RefusedLine, Reply, explain, read_schedule};
 use std::alloc::Global;
+use std::process::Abort;
 use std::test::Fail;
+use std::thread::Threads;
 use summary::Plan;
 
 /// What `explain` says of the schedule with this text.
@@ -27,33 +28,59 @@ const REFUSED: [(&str, u64, LineCause); 8] = [
         3,
         OtherReply(Reply::No),
     ),
-    ("schedule 1 2\n0 look 1 open2\n", 2, OtherReply(Reply::Open(1))),
+    (
+        "schedule 1 2\n0 look 1 open2\n",
+        2,
+        OtherReply(Reply::Open(1)),
+    ),
     (
         "schedule 1 2\n0 claim 3 no\n1 poll all\n",
         3,
         OtherReply(Reply::More),
     ),
-    ("schedule 1 2\n0 claim 0 yes\n0 copy 0 9 ok\n", 3, NotAllowed),
-    ("schedule 1 2\n0 claim 0 yes\n0 drain 0 1 ?\n", 3, NotAllowed),
+    (
+        "schedule 1 2\n0 claim 0 yes\n0 copy 0 9 ok\n",
+        3,
+        NotAllowed,
+    ),
+    (
+        "schedule 1 2\n0 claim 0 yes\n0 drain 0 1 ?\n",
+        3,
+        NotAllowed,
+    ),
     ("schedule 1 2\n0 settle 0 more\n", 2, NotAllowed),
     ("schedule 1 2\n0 claim 4 ?\n", 2, NotAllowed),
 ];
 
-#[test]
-fn each_refused_line_has_its_cause(rt: HostRuntime) -> Result<(), Fail> {
-    let base = Base::WithLiveList.text(rt.alloc(), 0)?;
-    let survey = survey_of(rt.alloc(), &rt, base.as_slice())?;
-    for (row, (lines, number, cause)) in REFUSED.into_iter().enumerate() {
-        let found = cause_of(rt.alloc(), survey.plan(), lines)?;
-        equal_at(&rt, found, Some(RefusedLine { number, cause }), row);
+/// Ends the test where a schedule is refused at another line or for another cause.
+fn tell(alloc: Global, rt: &impl Abort, plan: &Plan) -> Result<(), Fault> {
+    for (row, (lines, number, cause)) in REFUSED.iter().enumerate() {
+        let refused = RefusedLine {
+            number: *number,
+            cause: *cause,
+        };
+        equal_at(rt, cause_of(alloc, plan, lines)?, Some(refused), row);
     }
     Ok(())
 }
 
 #[test]
+fn each_refused_line_has_its_cause(rt: HostRuntime) -> Result<(), Fail> {
+    let survey = base_survey(rt.alloc(), &rt)?;
+    Ok(tell(rt.alloc(), &rt, survey.plan())?)
+}
+
+/// What `explain` says of the schedule of one worker.
+fn cause_of_recorded(
+    alloc: Global,
+    threads: &(impl Threads + Sync),
+) -> Result<Option<RefusedLine>, Fault> {
+    let survey = base_survey(alloc, threads)?;
+    cause_of(alloc, survey.plan(), RECORDED)
+}
+
+#[test]
 fn a_schedule_that_is_taken_has_no_cause(rt: HostRuntime) -> Result<(), Fail> {
-    let base = Base::WithLiveList.text(rt.alloc(), 0)?;
-    let survey = survey_of(rt.alloc(), &rt, base.as_slice())?;
-    equal(&rt, cause_of(rt.alloc(), survey.plan(), RECORDED)?, None);
+    equal(&rt, cause_of_recorded(rt.alloc(), &rt)?, None);
     Ok(())
 }

@@ -120,10 +120,7 @@ fn fill_base<W: Wait>(setting: &Setting, wait: &W) -> Result<[(bool, bool); 3], 
 }
 
 /// What the fills of the base heap by one worker answer, what a poll says then, and the text of the schedule.
-fn recorded<W: Wait>(
-    alloc: Global,
-    wait: &W,
-) -> Result<([(bool, bool); 3], bool, Vec<u8>), Fault> {
+fn recorded<W: Wait>(alloc: Global, wait: &W) -> Result<([(bool, bool); 3], bool, Vec<u8>), Fault> {
     let setting = start(alloc, 1)?;
     let answers = fill_base(&setting, wait)?;
     let all = setting.recorder.poll(&mut 0, wait)?;
@@ -178,12 +175,24 @@ fn looks<W: Wait>(recorder: &Recorder, wait: &W) -> Result<([Reply; 2], bool), F
     Ok(([near, far], recorder.poll(&mut 0, wait)?))
 }
 
+/// What both find.
+fn claims_and_looks<W: Wait>(
+    recorder: &Recorder,
+    wait: &W,
+) -> Result<((bool, bool), ([Reply; 2], bool)), Fault>
+    requires workers { worker_count recorder.now ≡ 2 }
+    requires regions { region_count (moves_of recorder.now) ≡ 4 }
+{
+    let granted = claims(recorder, wait)?;
+    Ok((granted, looks(recorder, wait)?))
+}
+
 #[test]
 fn looks_and_refused_claims_are_recorded_and_a_poll_is_not(rt: HostRuntime) -> Result<(), Fail> {
     let setting = start(rt.alloc(), 2)?;
-    equal(&rt, claims(&setting.recorder, &rt)?, (false, true));
+    let found = claims_and_looks(&setting.recorder, &rt)?;
     let stand = [Reply::Claimed, Reply::Outside(2)];
-    equal(&rt, looks(&setting.recorder, &rt)?, (stand, false));
+    equal(&rt, found, ((false, true), (stand, false)));
     let text = text_of(rt.alloc(), setting)?;
     let lines = "schedule 1 2\n1 claim 1 no\n1 claim 0 yes\n0 look 0 claimed\n0 look 3 out2\n";
     equal_items(&rt, text.as_slice(), lines.as_bytes());

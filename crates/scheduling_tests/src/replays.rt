@@ -4,6 +4,7 @@ use heap_image::{Fault, decode_by_threads, encode};
 use heap_samples::{Base, MOVED_LIVE, MOVED_WORDS, Settings, image_text};
 use history::{End, Replayed, Schedule, check, read_schedule, replay, write_schedule};
 use std::alloc::{AllocError, Global};
+use std::process::Abort;
 use std::test::Fail;
 use std::thread::Threads;
 use summary::Survey;
@@ -90,13 +91,15 @@ pub const BY_TWO: &str = "schedule 1 2
 ";
 
 /// The survey of the image with this text.
-pub fn survey_of(
-    alloc: Global,
-    threads: &(impl Threads + Sync),
-    text: &[u8],
-) -> Result<Survey, Fault> {
+fn survey_of(alloc: Global, threads: &(impl Threads + Sync), text: &[u8]) -> Result<Survey, Fault> {
     let image = decode_by_threads(alloc, text, threads)?;
     Survey::of(alloc, &image, threads)
+}
+
+/// The survey of the base heap.
+pub fn base_survey(alloc: Global, threads: &(impl Threads + Sync)) -> Result<Survey, Fault> {
+    let base = Base::WithLiveList.text(alloc, 0)?;
+    survey_of(alloc, threads, base.as_slice())
 }
 
 /// What `replay` gives over the image with this text.
@@ -158,9 +161,13 @@ fn course_by_check(
     threads: &(impl Threads + Sync),
     schedule: &Schedule,
 ) -> Result<Course, Fault> {
-    let base = Base::WithLiveList.text(alloc, 0)?;
-    let survey = survey_of(alloc, threads, base.as_slice())?;
-    match check(alloc, survey.plan(), schedule) {
+    let survey = base_survey(alloc, threads)?;
+    course_of_check(check(alloc, survey.plan(), schedule))
+}
+
+/// The course of which `check` says this.
+fn course_of_check(checked: Result<bool, Fault>) -> Result<Course, Fault> {
+    match checked {
         Ok(true) => Ok(Course::Finishes),
         Ok(false) => Ok(Course::StaysOpen),
         Err(Fault::Schedule(line)) => Ok(Course::IsRefused(line)),
@@ -204,46 +211,70 @@ fn courses(
     Ok([by_check, course_by_replay(alloc, threads, &schedule)?])
 }
 
-#[test]
-fn all_regions_are_settled_by_the_last_line(rt: HostRuntime) -> Result<(), Fail> {
-    let open = RECORDED.strip_suffix("0 settle 2 all\n").ok_or("a line")?;
-    for (row, (lines, course)) in [(RECORDED, Course::Finishes), (open, Course::StaysOpen)]
-        .into_iter()
-        .enumerate()
-    {
-        equal_at(&rt, courses(rt.alloc(), &rt, lines)?, [course, course], row);
+/// Ends the test where a schedule has another course than the one beside it.
+fn run(
+    alloc: Global,
+    rt: &(impl Abort + Threads + Sync),
+    rows: &[(&str, Course)],
+) -> Result<(), Fault> {
+    for (row, (lines, course)) in rows.iter().enumerate() {
+        equal_at(rt, courses(alloc, rt, lines)?, [*course, *course], row);
     }
     Ok(())
 }
 
+#[test]
+fn all_regions_are_settled_by_the_last_line(rt: HostRuntime) -> Result<(), Fail> {
+    let open = RECORDED.strip_suffix("0 settle 2 all\n").ok_or("a line")?;
+    let rows = [(RECORDED, Course::Finishes), (open, Course::StaysOpen)];
+    Ok(run(rt.alloc(), &rt, &rows)?)
+}
+
 /// Schedules with a line that isn't allowed, and the least such line.
-const REFUSED: [(&str, u64); 11] = [
-    ("schedule 1 1\n0 claim 0 yes\n0 claim 1 yes\n", 3),
-    ("schedule 1 1\n0 claim 0 yes\n0 drain 0 1 last\n", 3),
-    ("schedule 1 1\n0 claim 0 yes\n0 copy 0 9 ok\n", 3),
-    ("schedule 1 2\n0 claim 0 yes\n1 claim 0 yes\n", 3),
-    ("schedule 1 2\n0 claim 0 yes\n0 copy 0 8 ok\n1 drain 0 1 last\n", 4),
+const REFUSED: [(&str, Course); 11] = [
+    (
+        "schedule 1 1\n0 claim 0 yes\n0 claim 1 yes\n",
+        Course::IsRefused(3),
+    ),
+    (
+        "schedule 1 1\n0 claim 0 yes\n0 drain 0 1 last\n",
+        Course::IsRefused(3),
+    ),
+    (
+        "schedule 1 1\n0 claim 0 yes\n0 copy 0 9 ok\n",
+        Course::IsRefused(3),
+    ),
+    (
+        "schedule 1 2\n0 claim 0 yes\n1 claim 0 yes\n",
+        Course::IsRefused(3),
+    ),
+    (
+        "schedule 1 2\n0 claim 0 yes\n0 copy 0 8 ok\n1 drain 0 1 last\n",
+        Course::IsRefused(4),
+    ),
     (
         "schedule 1 2\n0 claim 0 yes\n0 copy 0 8 ok\n0 drain 0 1 last\n0 drain 0 1 last\n",
-        5,
+        Course::IsRefused(5),
     ),
-    ("schedule 1 2\n0 claim 0 yes\n0 copy 0 8 ok\n0 complete 0 ok\n", 4),
+    (
+        "schedule 1 2\n0 claim 0 yes\n0 copy 0 8 ok\n0 complete 0 ok\n",
+        Course::IsRefused(4),
+    ),
     (
         "schedule 1 2\n0 claim 0 yes\n0 copy 0 8 ok\n0 drain 0 1 last\n0 copy 0 1 ok\n",
-        5,
+        Course::IsRefused(5),
     ),
-    ("schedule 1 2\n0 claim 0 yes\n0 copy 0 7 ok\n0 drain 0 1 ?\n", 4),
-    ("schedule 1 2\n0 claim 4 ?\n", 2),
-    ("schedule 1 2\n0 settle 0 more\n", 2),
+    (
+        "schedule 1 2\n0 claim 0 yes\n0 copy 0 7 ok\n0 drain 0 1 ?\n",
+        Course::IsRefused(4),
+    ),
+    ("schedule 1 2\n0 claim 4 ?\n", Course::IsRefused(2)),
+    ("schedule 1 2\n0 settle 0 more\n", Course::IsRefused(2)),
 ];
 
 #[test]
 fn the_least_line_that_is_not_allowed_is_named(rt: HostRuntime) -> Result<(), Fail> {
-    for (row, (lines, line)) in REFUSED.into_iter().enumerate() {
-        let course = Course::IsRefused(line);
-        equal_at(&rt, courses(rt.alloc(), &rt, lines)?, [course, course], row);
-    }
-    Ok(())
+    Ok(run(rt.alloc(), &rt, &REFUSED)?)
 }
 
 /// Schedules, and the lines of their replays.
@@ -273,7 +304,7 @@ fn told(
 
 #[test]
 fn a_replay_tells_each_reply_that_was_left_open(rt: HostRuntime) -> Result<(), Fail> {
-    for (row, (lines, wanted)) in TOLD.into_iter().enumerate() {
+    for (row, (lines, wanted)) in TOLD.iter().enumerate() {
         let (found, is_open) = told(rt.alloc(), &rt, lines)?;
         equal_items(&rt, found.as_slice(), wanted.as_bytes());
         equal_at(&rt, is_open, row > 0, row);

@@ -32,9 +32,9 @@ const ROOTS: [(&[u64], &[u64]); 2] = [
 
 #[test]
 fn roots_are_redirected(rt: HostRuntime) -> Result<(), Fail> {
-    for (row, (roots, new_roots)) in ROOTS.into_iter().enumerate() {
-        let old = (&BASE_WORDS, roots);
-        let new = (&MOVED_WORDS, new_roots);
+    for (row, (roots, new_roots)) in ROOTS.iter().enumerate() {
+        let old = (&BASE_WORDS, *roots);
+        let new = (&MOVED_WORDS, *new_roots);
         let slides = slides(rt.alloc(), &rt, (RECORDED, 0), old, new)?;
         equal_at(&rt, slides, true, row);
     }
@@ -43,9 +43,10 @@ fn roots_are_redirected(rt: HostRuntime) -> Result<(), Fail> {
 
 #[test]
 fn with_no_live_object_nothing_is_left_to_do(rt: HostRuntime) -> Result<(), Fail> {
-    for (row, roots) in [[].as_slice(), [0].as_slice()].into_iter().enumerate() {
-        let old = (&BASE_WORDS, roots);
-        let new = (&[0; 32], roots);
+    let none: [&[u64]; 2] = [&[], &[0]];
+    for (row, roots) in none.iter().enumerate() {
+        let old = (&BASE_WORDS, *roots);
+        let new = (&[0; 32], *roots);
         let slides = slides(rt.alloc(), &rt, ("schedule 1 1\n", 0), old, new)?;
         equal_at(&rt, slides, true, row);
     }

@@ -124,8 +124,8 @@ const LOCKED_TEXT: &str = "schedule 1 2
 /// Ends the test where the board answers one of these calls otherwise, or isn't done by them.
 fn is_done_by_calls<R: Abort + Wait>(rt: &R, board: &LockedBoard) {
     holds(rt, !board.done(rt));
-    for (row, (worker, event, answer)) in LOCKED.into_iter().enumerate() {
-        equal_at(rt, board.call(worker, event, rt), answer, row);
+    for (row, (worker, event, answer)) in LOCKED.iter().enumerate() {
+        equal_at(rt, board.call(*worker, *event, rt), *answer, row);
     }
     holds(rt, board.done(rt));
 }

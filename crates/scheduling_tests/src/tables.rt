@@ -1,5 +1,5 @@
 //! Tables of moves: which are refused, and what given and indexed ones tell.
-ghost use Rattle.std.specs.Prelude.{◌<◌};
+ghost use Rattle.std.specs.Prelude.{◌≡◌, ◌<◌};
 ghost use Rattle.history.specs.MoveTable.{region_count};
 
 use crate::checks::{equal, equal_at, holds};
@@ -50,7 +50,7 @@ const REFUSED: [(&[bool], &[(u32, u32)]); 8] = [
 
 #[test]
 fn what_is_no_table_is_refused(rt: HostRuntime) -> Result<(), Fail> {
-    for (row, (fill, pairs)) in REFUSED.into_iter().enumerate() {
+    for (row, (fill, pairs)) in REFUSED.iter().enumerate() {
         equal_at(&rt, is_table(rt.alloc(), fill, pairs)?, false, row);
     }
     let pairs = [(0, 2), (0, 3), (1, 2), (1, 3)];
@@ -96,7 +96,11 @@ fn tell_the_same(rt: &impl Abort, one: &GivenMoves, other: &IndexedMoves, region
     equal(rt, other.to_fill(region), one.to_fill(region));
     equal(rt, other.count(region), one.count(region));
     for from in 0..8 {
-        equal(rt, other.next_source(region, from), one.next_source(region, from));
+        equal(
+            rt,
+            other.next_source(region, from),
+            one.next_source(region, from),
+        );
     }
 }
 
@@ -117,22 +121,37 @@ fn an_index_tells_the_same_table(rt: HostRuntime) -> Result<(), Fail> {
     Ok(())
 }
 
+/// Which source of region 0 is the next one from each number on.
+const SOURCES: [Option<u32>; 7] = [Some(1), Some(1), Some(2), Some(4), Some(4), Some(5), None];
+
+/// Ends the test where the index finds another source of region 0.
+fn find_all(rt: &impl Abort, indexed: &IndexedMoves)
+    requires { 0 < region_count indexed.now }
+{
+    for (from, source) in SOURCES.iter().enumerate() {
+        equal_at(rt, indexed.next_source(0, from as u32), *source, from);
+    }
+}
+
+/// The next source of each of three regions, and how many regions read each of three.
+fn found(indexed: &IndexedMoves) -> ([Option<u32>; 3], [u32; 3])
+    requires { region_count indexed.now ≡ 6 }
+{
+    let sources = [
+        indexed.next_source(1, 0),
+        indexed.next_source(2, 0),
+        indexed.next_source(3, 5),
+    ];
+    let counts = [indexed.count(0), indexed.count(2), indexed.count(5)];
+    (sources, counts)
+}
+
 #[test]
 fn an_index_finds_each_source_from_anywhere(rt: HostRuntime) -> Result<(), Fail> {
     let table = table_of(rt.alloc(), &FILLED, &MANY_SOURCES)?;
     let indexed = IndexedMoves::new(rt.alloc(), table)?;
     holds(&rt, indexed.regions() == 6);
-    let sources = [Some(1), Some(1), Some(2), Some(4), Some(4), Some(5), None];
-    for (from, source) in sources.into_iter().enumerate() {
-        equal_at(&rt, indexed.next_source(0, from as u32), source, from);
-    }
-    let others = [
-        indexed.next_source(1, 0),
-        indexed.next_source(2, 0),
-        indexed.next_source(3, 5),
-    ];
-    equal(&rt, others, [Some(5), None, None]);
-    let counts = [indexed.count(0), indexed.count(2), indexed.count(5)];
-    equal(&rt, counts, [0, 1, 2]);
+    find_all(&rt, &indexed);
+    equal(&rt, found(&indexed), ([Some(5), None, None], [0, 1, 2]));
     Ok(())
 }

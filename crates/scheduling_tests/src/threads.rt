@@ -3,11 +3,9 @@ ghost use Rattle.std.specs.Prelude.{◌≡◌, ◌<◌, ◌≤◌, All, IfOk, On
 ghost use Rattle.history.specs.MoveTable.{region_count};
 ghost use Rattle.claim_board.specs.Boards.{moves as moves_of, identity, board_of, AllOf};
 
-use crate::boards::{board_of_moves, board_with, is_claimed, take};
-use crate::checks::{equal, equal_at, holds};
-use claim_board::{
-    Board, Pass, one_more_source_is_drained, swept_tickets_have_none_left,
-};
+use crate::boards::{board_of_moves, board_with, is_claimed, take_two};
+use crate::checks::{equal, equal_at};
+use claim_board::{Board, Pass, one_more_source_is_drained, swept_tickets_have_none_left};
 use history::{GivenMoves, Moves};
 use std::alloc::{AllocError, Global};
 use std::sync::atomic::{AtomicU64, Ordering};
@@ -75,19 +73,34 @@ fn both<R: Threads>(rt: &R, board: &Board, a: Pass, b: Pass) -> ((bool, bool), (
     )
 }
 
+/// What two workers of a board find.
+fn found<R: Threads>(
+    rt: &R,
+    board: &Board,
+    passes: &mut Vec<Pass>,
+) -> Result<((bool, bool), (bool, bool)), Fail>
+    requires { AllOf (identity board.now) passes.old.items }
+{
+    let is_there = board.moves().regions() == 1;
+    let (a, b) = take_two(board, passes)?;
+    if is_there {
+        Ok(both(rt, board, a, b))
+    } else {
+        Err(Fail::new("there is one region"))
+    }
+}
+
 #[test]
 fn a_region_claimed_in_another_thread_is_refused(rt: HostRuntime) -> Result<(), Fail> {
     let (board, mut passes) = board_with(rt.alloc(), &[true], &[], 2)?;
-    let a = take(&board, &mut passes)?;
-    let b = take(&board, &mut passes)?;
-    holds(&rt, board.moves().regions() == 1);
-    equal(&rt, both(&rt, &board, a, b), ((true, true), (false, true)));
+    let found = found(&rt, &board, &mut passes)?;
+    equal(&rt, found, ((true, true), (false, true)));
     Ok(())
 }
 
 const ROUNDS: u32 = 200;
 
-const REGIONS: usize = 150;
+const REGIONS: u32 = 150;
 
 /// So many sweeps a worker makes at most.
 const SWEEPS: u32 = 1_000_000;
@@ -122,10 +135,10 @@ fn seeded_pairs(
     fill: &[bool],
 ) -> Result<Vec<(u32, u32)>, AllocError> {
     let mut pairs = Vec::new(alloc);
-    let mut readers = [0; REGIONS];
-    for (destination, fills) in fill.iter().enumerate() {
-        if *fills {
-            add_sources(&mut pairs, &mut readers, seed, destination as u32)?;
+    let mut readers = [0; REGIONS as usize];
+    for destination in 0..REGIONS {
+        if fill.get(destination as usize) == Some(&true) {
+            add_sources(&mut pairs, &mut readers, seed, destination)?;
         }
     }
     Ok(pairs)
@@ -323,21 +336,27 @@ fn are_filled_once(moves: &GivenMoves, filled: &[u32]) -> bool {
     true
 }
 
-/// Whether so many workers fill each region of these moves once and drain each pair, one is told that it was last, and
-/// the board finishes.
+/// What so many workers of a board of these moves have done. None where the board doesn't finish.
 fn round<R: Threads + Sync>(
     rt: &R,
     alloc: Global,
-    (moves, pairs): (&GivenMoves, usize),
+    moves: &GivenMoves,
     workers: u32,
-) -> Result<bool, AllocError>
+) -> Result<Option<Tally>, AllocError>
     requires { (1 ≤ workers) × (workers ≤ 64) }
 {
     let (board, passes) = board_of_moves(alloc, moves, workers)?;
     let (passes, sum) = worked(rt, alloc, &board, passes)?;
-    let is_whole = sum.drains == pairs && sum.lasts == 1;
-    let is_once = are_filled_once(moves, sum.filled.as_slice());
-    Ok(board.finish(passes).is_some() && is_whole && is_once)
+    if board.finish(passes).is_some() {
+        Ok(Some(sum))
+    } else {
+        Ok(None)
+    }
+}
+
+/// Whether each region is filled once and each of so many pairs drained, and one worker was told that all are settled.
+fn is_whole(moves: &GivenMoves, pairs: usize, sum: &Tally) -> bool {
+    are_filled_once(moves, sum.filled.as_slice()) && sum.drains == pairs && sum.lasts == 1
 }
 
 #[test]
@@ -345,8 +364,9 @@ fn each_region_is_filled_once_by_many_workers(rt: HostRuntime) -> Result<(), Fai
     let mut seed = Seed(1);
     for number in 0..ROUNDS {
         let (moves, pairs) = seeded_moves(rt.alloc(), &mut seed)?;
-        let is_filled = round(&rt, rt.alloc(), (&moves, pairs), 2 + number % 7)?;
-        equal_at(&rt, is_filled, true, number as usize);
+        let sum = round(&rt, rt.alloc(), &moves, 2 + number % 7)?;
+        let is_whole = sum.is_some_and(|sum| is_whole(&moves, pairs, &sum));
+        equal_at(&rt, is_whole, true, number as usize);
     }
     Ok(())
 }

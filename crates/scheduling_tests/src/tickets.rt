@@ -5,7 +5,7 @@ ghost use Rattle.claim_board.specs.Boards.{moves as moves_of, identity, board_of
 ghost use Rattle.claim_board.specs.Tickets.{IsTicketOf, IsDoneOf};
 ghost use Rattle.claim_board.specs.Others.{LeavesOthers};
 
-use crate::boards::{BASE_FILLED, BASE_PAIRS, board_with, is_claimed, put, take};
+use crate::boards::{BASE_FILLED, BASE_PAIRS, board_with, is_claimed, put, take_two};
 use crate::checks::{equal_items, holds};
 use claim_board::{Board, Done, Drained, Pass, Ticket};
 use history::Reply::{All, Claimed, Filled, Last, More, No, NotLast, Open, Outside, Yes};
@@ -260,13 +260,7 @@ fn one_by_one<R: Abort>(rt: &R, board: &Board, pass: &mut Pass, notes: &mut Note
 }
 
 /// Claims and drains all, and then completes all. Region 2 is settled last, or never.
-fn at_once<R: Abort>(
-    rt: &R,
-    board: &Board,
-    pass: &mut Pass,
-    notes: &mut Notes,
-    settles_all: bool,
-)
+fn at_once<R: Abort>(rt: &R, board: &Board, pass: &mut Pass, notes: &mut Notes, settles_all: bool)
     requires { (board_of pass.old ≡ identity board.now) × (board_of notes.old.watch ≡ identity board.now) }
     ensures { (board_of pass.new ≡ identity board.now) × (board_of notes.new.watch ≡ identity board.now) }
 {
@@ -320,6 +314,19 @@ fn give_back(
     Ok(Told { replies, left })
 }
 
+/// Fills the board in this order.
+fn fill_all<R: Abort>(rt: &R, board: &Board, pass: &mut Pass, notes: &mut Notes, order: Order)
+    requires { (board_of pass.old ≡ identity board.now) × (board_of notes.old.watch ≡ identity board.now) }
+    ensures { (board_of pass.new ≡ identity board.now) × (board_of notes.new.watch ≡ identity board.now) }
+{
+    match order {
+        Order::OneByOne => one_by_one(rt, board, pass, notes),
+        Order::AtOnce => at_once(rt, board, pass, notes, true),
+        Order::AllButTheLast => at_once(rt, board, pass, notes, false),
+        Order::ThreeAtOnce => three_at_once(rt, board, pass, notes),
+    }
+}
+
 /// Worker 0 fills the board in this order, and worker 1 watches it.
 fn filled<R: Abort>(
     rt: &R,
@@ -331,14 +338,9 @@ fn filled<R: Abort>(
     requires { AllOf (identity board.now) passes.old.items }
     ensures { OnOk result (AllOf (identity board.now) passes.new.items) }
 {
-    let mut notes = no_notes(alloc, take(board, passes)?);
-    let mut pass = take(board, passes)?;
-    match order {
-        Order::OneByOne => one_by_one(rt, board, &mut pass, &mut notes),
-        Order::AtOnce => at_once(rt, board, &mut pass, &mut notes, true),
-        Order::AllButTheLast => at_once(rt, board, &mut pass, &mut notes, false),
-        Order::ThreeAtOnce => three_at_once(rt, board, &mut pass, &mut notes),
-    }
+    let (mut pass, watch) = take_two(board, passes)?;
+    let mut notes = no_notes(alloc, watch);
+    fill_all(rt, board, &mut pass, &mut notes, order);
     Ok(give_back(board, passes, pass, notes)?)
 }
 
