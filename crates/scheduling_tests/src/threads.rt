@@ -265,7 +265,7 @@ fn work_all<R: Threads + Sync>(
     board: &Board,
     passes: Vec<Pass>,
 ) -> Result<Vec<Worker>, AllocError>
-    requires { All (λ p. board_of p ≡ identity board.now) passes.items }
+    requires passes { All (λ p. board_of p ≡ identity board.now) passes.items }
     ensures { IfOk result (λ v. All (λ w. board_of w.pass ≡ identity board.now) v.items) }
 {
     let workers = passes.len() as u64;

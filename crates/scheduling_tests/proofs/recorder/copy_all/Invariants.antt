@@ -1,4 +1,4 @@
-use Rattle.std.proofs.Common.{◌≡◌, ◌<◌}
+use Rattle.std.proofs.Common.{◌<◌}
 use Rattle.claim_board.specs.Recorders.{worker_count}
 use Rattle.scheduling_tests.proofs.recorder.copy_all.Given as goal
 
