@@ -52,8 +52,8 @@ const REFUSED: [(&str, u64, LineCause); 8] = [
     ("schedule 1 2\n0 claim 4 ?\n", 2, NotAllowed),
 ];
 
-/// Ends the test where a schedule is refused at another line or for another cause.
-fn tell(alloc: Global, rt: &impl Abort, plan: &Plan) -> Result<(), Fault> {
+/// Ends the test where a schedule is refused otherwise than its row says.
+fn causes_are(alloc: Global, rt: &impl Abort, plan: &Plan) -> Result<(), Fault> {
     for (row, (lines, number, cause)) in REFUSED.iter().enumerate() {
         let refused = RefusedLine {
             number: *number,
@@ -67,7 +67,7 @@ fn tell(alloc: Global, rt: &impl Abort, plan: &Plan) -> Result<(), Fault> {
 #[test]
 fn each_refused_line_has_its_cause(rt: HostRuntime) -> Result<(), Fail> {
     let survey = base_survey(rt.alloc(), &rt)?;
-    Ok(tell(rt.alloc(), &rt, survey.plan())?)
+    Ok(causes_are(rt.alloc(), &rt, survey.plan())?)
 }
 
 /// What `explain` says of the schedule of one worker.

@@ -211,8 +211,8 @@ fn courses(
     Ok([by_check, course_by_replay(alloc, threads, &schedule)?])
 }
 
-/// Ends the test where a schedule has another course than the one beside it.
-fn run(
+/// Ends the test where a schedule comes out otherwise than its row says.
+fn courses_are(
     alloc: Global,
     rt: &(impl Abort + Threads + Sync),
     rows: &[(&str, Course)],
@@ -227,7 +227,7 @@ fn run(
 fn all_regions_are_settled_by_the_last_line(rt: HostRuntime) -> Result<(), Fail> {
     let open = RECORDED.strip_suffix("0 settle 2 all\n").ok_or("a line")?;
     let rows = [(RECORDED, Course::Finishes), (open, Course::StaysOpen)];
-    Ok(run(rt.alloc(), &rt, &rows)?)
+    Ok(courses_are(rt.alloc(), &rt, &rows)?)
 }
 
 /// Schedules with a line that isn't allowed, and the least such line.
@@ -274,7 +274,7 @@ const REFUSED: [(&str, Course); 11] = [
 
 #[test]
 fn the_least_line_that_is_not_allowed_is_named(rt: HostRuntime) -> Result<(), Fail> {
-    Ok(run(rt.alloc(), &rt, &REFUSED)?)
+    Ok(courses_are(rt.alloc(), &rt, &REFUSED)?)
 }
 
 /// Schedules, and the lines of their replays.
