@@ -155,14 +155,25 @@ enum Course {
     IsRefused(u64),
 }
 
-/// What `check` says.
+/// What `check` says over the image with this text.
+fn checked(
+    alloc: Global,
+    threads: &(impl Threads + Sync),
+    text: &[u8],
+    schedule: &Schedule,
+) -> Result<bool, Fault> {
+    let survey = survey_of(alloc, threads, text)?;
+    check(alloc, survey.plan(), schedule)
+}
+
+/// What it says over the base heap.
 fn course_by_check(
     alloc: Global,
     threads: &(impl Threads + Sync),
     schedule: &Schedule,
 ) -> Result<Course, Fault> {
-    let survey = base_survey(alloc, threads)?;
-    course_of_check(check(alloc, survey.plan(), schedule))
+    let base = Base::WithLiveList.text(alloc, 0)?;
+    course_of_check(checked(alloc, threads, base.as_slice(), schedule))
 }
 
 /// The course of which `check` says this.
@@ -328,8 +339,7 @@ fn is_settled(
     before: &[u8],
 ) -> Result<bool, Fault> {
     let schedule = read_schedule(alloc, BY_TWO.as_bytes())?;
-    let survey = survey_of(alloc, threads, before)?;
-    check(alloc, survey.plan(), &schedule)
+    checked(alloc, threads, before, &schedule)
 }
 
 #[test]
