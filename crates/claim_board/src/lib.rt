@@ -67,8 +67,3 @@ pub use recorder::Recorder;
 pub use right::Right;
 pub use ticket::Ticket;
 pub use written::Written;
-
-#[cfg(test)]
-mod recorder_tests;
-#[cfg(test)]
-mod tests;

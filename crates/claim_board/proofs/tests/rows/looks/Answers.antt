@@ -1,6 +1,0 @@
-use Rattle.history.specs.declared.event.Event.TheVariants.{Look}
-use Rattle.claim_board.proofs.Others.{leaves_call}
-use Rattle.claim_board.proofs.tests.rows.looks.Goals as goal
-
-pub returns-clause-others : goal.returns-clause-others
-returns-clause-others c r = leaves_call c.args.board.now r c.args.pass.now c.look-reply.new.pass (Look c.args.region) c.look-reply.result c.look-reply.ensures (λ q apart. tt)

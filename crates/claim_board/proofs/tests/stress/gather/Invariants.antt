@@ -1,9 +1,0 @@
-use Rattle.std.proofs.Common.{◌≡◌, All, vec_len}
-use Rattle.claim_board.specs.Boards.{identity, board_of, AllOf}
-use Rattle.claim_board.proofs.tests.stress.gather.Given as goal
-
-abbrev pub invariant-loop-worker : goal.invariant-loop-worker
-invariant-loop-worker l = All (λ w. board_of w.pass ≡ identity l.board) l.workers.items × AllOf (identity l.board) l.passes.items
-
-abbrev pub decreases-loop-worker : goal.decreases-loop-worker
-decreases-loop-worker l = vec_len l.workers

@@ -1,0 +1,6 @@
+use Rattle.std.proofs.Common.{◌≡◌}
+use Rattle.claim_board.specs.Boards.{identity, board_of}
+use Rattle.scheduling_tests.proofs.threads.sweep.Given as goal
+
+abbrev pub invariant-loop-region : goal.invariant-loop-region
+invariant-loop-region l = board_of l.pass ≡ identity l.board

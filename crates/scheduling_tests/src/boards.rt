@@ -1,0 +1,254 @@
+//! Boards over moves that are handed in, and their passes.
+ghost use Rattle.std.specs.Prelude.{◌≡◌, ◌≤◌, ◌<◌, IfOk, OnOk, IfSome, OnSome};
+ghost use Rattle.history.specs.MoveTable.{region_count};
+ghost use Rattle.claim_board.specs.Boards.{moves as moves_of, identity, board_of, AllOf};
+
+use crate::checks::{equal, memory_is_told};
+use crate::scheduler::moves_with_prefix;
+use crate::tables::table_of;
+use claim_board::{Board, Drained, Pass, Recorder, Ticket};
+use history::{CallFault, GivenMoves, Moves, Reply};
+use std::alloc::{AllocError, Global};
+use std::test::Fail;
+
+/// Which regions of the base heap are to be filled.
+pub const BASE_FILLED: [bool; 4] = [true, true, true, false];
+
+/// Which region reads which.
+pub const BASE_PAIRS: [(u32, u32); 4] = [(0, 1), (1, 2), (1, 3), (2, 3)];
+
+/// A board of these moves, and its passes.
+#[tactic(auto, using(claim_board::proofs::Gathers::are_all))]
+pub fn board_of_moves(
+    alloc: Global,
+    moves: &GivenMoves,
+    workers: u32,
+) -> Result<(Board, Vec<Pass>), AllocError>
+    requires { (1 ≤ workers) × (workers ≤ 64) }
+    ensures { IfOk result (λ made. AllOf (identity made.0) made.1.items) }
+{
+    let (board, passes) = Board::new(alloc, moves, workers)?;
+    Ok((board, passes))
+}
+
+/// A board of the moves with these flags and pairs, and its passes.
+pub fn board_with(
+    alloc: Global,
+    fill: &[bool],
+    pairs: &[(u32, u32)],
+    workers: u32,
+) -> Result<(Board, Vec<Pass>), Fail>
+    requires { (1 ≤ workers) × (workers ≤ 64) }
+    ensures { IfOk result (λ made. AllOf (identity made.0) made.1.items) }
+{
+    let moves = table_of(alloc, fill, pairs)?;
+    Ok(board_of_moves(alloc, &moves, workers)?)
+}
+
+/// The last of the passes.
+pub fn take(board: &Board, passes: &mut Vec<Pass>) -> Option<Pass>
+    requires { AllOf (identity board.now) passes.old.items }
+    ensures pass { IfSome result (λ pass. board_of pass ≡ identity board.now) }
+    ensures rest { OnSome result (AllOf (identity board.now) passes.new.items) }
+{
+    let Some(pass) = passes.pop() else {
+        return None;
+    };
+    Some(pass)
+}
+
+/// The last two passes.
+pub fn take_two(board: &Board, passes: &mut Vec<Pass>) -> Result<(Pass, Pass), Fail>
+    requires { AllOf (identity board.now) passes.old.items }
+    ensures pass { IfOk result (λ two. (board_of two.0 ≡ identity board.now) × (board_of two.1 ≡ identity board.now)) }
+    ensures rest { OnOk result (AllOf (identity board.now) passes.new.items) }
+{
+    let last = take(board, passes).ok_or("no pass is left")?;
+    let before = take(board, passes).ok_or("only one pass is left")?;
+    Ok((before, last))
+}
+
+/// Gives a pass back.
+#[tactic(auto, using(claim_board::proofs::Gathers::all_push))]
+pub fn put(board: &Board, passes: &mut Vec<Pass>, pass: Pass) -> Result<(), AllocError>
+    requires { AllOf (identity board.now) passes.old.items × (board_of pass ≡ identity board.now) }
+    ensures { OnOk result (AllOf (identity board.now) passes.new.items) }
+{
+    let _board = board;
+    passes.push(pass)?;
+    Ok(())
+}
+
+/// Whether there is a ticket. It is given up.
+pub fn is_claimed(ticket: Option<Ticket>) -> bool {
+    match ticket {
+        Some(ticket) => {
+            ticket.give_up();
+            true
+        }
+        None => false,
+    }
+}
+
+/// Whether the ticket gives its right, which is given up.
+fn is_right(ticket: &mut Ticket) -> bool {
+    match ticket.right() {
+        Some(right) => {
+            right.give_up();
+            true
+        }
+        None => false,
+    }
+}
+
+/// What worker 0 met that claimed region 0 and drained its source, and worker 1 before and after they met.
+#[derive(Clone, Copy, Debug, PartialEq, Eq)]
+struct Met {
+    /// What was opened.
+    pair: (u32, u32),
+    drained: Drained,
+    /// How many sources were left of the ticket, and its region.
+    left: (usize, u32),
+    /// Whether worker 1 was granted region 0, and after they met region 1.
+    granted: (bool, bool),
+    /// How regions 0 and 1 stood for worker 1 between these claims.
+    looks: (Reply, Reply),
+    /// Whether the ticket gave its right at first, and then again.
+    rights: (bool, bool),
+}
+
+/// Both workers call in turn. None where region 0 isn't granted, or reads no other.
+fn meeting(board: &Board, zero: &mut Pass, one: &mut Pass) -> Option<Met>
+    requires boards { (board_of zero.old ≡ identity board.now) × (board_of one.old ≡ identity board.now) }
+    requires regions { 1 < region_count (moves_of board.now) }
+    ensures { (board_of zero.new ≡ identity board.now) × (board_of one.new ≡ identity board.now) }
+{
+    let mut ticket = board.claim(zero, 0)?;
+    let Some(opening) = ticket.open(board.moves()) else {
+        ticket.give_up();
+        return None;
+    };
+    let pair = (opening.destination(), opening.source());
+    let drained = board.drain(zero, &mut ticket, opening.close());
+    let early = is_claimed(board.claim(one, 0));
+    board.meet(zero, one);
+    let looks = (board.look(one, 0), board.look(one, 1));
+    let granted = (early, is_claimed(board.claim(one, 1)));
+    let left = (ticket.left(), ticket.region());
+    let rights = (is_right(&mut ticket), is_right(&mut ticket));
+    ticket.give_up();
+    Some(Met {
+        pair,
+        drained,
+        left,
+        granted,
+        looks,
+        rights,
+    })
+}
+
+/// What the two workers of a board met. Their passes are given back.
+fn meet_and_part(board: &Board, passes: &mut Vec<Pass>) -> Result<Met, Fail>
+    requires { AllOf (identity board.now) passes.old.items }
+    ensures { OnOk result (AllOf (identity board.now) passes.new.items) }
+{
+    if board.moves().regions() < 2 {
+        return Err(Fail::new("there are four regions"));
+    }
+    let (mut zero, mut one) = take_two(board, passes)?;
+    let found = meeting(board, &mut zero, &mut one);
+    put(board, passes, zero)?;
+    put(board, passes, one)?;
+    Ok(found.ok_or("region 0 is free, and reads region 1")?)
+}
+
+#[test]
+fn two_passes_meet(rt: HostRuntime) -> Result<(), Fail> {
+    let (board, mut passes) = board_with(rt.alloc(), &BASE_FILLED, &BASE_PAIRS, 2)?;
+    let found = meet_and_part(&board, &mut passes)?;
+    let wanted = Met {
+        pair: (0, 1),
+        drained: Drained::Last,
+        left: (0, 0),
+        granted: (false, true),
+        looks: (Reply::Claimed, Reply::Open(0)),
+        rights: (true, false),
+    };
+    equal(&rt, found, wanted);
+    equal(&rt, board.finish(passes).is_some(), false);
+    Ok(())
+}
+
+/// What the last pass is told by a poll. The pass is given back where fewer than so many are left.
+fn poll(board: &Board, passes: &mut Vec<Pass>, kept: usize) -> Result<bool, Fail>
+    requires { AllOf (identity board.now) passes.old.items }
+    ensures { OnOk result (AllOf (identity board.now) passes.new.items) }
+{
+    let mut pass = take(board, passes).ok_or("no pass is left")?;
+    let all = board.poll(&mut pass);
+    if passes.len() < kept {
+        put(board, passes, pass)?;
+    }
+    Ok(all)
+}
+
+/// Of a board of one region, to be filled or not: what a poll says, and whether the board finishes with so many passes.
+fn polled(alloc: Global, fills: bool, workers: u32, kept: usize) -> Result<(bool, bool), Fail>
+    requires { (1 ≤ workers) × (workers ≤ 64) }
+{
+    let (board, mut passes) = board_with(alloc, &[fills], &[], workers)?;
+    let all = poll(&board, &mut passes, kept)?;
+    Ok((all, board.finish(passes).is_some()))
+}
+
+#[test]
+fn nothing_to_fill_and_a_pass_missing(rt: HostRuntime) -> Result<(), Fail> {
+    equal(&rt, polled(rt.alloc(), false, 1, 1)?, (true, true));
+    equal(&rt, polled(rt.alloc(), false, 2, 1)?, (true, false));
+    equal(&rt, polled(rt.alloc(), true, 1, 1)?, (false, false));
+    Ok(())
+}
+
+/// Whether each region stands as at the opening, and there is a pass for each of two workers.
+fn is_opened(board: &Board, passes: &mut Vec<Pass>) -> bool
+    requires { AllOf (identity board.now) passes.old.items }
+{
+    if board.moves().regions() != 4 {
+        return false;
+    }
+    let Some(mut pass) = take(board, passes) else {
+        return false;
+    };
+    let front = [board.look(&mut pass, 0), board.look(&mut pass, 1)];
+    let back = [board.look(&mut pass, 2), board.look(&mut pass, 3)];
+    let is_front = front == [Reply::Open(0), Reply::Open(0)];
+    let is_back = back == [Reply::Open(1), Reply::Outside(2)];
+    is_front && is_back && !board.poll(&mut pass) && passes.len() == 1
+}
+
+/// Whether a board of these moves is opened.
+fn makes_board(alloc: Global, moves: &GivenMoves) -> Result<bool, AllocError> {
+    let (board, mut passes) = board_of_moves(alloc, moves, 2)?;
+    Ok(is_opened(&board, &mut passes))
+}
+
+/// Whether a recorder of these moves has an empty list.
+fn makes_recorder(alloc: Global, moves: &GivenMoves) -> Result<bool, AllocError> {
+    let schedule = Recorder::new(alloc, moves, 2)?.into_schedule();
+    Ok(schedule.workers() == 2 && schedule.is_empty())
+}
+
+/// Whether both are made, of the base heap's moves with 2 dead words allowed.
+fn comes_through(alloc: Global) -> Result<bool, CallFault> {
+    let moves = moves_with_prefix(alloc)?;
+    let is_board = makes_board(alloc, &moves)?;
+    Ok(makes_recorder(alloc, &moves)? && is_board)
+}
+
+/// The script tests/crate-allocations runs this with each allocation refused in turn.
+#[test]
+fn refused_memory_is_told(rt: HostRuntime) {
+    let first = comes_through(rt.alloc());
+    let second = comes_through(rt.alloc());
+    memory_is_told(&rt, [first, second], CallFault::Memory);
+}

@@ -1,0 +1,27 @@
+//! The tests of `history` and `claim_board`, through their public calls alone.
+//!
+//! They stand in a crate of their own so that a check of them doesn't prove `history` and `claim_board` again.
+#![tactic(auto)]
+
+#[cfg(test)]
+mod boards;
+#[cfg(test)]
+mod causes;
+#[cfg(test)]
+mod checks;
+#[cfg(test)]
+mod recorder;
+#[cfg(test)]
+mod replays;
+#[cfg(test)]
+mod rooted;
+#[cfg(test)]
+mod scheduler;
+#[cfg(test)]
+mod schedules;
+#[cfg(test)]
+mod tables;
+#[cfg(test)]
+mod threads;
+#[cfg(test)]
+mod tickets;

@@ -1,0 +1,157 @@
+//! Tables of moves: which are refused, and what given and indexed ones tell.
+ghost use Rattle.std.specs.Prelude.{◌≡◌, ◌<◌};
+ghost use Rattle.history.specs.MoveTable.{region_count};
+
+use crate::checks::{equal, equal_at, holds};
+use history::{GivenMoves, IndexedMoves, Moves};
+use std::alloc::{AllocError, Global};
+use std::process::Abort;
+use std::test::Fail;
+
+/// The table of these flags and pairs, if they are one.
+pub fn given(
+    alloc: Global,
+    fill: &[bool],
+    pairs: &[(u32, u32)],
+) -> Result<Option<GivenMoves>, AllocError> {
+    let fill = Vec::from_slice(alloc, fill)?;
+    let pairs = Vec::from_slice(alloc, pairs)?;
+    Ok(GivenMoves::new(fill, pairs))
+}
+
+/// The table of these flags and pairs.
+pub fn table_of(alloc: Global, fill: &[bool], pairs: &[(u32, u32)]) -> Result<GivenMoves, Fail> {
+    Ok(given(alloc, fill, pairs)?.ok_or("a table")?)
+}
+
+fn is_table(alloc: Global, fill: &[bool], pairs: &[(u32, u32)]) -> Result<bool, AllocError> {
+    Ok(given(alloc, fill, pairs)?.is_some())
+}
+
+/// Whether so many regions, all to be filled, are a table with no pair.
+fn is_table_of(alloc: Global, regions: usize) -> Result<bool, AllocError> {
+    let fill = vec![in alloc; true; regions]?;
+    Ok(GivenMoves::new(fill, Vec::new(alloc)).is_some())
+}
+
+const FOUR: [bool; 4] = [true, true, true, true];
+
+/// Flags and pairs that are no table.
+const REFUSED: [(&[bool], &[(u32, u32)]); 8] = [
+    (&[], &[]),
+    (&FOUR, &[(0, 0)]),
+    (&FOUR, &[(1, 0)]),
+    (&[true, true, true], &[(0, 3)]),
+    (&FOUR, &[(1, 2), (0, 1)]),
+    (&FOUR, &[(0, 1), (0, 1)]),
+    (&[false, true], &[(0, 1)]),
+    (&FOUR, &[(0, 3), (1, 3), (2, 3)]),
+];
+
+#[test]
+fn what_is_no_table_is_refused(rt: HostRuntime) -> Result<(), Fail> {
+    for (row, (fill, pairs)) in REFUSED.iter().enumerate() {
+        equal_at(&rt, is_table(rt.alloc(), fill, pairs)?, false, row);
+    }
+    let pairs = [(0, 2), (0, 3), (1, 2), (1, 3)];
+    holds(&rt, is_table(rt.alloc(), &FOUR, &pairs)?);
+    Ok(())
+}
+
+#[test]
+fn a_table_has_16384_regions_at_most(rt: HostRuntime) -> Result<(), Fail> {
+    for (regions, is) in [(16384, true), (16385, false)] {
+        equal_at(&rt, is_table_of(rt.alloc(), regions)?, is, regions);
+    }
+    Ok(())
+}
+
+#[test]
+fn a_table_tells_what_was_handed_in(rt: HostRuntime) -> Result<(), Fail> {
+    let fill = [true, true, false, false];
+    let table = table_of(rt.alloc(), &fill, &[(0, 1), (0, 3), (1, 3)])?;
+    holds(&rt, table.regions() == 4);
+    equal(&rt, (table.to_fill(1), table.to_fill(2)), (true, false));
+    equal(&rt, table.count(3), 2);
+    let sources = [
+        table.next_source(0, 0),
+        table.next_source(0, 2),
+        table.next_source(1, 4),
+    ];
+    equal(&rt, sources, [Some(1), Some(3), None]);
+    Ok(())
+}
+
+/// Region 0 reads four others, and two regions read each of the last two.
+const MANY_SOURCES: [(u32, u32); 6] = [(0, 1), (0, 2), (0, 4), (0, 5), (1, 5), (3, 4)];
+
+/// Which of its regions are to be filled.
+const FILLED: [bool; 6] = [true, true, false, true, false, false];
+
+/// Ends the test where the two tell a region differently.
+fn tell_the_same(rt: &impl Abort, one: &GivenMoves, other: &IndexedMoves, region: u32)
+    requires one { region < region_count one.now }
+    requires other { region < region_count other.now }
+{
+    equal(rt, other.to_fill(region), one.to_fill(region));
+    equal(rt, other.count(region), one.count(region));
+    for from in 0..8 {
+        equal(
+            rt,
+            other.next_source(region, from),
+            one.next_source(region, from),
+        );
+    }
+}
+
+/// An index of a copy of an index of the table.
+fn indexed_twice(alloc: Global, table: &GivenMoves) -> Result<IndexedMoves, AllocError> {
+    let indexed = IndexedMoves::of(alloc, table)?;
+    IndexedMoves::new(alloc, GivenMoves::copy_of(alloc, &indexed)?)
+}
+
+#[test]
+fn an_index_tells_the_same_table(rt: HostRuntime) -> Result<(), Fail> {
+    let table = table_of(rt.alloc(), &FILLED, &MANY_SOURCES)?;
+    let indexed = indexed_twice(rt.alloc(), &table)?;
+    holds(&rt, table.regions() == 6 && indexed.regions() == 6);
+    for region in 0..6 {
+        tell_the_same(&rt, &table, &indexed, region);
+    }
+    Ok(())
+}
+
+/// Which source of region 0 is the next one from each number on.
+const SOURCES: [Option<u32>; 7] = [Some(1), Some(1), Some(2), Some(4), Some(4), Some(5), None];
+
+/// Ends the test where the index finds another source of region 0.
+fn find_all(rt: &impl Abort, indexed: &IndexedMoves)
+    requires { 0 < region_count indexed.now }
+{
+    for (from, source) in SOURCES.iter().enumerate() {
+        equal_at(rt, indexed.next_source(0, from as u32), *source, from);
+    }
+}
+
+/// The next source of each of three regions, and how many regions read each of three.
+fn found(indexed: &IndexedMoves) -> ([Option<u32>; 3], [u32; 3])
+    requires { region_count indexed.now ≡ 6 }
+{
+    let sources = [
+        indexed.next_source(1, 0),
+        indexed.next_source(2, 0),
+        indexed.next_source(3, 5),
+    ];
+    let counts = [indexed.count(0), indexed.count(2), indexed.count(5)];
+    (sources, counts)
+}
+
+#[test]
+fn an_index_finds_each_source_from_anywhere(rt: HostRuntime) -> Result<(), Fail> {
+    let table = table_of(rt.alloc(), &FILLED, &MANY_SOURCES)?;
+    let indexed = IndexedMoves::new(rt.alloc(), table)?;
+    holds(&rt, indexed.regions() == 6);
+    find_all(&rt, &indexed);
+    equal(&rt, found(&indexed), ([Some(5), None, None], [0, 1, 2]));
+    Ok(())
+}
