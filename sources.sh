@@ -26,7 +26,7 @@ sum_files() {
 # Prints the checksum of the sources as they stand.
 sources_sum() {
     {
-        sed '/^#/d; /^[a-z_]*_\(tests\|samples\)[ :]/d' "$top/crates.txt"
+        sed '/^[^a-z]/d; /^$/d; /^[a-z_]*_\(tests\|samples\)[ :]/d' "$top/crates.txt" | LC_ALL=C sort
         cat "$top/HANDLES"
         over_sources sum_files
     } | sha256sum | cut -d ' ' -f 1
