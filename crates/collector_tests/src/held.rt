@@ -1,9 +1,13 @@
 //! Collections of which a gate holds a worker at each point.
-use super::base;
-use collector::Gate;
-use crossbeam_utils::Backoff;
+use crate::checks::equal;
+use crate::gates::comes;
+use crate::heaps::{Heap, base, figures};
+use collector::{Figures, Gate};
+use std::alloc::Global;
+use std::sync::Wait;
 use std::sync::atomic::{AtomicBool, AtomicU32, Ordering};
 use std::test::Fail;
+use std::thread::Threads;
 
 /// How often a held worker looks whether another one has come.
 const TURNS: u32 = 10_000;
@@ -17,6 +21,16 @@ enum Point {
     Before(u32),
     After(u32),
 }
+
+/// Each point of each region to fill.
+const POINTS: [Point; 6] = [
+    Point::Before(0),
+    Point::Before(1),
+    Point::Before(2),
+    Point::After(0),
+    Point::After(1),
+    Point::After(2),
+];
 
 /// Holds the worker that comes to one point until another worker calls, or until so many turns have gone by.
 ///
@@ -46,22 +60,12 @@ impl Holding {
     fn meet(&self, worker: u32, point: Point) {
         if point == self.point {
             self.held.store(worker, Ordering::SeqCst);
-            self.hold();
+            let _ = comes(&self.other_came, TURNS);
             return;
         }
         let held = self.held.load(Ordering::SeqCst);
         if held != NOBODY && held != worker {
             self.other_came.store(true, Ordering::SeqCst);
-        }
-    }
-
-    fn hold(&self) {
-        let backoff = Backoff::new();
-        for _ in 0..TURNS {
-            if self.other_came.load(Ordering::SeqCst) {
-                return;
-            }
-            backoff.snooze();
         }
     }
 }
@@ -83,17 +87,25 @@ impl Gate for Holding {
     }
 }
 
+/// The figures of the heap's collections by two and by three workers, one of which is held at this point.
+fn held_at<R: Threads + Wait + Sync>(
+    alloc: Global,
+    heap: Heap<'_>,
+    point: Point,
+    rt: &R,
+) -> Result<[Figures; 2], Fail> {
+    let by_two = heap.collected(alloc, 2, &Holding::at(point), rt)?;
+    let by_three = heap.collected(alloc, 3, &Holding::at(point), rt)?;
+    Ok([by_two, by_three])
+}
+
 #[test]
 fn a_worker_held_at_any_point_changes_nothing(rt: HostRuntime) -> Result<(), Fail> {
-    for region in 0..3 {
-        for point in [Point::Before(region), Point::After(region)] {
-            for workers in [2, 3] {
-                let slid = base(0).collected(rt.alloc(), workers, &Holding::at(point), &rt)?;
-                assert_eq!(rt; (slid.prefix_end, slid.new_top, slid.filled), (0, 19, 3));
-                let kept = base(2).collected(rt.alloc(), workers, &Holding::at(point), &rt)?;
-                assert_eq!(rt; (kept.prefix_end, kept.new_top, kept.filled), (8, 21, 3));
-            }
-        }
+    for point in POINTS {
+        let slid = held_at(rt.alloc(), base(0), point, &rt)?;
+        equal(&rt, slid, [figures(0, 19, 3); 2]);
+        let kept = held_at(rt.alloc(), base(2), point, &rt)?;
+        equal(&rt, kept, [figures(8, 21, 3); 2]);
     }
     Ok(())
 }

@@ -1,12 +1,14 @@
 //! Recorded collections in which a worker is held at each point in turn.
-use super::{Fillers, base, is_of_its_fillers, recorded, replays};
+use crate::checks::equal;
+use crate::gates::reaches;
+use crate::heaps::{base, replays};
+use crate::orders::{Fillers, is_of_its_fillers, place_of};
 use collector::Gate;
 use history::{Event, Schedule};
 use std::alloc::Global;
 use std::sync::Wait;
 use std::sync::atomic::{AtomicBool, AtomicU32, Ordering};
 use std::test::Fail;
-use std::thread;
 use std::thread::Threads;
 
 /// How often a held worker looks whether another one calls the gate.
@@ -82,24 +84,13 @@ impl HoldsAt {
         }
     }
 
-    /// Counts a call, and holds it where it is at the point. The number of the call.
+    /// Counts a call, and holds it where it is at the point until there is a later one. The number of the call.
     fn hear(&self, point: Point, region: u32) -> u32 {
         let number = self.calls.fetch_add(1, Ordering::SeqCst);
         if point == self.point && region == self.region {
-            self.hold(number);
+            let _ = reaches(&self.calls, number.wrapping_add(2), TURNS);
         }
         number
-    }
-
-    /// Holds the call of this number until there is a later one.
-    fn hold(&self, number: u32) {
-        let calls_so_far = number.wrapping_add(1);
-        for _ in 0..TURNS {
-            if self.calls.load(Ordering::SeqCst) != calls_so_far {
-                return;
-            }
-            thread::yield_now();
-        }
     }
 
     /// Whether the gate heard that the first region was filled before it was asked for the other one.
@@ -130,16 +121,6 @@ impl Gate for HoldsAt {
     }
 }
 
-/// The place of the event's first line, or of the end.
-pub(super) fn place_of(schedule: &Schedule, event: Event) -> usize {
-    for i in 0..schedule.len() {
-        if schedule.line(i).1 == event {
-            return i;
-        }
-    }
-    schedule.len()
-}
-
 /// Whether the completions of these regions stand in the order that the gate heard of.
 fn is_as_heard(schedule: &Schedule, gate: &HoldsAt, first: u32, other: u32) -> bool {
     !gate.heard_in_order(first, other)
@@ -159,25 +140,38 @@ fn is_all_as_heard(schedule: &Schedule, gate: &HoldsAt) -> bool {
 /// Whether a schedule is recorded under the gate that replays, and agrees with what the gate heard.
 fn comes_through<R: Threads + Wait + Sync>(
     alloc: Global,
-    rt: &R,
     allowance: u64,
     workers: u32,
     gate: &HoldsAt,
+    rt: &R,
 ) -> Result<bool, Fail> {
-    let schedule = recorded(alloc, rt, allowance, workers, gate)?;
-    let image = base(alloc, allowance, rt)?;
-    let is_replayed = replays(alloc, rt, &image, &schedule)?;
+    let schedule = base(allowance).recorded(alloc, workers, gate, rt)?;
     let is_heard = is_of_its_fillers(&schedule, &gate.fillers) && is_all_as_heard(&schedule, gate);
-    Ok(is_replayed && is_heard && !gate.last_came_early.load(Ordering::SeqCst))
+    let is_early = gate.last_came_early.load(Ordering::SeqCst);
+    let is_replayed = replays(alloc, base(allowance), &schedule, rt)?;
+    Ok(is_replayed && is_heard && !is_early)
+}
+
+/// The first of the points at which a worker that is held leaves another schedule, or none.
+fn first_wrong<R: Threads + Wait + Sync>(
+    alloc: Global,
+    allowance: u64,
+    workers: u32,
+    rt: &R,
+) -> Result<Option<(Point, u32)>, Fail> {
+    for (point, region) in POINTS {
+        let gate = HoldsAt::new(point, region);
+        if !comes_through(alloc, allowance, workers, &gate, rt)? {
+            return Ok(Some((point, region)));
+        }
+    }
+    Ok(None)
 }
 
 #[test]
 fn a_worker_held_at_any_point_leaves_a_schedule_that_replays(rt: HostRuntime) -> Result<(), Fail> {
     for (workers, allowance) in [(2, 0), (2, 2), (3, 0), (3, 2)] {
-        for (point, region) in POINTS {
-            let gate = HoldsAt::new(point, region);
-            assert!(rt; comes_through(rt.alloc(), &rt, allowance, workers, &gate)?);
-        }
+        equal(&rt, first_wrong(rt.alloc(), allowance, workers, &rt)?, None);
     }
     Ok(())
 }

@@ -1,5 +1,6 @@
 //! That a recorded collection keeps the image where memory is refused before a worker begins.
-use crate::memory_tests::{image, is_base};
+use crate::checks::holds;
+use crate::memory::{image, is_base};
 use collector::{Gate, OpenGate, Refusal, record};
 use heap_image::Fault;
 use heap_samples::Base;
@@ -45,6 +46,6 @@ fn is_kept_or_begun<R: Threads + Wait + Sync>(alloc: Global, rt: &R) -> Result<b
 /// error: that of the line for the first claim, which stands in the schedule before the gate is asked.
 #[test]
 fn image_is_kept_where_refused_memory_is_told(rt: HostRuntime) -> Result<(), Fail> {
-    assert!(rt; is_kept_or_begun(rt.alloc(), &rt)?);
+    holds(&rt, is_kept_or_begun(rt.alloc(), &rt)?);
     Ok(())
 }
