@@ -6,6 +6,9 @@ use std::thread;
 /// How often a held call looks whether what must come has come.
 pub(crate) const TURNS: u32 = 1_000_000;
 
+/// How often it looks where nothing may come.
+pub(crate) const FEW_TURNS: u32 = 10_000;
+
 /// Waits until the flag is set, for so many turns at most. Whether it is.
 pub(crate) fn comes(flag: &AtomicBool, turns: u32) -> bool {
     for _ in 0..turns {
@@ -36,6 +39,16 @@ pub(crate) enum Call {
     /// After its completion.
     After(u32),
 }
+
+/// Each call of the gate for three regions.
+pub(crate) const CALLS: [Call; 6] = [
+    Call::Before(0),
+    Call::Before(1),
+    Call::Before(2),
+    Call::After(0),
+    Call::After(1),
+    Call::After(2),
+];
 
 /// Holds two calls, each until another one has come: the pairs give the held call and the other.
 #[derive(Drop)]

@@ -1,6 +1,6 @@
-//! Collections of which a gate holds a worker at each point.
+//! Collections of which a gate holds a worker at each of its calls.
 use crate::checks::equal;
-use crate::gates::comes;
+use crate::gates::{CALLS, Call, FEW_TURNS, comes};
 use crate::heaps::{Heap, base, figures};
 use collector::{Figures, Gate};
 use std::alloc::Global;
@@ -9,36 +9,16 @@ use std::sync::atomic::{AtomicBool, AtomicU32, Ordering};
 use std::test::Fail;
 use std::thread::Threads;
 
-/// How often a held worker looks whether another one has come.
-const TURNS: u32 = 10_000;
-
 /// The number of no worker.
 const NOBODY: u32 = 64;
 
-/// A point at which a worker calls the gate: before the fill of a region, or after its completion.
-#[derive(Debug, Clone, Copy, PartialEq, Eq)]
-enum Point {
-    Before(u32),
-    After(u32),
-}
-
-/// Each point of each region to fill.
-const POINTS: [Point; 6] = [
-    Point::Before(0),
-    Point::Before(1),
-    Point::Before(2),
-    Point::After(0),
-    Point::After(1),
-    Point::After(2),
-];
-
-/// Holds the worker that comes to one point until another worker calls, or until so many turns have gone by.
+/// Holds the worker that makes one call until another worker calls, or until so many turns have gone by.
 ///
 /// It refuses region 2 as long as the call before the fill of region 1, which has to read it, has not returned.
 #[derive(Drop)]
 struct Holding {
-    point: Point,
-    /// The worker that has come to the point.
+    call: Call,
+    /// The worker that has made the call.
     held: AtomicU32,
     /// Whether another worker has called since.
     other_came: AtomicBool,
@@ -47,20 +27,20 @@ struct Holding {
 }
 
 impl Holding {
-    fn at(point: Point) -> Holding {
+    fn at(call: Call) -> Holding {
         Holding {
-            point,
+            call,
             held: AtomicU32::new(NOBODY),
             other_came: AtomicBool::new(false),
             let_region_1: AtomicBool::new(false),
         }
     }
 
-    /// A worker has come to a point.
-    fn meet(&self, worker: u32, point: Point) {
-        if point == self.point {
+    /// A worker has made a call.
+    fn hear(&self, worker: u32, call: Call) {
+        if call == self.call {
             self.held.store(worker, Ordering::SeqCst);
-            let _ = comes(&self.other_came, TURNS);
+            let _ = comes(&self.other_came, FEW_TURNS);
             return;
         }
         let held = self.held.load(Ordering::SeqCst);
@@ -75,7 +55,7 @@ impl Gate for Holding {
 
     fn before_fill(&self, worker: u32, region: u32) -> bool {
         let is_in_order = region != 2 || self.let_region_1.load(Ordering::SeqCst);
-        self.meet(worker, Point::Before(region));
+        self.hear(worker, Call::Before(region));
         if region == 1 {
             self.let_region_1.store(true, Ordering::SeqCst);
         }
@@ -83,28 +63,28 @@ impl Gate for Holding {
     }
 
     fn after_complete(&self, worker: u32, region: u32) {
-        self.meet(worker, Point::After(region));
+        self.hear(worker, Call::After(region));
     }
 }
 
-/// The figures of the heap's collections by two and by three workers, one of which is held at this point.
+/// The figures of the heap's collections by two and by three workers, one of which is held at this call.
 fn held_at<R: Threads + Wait + Sync>(
     alloc: Global,
     heap: Heap<'_>,
-    point: Point,
+    call: Call,
     rt: &R,
 ) -> Result<[Figures; 2], Fail> {
-    let by_two = heap.collected(alloc, 2, &Holding::at(point), rt)?;
-    let by_three = heap.collected(alloc, 3, &Holding::at(point), rt)?;
+    let by_two = heap.collected(alloc, 2, &Holding::at(call), rt)?;
+    let by_three = heap.collected(alloc, 3, &Holding::at(call), rt)?;
     Ok([by_two, by_three])
 }
 
 #[test]
 fn a_worker_held_at_any_point_changes_nothing(rt: HostRuntime) -> Result<(), Fail> {
-    for point in POINTS {
-        let slid = held_at(rt.alloc(), base(0), point, &rt)?;
+    for call in CALLS {
+        let slid = held_at(rt.alloc(), base(0), call, &rt)?;
         equal(&rt, slid, [figures(0, 19, 3); 2]);
-        let kept = held_at(rt.alloc(), base(2), point, &rt)?;
+        let kept = held_at(rt.alloc(), base(2), call, &rt)?;
         equal(&rt, kept, [figures(8, 21, 3); 2]);
     }
     Ok(())

@@ -1,6 +1,6 @@
-//! Recorded collections in which a worker is held at each point in turn.
+//! Recorded collections in which a gate holds a worker at each of its calls in turn.
 use crate::checks::equal;
-use crate::gates::reaches;
+use crate::gates::{CALLS, Call, FEW_TURNS, reaches};
 use crate::heaps::{base, replays};
 use crate::orders::{Fillers, is_of_its_fillers, place_of};
 use collector::Gate;
@@ -11,31 +11,10 @@ use std::sync::atomic::{AtomicBool, AtomicU32, Ordering};
 use std::test::Fail;
 use std::thread::Threads;
 
-/// How often a held worker looks whether another one calls the gate.
-const TURNS: u32 = 10_000;
-
-/// Each point of each region to fill.
-const POINTS: [(Point, u32); 6] = [
-    (Point::BeforeFill, 0),
-    (Point::BeforeFill, 1),
-    (Point::BeforeFill, 2),
-    (Point::AfterComplete, 0),
-    (Point::AfterComplete, 1),
-    (Point::AfterComplete, 2),
-];
-
-/// At which call of the gate.
-#[derive(Clone, Copy, Debug, PartialEq, Eq)]
-enum Point {
-    BeforeFill,
-    AfterComplete,
-}
-
-/// Holds the worker that comes to one point of one region until another one calls the gate, for so many turns at most.
+/// Holds the worker that makes one call until another one calls the gate, for so many turns at most.
 #[derive(Drop)]
 struct HoldsAt {
-    point: Point,
-    region: u32,
+    call: Call,
     calls: AtomicU32,
     fillers: Fillers,
     /// Of each of three regions, which of all calls was made as the fill began and which as it had ended.
@@ -71,10 +50,9 @@ fn number_of(calls: &[AtomicU32; 3], region: u32) -> u32 {
 }
 
 impl HoldsAt {
-    fn new(point: Point, region: u32) -> HoldsAt {
+    fn new(call: Call) -> HoldsAt {
         HoldsAt {
-            point,
-            region,
+            call,
             calls: AtomicU32::new(0),
             fillers: Fillers::unknown(),
             begun: never(),
@@ -84,11 +62,11 @@ impl HoldsAt {
         }
     }
 
-    /// Counts a call, and holds it where it is at the point until there is a later one. The number of the call.
-    fn hear(&self, point: Point, region: u32) -> u32 {
+    /// Counts a call, and holds it until there is a later one if it is the one to hold. The number of the call.
+    fn hear(&self, call: Call) -> u32 {
         let number = self.calls.fetch_add(1, Ordering::SeqCst);
-        if point == self.point && region == self.region {
-            let _ = reaches(&self.calls, number.wrapping_add(2), TURNS);
+        if call == self.call {
+            let _ = reaches(&self.calls, number.wrapping_add(2), FEW_TURNS);
         }
         number
     }
@@ -107,7 +85,7 @@ impl Gate for HoldsAt {
         if region == 2 && !self.middle_may_begin.load(Ordering::SeqCst) {
             self.last_came_early.store(true, Ordering::SeqCst);
         }
-        let number = self.hear(Point::BeforeFill, region);
+        let number = self.hear(Call::Before(region));
         note(&self.begun, region, number);
         if region == 1 {
             self.middle_may_begin.store(true, Ordering::SeqCst);
@@ -116,7 +94,7 @@ impl Gate for HoldsAt {
     }
 
     fn after_complete(&self, _worker: u32, region: u32) {
-        let number = self.hear(Point::AfterComplete, region);
+        let number = self.hear(Call::After(region));
         note(&self.ended, region, number);
     }
 }
@@ -152,17 +130,17 @@ fn comes_through<R: Threads + Wait + Sync>(
     Ok(is_replayed && is_heard && !is_early)
 }
 
-/// The first of the points at which a worker that is held leaves another schedule, or none.
+/// The first of the calls at which a worker that is held leaves a wrong schedule, or none.
 fn first_wrong<R: Threads + Wait + Sync>(
     alloc: Global,
     allowance: u64,
     workers: u32,
     rt: &R,
-) -> Result<Option<(Point, u32)>, Fail> {
-    for (point, region) in POINTS {
-        let gate = HoldsAt::new(point, region);
+) -> Result<Option<Call>, Fail> {
+    for call in CALLS {
+        let gate = HoldsAt::new(call);
         if !comes_through(alloc, allowance, workers, &gate, rt)? {
-            return Ok(Some((point, region)));
+            return Ok(Some(call));
         }
     }
     Ok(None)
