@@ -1,5 +1,7 @@
 //! Heaps to collect, and what must come of a collection.
-use collector::{Figures, Gate, Verdict, collect, record, verify};
+ghost use Rattle.std.specs.Prelude.{◌≡◌};
+
+use collector::{Figures, Gate, Outcome, Verdict, collect, record, verify};
 use heap_image::{Fault, Image, decode_by_threads, encode};
 use heap_samples::{BASE_LIVE, BASE_WORDS, Settings, image_of};
 use history::{End, Schedule, replay};
@@ -40,13 +42,10 @@ impl Heap<'_> {
         gate: &G,
         rt: &R,
     ) -> Result<Figures, Fail> {
-        match collect(alloc, self.image(alloc, rt)?, workers, gate, rt, rt) {
-            Ok((outcome, _finished)) => {
-                self.verified(alloc, &outcome.image, rt)?;
-                Ok(outcome.figures)
-            }
-            Err(refusal) => Err(Fail::from(refusal.fault())),
-        }
+        let image = self.image(alloc, rt)?;
+        let outcome = outcome_of(alloc, image, workers, gate, rt)?;
+        self.verified(alloc, &outcome.image, rt)?;
+        Ok(outcome.figures)
     }
 
     /// The schedule of a recorded collection by so many workers, whose image is the right one.
@@ -79,6 +78,20 @@ impl Heap<'_> {
         } else {
             Err(Fail::from("another image"))
         }
+    }
+}
+
+/// What a collection of this image by so many workers gives.
+fn outcome_of<G: Gate + Sync, R: Threads + Wait + Sync>(
+    alloc: Global,
+    image: Image,
+    workers: u32,
+    gate: &G,
+    rt: &R,
+) -> Result<Outcome, Fail> {
+    match collect(alloc, image, workers, gate, rt, rt) {
+        Ok((outcome, _finished)) => Ok(outcome),
+        Err(refusal) => Err(Fail::from(refusal.fault())),
     }
 }
 
@@ -131,8 +144,29 @@ fn is_replayed(
     threads: &(impl Threads + Sync),
 ) -> Result<bool, Fault> {
     let survey = Survey::of(alloc, image, threads)?;
-    let replayed = replay(alloc, image, &survey, schedule)?;
-    match &replayed.ended {
+    ends_compacted(alloc, image, &survey, schedule, threads)
+}
+
+fn ends_compacted(
+    alloc: Global,
+    image: &Image,
+    survey: &Survey,
+    schedule: &Schedule,
+    threads: &(impl Threads + Sync),
+) -> Result<bool, Fault>
+    requires { survey.now ≡ image.now }
+{
+    let replayed = replay(alloc, image, survey, schedule)?;
+    is_compacted(alloc, image, &replayed.ended, threads)
+}
+
+fn is_compacted(
+    alloc: Global,
+    image: &Image,
+    ended: &End,
+    threads: &(impl Threads + Sync),
+) -> Result<bool, Fault> {
+    match ended {
         End::Finished(after) => Ok(verify(alloc, image, after, threads)? == Verdict::Same),
         End::Open => Ok(false),
     }
@@ -154,6 +188,10 @@ pub(crate) fn compacted_text(
     threads: &(impl Threads + Sync),
 ) -> Result<Vec<u8>, Fault> {
     let before = decode_by_threads(alloc, text, threads)?;
-    let after = compact_plainly(alloc, &before)?;
+    text_compacted(alloc, &before)
+}
+
+fn text_compacted(alloc: Global, before: &Image) -> Result<Vec<u8>, Fault> {
+    let after = compact_plainly(alloc, before)?;
     Ok(encode(alloc, &after)?)
 }

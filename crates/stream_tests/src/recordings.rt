@@ -1,4 +1,6 @@
 //! Recorded collections in memory: the schedule of one worker, and numbers of workers that keep the image.
+ghost use Rattle.std.specs.Prelude.{◌≡◌};
+
 use crate::checks::equal;
 use collector::{OpenGate, Refusal, Verdict, record, verify};
 use heap_image::{Fault, Image, encode};
@@ -97,8 +99,29 @@ pub(crate) fn replays(
     schedule: &Schedule,
 ) -> Result<bool, Fault> {
     let survey = Survey::of(alloc, image, threads)?;
-    let replayed = replay(alloc, image, &survey, schedule)?;
-    match &replayed.ended {
+    ends_compacted(alloc, image, &survey, schedule, threads)
+}
+
+fn ends_compacted(
+    alloc: Global,
+    image: &Image,
+    survey: &Survey,
+    schedule: &Schedule,
+    threads: &(impl Threads + Sync),
+) -> Result<bool, Fault>
+    requires { survey.now ≡ image.now }
+{
+    let replayed = replay(alloc, image, survey, schedule)?;
+    is_compacted(alloc, image, &replayed.ended, threads)
+}
+
+fn is_compacted(
+    alloc: Global,
+    image: &Image,
+    ended: &End,
+    threads: &(impl Threads + Sync),
+) -> Result<bool, Fault> {
+    match ended {
         End::Finished(after) => Ok(verify(alloc, image, after, threads)? == Verdict::Same),
         End::Open => Ok(false),
     }
