@@ -27,6 +27,20 @@ pub(crate) fn is_base(alloc: Global, base: Base, image: &Image) -> Result<bool, 
     Ok(encode(alloc, image)? == text)
 }
 
+/// The fault that came with an image, or false if that isn't this base heap.
+pub(crate) fn told_of_base(
+    alloc: Global,
+    base: Base,
+    image: &Image,
+    fault: Fault,
+) -> Result<bool, Fault> {
+    if is_base(alloc, base, image)? {
+        Err(fault)
+    } else {
+        Ok(false)
+    }
+}
+
 /// Whether the image is the compaction of this base heap.
 pub(crate) fn is_compacted(
     alloc: Global,
@@ -50,14 +64,8 @@ pub(crate) fn are_right(answers: &[Result<bool, Fault>]) -> bool {
 fn collects<R: Threads + Wait + Sync>(alloc: Global, rt: &R, base: Base) -> Result<bool, Fault> {
     match collect(alloc, image(alloc, base, rt)?, 2, &OpenGate, rt, rt) {
         Ok((outcome, _finished)) => is_compacted(alloc, base, &outcome.image, rt),
-        Err(Refusal::Kept(image, Fault::Memory)) => {
-            if is_base(alloc, base, &image)? {
-                Err(Fault::Memory)
-            } else {
-                Ok(false)
-            }
-        }
-        Err(_) => Ok(false),
+        Err(Refusal::Kept(image, fault)) => told_of_base(alloc, base, &image, fault),
+        Err(Refusal::Lost(_)) => Ok(false),
     }
 }
 
@@ -127,7 +135,16 @@ fn is_verified(
     before: &Image,
 ) -> Result<bool, Fault> {
     let after = compact_plainly(alloc, before)?;
-    let same = verify(alloc, before, &after, threads)?;
+    are_verified(alloc, threads, before, &after)
+}
+
+fn are_verified(
+    alloc: Global,
+    threads: &(impl Threads + Sync),
+    before: &Image,
+    after: &Image,
+) -> Result<bool, Fault> {
+    let same = verify(alloc, before, after, threads)?;
     let other = verify(alloc, before, before, threads)?;
     Ok((same, other) == (Verdict::Same, Verdict::Word(2)))
 }

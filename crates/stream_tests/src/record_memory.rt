@@ -1,6 +1,6 @@
 //! What a recorded collection answers where memory is refused.
 use crate::checks::holds;
-use crate::memory::{are_right, image, is_base, is_compacted};
+use crate::memory::{are_right, image, is_compacted, told_of_base};
 use crate::recordings::replays;
 use collector::{OpenGate, Outcome, Refusal, record};
 use heap_image::Fault;
@@ -19,13 +19,7 @@ fn comes_through<R: Threads + Wait + Sync>(
 ) -> Result<bool, Fault> {
     match record(alloc, image(alloc, base, rt)?, 2, &OpenGate, rt, rt) {
         Ok((outcome, schedule)) => is_right(alloc, rt, base, (&outcome, &schedule)),
-        Err(Refusal::Kept(image, fault)) => {
-            if is_base(alloc, base, &image)? {
-                Err(fault)
-            } else {
-                Ok(false)
-            }
-        }
+        Err(Refusal::Kept(image, fault)) => told_of_base(alloc, base, &image, fault),
         Err(Refusal::Lost(fault)) => Err(fault),
     }
 }
