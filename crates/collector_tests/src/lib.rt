@@ -1,6 +1,6 @@
-//! The tests of `collector`, through its public calls alone: collections in memory, gates, queues and verdicts.
+//! The tests of `collector`, through its public calls alone: collections in memory, gates and verdicts.
 //!
-//! Those of its streams and of refused memory stand in `stream_tests`, which the gate proves at the same time.
+//! Those of its streams, queues and refused memory stand in `stream_tests`, which the gate proves at the same time.
 #![tactic(auto)]
 
 #[cfg(test)]
@@ -21,8 +21,6 @@ mod library;
 mod marked;
 #[cfg(test)]
 mod orders;
-#[cfg(test)]
-mod queues;
 #[cfg(test)]
 mod refusals;
 #[cfg(test)]

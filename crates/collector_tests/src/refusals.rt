@@ -1,10 +1,9 @@
-//! Collections that are refused: by the gate, which loses the image, or for the number of workers, which keeps it.
+//! Collections that a gate ends: the image is lost.
 use crate::checks::{equal, holds};
 use crate::gates::RefusesTheFirst;
 use crate::heaps::base;
 use collector::{Gate, OpenGate, Refusal, collect, record};
-use heap_image::{Fault, Image, encode};
-use heap_samples::Base;
+use heap_image::Fault;
 use std::alloc::Global;
 use std::sync::Wait;
 use std::test::Fail;
@@ -69,32 +68,6 @@ fn a_refused_region_ends_a_recorded_collection(rt: HostRuntime) -> Result<(), Fa
         _ => return Err(Fail::from("not lost")),
     }
     holds(&rt, gate.is_kept());
-    Ok(())
-}
-
-/// Whether a collection of the base heap by so many workers keeps the image, and its fault.
-fn kept<R: Threads + Wait + Sync>(
-    alloc: Global,
-    workers: u32,
-    rt: &R,
-) -> Result<(bool, Fault), Fail> {
-    let image = base(0).image(alloc, rt)?;
-    match collect(alloc, image, workers, &OpenGate, rt, rt) {
-        Err(Refusal::Kept(back, fault)) => Ok((is_base(alloc, &back)?, fault)),
-        _ => Err(Fail::from("not kept")),
-    }
-}
-
-fn is_base(alloc: Global, image: &Image) -> Result<bool, Fail> {
-    let text = Base::WithLiveList.text(alloc, 0)?;
-    Ok(encode(alloc, image)? == text)
-}
-
-#[test]
-fn the_number_of_workers_is_tested_first(rt: HostRuntime) -> Result<(), Fail> {
-    for workers in [0, 65] {
-        equal(&rt, kept(rt.alloc(), workers, &rt)?, (true, Fault::Workers));
-    }
     Ok(())
 }
 

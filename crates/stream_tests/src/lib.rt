@@ -1,4 +1,4 @@
-//! The tests of `collector`, through its public calls alone: streams, records without a gate, and refused memory.
+//! The tests of `collector`, through its public calls alone: streams, records without a gate, queues and refused memory.
 //!
 //! Those of its gates stand in `collector_tests`, which the gate of the repository proves at the same time.
 #![tactic(auto)]
@@ -14,6 +14,8 @@ mod keeping;
 #[cfg(test)]
 mod memory;
 #[cfg(test)]
+mod queues;
+#[cfg(test)]
 mod record_memory;
 #[cfg(test)]
 mod record_streams;
@@ -23,3 +25,5 @@ mod recordings;
 mod streams;
 #[cfg(test)]
 mod texts;
+#[cfg(test)]
+mod worker_numbers;

@@ -1,10 +1,10 @@
-//! Recorded collections in memory: the schedule of one worker, and numbers of workers that keep the image.
+//! Recorded collections in memory: the schedule of one worker, and the replay of any.
 ghost use Rattle.std.specs.Prelude.{◌≡◌};
 
 use crate::checks::equal;
-use collector::{OpenGate, Refusal, Verdict, record, verify};
-use heap_image::{Fault, Image, encode};
-use heap_samples::{BASE_LIVE, BASE_WORDS, Base, Settings, image_of};
+use collector::{OpenGate, Verdict, record, verify};
+use heap_image::{Fault, Image};
+use heap_samples::{BASE_LIVE, BASE_WORDS, Settings, image_of};
 use history::{End, Schedule, replay, write_schedule};
 use std::alloc::Global;
 use std::sync::Wait;
@@ -35,21 +35,21 @@ pub(crate) const BASE_SCHEDULE: &str = "schedule 1 1
 0 settle 2 all
 ";
 
-/// The base heap with this allowance.
-fn base(alloc: Global, allowance: u64, threads: &(impl Threads + Sync)) -> Result<Image, Fail> {
-    let settings = Settings::of_base(allowance);
+/// The base heap with allowance 0.
+fn base(alloc: Global, threads: &(impl Threads + Sync)) -> Result<Image, Fail> {
+    let settings = Settings::of_base(0);
     image_of(alloc, settings, &BASE_WORDS, &BASE_LIVE, threads)
 }
 
 /// Whether this is the compaction of the base heap.
 fn is_slid(alloc: Global, after: &Image, threads: &(impl Threads + Sync)) -> Result<bool, Fail> {
-    let before = base(alloc, 0, threads)?;
+    let before = base(alloc, threads)?;
     Ok(verify(alloc, &before, after, threads)? == Verdict::Same)
 }
 
 /// The text of one worker's schedule, and whether its image is the right one.
 fn by_one<R: Threads + Wait + Sync>(alloc: Global, rt: &R) -> Result<(Vec<u8>, bool), Fail> {
-    match record(alloc, base(alloc, 0, rt)?, 1, &OpenGate, rt, rt) {
+    match record(alloc, base(alloc, rt)?, 1, &OpenGate, rt, rt) {
         Ok((outcome, schedule)) => {
             let is_slid = is_slid(alloc, &outcome.image, rt)?;
             Ok((write_schedule(alloc, &schedule)?, is_slid))
@@ -63,31 +63,6 @@ fn one_worker_records_the_base_heap(rt: HostRuntime) -> Result<(), Fail> {
     let (text, is_slid) = by_one(rt.alloc(), &rt)?;
     equal(&rt, text.as_slice(), BASE_SCHEDULE.as_bytes());
     equal(&rt, is_slid, true);
-    Ok(())
-}
-
-/// Whether a recording by so many workers keeps the image, and its fault.
-fn kept<R: Threads + Wait + Sync>(
-    alloc: Global,
-    rt: &R,
-    workers: u32,
-) -> Result<(bool, Fault), Fail> {
-    match record(alloc, base(alloc, 2, rt)?, workers, &OpenGate, rt, rt) {
-        Err(Refusal::Kept(image, fault)) => Ok((is_base(alloc, &image)?, fault)),
-        _ => Err(Fail::from("not kept")),
-    }
-}
-
-fn is_base(alloc: Global, image: &Image) -> Result<bool, Fail> {
-    let text = Base::WithLiveList.text(alloc, 2)?;
-    Ok(encode(alloc, image)? == text)
-}
-
-#[test]
-fn no_workers_or_too_many_keep_the_image(rt: HostRuntime) -> Result<(), Fail> {
-    for workers in [0, 65] {
-        equal(&rt, kept(rt.alloc(), &rt, workers)?, (true, Fault::Workers));
-    }
     Ok(())
 }
 

@@ -67,46 +67,26 @@ fn queue_of(alloc: Global, numbers: &[u32]) -> Result<Ready, AllocError> {
     Ok(ready)
 }
 
-/// Handles of three queues.
-fn thieves_of(alloc: Global, queues: [&Ready; 3]) -> Result<Vec<Thief>, AllocError> {
-    let mut thieves = Vec::new(alloc);
-    for queue in queues {
-        thieves.push(queue.thief()?)?;
-    }
-    Ok(thieves)
-}
-
-/// What the second of three workers takes in five tries, of its own queue and those of these handles.
-fn taken(
-    alloc: Global,
-    own: &mut Ready,
-    thieves: &[Thief],
-) -> Result<Vec<Option<u32>>, AllocError> {
-    let mut taken = Vec::new(alloc);
-    for _ in 0..5 {
-        if thieves.len() == 3 {
-            taken.push(own.take(thieves, 1))?;
-        }
-    }
-    Ok(taken)
-}
-
-/// What a worker takes whose own queue stands between two others.
+/// What a worker takes in five tries whose own queue stands between two others.
 fn taken_between(
-    alloc: Global,
     mut own: Ready,
     (lowest, highest): (&Ready, &Ready),
-) -> Result<Vec<Option<u32>>, AllocError> {
-    let thieves = thieves_of(alloc, [lowest, &own, highest])?;
-    taken(alloc, &mut own, &thieves)
+) -> Result<[Option<u32>; 5], AllocError> {
+    let thieves = [lowest.thief()?, own.thief()?, highest.thief()?];
+    Ok([
+        own.take(&thieves, 1),
+        own.take(&thieves, 1),
+        own.take(&thieves, 1),
+        own.take(&thieves, 1),
+        own.take(&thieves, 1),
+    ])
 }
 
 #[test]
 fn a_worker_takes_its_own_first_and_then_those_behind_it(rt: HostRuntime) -> Result<(), Fail> {
     let (lowest, highest) = (queue_of(rt.alloc(), &[4, 5])?, queue_of(rt.alloc(), &[7])?);
     let own = queue_of(rt.alloc(), &[6])?;
-    let taken = taken_between(rt.alloc(), own, (&lowest, &highest))?;
-    let wanted = [Some(6), Some(7), Some(4), Some(5), None];
-    equal(&rt, taken.as_slice(), wanted.as_slice());
+    let taken = taken_between(own, (&lowest, &highest))?;
+    equal(&rt, taken, [Some(6), Some(7), Some(4), Some(5), None]);
     Ok(())
 }
