@@ -99,10 +99,13 @@ def try_collected(tried: Tried, text: bytes, figures: str, after: bytes) -> None
     """What `collect`, `record`, `replay` and `verify` make of an image, by 1 to 64 workers; and of its upgrade."""
     tried.write("image", text)
     collected = Answer(0, figures, made={"out": after})
-    for workers in (1, 2, 4, 64):
+    for workers in (1, 2, 3, 4, 64):
         tried.run(f"collect image out --workers {workers}", collected)
         tried.run(f"record image out schedule --workers {workers}", collected)
-        tried.run("replay image schedule", Answer(0, tried.read("schedule").decode() + "finished\n"))
+        schedule = tried.read("schedule").decode()
+        if not schedule.startswith(f"schedule 1 {workers}\n"):
+            tried.is_wrong(f"a schedule of {workers} workers begins with another line")
+        tried.run("replay image schedule", Answer(0, schedule + "finished\n"))
     tried.run("verify image out", Answer(0, "same\n"))
     try_upgraded(tried, text)
     tried.run("collect rooted out --workers 2", Answer(0, figures, made={"out": upgraded(after)}))

@@ -2,7 +2,7 @@
 import array
 import random
 
-from cases import (COLLECTED, COMPACTED, MOVED, ONE_WORKER, REPORT, SMALL, TWO_WORKERS, WORDS, head, rooted,
+from cases import (COLLECTED, COMPACTED, LIVE, MOVED, ONE_WORKER, REPORT, SMALL, TWO_WORKERS, WORDS, head, image, rooted,
                    try_collected, try_refused, with_word)
 from model import FRONT, header
 from program import Answer, Tried, differs, fault
@@ -51,8 +51,10 @@ def try_roots(tried: Tried) -> None:
     for words, roots, figures, report, new_words, new_roots in COLLECTIONS:
         try_collected(tried, rooted(words, roots), figures, rooted(new_words, new_roots))
         tried.run("summary image", Answer(0, report))
-    for allowance in (1, 2, 7, 2 ** 64 - 1):
-        try_collected(tried, rooted(WORDS, [], allowance), NOTHING_COLLECTED, rooted([0] * 32, [], allowance))
+    for allowance in (1, 2, 5, 7, 2 ** 64 - 1):
+        for roots in ([], [0]):
+            nothing = rooted([0] * 32, roots, allowance)
+            try_collected(tried, rooted(WORDS, roots, allowance), NOTHING_COLLECTED, nothing)
     # The last word alone.
     words = with_word(WORDS, 31, header(1, 0))
     try_collected(tried, rooted(words, [32]), "prefix 0 top 1 filled 1\n", rooted([header(1, 0)] + [0] * 31, [1]))
@@ -93,7 +95,13 @@ REFUSED = [
     (rooted(WORDS, [33] * 33)[:300], "4 length"),
     (rooted(WORDS, [33])[:-1], "5 truncated body"),
     (rooted(WORDS, [33]) + b"\0", "17 root at index 0"),
+    (rooted(WORDS, [4, 33]) + b"\0", "17 root at index 1"),
     (rooted(WORDS, [4]) + b"\0", "7 header at 3"),
+    (rooted(CROSSED, [3, 4]) + b"\0", "8 overlap at 3"),
+    (rooted(CROSSED, [0] * 9), "4 length"),
+    (rooted(CROSSED, [0] * 9) + b"\0", "4 length"),
+    (rooted(with_word(WORDS, 23, 33), [21]), "9 reference at 20 field 2"),
+    (rooted(with_word(WORDS, 23, 33), [21]) + b"\0", "9 reference at 20 field 2"),
     (rooted(with_word(CROSSED, 3, header(5, 5)), [3, 4]), "7 header at 3"),
     (rooted(with_word(CROSSED, 4, 99), [3, 4]), "8 overlap at 3"),
     (rooted(with_word(WORDS, 2, 99), [1]) + b"\0", "9 reference at 0 field 1"),
@@ -105,8 +113,10 @@ def try_refused_roots(tried: Tried) -> None:
     for text, said in REFUSED:
         try_refused(tried, text, said)
     for length in range(len(ROOTED_BASE)):
+        said = "1 truncated header" if length < FRONT.size else "5 truncated body"
         tried.write("image", ROOTED_BASE[:length])
-        tried.run("summary image", fault("1 truncated header" if length < FRONT.size else "5 truncated body"))
+        tried.run("summary image", fault(said))
+        tried.run("collect image out --workers 2", fault(said, {"out": b""}))
 
 
 def try_rooted_verdicts(tried: Tried) -> None:
@@ -115,8 +125,10 @@ def try_rooted_verdicts(tried: Tried) -> None:
     rows = [(ROOTED_COMPACTED, Answer(0, "same\n")), (ROOTED_BASE, differs("word 1")),
             (rooted(with_word(MOVED, 18, 130), [10, 0]), differs("word 18")),
             (rooted(with_word(MOVED, 18, 130), [0, 10]), differs("word 18")),
+            (rooted(with_word(MOVED, 18, 130), [10, 1]), differs("word 18")),
             (rooted(MOVED, [0, 10]), differs("root 0")), (rooted(MOVED, [10, 10]), differs("root 1")),
-            (rooted(MOVED, [10, 4]), differs("root 1")), (rooted(MOVED, [4, 0]), differs("root 0"))]
+            (rooted(MOVED, [10, 4]), differs("root 1")), (rooted(MOVED, [4, 0]), differs("root 0")),
+            (rooted(MOVED, [10, 1]), differs("root 1")), (rooted(MOVED, [4, 10]), differs("root 0"))]
     tried.write("before", ROOTED_BASE)
     for text, answer in rows + [(text, differs("shape")) for text in shapes]:
         tried.write("after", text)
@@ -125,9 +137,15 @@ def try_rooted_verdicts(tried: Tried) -> None:
     tried.run("verify base after", differs("shape"))
     # As many objects, but others: the live list is told of before the roots.
     words = [header(3, 0), header(1, 0), *[0] * 6]
-    tried.write("before", rooted(words, [1]))
-    tried.write("after", rooted(words, [2]))
-    tried.run("verify before after", differs("live 0"))
+    for roots, others in (([1], [2]), ([0, 1], [0, 2])):
+        tried.write("before", rooted(words, roots))
+        tried.write("after", rooted(words, others))
+        tried.run("verify before after", differs("live 0"))
+    # Two versions of one heap without live objects differ in nothing but that.
+    tried.write("before", image([0] * 8, []))
+    tried.write("after", rooted([0] * 8, []))
+    tried.run("verify before after", differs("shape"))
+    tried.run("verify after before", differs("shape"))
 
 
 def try_rooted_schedules(tried: Tried) -> None:
@@ -137,6 +155,13 @@ def try_rooted_schedules(tried: Tried) -> None:
     made = {"out": ROOTED_COMPACTED, "schedule": ONE_WORKER.encode()}
     tried.run("record rooted out schedule --workers 1", Answer(0, COLLECTED, made=made))
     tried.run("record base out schedule --workers 1", Answer(0, COLLECTED, made=made | {"out": COMPACTED}))
+    schedules = []
+    for text in (image(WORDS, LIVE, 2), rooted(WORDS, [21, 0], 2)):
+        tried.write("image", text)
+        tried.run("record image out schedule --workers 1", Answer(0, "prefix 8 top 21 filled 3\n"))
+        schedules.append(tried.read("schedule"))
+    if schedules[0] != schedules[1]:
+        tried.is_wrong("one worker records another schedule where the heap has roots")
     for schedule in (ONE_WORKER, TWO_WORKERS):
         tried.write("schedule", schedule)
         tried.run("replay rooted schedule", Answer(0, schedule + "finished\n"))

@@ -1,10 +1,31 @@
-//! The tests of `collector`, through its public calls alone: collections in memory, verdicts and queues.
+//! The tests of `collector`, through its public calls alone: collections in memory, gates and verdicts.
 //!
-//! They stand in a crate of their own so that a check of them doesn't prove `collector` again. The other tests are those of
-//! `collector_stream_tests`: the gate proves both at the same time.
+//! Those of its streams, queues and refused memory stand in `stream_tests`, which the gate proves at the same time.
 #![tactic(auto)]
 
 #[cfg(test)]
-mod collection_tests;
+mod checks;
 #[cfg(test)]
-mod tests;
+mod forced;
+#[cfg(test)]
+mod gates;
+#[cfg(test)]
+mod heaps;
+#[cfg(test)]
+mod held;
+#[cfg(test)]
+mod held_recordings;
+#[cfg(test)]
+mod library;
+#[cfg(test)]
+mod marked;
+#[cfg(test)]
+mod orders;
+#[cfg(test)]
+mod refusals;
+#[cfg(test)]
+mod seeded;
+#[cfg(test)]
+mod verdicts;
+#[cfg(test)]
+mod workers;

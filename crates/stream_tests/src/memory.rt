@@ -1,6 +1,8 @@
 //! What the calls answer where memory is refused. The script tests/crate-allocations runs each of these tests with each
 //! allocation refused in turn.
-use crate::streaming_tests::Checked;
+use crate::checks::holds;
+use crate::devices::Checked;
+use crate::texts::with_prefix;
 use collector::{OpenGate, Ready, Refusal, Verdict, collect, collect_stream, verify};
 use heap_image::{Fault, FromRead, Image, ToWrite, decode_by_threads, encode};
 use heap_samples::Base;
@@ -9,24 +11,48 @@ use std::sync::Wait;
 use std::thread::Threads;
 use summary::compact_plainly;
 
-/// How many dead words the base heap may keep here.
-const ALLOWANCE: u64 = 2;
-
 /// A base heap with allowance 2.
 pub(crate) fn image(
     alloc: Global,
     base: Base,
     threads: &(impl Threads + Sync),
 ) -> Result<Image, Fault> {
-    decode_by_threads(alloc, base.text(alloc, ALLOWANCE)?.as_slice(), threads)
+    let text = base.text(alloc, 2)?;
+    decode_by_threads(alloc, &text, threads)
 }
 
 /// Whether the image is this base heap.
 pub(crate) fn is_base(alloc: Global, base: Base, image: &Image) -> Result<bool, Fault> {
-    Ok(encode(alloc, image)? == base.text(alloc, ALLOWANCE)?)
+    let text = base.text(alloc, 2)?;
+    Ok(encode(alloc, image)? == text)
 }
 
-/// Whether each answer is true or want of memory, and one is true.
+/// The fault that came with an image, or false if that isn't this base heap.
+pub(crate) fn told_of_base(
+    alloc: Global,
+    base: Base,
+    image: &Image,
+    fault: Fault,
+) -> Result<bool, Fault> {
+    if is_base(alloc, base, image)? {
+        Err(fault)
+    } else {
+        Ok(false)
+    }
+}
+
+/// Whether the image is the compaction of this base heap.
+pub(crate) fn is_compacted(
+    alloc: Global,
+    base: Base,
+    after: &Image,
+    threads: &(impl Threads + Sync),
+) -> Result<bool, Fault> {
+    let before = image(alloc, base, threads)?;
+    Ok(verify(alloc, &before, after, threads)? == Verdict::Same)
+}
+
+/// Whether each answer is true or out of memory, and one is true.
 pub(crate) fn are_right(answers: &[Result<bool, Fault>]) -> bool {
     let mut all = answers.iter();
     let is_told = |answer: &Result<bool, Fault>| *answer == Ok(true)
@@ -34,17 +60,12 @@ pub(crate) fn are_right(answers: &[Result<bool, Fault>]) -> bool {
     all.all(is_told) && answers.contains(&Ok(true))
 }
 
-/// Whether a collection of the base heap gives its compaction. Its only error is want of memory that keeps the image.
+/// Whether a collection of the base heap gives its compaction. Its only error is out of memory that keeps the image.
 fn collects<R: Threads + Wait + Sync>(alloc: Global, rt: &R, base: Base) -> Result<bool, Fault> {
     match collect(alloc, image(alloc, base, rt)?, 2, &OpenGate, rt, rt) {
-        Ok((outcome, _finished)) => {
-            let before = image(alloc, base, rt)?;
-            Ok(verify(alloc, &before, &outcome.image, rt)? == Verdict::Same)
-        }
-        Err(Refusal::Kept(image, Fault::Memory)) if is_base(alloc, base, &image)? => {
-            Err(Fault::Memory)
-        }
-        Err(_) => Ok(false),
+        Ok((outcome, _finished)) => is_compacted(alloc, base, &outcome.image, rt),
+        Err(Refusal::Kept(image, fault)) => told_of_base(alloc, base, &image, fault),
+        Err(Refusal::Lost(_)) => Ok(false),
     }
 }
 
@@ -55,7 +76,7 @@ fn collect_where_refused_memory_is_told(rt: HostRuntime) {
         collects(rt.alloc(), &rt, base),
         collects(rt.alloc(), &rt, base),
     ];
-    assert!(rt; are_right(&answers));
+    holds(&rt, are_right(&answers));
 }
 
 #[test]
@@ -65,20 +86,19 @@ fn collect_with_roots_where_refused_memory_is_told(rt: HostRuntime) {
         collects(rt.alloc(), &rt, base),
         collects(rt.alloc(), &rt, base),
     ];
-    assert!(rt; are_right(&answers));
+    holds(&rt, are_right(&answers));
 }
 
-/// Whether the text of the base heap's compaction is written. Its only error is want of memory, with nothing written.
+/// Whether the text of the base heap's compaction is written. Its only error is out of memory, with nothing written.
 fn streams<R: Threads + Wait + Sync>(alloc: Global, rt: &R, base: Base) -> Result<bool, Fault> {
-    let before = base.text(alloc, ALLOWANCE)?;
-    let after = encode(alloc, &compact_plainly(alloc, &image(alloc, base, rt)?)?)?;
-    let mut reader = FromRead::new(before.as_slice());
-    let mut writer = ToWrite::new(Checked::against(after.as_slice()));
+    let texts = with_prefix(alloc, base, rt)?;
+    let mut reader = FromRead::new(texts.before.as_slice());
+    let mut writer = ToWrite::new(Checked::against(&texts.after));
     let answer = collect_stream(alloc, &mut reader, &mut writer, 2, &OpenGate, rt, rt);
-    let writer = writer.into_inner();
+    let unwritten = writer.into_inner().lacks();
     match answer {
-        Ok(_figures) => Ok(writer.lacks(0)),
-        Err(Fault::Memory) if writer.lacks(after.len()) => Err(Fault::Memory),
+        Ok(_figures) => Ok(unwritten == Some(0)),
+        Err(Fault::Memory) if unwritten == Some(texts.after.len()) => Err(Fault::Memory),
         Err(_) => Ok(false),
     }
 }
@@ -90,7 +110,7 @@ fn stream_where_refused_memory_is_told(rt: HostRuntime) {
         streams(rt.alloc(), &rt, base),
         streams(rt.alloc(), &rt, base),
     ];
-    assert!(rt; are_right(&answers));
+    holds(&rt, are_right(&answers));
 }
 
 #[test]
@@ -100,17 +120,32 @@ fn stream_with_roots_where_refused_memory_is_told(rt: HostRuntime) {
         streams(rt.alloc(), &rt, base),
         streams(rt.alloc(), &rt, base),
     ];
-    assert!(rt; are_right(&answers));
+    holds(&rt, are_right(&answers));
 }
 
 /// Whether the base heap's compaction is found the same, and the base heap itself is not.
-fn verifies<R: Threads + Sync>(alloc: Global, rt: &R, base: Base) -> Result<bool, Fault> {
-    let before = image(alloc, base, rt)?;
-    let after = compact_plainly(alloc, &before)?;
-    let (same, other) = (
-        verify(alloc, &before, &after, rt)?,
-        verify(alloc, &before, &before, rt)?,
-    );
+fn verifies(alloc: Global, threads: &(impl Threads + Sync), base: Base) -> Result<bool, Fault> {
+    let before = image(alloc, base, threads)?;
+    is_verified(alloc, threads, &before)
+}
+
+fn is_verified(
+    alloc: Global,
+    threads: &(impl Threads + Sync),
+    before: &Image,
+) -> Result<bool, Fault> {
+    let after = compact_plainly(alloc, before)?;
+    are_verified(alloc, threads, before, &after)
+}
+
+fn are_verified(
+    alloc: Global,
+    threads: &(impl Threads + Sync),
+    before: &Image,
+    after: &Image,
+) -> Result<bool, Fault> {
+    let same = verify(alloc, before, after, threads)?;
+    let other = verify(alloc, before, before, threads)?;
     Ok((same, other) == (Verdict::Same, Verdict::Word(2)))
 }
 
@@ -121,7 +156,7 @@ fn verify_where_refused_memory_is_told(rt: HostRuntime) {
         verifies(rt.alloc(), &rt, base),
         verifies(rt.alloc(), &rt, base),
     ];
-    assert!(rt; are_right(&answers));
+    holds(&rt, are_right(&answers));
 }
 
 #[test]
@@ -131,7 +166,7 @@ fn verify_with_roots_where_refused_memory_is_told(rt: HostRuntime) {
         verifies(rt.alloc(), &rt, base),
         verifies(rt.alloc(), &rt, base),
     ];
-    assert!(rt; are_right(&answers));
+    holds(&rt, are_right(&answers));
 }
 
 /// Whether a queue takes as many numbers as its room, and hands them out.
@@ -146,6 +181,6 @@ fn queues(alloc: Global) -> Result<bool, AllocError> {
 #[test]
 fn queue_where_refused_memory_is_told(rt: HostRuntime) {
     let answers = [queues(rt.alloc()), queues(rt.alloc())];
-    assert!(rt; !answers.contains(&Ok(false)));
-    assert!(rt; answers.contains(&Ok(true)));
+    holds(&rt, !answers.contains(&Ok(false)));
+    holds(&rt, answers.contains(&Ok(true)));
 }

@@ -1,7 +1,8 @@
 //! That a recorded collection keeps the image where memory is refused before a worker begins.
-use crate::memory_tests::{image, is_base};
+use crate::checks::holds;
+use crate::memory::{image, is_base};
 use collector::{Gate, OpenGate, Refusal, record};
-use heap_image::Fault;
+use heap_image::{Fault, Image};
 use heap_samples::Base;
 use std::alloc::Global;
 use std::sync::Wait;
@@ -27,17 +28,30 @@ impl Gate for Hears {
 /// Whether a recorded collection of the base heap by one worker is done, or keeps the image, or is lost once the worker
 /// has asked the gate. One that is lost before is an error of its own.
 fn is_kept_or_begun<R: Threads + Wait + Sync>(alloc: Global, rt: &R) -> Result<bool, Fail> {
-    let base = Base::WithLiveList;
-    let Ok(image) = image(alloc, base, rt) else {
-        return Ok(true);
-    };
+    match image(alloc, Base::WithLiveList, rt) {
+        Ok(image) => is_done_or_told(alloc, image, rt),
+        Err(_) => Ok(true),
+    }
+}
+
+fn is_done_or_told<R: Threads + Wait + Sync>(
+    alloc: Global,
+    image: Image,
+    rt: &R,
+) -> Result<bool, Fail> {
     let gate = Hears(AtomicBool::new(false));
     match record(alloc, image, 1, &gate, rt, rt) {
         Ok(_) => Ok(true),
-        Err(Refusal::Kept(back, Fault::Memory)) => Ok(is_base(alloc, base, &back)?),
-        Err(Refusal::Lost(Fault::Memory)) if gate.0.load(Ordering::SeqCst) => Ok(true),
-        Err(Refusal::Lost(Fault::Memory)) => Err(Fail::from("lost before the gate was asked")),
-        Err(_) => Ok(false),
+        Err(refusal) => is_told(alloc, refusal, gate.0.load(Ordering::SeqCst)),
+    }
+}
+
+fn is_told(alloc: Global, refusal: Refusal, has_begun: bool) -> Result<bool, Fail> {
+    match refusal {
+        Refusal::Kept(back, Fault::Memory) => Ok(is_base(alloc, Base::WithLiveList, &back)?),
+        Refusal::Lost(Fault::Memory) if has_begun => Ok(true),
+        Refusal::Lost(Fault::Memory) => Err(Fail::from("lost before the gate was asked")),
+        _ => Ok(false),
     }
 }
 
@@ -45,6 +59,6 @@ fn is_kept_or_begun<R: Threads + Wait + Sync>(alloc: Global, rt: &R) -> Result<b
 /// error: that of the line for the first claim, which stands in the schedule before the gate is asked.
 #[test]
 fn image_is_kept_where_refused_memory_is_told(rt: HostRuntime) -> Result<(), Fail> {
-    assert!(rt; is_kept_or_begun(rt.alloc(), &rt)?);
+    holds(&rt, is_kept_or_begun(rt.alloc(), &rt)?);
     Ok(())
 }

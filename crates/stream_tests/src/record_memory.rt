@@ -1,8 +1,9 @@
 //! What a recorded collection answers where memory is refused.
-use super::replays;
-use crate::memory_tests::are_right;
-use collector::{OpenGate, Outcome, Refusal, Verdict, record, verify};
-use heap_image::{Fault, decode_by_threads, encode};
+use crate::checks::holds;
+use crate::memory::{are_right, image, is_compacted, told_of_base};
+use crate::recordings::replays;
+use collector::{OpenGate, Outcome, Refusal, record};
+use heap_image::Fault;
 use heap_samples::Base;
 use history::Schedule;
 use std::alloc::Global;
@@ -16,23 +17,9 @@ fn comes_through<R: Threads + Wait + Sync>(
     rt: &R,
     base: Base,
 ) -> Result<bool, Fault> {
-    let text = base.text(alloc, 2)?;
-    match record(
-        alloc,
-        decode_by_threads(alloc, &text, rt)?,
-        2,
-        &OpenGate,
-        rt,
-        rt,
-    ) {
-        Ok((outcome, schedule)) => is_right(alloc, rt, &text, &outcome, &schedule),
-        Err(Refusal::Kept(image, fault)) => {
-            if encode(alloc, &image)?.as_slice() == text.as_slice() {
-                Err(fault)
-            } else {
-                Ok(false)
-            }
-        }
+    match record(alloc, image(alloc, base, rt)?, 2, &OpenGate, rt, rt) {
+        Ok((outcome, schedule)) => is_right(alloc, rt, base, (&outcome, &schedule)),
+        Err(Refusal::Kept(image, fault)) => told_of_base(alloc, base, &image, fault),
         Err(Refusal::Lost(fault)) => Err(fault),
     }
 }
@@ -41,13 +28,12 @@ fn comes_through<R: Threads + Wait + Sync>(
 fn is_right(
     alloc: Global,
     threads: &(impl Threads + Sync),
-    text: &[u8],
-    outcome: &Outcome,
-    schedule: &Schedule,
+    base: Base,
+    (outcome, schedule): (&Outcome, &Schedule),
 ) -> Result<bool, Fault> {
-    let before = decode_by_threads(alloc, text, threads)?;
-    let is_same = verify(alloc, &before, &outcome.image, threads)? == Verdict::Same;
-    Ok(is_same && replays(alloc, threads, &before, schedule)?)
+    let is_compacted = is_compacted(alloc, base, &outcome.image, threads)?;
+    let before = image(alloc, base, threads)?;
+    Ok(is_compacted && replays(alloc, threads, &before, schedule)?)
 }
 
 /// The script tests/crate-allocations runs this with each allocation refused in turn.
@@ -58,7 +44,7 @@ fn refused_memory_is_told(rt: HostRuntime) {
         comes_through(rt.alloc(), &rt, base),
         comes_through(rt.alloc(), &rt, base),
     ];
-    assert!(rt; are_right(&answers));
+    holds(&rt, are_right(&answers));
 }
 
 /// The script runs this one too.
@@ -69,5 +55,5 @@ fn with_roots_refused_memory_is_told(rt: HostRuntime) {
         comes_through(rt.alloc(), &rt, base),
         comes_through(rt.alloc(), &rt, base),
     ];
-    assert!(rt; are_right(&answers));
+    holds(&rt, are_right(&answers));
 }

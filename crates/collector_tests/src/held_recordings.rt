@@ -1,39 +1,20 @@
-//! Recorded collections in which a worker is held at each point in turn.
-use super::{Fillers, base, is_of_its_fillers, recorded, replays};
+//! Recorded collections in which a gate holds a worker at each of its calls in turn.
+use crate::checks::equal;
+use crate::gates::{CALLS, Call, FEW_TURNS, reaches};
+use crate::heaps::{base, replays};
+use crate::orders::{Fillers, is_of_its_fillers, place_of};
 use collector::Gate;
 use history::{Event, Schedule};
 use std::alloc::Global;
 use std::sync::Wait;
 use std::sync::atomic::{AtomicBool, AtomicU32, Ordering};
 use std::test::Fail;
-use std::thread;
 use std::thread::Threads;
 
-/// How often a held worker looks whether another one calls the gate.
-const TURNS: u32 = 10_000;
-
-/// Each point of each region to fill.
-const POINTS: [(Point, u32); 6] = [
-    (Point::BeforeFill, 0),
-    (Point::BeforeFill, 1),
-    (Point::BeforeFill, 2),
-    (Point::AfterComplete, 0),
-    (Point::AfterComplete, 1),
-    (Point::AfterComplete, 2),
-];
-
-/// At which call of the gate.
-#[derive(Clone, Copy, Debug, PartialEq, Eq)]
-enum Point {
-    BeforeFill,
-    AfterComplete,
-}
-
-/// Holds the worker that comes to one point of one region until another one calls the gate, for so many turns at most.
+/// Holds the worker that makes one call until another one calls the gate, for so many turns at most.
 #[derive(Drop)]
 struct HoldsAt {
-    point: Point,
-    region: u32,
+    call: Call,
     calls: AtomicU32,
     fillers: Fillers,
     /// Of each of three regions, which of all calls was made as the fill began and which as it had ended.
@@ -69,10 +50,9 @@ fn number_of(calls: &[AtomicU32; 3], region: u32) -> u32 {
 }
 
 impl HoldsAt {
-    fn new(point: Point, region: u32) -> HoldsAt {
+    fn new(call: Call) -> HoldsAt {
         HoldsAt {
-            point,
-            region,
+            call,
             calls: AtomicU32::new(0),
             fillers: Fillers::unknown(),
             begun: never(),
@@ -82,24 +62,13 @@ impl HoldsAt {
         }
     }
 
-    /// Counts a call, and holds it where it is at the point. The number of the call.
-    fn hear(&self, point: Point, region: u32) -> u32 {
+    /// Counts a call, and holds it until there is a later one if it is the one to hold. The number of the call.
+    fn hear(&self, call: Call) -> u32 {
         let number = self.calls.fetch_add(1, Ordering::SeqCst);
-        if point == self.point && region == self.region {
-            self.hold(number);
+        if call == self.call {
+            let _ = reaches(&self.calls, number.wrapping_add(2), FEW_TURNS);
         }
         number
-    }
-
-    /// Holds the call of this number until there is a later one.
-    fn hold(&self, number: u32) {
-        let calls_so_far = number.wrapping_add(1);
-        for _ in 0..TURNS {
-            if self.calls.load(Ordering::SeqCst) != calls_so_far {
-                return;
-            }
-            thread::yield_now();
-        }
     }
 
     /// Whether the gate heard that the first region was filled before it was asked for the other one.
@@ -116,7 +85,7 @@ impl Gate for HoldsAt {
         if region == 2 && !self.middle_may_begin.load(Ordering::SeqCst) {
             self.last_came_early.store(true, Ordering::SeqCst);
         }
-        let number = self.hear(Point::BeforeFill, region);
+        let number = self.hear(Call::Before(region));
         note(&self.begun, region, number);
         if region == 1 {
             self.middle_may_begin.store(true, Ordering::SeqCst);
@@ -125,19 +94,9 @@ impl Gate for HoldsAt {
     }
 
     fn after_complete(&self, _worker: u32, region: u32) {
-        let number = self.hear(Point::AfterComplete, region);
+        let number = self.hear(Call::After(region));
         note(&self.ended, region, number);
     }
-}
-
-/// The place of the event's first line, or of the end.
-pub(super) fn place_of(schedule: &Schedule, event: Event) -> usize {
-    for i in 0..schedule.len() {
-        if schedule.line(i).1 == event {
-            return i;
-        }
-    }
-    schedule.len()
 }
 
 /// Whether the completions of these regions stand in the order that the gate heard of.
@@ -159,25 +118,38 @@ fn is_all_as_heard(schedule: &Schedule, gate: &HoldsAt) -> bool {
 /// Whether a schedule is recorded under the gate that replays, and agrees with what the gate heard.
 fn comes_through<R: Threads + Wait + Sync>(
     alloc: Global,
-    rt: &R,
     allowance: u64,
     workers: u32,
     gate: &HoldsAt,
+    rt: &R,
 ) -> Result<bool, Fail> {
-    let schedule = recorded(alloc, rt, allowance, workers, gate)?;
-    let image = base(alloc, allowance, rt)?;
-    let is_replayed = replays(alloc, rt, &image, &schedule)?;
+    let schedule = base(allowance).recorded(alloc, workers, gate, rt)?;
     let is_heard = is_of_its_fillers(&schedule, &gate.fillers) && is_all_as_heard(&schedule, gate);
-    Ok(is_replayed && is_heard && !gate.last_came_early.load(Ordering::SeqCst))
+    let is_early = gate.last_came_early.load(Ordering::SeqCst);
+    let is_replayed = replays(alloc, base(allowance), &schedule, rt)?;
+    Ok(is_replayed && is_heard && !is_early)
+}
+
+/// The first of the calls at which a worker that is held leaves a wrong schedule, or none.
+fn first_wrong<R: Threads + Wait + Sync>(
+    alloc: Global,
+    allowance: u64,
+    workers: u32,
+    rt: &R,
+) -> Result<Option<Call>, Fail> {
+    for call in CALLS {
+        let gate = HoldsAt::new(call);
+        if !comes_through(alloc, allowance, workers, &gate, rt)? {
+            return Ok(Some(call));
+        }
+    }
+    Ok(None)
 }
 
 #[test]
 fn a_worker_held_at_any_point_leaves_a_schedule_that_replays(rt: HostRuntime) -> Result<(), Fail> {
     for (workers, allowance) in [(2, 0), (2, 2), (3, 0), (3, 2)] {
-        for (point, region) in POINTS {
-            let gate = HoldsAt::new(point, region);
-            assert!(rt; comes_through(rt.alloc(), &rt, allowance, workers, &gate)?);
-        }
+        equal(&rt, first_wrong(rt.alloc(), allowance, workers, &rt)?, None);
     }
     Ok(())
 }

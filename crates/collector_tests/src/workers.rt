@@ -1,12 +1,57 @@
-//! Collections whose gate shows who fills what: how the first regions are dealt, and how many workers run.
-use super::{FirstHeld, Heap, TURNS, base, four_regions, plain};
-use collector::{Gate, OpenGate, Refusal, collect};
-use collector_samples::Call::Before;
-use collector_samples::{Awaits, RefusesTheFirst, linger};
-use crossbeam_utils::Backoff;
-use heap_image::Fault;
+//! Collections whose gate shows who fills what: how many workers run, and how the first regions are dealt.
+use crate::checks::{equal, holds};
+use crate::gates::Call::Before;
+use crate::gates::{Awaits, FirstHeld, TURNS, linger, reaches};
+use crate::heaps::{base, compacted_text, figures, five_regions, four_regions};
+use collector::{Figures, Gate, collect_stream};
+use heap_image::{Fault, FromRead, ToWrite};
+use heap_samples::Base;
+use std::alloc::Global;
+use std::sync::Wait;
 use std::sync::atomic::{AtomicU32, Ordering};
 use std::test::Fail;
+use std::thread::Threads;
+
+#[test]
+fn two_workers_fill_at_the_same_time(rt: HostRuntime) -> Result<(), Fail> {
+    let gate = FirstHeld::until(1, true);
+    let found = base(2).collected(rt.alloc(), 2, &gate, &rt)?;
+    equal(&rt, found.filled, 3);
+    Ok(())
+}
+
+#[test]
+fn a_worker_steals_what_the_other_leaves(rt: HostRuntime) -> Result<(), Fail> {
+    let gate = FirstHeld::until(3, false);
+    let found = four_regions(&mut [0; 32]).collected(rt.alloc(), 2, &gate, &rt)?;
+    equal(&rt, found, figures(32, 32, 4));
+    Ok(())
+}
+
+/// A collection of this text by two workers, from bytes to bytes: its figures, and whether all was read and this written.
+fn streamed<G: Gate + Sync, R: Threads + Wait + Sync>(
+    alloc: Global,
+    (before, after): (&[u8], &[u8]),
+    gate: &G,
+    rt: &R,
+) -> Result<(Figures, bool), Fault> {
+    let (mut reader, mut writer) = (FromRead::new(before), ToWrite::new(Vec::new(alloc)));
+    let figures = collect_stream(alloc, &mut reader, &mut writer, 2, gate, rt, rt)?;
+    let is_read = reader.into_inner().is_empty();
+    Ok((figures, is_read && writer.into_inner().as_slice() == after))
+}
+
+/// A `collect_stream` that collects by one worker meets its contract. It fails here.
+#[test]
+fn two_workers_of_a_stream_fill_at_the_same_time(rt: HostRuntime) -> Result<(), Fail> {
+    let before = Base::WithLiveList.text(rt.alloc(), 2)?;
+    let after = compacted_text(rt.alloc(), &before, &rt)?;
+    let gate = Awaits::new([(Before(0), Before(1)), (Before(1), Before(0))]);
+    let found = streamed(rt.alloc(), (&before, &after), &gate, &rt)?;
+    equal(&rt, found, (figures(8, 21, 3), true));
+    holds(&rt, gate.is_kept());
+    Ok(())
+}
 
 /// The number of no worker and no region.
 const NONE: u32 = 64;
@@ -94,14 +139,14 @@ fn the_first_regions_are_dealt_in_turn(rt: HostRuntime) -> Result<(), Fail> {
         held: FirstHeld::until(3, false),
     };
     let found = four_regions(&mut [0; 32]).collected(rt.alloc(), 2, &gate, &rt)?;
-    assert_eq!(rt; found.filled, 4);
+    equal(&rt, found.filled, 4);
     let (workers, regions) = if numbers(&gate.fills.workers)[0] == 0 {
         ([0, 1, 1, 1], [0, 1, 3, 2])
     } else {
         ([1, 0, 0, 0], [1, 0, 2, 3])
     };
-    assert_eq!(rt; numbers(&gate.fills.workers), workers);
-    assert_eq!(rt; numbers(&gate.fills.regions), regions);
+    equal(&rt, numbers(&gate.fills.workers), workers);
+    equal(&rt, numbers(&gate.fills.regions), regions);
     Ok(())
 }
 
@@ -117,14 +162,7 @@ impl Gate for FourMeet {
 
     fn before_fill(&self, worker: u32, region: u32) -> bool {
         self.begun.note(worker, region);
-        let backoff = Backoff::new();
-        for _ in 0..TURNS {
-            if self.begun.count.load(Ordering::SeqCst) >= 4 {
-                return true;
-            }
-            backoff.snooze();
-        }
-        false
+        reaches(&self.begun.count, 4, TURNS)
     }
 
     fn after_complete(&self, worker: u32, region: u32) {
@@ -141,22 +179,10 @@ fn four_workers_fill_at_the_same_time(rt: HostRuntime) -> Result<(), Fail> {
         ended: Fills::none(),
     };
     let found = four_regions(&mut [0; 32]).collected(rt.alloc(), 4, &gate, &rt)?;
-    assert_eq!(rt; found.filled, 4);
-    assert!(rt; gate.begun.are_each_by_its_own());
-    assert!(rt; gate.ended.are_each_by_its_own());
+    equal(&rt, found.filled, 4);
+    holds(&rt, gate.begun.are_each_by_its_own());
+    holds(&rt, gate.ended.are_each_by_its_own());
     Ok(())
-}
-
-/// Five regions. Region 0 takes all that lives in 1 and 2, which then take what lives in 3 and 4.
-fn five_regions(words: &mut [u64; 40]) -> Heap<'_> {
-    for (a, size) in [(0, 2), (8, 2), (16, 4), (24, 8), (32, 8)] {
-        words[a] = plain(size);
-    }
-    Heap {
-        words: words.as_slice(),
-        live: &[0, 8, 16, 24, 32],
-        allowance: 0,
-    }
 }
 
 /// Holds the first fill for long, while nothing else is ready, and the two after it each until the other has begun.
@@ -183,37 +209,7 @@ impl Gate for TwoMeetLater {
 fn a_worker_with_nothing_to_take_waits_for_what_becomes_ready(rt: HostRuntime) -> Result<(), Fail> {
     let gate = TwoMeetLater(Awaits::new([(Before(1), Before(2)), (Before(2), Before(1))]));
     let found = five_regions(&mut [0; 40]).collected(rt.alloc(), 2, &gate, &rt)?;
-    assert_eq!(rt; (found.prefix_end, found.new_top, found.filled), (0, 24, 3));
-    assert!(rt; gate.0.is_kept());
-    Ok(())
-}
-
-/// No look at the stop flag behind the gate is a body that meets its contract. It fails here.
-#[test]
-fn a_worker_that_the_gate_held_stops_where_another_was_refused(
-    rt: HostRuntime,
-) -> Result<(), Fail> {
-    let gate = RefusesTheFirst::new();
-    match collect(
-        rt.alloc(),
-        base(2).image(rt.alloc(), &rt)?,
-        2,
-        &gate,
-        &rt,
-        &rt,
-    ) {
-        Err(Refusal::Lost(fault)) => assert_eq!(rt; fault, Fault::Gate),
-        _ => return Err(Fail::from("not lost")),
-    }
-    assert!(rt; gate.is_kept());
-    Ok(())
-}
-
-#[test]
-fn an_allowance_of_one_dead_word_leaves_no_prefix(rt: HostRuntime) -> Result<(), Fail> {
-    for workers in 1..5 {
-        let found = base(1).collected(rt.alloc(), workers, &OpenGate, &rt)?;
-        assert_eq!(rt; (found.prefix_end, found.new_top, found.filled), (0, 19, 3));
-    }
+    equal(&rt, found, figures(0, 24, 3));
+    holds(&rt, gate.0.is_kept());
     Ok(())
 }

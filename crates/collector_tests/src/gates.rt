@@ -1,15 +1,29 @@
-//! Gates that hold a call until another one has come, for orders that a test forces.
+//! Gates for orders that a test forces: they hold a call until another one has come.
 use collector::Gate;
 use std::sync::atomic::{AtomicBool, AtomicU32, Ordering};
 use std::thread;
 
-/// How often a held call looks whether what it waits for has come.
-const TURNS: u32 = 1_000_000;
+/// How often a held call looks whether what must come has come.
+pub(crate) const TURNS: u32 = 1_000_000;
+
+/// How often it looks where nothing may come.
+pub(crate) const FEW_TURNS: u32 = 10_000;
 
 /// Waits until the flag is set, for so many turns at most. Whether it is.
-fn comes(flag: &AtomicBool) -> bool {
-    for _ in 0..TURNS {
+pub(crate) fn comes(flag: &AtomicBool, turns: u32) -> bool {
+    for _ in 0..turns {
         if flag.load(Ordering::SeqCst) {
+            return true;
+        }
+        thread::yield_now();
+    }
+    false
+}
+
+/// Waits until so many are counted, for so many turns at most. Whether they are.
+pub(crate) fn reaches(count: &AtomicU32, wanted: u32, turns: u32) -> bool {
+    for _ in 0..turns {
+        if count.load(Ordering::SeqCst) >= wanted {
             return true;
         }
         thread::yield_now();
@@ -19,16 +33,26 @@ fn comes(flag: &AtomicBool) -> bool {
 
 /// A call of the gate for one of three regions.
 #[derive(Debug, Clone, Copy, PartialEq, Eq)]
-pub enum Call {
+pub(crate) enum Call {
     /// Before the fill of this region.
     Before(u32),
     /// After its completion.
     After(u32),
 }
 
+/// Each call of the gate for three regions.
+pub(crate) const CALLS: [Call; 6] = [
+    Call::Before(0),
+    Call::Before(1),
+    Call::Before(2),
+    Call::After(0),
+    Call::After(1),
+    Call::After(2),
+];
+
 /// Holds two calls, each until another one has come: the pairs give the held call and the other.
 #[derive(Drop)]
-pub struct Awaits {
+pub(crate) struct Awaits {
     held: [(Call, Call); 2],
     came_before: [AtomicBool; 3],
     came_after: [AtomicBool; 3],
@@ -45,7 +69,7 @@ fn none_came() -> [AtomicBool; 3] {
 
 impl Awaits {
     /// None of the calls has come.
-    pub fn new(held: [(Call, Call); 2]) -> Awaits {
+    pub(crate) fn new(held: [(Call, Call); 2]) -> Awaits {
         Awaits {
             held,
             came_before: none_came(),
@@ -55,7 +79,7 @@ impl Awaits {
     }
 
     /// Whether each call that was waited for came.
-    pub fn is_kept(&self) -> bool {
+    pub(crate) fn is_kept(&self) -> bool {
         !self.waited_in_vain.load(Ordering::SeqCst)
     }
 
@@ -72,11 +96,15 @@ impl Awaits {
             flag.store(true, Ordering::SeqCst);
         }
         for (held, other) in &self.held {
-            if *held == call && !self.flag(*other).is_some_and(comes) {
+            if *held == call && !self.flag(*other).is_some_and(has_come) {
                 self.waited_in_vain.store(true, Ordering::SeqCst);
             }
         }
     }
+}
+
+fn has_come(flag: &AtomicBool) -> bool {
+    comes(flag, TURNS)
 }
 
 impl Gate for Awaits {
@@ -96,7 +124,7 @@ impl Gate for Awaits {
 const LONG: u32 = 100_000;
 
 /// Lets other threads run for long.
-pub fn linger() {
+pub(crate) fn linger() {
     for _ in 0..LONG {
         thread::yield_now();
     }
@@ -104,7 +132,7 @@ pub fn linger() {
 
 /// Refuses region 0 once another worker has come to fill a region, which it lets go on only long after that.
 #[derive(Drop)]
-pub struct RefusesTheFirst {
+pub(crate) struct RefusesTheFirst {
     other_came: AtomicBool,
     refused: AtomicBool,
     filled: AtomicU32,
@@ -112,7 +140,7 @@ pub struct RefusesTheFirst {
 
 impl RefusesTheFirst {
     /// No worker has come.
-    pub fn new() -> RefusesTheFirst {
+    pub(crate) fn new() -> RefusesTheFirst {
         RefusesTheFirst {
             other_came: AtomicBool::new(false),
             refused: AtomicBool::new(false),
@@ -121,7 +149,7 @@ impl RefusesTheFirst {
     }
 
     /// Whether a region was refused while another worker was held, and none was filled.
-    pub fn is_kept(&self) -> bool {
+    pub(crate) fn is_kept(&self) -> bool {
         self.refused.load(Ordering::SeqCst) && self.filled.load(Ordering::SeqCst) == 0
     }
 }
@@ -131,17 +159,61 @@ impl Gate for RefusesTheFirst {
 
     fn before_fill(&self, _worker: u32, region: u32) -> bool {
         if region == 0 {
-            let other_came = comes(&self.other_came);
+            let other_came = has_come(&self.other_came);
             self.refused.store(other_came, Ordering::SeqCst);
             return false;
         }
         self.other_came.store(true, Ordering::SeqCst);
-        let is_refused = comes(&self.refused);
+        let is_refused = has_come(&self.refused);
         linger();
         is_refused
     }
 
     fn after_complete(&self, _worker: u32, _region: u32) {
         self.filled.fetch_add(1, Ordering::SeqCst);
+    }
+}
+
+/// Holds the first fill to begin until so many calls of the other worker have come.
+#[derive(Drop)]
+pub(crate) struct FirstHeld {
+    begun: AtomicBool,
+    calls: AtomicU32,
+    wanted: u32,
+    counts_begins: bool,
+}
+
+impl FirstHeld {
+    pub(crate) fn until(wanted: u32, counts_begins: bool) -> FirstHeld {
+        FirstHeld {
+            begun: AtomicBool::new(false),
+            calls: AtomicU32::new(0),
+            wanted,
+            counts_begins,
+        }
+    }
+
+    fn count(&self) {
+        self.calls.fetch_add(1, Ordering::SeqCst);
+    }
+}
+
+impl Gate for FirstHeld {
+    ghost may_refuse = { λ _ _ _. Unit {0} };
+
+    fn before_fill(&self, _worker: u32, _region: u32) -> bool {
+        if self.begun.swap(true, Ordering::SeqCst) {
+            if self.counts_begins {
+                self.count();
+            }
+            return true;
+        }
+        reaches(&self.calls, self.wanted, TURNS)
+    }
+
+    fn after_complete(&self, _worker: u32, _region: u32) {
+        if !self.counts_begins {
+            self.count();
+        }
     }
 }

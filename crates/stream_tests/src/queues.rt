@@ -1,0 +1,92 @@
+//! The queues of regions that are ready: what two threads steal, and whom a worker asks.
+use crate::checks::{equal, holds};
+use collector::{Ready, Thief};
+use crossbeam_deque::Steal;
+use std::alloc::{AllocError, Global};
+use std::test::Fail;
+use std::thread;
+use std::thread::Threads;
+
+/// What a thread steals in so many tries.
+fn stolen(alloc: Global, thief: &Thief) -> Result<Vec<u32>, AllocError> {
+    let mut numbers = Vec::new(alloc);
+    for _ in 0..10_000 {
+        if let Steal::Success(r) = thief.steal() {
+            numbers.push(r)?;
+        }
+    }
+    Ok(numbers)
+}
+
+/// A queue of 100 numbers without its first one; whether all were taken, whether one more was, and the first.
+fn full_queue(alloc: Global) -> Result<((bool, bool), Option<u32>, Ready), AllocError> {
+    let mut ready = Ready::new(alloc, 100)?;
+    let mut all = true;
+    for r in 0..100 {
+        all = ready.push(r) && all;
+    }
+    let pushed = (all, ready.push(100));
+    let popped = ready.pop();
+    Ok((pushed, popped, ready))
+}
+
+/// What two threads steal, in ascending order.
+fn stolen_by_two(
+    alloc: Global,
+    threads: &(impl Threads + Sync),
+    ready: &Ready,
+) -> Result<Vec<u32>, AllocError> {
+    let (first, second) = (ready.thief()?, ready.thief()?);
+    let (mine, other) = thread::join(threads, || stolen(alloc, &first), || stolen(alloc, &second));
+    joined(mine?, other?)
+}
+
+fn joined(mut all: Vec<u32>, other: Vec<u32>) -> Result<Vec<u32>, AllocError> {
+    all.extend_from_slice(other.as_slice())?;
+    all.sort()?;
+    Ok(all)
+}
+
+/// A `steal` that always answers `Empty`, so that nobody can steal, meets its contract. It fails here.
+#[test]
+fn two_threads_steal_each_number_once(rt: HostRuntime) -> Result<(), Fail> {
+    let (pushed, popped, mut ready) = full_queue(rt.alloc())?;
+    equal(&rt, (pushed, popped), ((true, false), Some(0)));
+    let all = stolen_by_two(rt.alloc(), &rt, &ready)?;
+    holds(&rt, all.iter().copied().eq(1..100));
+    equal(&rt, ready.pop(), None);
+    Ok(())
+}
+
+/// A queue of these numbers.
+fn queue_of(alloc: Global, numbers: &[u32]) -> Result<Ready, AllocError> {
+    let mut ready = Ready::new(alloc, numbers.len())?;
+    for r in numbers {
+        let _ = ready.push(*r);
+    }
+    Ok(ready)
+}
+
+/// What a worker takes in five tries whose own queue stands between two others.
+fn taken_between(
+    mut own: Ready,
+    (lowest, highest): (&Ready, &Ready),
+) -> Result<[Option<u32>; 5], AllocError> {
+    let thieves = [lowest.thief()?, own.thief()?, highest.thief()?];
+    Ok([
+        own.take(&thieves, 1),
+        own.take(&thieves, 1),
+        own.take(&thieves, 1),
+        own.take(&thieves, 1),
+        own.take(&thieves, 1),
+    ])
+}
+
+#[test]
+fn a_worker_takes_its_own_first_and_then_those_behind_it(rt: HostRuntime) -> Result<(), Fail> {
+    let (lowest, highest) = (queue_of(rt.alloc(), &[4, 5])?, queue_of(rt.alloc(), &[7])?);
+    let own = queue_of(rt.alloc(), &[6])?;
+    let taken = taken_between(own, (&lowest, &highest))?;
+    equal(&rt, taken, [Some(6), Some(7), Some(4), Some(5), None]);
+    Ok(())
+}

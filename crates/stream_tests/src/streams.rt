@@ -1,0 +1,250 @@
+//! Collections from bytes to bytes: devices that give and take in small pieces or fail at each byte, and what is written
+//! before a collection has ended well.
+use crate::checks::equal;
+use crate::devices::{Checked, Trickle};
+use crate::texts::{Texts, figures, slid, with_prefix, without_the_last};
+use collector::{Figures, Gate, OpenGate, collect_stream};
+use heap_image::{Fault, FromRead, Intake, Outlet, ToWrite};
+use heap_samples::Base;
+use std::alloc::Global;
+use std::io;
+use std::io::Write;
+use std::sync::Wait;
+use std::sync::atomic::{AtomicBool, Ordering};
+use std::test::Fail;
+use std::thread::Threads;
+
+/// What a collection from bytes to bytes answered, and what it left.
+#[derive(Clone, Copy)]
+struct Stream {
+    answer: Result<Figures, Fault>,
+    read_failed: bool,
+    unread: usize,
+    write_failed: bool,
+    /// How many bytes of the right text weren't written, if all that was written is its beginning.
+    unwritten: Option<usize>,
+}
+
+/// A collection by two workers.
+fn streamed<R: Threads + Wait + Sync>(
+    alloc: Global,
+    rt: &R,
+    reader: Trickle<'_>,
+    writer: Checked<'_>,
+) -> Stream {
+    let (mut reader, mut writer) = (FromRead::new(reader), ToWrite::new(writer));
+    let answer = collect_stream(alloc, &mut reader, &mut writer, 2, &OpenGate, rt, rt);
+    let (read_failed, write_failed) = (reader.failed(), writer.failed());
+    Stream {
+        answer,
+        read_failed,
+        unread: reader.into_inner().left(),
+        write_failed,
+        unwritten: writer.into_inner().lacks(),
+    }
+}
+
+/// The figures of a collection whose devices move so many bytes at a time, if it has ended well, read all and written all.
+fn whole<R: Threads + Wait + Sync>(
+    alloc: Global,
+    rt: &R,
+    texts: &Texts,
+    step: usize,
+) -> Option<Figures> {
+    let reader = Trickle::of(&texts.before, step);
+    let stream = streamed(alloc, rt, reader, Checked::in_steps(&texts.after, step));
+    let is_whole = (stream.unread, stream.unwritten) == (0, Some(0));
+    match stream.answer {
+        Ok(figures) if is_whole && !stream.read_failed && !stream.write_failed => Some(figures),
+        _ => None,
+    }
+}
+
+/// How many bytes the devices of three collections move at a time.
+const STEPS: [usize; 3] = [1, 7, usize::MAX];
+
+#[test]
+fn the_base_heap_goes_from_bytes_to_bytes(rt: HostRuntime) -> Result<(), Fail> {
+    let slid = slid(rt.alloc(), Base::WithLiveList)?;
+    let with_prefix = with_prefix(rt.alloc(), Base::WithLiveList, &rt)?;
+    for step in STEPS {
+        let found = whole(rt.alloc(), &rt, &slid, step);
+        equal(&rt, found, Some(figures(0, 19, 3)));
+        let found = whole(rt.alloc(), &rt, &with_prefix, step);
+        equal(&rt, found, Some(figures(8, 21, 3)));
+    }
+    Ok(())
+}
+
+#[test]
+fn what_the_roots_reach_goes_from_bytes_to_bytes(rt: HostRuntime) -> Result<(), Fail> {
+    let slid = slid(rt.alloc(), Base::WithRoots)?;
+    let without_the_last = without_the_last(rt.alloc())?;
+    for step in STEPS {
+        let found = whole(rt.alloc(), &rt, &slid, step);
+        equal(&rt, found, Some(figures(0, 19, 3)));
+        let found = whole(rt.alloc(), &rt, &without_the_last, step);
+        equal(&rt, found, Some(figures(0, 9, 2)));
+    }
+    Ok(())
+}
+
+/// The base heap in both versions, and how many bytes its text has.
+const BASES: [(Base, usize); 2] = [(Base::WithLiveList, 320), (Base::WithRoots, 304)];
+
+/// Whether nothing is written where the reader fails once it has given `limit` bytes.
+fn is_unwritten<R: Threads + Wait + Sync>(
+    alloc: Global,
+    rt: &R,
+    texts: &Texts,
+    limit: usize,
+) -> bool {
+    let reader = Trickle::until(&texts.before, limit);
+    let stream = streamed(alloc, rt, reader, Checked::against(&texts.after));
+    stream.answer == Err(Fault::Io)
+        && stream.read_failed
+        && !stream.write_failed
+        && stream.unwritten == Some(texts.after.len())
+}
+
+/// The first byte at which a reader that fails lets something be written, or none.
+fn first_written<R: Threads + Wait + Sync>(alloc: Global, rt: &R, texts: &Texts) -> Option<usize> {
+    for limit in 0..=texts.before.len() {
+        if !is_unwritten(alloc, rt, texts, limit) {
+            return Some(limit);
+        }
+    }
+    None
+}
+
+#[test]
+fn a_reader_that_fails_at_any_byte_lets_nothing_be_written(rt: HostRuntime) -> Result<(), Fail> {
+    for (base, len) in BASES {
+        let texts = slid(rt.alloc(), base)?;
+        equal(&rt, texts.before.len(), len);
+        equal(&rt, first_written(rt.alloc(), &rt, &texts), None);
+    }
+    Ok(())
+}
+
+/// Whether the first `limit` bytes are written, all having been read, where the writer then fails, or takes none.
+fn is_begun<R: Threads + Wait + Sync>(
+    alloc: Global,
+    rt: &R,
+    texts: &Texts,
+    (limit, fails): (usize, bool),
+) -> bool {
+    let writer = Checked::until(&texts.after, limit, fails);
+    let stream = streamed(alloc, rt, Trickle::of(&texts.before, 100), writer);
+    let left = stream.unwritten.map(|count| count.wrapping_add(limit));
+    stream.answer == Err(Fault::Io)
+        && stream.write_failed
+        && !stream.read_failed
+        && stream.unread == 0
+        && left == Some(texts.after.len())
+}
+
+/// The first byte at which a writer that takes no more has something else than the beginning, or none.
+fn first_not_begun<R: Threads + Wait + Sync>(
+    alloc: Global,
+    rt: &R,
+    texts: &Texts,
+) -> Option<usize> {
+    for limit in 0..texts.after.len() {
+        if !is_begun(alloc, rt, texts, (limit, true))
+            || !is_begun(alloc, rt, texts, (limit, false))
+        {
+            return Some(limit);
+        }
+    }
+    None
+}
+
+#[test]
+fn a_writer_that_fails_at_any_byte_has_the_beginning(rt: HostRuntime) -> Result<(), Fail> {
+    for (base, len) in BASES {
+        let texts = slid(rt.alloc(), base)?;
+        equal(&rt, texts.after.len(), len);
+        equal(&rt, first_not_begun(rt.alloc(), &rt, &texts), None);
+    }
+    Ok(())
+}
+
+/// Lets nobody fill: either from the first write on, or at all.
+#[derive(Drop)]
+struct Watch<'a> {
+    is_written: &'a AtomicBool,
+    is_shut: bool,
+}
+
+impl Gate for Watch<'_> {
+    ghost may_refuse = { λ _ _ _. Unit {0} };
+
+    fn before_fill(&self, _worker: u32, _region: u32) -> bool {
+        !self.is_shut && !self.is_written.load(Ordering::SeqCst)
+    }
+
+    fn after_complete(&self, _worker: u32, _region: u32) {}
+}
+
+/// A writer that tells once it is written to.
+#[derive(Drop)]
+struct Telling<'a> {
+    is_written: &'a AtomicBool,
+}
+
+impl Write for Telling<'_> {
+    fn write(&mut self, buf: &[u8]) -> io::Result<usize> {
+        self.is_written.store(true, Ordering::SeqCst);
+        Ok(buf.len())
+    }
+
+    fn flush(&mut self) -> io::Result<()> {
+        Ok(())
+    }
+}
+
+/// How many regions a collection of this text fills by so many workers, or its fault, and whether anything was written.
+fn watched<R: Threads + Wait + Sync>(
+    alloc: Global,
+    rt: &R,
+    text: &[u8],
+    (workers, is_shut): (u32, bool),
+) -> (Result<u32, Fault>, bool) {
+    let is_written = AtomicBool::new(false);
+    let gate = Watch {
+        is_written: &is_written,
+        is_shut,
+    };
+    let mut reader = FromRead::new(text);
+    let mut writer = ToWrite::new(Telling {
+        is_written: &is_written,
+    });
+    let answer = collect_stream(alloc, &mut reader, &mut writer, workers, &gate, rt, rt);
+    let filled = answer.map(|figures| figures.filled);
+    (filled, is_written.load(Ordering::SeqCst))
+}
+
+#[test]
+fn nothing_is_written_before_a_collection_has_ended_well(rt: HostRuntime) -> Result<(), Fail> {
+    let text = Base::WithLiveList.text(rt.alloc(), 2)?;
+    for workers in [1, 2, 3] {
+        let open = watched(rt.alloc(), &rt, &text, (workers, false));
+        equal(&rt, open, (Ok(3), true));
+        let shut = watched(rt.alloc(), &rt, &text, (workers, true));
+        equal(&rt, shut, (Err(Fault::Gate), false));
+    }
+    Ok(())
+}
+
+#[test]
+fn nothing_is_written_by_no_workers_or_too_many(rt: HostRuntime) -> Result<(), Fail> {
+    let text = Base::WithLiveList.text(rt.alloc(), 2)?;
+    for workers in [0, 65] {
+        let refused = watched(rt.alloc(), &rt, &text, (workers, false));
+        equal(&rt, refused, (Err(Fault::Workers), false));
+    }
+    let bad = watched(rt.alloc(), &rt, &[0; 40], (0, false));
+    equal(&rt, bad, (Err(Fault::Magic), false));
+    Ok(())
+}
