@@ -1,7 +1,7 @@
 //! The command `generate`.
 ghost use Rattle.std.specs.Prelude.{◌≡◌, ◌≢◌, ◌⊎◌, ◌++◌, codes, ℕ, List, IfOk, IfErr, OnOk, OnErr, IsTrue, string_bytes};
 ghost use Rattle.heap_maker.specs.Figures.{figures_text};
-ghost use Rattle.heap_commands.specs.Generate.{IsGeneration, IsGenerationLine};
+ghost use Rattle.heap_commands.specs.Generate.{IsGeneration, IsGenerationLine, wanted_of};
 ghost use Rattle.command_support.specs.Failure.{failed_device};
 
 use command_line::Generate;
@@ -33,7 +33,9 @@ pub fn answer<'a, R: Files + AllocGlobal>(
 }
 
 /// Which heap is asked for.
-fn wanted_by(asked: &Generate<'_>) -> Wanted {
+fn wanted_by(asked: &Generate<'_>) -> Wanted
+    ensures { result ≡ wanted_of asked.now }
+{
     Wanted {
         words: u64::from(asked.words),
         region_log: asked.region_log,

@@ -1,11 +1,13 @@
 //! The command `record`.
-ghost use Rattle.std.specs.Prelude.{◌≡◌, codes, ℕ, List, IfOk, IfErr, string_bytes};
+ghost use Rattle.std.specs.Prelude.{◌≡◌, ◌≢◌, ◌⊎◌, codes, ℕ, List, IfOk, IfErr, OnErr, string_bytes};
+ghost use Rattle.heap_image.specs.declared.fault.Fault.{Fault};
+ghost use Rattle.collector.specs.Streams.{IsTextBegun, IsTextWritten};
 ghost use Rattle.pcompact.specs.Commands.Collect.{IsFirstOfBytes};
 ghost use Rattle.pcompact.specs.Commands.Record.{IsRecording};
 ghost use Rattle.pcompact.specs.Figures.{IsFigures, figures_line};
 
 use crate::collection_times::CollectionTimes;
-use crate::figures::{FiguresLine, LINE_ROOM, tell_figures};
+use crate::figures::{FiguresLine, LINE_ROOM, with_line};
 use crate::image_file::ImageFile;
 use crate::out_file::OutFile;
 use crate::timed_gate::TimedGate;
@@ -229,12 +231,20 @@ pub fn record_into<
         (O.took output.old) (O.took output.new)
         (L.took lines.old) (L.took lines.new) (string_bytes told.line)) }
     ensures figures { IfOk result (λ told. string_bytes told.line ≡ figures_line told.figures) }
+    // Nothing was written, or the collection had ended well.
+    ensures written { OnErr result ((output.new ≡ output.old)
+        ⊎ IsTextBegun (I.left input.old) (I.left input.new) (O.took output.old) (O.took output.new)) }
+    // No line was written before the whole compaction.
+    ensures lines_last { OnErr result ((lines.new ≡ lines.old)
+        ⊎ IsTextWritten (I.left input.old) (I.left input.new) (O.took output.old) (O.took output.new)) }
+    // Only the devices stop it once it writes.
+    ensures nothing_yet { IfErr result (λ fault. fault ≢ Fault.Io
+        → (output.new ≡ output.old) × (lines.new ≡ lines.old)) }
     ensures fault { IfErr result (λ fault. IsFirstOfBytes (I.left input.old) fault) }
 {
     let alloc = rt.alloc();
-    let mut line = String::with_capacity(alloc, LINE_ROOM)?;
+    let line = String::with_capacity(alloc, LINE_ROOM)?;
     let Workers { count, gate } = workers;
     let figures = record_stream(alloc, input, output, lines, count, gate, rt, rt)?;
-    tell_figures(figures, &mut line)?;
-    Ok(FiguresLine { figures, line })
+    Ok(with_line(figures, line))
 }
