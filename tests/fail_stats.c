@@ -1,6 +1,6 @@
 // Preloaded into a program, lets the system tell it less of its work: the clock fails from the call on whose number, from 1, the
 // environment gives as NO_CLOCK, and the file of the process's peak memory can't be opened where NO_STATUS is set. From the call
-// on that it gives as LATE the clock is 1000 seconds ahead.
+// on that it gives as LATE the clock is 1000 seconds ahead. At exit file descriptor 3 gets what the system tells of the process.
 #define _GNU_SOURCE
 #include <dlfcn.h>
 #include <errno.h>
@@ -10,6 +10,8 @@
 #include <stdlib.h>
 #include <string.h>
 #include <time.h>
+
+#include "at_exit.h"
 
 static atomic_ulong readings;
 
@@ -46,4 +48,13 @@ int open(const char *name, int flags, ...) {
         return -1;
     }
     return next(name, flags, mode);
+}
+
+static void tell(void) {
+    char text[8192];
+    int status = syscall(SYS_openat, AT_FDCWD, "/proc/self/status", O_RDONLY, 0);
+    ssize_t length = syscall(SYS_read, status, text, sizeof text);
+    if (length > 0) {
+        (void)!syscall(SYS_write, 3, text, length);
+    }
 }
