@@ -1,5 +1,5 @@
 //! `collect_stream`: a collection from bytes to bytes.
-ghost use Rattle.std.specs.Prelude.{◌≡◌, ◌≢◌, ◌⊎◌, ℕ, IsTrue, IfOk, OnErr, IfErr, IfSome, Some, Err};
+ghost use Rattle.std.specs.Prelude.{◌≡◌, ◌≢◌, ◌⊎◌, ℕ, IsTrue, IfOk, OnErr, IfErr, IfSome, MatchResult, Some, Err};
 ghost use Rattle.std.specs.Io.KnownBytes.{Appends};
 ghost use Rattle.heap_image.specs.HeapImage.{HeapImage};
 ghost use Rattle.heap_image.specs.ImageText.{text, first_fault};
@@ -7,6 +7,7 @@ ghost use Rattle.summary.specs.Compaction.{compact};
 ghost use Rattle.collector.specs.Collections.{figures_of, fault_of, AreNoneOrTooMany};
 ghost use Rattle.collector.specs.Halts.{MayRefuse};
 ghost use Rattle.heap_image.specs.Reading.{IsRead};
+ghost use Rattle.heap_image.specs.Refusals.{IsOfReading};
 ghost use Rattle.collector.specs.Streams.{IsTextBegun, IsOfBytes};
 
 use crate::collection::collect;
@@ -46,6 +47,9 @@ pub fn collect_stream<R: Intake, O: Outlet, G: Gate + Sync, T: Threads + Sync, W
     ensures device { result ≡ Err Fault.Io
         → IsTrue (R.has_failed reader.new) ⊎ IsTrue (O.has_failed writer.new) }
     ensures workers { result ≡ Err Fault.Workers → AreNoneOrTooMany workers }
+    // A number of workers that isn't 1 to 64 is refused, unless the input is.
+    ensures refused { AreNoneOrTooMany workers → MatchResult result (λ figures. ⊥)
+        (λ fault. (fault ≡ Fault.Workers) ⊎ IsOfReading fault) }
     ensures gate { result ≡ Err Fault.Gate → (image : HeapImage)
         × IsRead image (R.left reader.old) (R.left reader.new)
         × MayRefuse (G.may_refuse gate.now) workers image }
