@@ -12,7 +12,7 @@ use crate::gate::Gate;
 use crate::outcome::Figures;
 use crate::reading::read_whole;
 use crate::recording::record;
-use heap_image::{Fault, Intake, Outlet, give_all, write_image};
+use heap_image::{Fault, Intake, Outlet, give_all, write_image_buffered};
 use history::write_schedule;
 use std::alloc::Global;
 use std::sync::Wait;
@@ -68,7 +68,7 @@ pub fn record_stream<
     match record(alloc, image, workers, gate, threads, wait) {
         Ok((outcome, schedule)) => {
             let text = write_schedule(alloc, &schedule)?;
-            write_image(&outcome.image, writer)?;
+            write_image_buffered(alloc, &outcome.image, writer)?;
             give_all(lines, text.as_slice())?;
             Ok(outcome.figures)
         }

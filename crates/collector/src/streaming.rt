@@ -14,7 +14,7 @@ use crate::collection::collect;
 use crate::gate::Gate;
 use crate::outcome::{Figures, Refusal};
 use crate::reading::read_whole;
-use heap_image::{Fault, Intake, Outlet, write_image};
+use heap_image::{Fault, Intake, Outlet, write_image_buffered};
 use std::alloc::Global;
 use std::sync::Wait;
 use std::thread::Threads;
@@ -58,7 +58,7 @@ pub fn collect_stream<R: Intake, O: Outlet, G: Gate + Sync, T: Threads + Sync, W
     let image = read_whole(alloc, reader, workers, threads)?;
     match collect(alloc, image, workers, gate, threads, wait) {
         Ok((outcome, _finished)) => {
-            write_image(&outcome.image, writer)?;
+            write_image_buffered(alloc, &outcome.image, writer)?;
             Ok(outcome.figures)
         }
         Err(refusal) => Err(refusal.fault()),
