@@ -8,7 +8,7 @@ ghost use Rattle.heap_commands.specs.Upgrade.{IsRootCount, IsUpgrading};
 
 use crate::line::{push_number, push_text};
 use command_line::Upgrade;
-use command_support::{Trouble, WorkDone, ended, failed_between, image_and_out};
+use command_support::{SystemFile, Trouble, WorkDone, ended, failed_between, image_and_out};
 use heap_image::{Fault, FromRead, Intake, Outlet, ToWrite, upgrade_stream};
 use std::alloc::Global;
 use std::rt::Files;
@@ -21,6 +21,8 @@ pub fn answer<'a, R: Files + AllocGlobal>(
     rt: &R,
     asked: Upgrade<'a>,
 ) -> Result<WorkDone<'a>, Trouble<'a>>
+where
+    R::File: SystemFile,
     ensures { IfOk result (λ done. IsRootCount done.text.items) }
 {
     let (mut image, mut out) = image_and_out(rt, asked.image, asked.out, asked.atomic)?;

@@ -14,8 +14,8 @@ use crate::workers::Workers;
 use collector::{Gate, collect_stream};
 use command_line::Collect;
 use command_support::{
-    Stats, Stopwatch, TimedIntake, TimedOutlet, Trouble, WorkDone, ended, failed_between,
-    image_and_out,
+    Stats, Stopwatch, SystemFile, TimedIntake, TimedOutlet, Trouble, WorkDone, ended,
+    failed_between, image_and_out,
 };
 use heap_image::{Fault, Intake, Outlet};
 use std::os::unix::fs::FileExt;
@@ -30,7 +30,7 @@ pub fn answer<'a, R: Files + AllocGlobal + Threads + Wait + Clock + Sync>(
     asked: Collect<'a>,
 ) -> Result<WorkDone<'a>, Trouble<'a>>
 where
-    R::File: FileExt + Sync,
+    R::File: FileExt + SystemFile + Sync,
     ensures { IfOk result (λ done. IsFigures done.text.items) }
 {
     let watch = Stopwatch::start(rt, asked.stats);

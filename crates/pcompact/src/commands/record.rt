@@ -15,8 +15,8 @@ use crate::workers::Workers;
 use collector::{Gate, record_stream};
 use command_line::Record;
 use command_support::{
-    FileId, FileTarget, FileWord, Output, Phase, Role, Stats, Stopwatch, TimedIntake, TimedOutlet,
-    Trouble, Watched, WorkDone, failed, must_differ, same_file,
+    FileId, FileTarget, FileWord, Output, Phase, Role, Stats, Stopwatch, SystemFile, TimedIntake,
+    TimedOutlet, Trouble, Watched, WorkDone, failed, must_differ, same_file,
 };
 use heap_image::{Fault, Intake, Outlet, ToWrite};
 use std::alloc::Global;
@@ -33,7 +33,7 @@ pub fn answer<'a, R: Files + AllocGlobal + Threads + Wait + Clock + Sync>(
     asked: Record<'a>,
 ) -> Result<WorkDone<'a>, Trouble<'a>>
 where
-    R::File: FileExt + Sync,
+    R::File: FileExt + SystemFile + Sync,
     ensures { IfOk result (λ done. IsFigures done.text.items) }
 {
     let watch = Stopwatch::start(rt, asked.stats);
@@ -92,7 +92,10 @@ type ImageOutAndSchedule<'a, F> = (Watched<'a, F>, Output<'a, F>, Output<'a, F>)
 fn image_out_and_schedule<'a, H: Files + AllocGlobal>(
     host: &H,
     asked: &Record<'a>,
-) -> Result<ImageOutAndSchedule<'a, H::File>, Trouble<'a>> {
+) -> Result<ImageOutAndSchedule<'a, H::File>, Trouble<'a>>
+where
+    H::File: SystemFile,
+{
     let named = Named {
         image: FileWord::new(Role::Image, asked.image),
         out: FileWord::new(Role::Out, asked.out),
@@ -132,9 +135,9 @@ fn targets_beside<'a, H: Files + AllocGlobal>(
     named: Named<'a>,
     atomic: bool,
 ) -> Result<Targets<'a, H::File>, Trouble<'a>> {
-    let id = image.id()?;
-    let out = FileTarget::find(host, named.out, atomic)?;
-    let schedule = FileTarget::find(host, named.schedule, atomic)?;
+    let (id, writing) = (image.id()?, image.writing(atomic)?);
+    let out = FileTarget::find(host, named.out, writing)?;
+    let schedule = FileTarget::find(host, named.schedule, writing)?;
     if let Some((one, other)) = one_file(host, (named.image, id), &out, &schedule)? {
         let same = same_file(host.alloc(), one, other);
         schedule.leave(host);
@@ -147,14 +150,17 @@ fn targets_beside<'a, H: Files + AllocGlobal>(
 /// Two files that are written.
 type Outputs<'a, F> = (Output<'a, F>, Output<'a, F>);
 
-/// Begins to write both files.
+/// Begins to write both files. No new file gets the name of one that is to be replaced.
 fn begin_both<'a, H: Files + AllocGlobal>(
     host: &H,
     out: FileTarget<'a, H::File>,
     schedule: FileTarget<'a, H::File>,
-) -> Result<Outputs<'a, H::File>, Trouble<'a>> {
-    let out = out.begin(host)?;
-    match schedule.begin(host) {
+) -> Result<Outputs<'a, H::File>, Trouble<'a>>
+where
+    H::File: SystemFile,
+{
+    let out = out.begin_apart(host, schedule.place_name())?;
+    match schedule.begin_apart(host, out.place_name()) {
         Ok(schedule) => Ok((out, schedule)),
         Err(trouble) => Err(failed(host, trouble, out)),
     }
@@ -186,6 +192,8 @@ fn both_ended<'a, H: Files>(
     out: Output<'a, H::File>,
     schedule: Output<'a, H::File>,
 ) -> Result<WorkDone<'a>, Trouble<'a>>
+where
+    H::File: SystemFile,
     ensures { IfOk result (λ done. done.text.items ≡ string_bytes line) }
 {
     let out = match out.finish(host) {
