@@ -35,10 +35,10 @@ impl Packed {
         let Transcribed {
             heap,
             arrangement,
-            roots,
             unresolved,
         } = Transcribed::of(alloc, &mut inventory, source, MAX_REGION_LOG, false)?;
-        drop(inventory);
+        // What isn't needed any more is let go before more memory is taken.
+        let Inventory { roots, .. } = inventory;
         let survivors = Survivors::of(alloc, &heap, arrangement.words(), roots.as_slice())?;
         Ok(Packed {
             heap,
