@@ -11,8 +11,15 @@ use Rattle.heap_commands.specs.Command.{Command}
 
 -- the heap that the words of the command ask for
 abbrev pub wanted_of : Generate → Wanted
-wanted_of asked = record { words = asked.words; region_log = asked.region_log; live_percent = asked.live
-    ; reference_percent = asked.references; is_rooted = asked.version == 2; allowance = asked.allowance; seed = asked.seed }
+wanted_of asked = record {
+  words = asked.words;
+  region_log = asked.region_log;
+  live_percent = asked.live;
+  reference_percent = asked.references;
+  is_rooted = asked.version == 2;
+  allowance = asked.allowance;
+  seed = asked.seed;
+}
 
 -- the line with the figures of an image
 pub record IsFiguresLine (image : HeapImage) (shown : List ℕ) : Type 0 where

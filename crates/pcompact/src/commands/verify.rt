@@ -105,7 +105,7 @@ pub fn verify_images<R: Intake, S: Intake, T: Threads + Sync>(
     after: &mut S,
     threads: &T,
 ) -> Result<Verdict, Unverified>
-    ensures { IfOk result (λ verdict. IsVerdictOf (R.left before.old) (R.left before.new)
+    ensures verdict { IfOk result (λ verdict. IsVerdictOf (R.left before.old) (R.left before.new)
         (S.left after.old) (S.left after.new) verdict) }
     ensures fault { IfErr result (IsUnverified (R.left before.old) (R.left before.new) (S.left after.old)) }
 {
