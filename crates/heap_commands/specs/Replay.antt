@@ -27,11 +27,6 @@ pub record IsReplayOf (left left' asked : Option (List ℕ)) (shown : List ℕ) 
   pub follows : IsReplayed image schedule replayed
   pub tells : shown ≡ schedule_text replayed.lines ++ end_line replayed.ended
 
--- what is shown is the replay of this schedule on this image
-abbrev pub IsReplayShown : HeapImage → ScheduleView → List ℕ → Type 0
-IsReplayShown image schedule shown = (replayed : Replayed) × IsReplayed image schedule replayed
-    × (shown ≡ schedule_text replayed.lines ++ end_line replayed.ended)
-
 -- the replay of some schedule on some valid image
 pub record IsReplayText (shown : List ℕ) : Type 0 where
   pub image : HeapImage

@@ -1,14 +1,14 @@
 //! The command `replay`.
 ghost use Rattle.std.specs.Prelude.{◌≡◌, ◌++◌, ℕ, List, IfOk, IfSome, codes};
 ghost use Rattle.history.specs.ScheduleText.{schedule_text};
-ghost use Rattle.heap_commands.specs.Replay.{IsReplayShown, IsReplayText, IsReplayOf, end_line};
+ghost use Rattle.history.specs.Replayed.{IsReplayed};
+ghost use Rattle.heap_commands.specs.Replay.{IsReplayText, IsReplayOf, end_line};
 
 use command_line::Replay;
 use command_support::{FileWord, LineReason, Role, Trouble, WorkDone, two_different_inputs};
 use heap_image::{Fault, FromRead, Image, Intake, read_image_by_threads};
-use history::{End, Replayed, Schedule, explain, read_schedule, replay, write_schedule};
+use history::{End, Replayed, Schedule, explain, read_schedule_from, replay, write_schedule};
 use std::alloc::{AllocError, Global};
-use std::io::{ErrorKind, Read};
 use std::rt::Files;
 use std::thread::Threads;
 use summary::{Plan, Survey};
@@ -26,7 +26,7 @@ pub fn answer<'a, R: Files + AllocGlobal + Threads + Sync>(
     match replay_text(
         rt.alloc(),
         &mut FromRead::new(&mut image),
-        &mut schedule,
+        &mut FromRead::new(&mut schedule),
         rt,
     ) {
         Ok(text) => Ok(WorkDone::printing(text)),
@@ -60,33 +60,34 @@ impl From<AllocError> for Unreplayed {
 
 /// Replays a schedule on a copy of the image, and answers its lines, each with its reply, and
 /// whether the collection was finished.
-pub fn replay_text<R: Intake, S: Read, T: Threads + Sync>(
+pub fn replay_text<R: Intake, S: Intake, T: Threads + Sync>(
     alloc: Global,
     input: &mut R,
     schedule: &mut S,
     threads: &T,
 ) -> Result<Vec<u8>, Unreplayed>
     ensures { IfOk result (λ shown. IsReplayOf (R.left input.old) (R.left input.new)
-        (S.remaining schedule.old) shown.items) }
+        (S.left schedule.old) shown.items) }
 {
     let image = read_image_by_threads(alloc, input, threads)?;
     let asked = schedule_in(alloc, schedule)?;
-    text_on(alloc, &image, &asked, threads)
+    let replayed = replay_on(alloc, &image, asked, threads)?;
+    Ok(text_of(alloc, &replayed)?)
 }
 
-/// The replay of a schedule on an image, as text.
-fn text_on(
+/// The replay of a schedule on an image. The schedule isn't kept beside it.
+fn replay_on(
     alloc: Global,
     image: &Image,
-    asked: &Schedule,
+    asked: Schedule,
     threads: &(impl Threads + Sync),
-) -> Result<Vec<u8>, Unreplayed>
-    ensures { IfOk result (λ shown. IsReplayShown image.now asked.now shown.items) }
+) -> Result<Replayed, Unreplayed>
+    ensures { IfOk result (IsReplayed image.now asked) }
 {
     let survey = Survey::of(alloc, image, threads)?;
-    match replay(alloc, image, &survey, asked) {
-        Ok(replayed) => Ok(text_of(alloc, &replayed)?),
-        Err(fault) => Err(refused(alloc, survey.plan(), asked, fault)),
+    match replay(alloc, image, &survey, &asked) {
+        Ok(replayed) => Ok(replayed),
+        Err(fault) => Err(refused(alloc, survey.plan(), &asked, fault)),
     }
 }
 
@@ -100,17 +101,13 @@ fn text_of(alloc: Global, replayed: &Replayed) -> Result<Vec<u8>, AllocError>
     Ok(text)
 }
 
-/// The schedule that a file has the text of.
-pub fn schedule_in<S: Read>(alloc: Global, file: &mut S) -> Result<Schedule, Unreplayed>
-    ensures { IfOk result (λ schedule. IfSome (S.remaining file.old) (λ bytes. bytes ≡ schedule_text schedule)) }
+/// The schedule that a file has the text of. The text isn't kept.
+pub fn schedule_in<S: Intake>(alloc: Global, file: &mut S) -> Result<Schedule, Unreplayed>
+    ensures { IfOk result (λ schedule. IfSome (S.left file.old) (λ bytes. bytes ≡ schedule_text schedule)) }
 {
-    let mut text = Vec::new(alloc);
-    match file.read_to_end(&mut text) {
-        Ok(_) => read_schedule(alloc, text.as_slice()).map_err(malformed),
-        Err(error) if error.kind() == ErrorKind::OutOfMemory => Err(Unreplayed::from(
-            Fault::Memory,
-        )),
-        Err(_) => Err(Unreplayed::from(Fault::Io)),
+    match read_schedule_from(alloc, file) {
+        Ok(schedule) => Ok(schedule),
+        Err(fault) => Err(malformed(fault)),
     }
 }
 

@@ -19,7 +19,6 @@ use heap_image::{
 use heap_map::Style;
 use history::Schedule;
 use std::alloc::{AllocError, Global};
-use std::io::Read;
 use std::rt::Files;
 use std::thread::Threads;
 use summary::Survey;
@@ -101,7 +100,12 @@ fn printed<'a, R: Files + AllocGlobal + Threads + Sync>(
         mut image,
         mut schedule,
     } = open(rt, inputs)?;
-    match lanes_text(rt, &mut FromRead::new(&mut image), &mut schedule, lanes) {
+    match lanes_text(
+        rt,
+        &mut FromRead::new(&mut image),
+        &mut FromRead::new(&mut schedule),
+        lanes,
+    ) {
         Ok(text) => Ok(WorkDone::printing(text.into_bytes())),
         Err(unreplayed) => Err(trouble_of(unreplayed, &image, &schedule)),
     }
@@ -139,7 +143,7 @@ fn written_to<'a, R: Files + AllocGlobal + Threads + Sync>(
     let line = write_into(
         rt,
         &mut FromRead::new(&mut image),
-        &mut schedule,
+        &mut FromRead::new(&mut schedule),
         &mut output,
         form,
     );
@@ -195,14 +199,14 @@ fn trouble_of<'a, F: Drop>(
 }
 
 /// The lanes of the schedule that one input is, on the image that the other is, as text.
-pub fn lanes_text<R: Intake, S: Read, T: AllocGlobal + Threads + Sync>(
+pub fn lanes_text<R: Intake, S: Intake, T: AllocGlobal + Threads + Sync>(
     rt: &T,
     input: &mut R,
     schedule: &mut S,
     lanes: Lanes,
 ) -> Result<String, Unreplayed>
     ensures { IfOk result (λ text. HasLanes (R.left input.old) (R.left input.new)
-        (S.remaining schedule.old) (string_bytes text)) }
+        (S.left schedule.old) (string_bytes text)) }
 {
     let followed = follow(rt, input, schedule)?;
     let Lanes { style, width } = lanes;
@@ -213,7 +217,7 @@ pub fn lanes_text<R: Intake, S: Read, T: AllocGlobal + Threads + Sync>(
 /// standard output: the figures.
 ///
 /// Nothing is written before all of it is made, and nothing takes memory once a byte is.
-pub fn write_into<R: Intake, S: Read, O: Outlet, T: AllocGlobal + Threads + Sync>(
+pub fn write_into<R: Intake, S: Intake, O: Outlet, T: AllocGlobal + Threads + Sync>(
     rt: &T,
     input: &mut R,
     schedule: &mut S,
@@ -221,7 +225,7 @@ pub fn write_into<R: Intake, S: Read, O: Outlet, T: AllocGlobal + Threads + Sync
     form: Form,
 ) -> Result<String, Unreplayed>
     ensures line { IfOk result (λ line. HasFigures (R.left input.old) (R.left input.new)
-        (S.remaining schedule.old) (string_bytes line)) }
+        (S.left schedule.old) (string_bytes line)) }
     // Only the device stops it once it writes.
     ensures nothing_yet { IfErr result (λ unreplayed. unreplayed.fault ≢ Fault.Io → output.new ≡ output.old) }
     ensures written { OnErr result ((output.new ≡ output.old) ⊎ IsTrue (O.has_failed output.new)) }
@@ -244,14 +248,14 @@ struct Picture {
 }
 
 /// The picture of the schedule that one input is, on the image that the other is.
-fn make_picture<R: Intake, S: Read, T: AllocGlobal + Threads + Sync>(
+fn make_picture<R: Intake, S: Intake, T: AllocGlobal + Threads + Sync>(
     rt: &T,
     input: &mut R,
     schedule: &mut S,
     form: Form,
 ) -> Result<Picture, Unreplayed>
     ensures { IfOk result (λ picture. HasFigures (R.left input.old) (R.left input.new)
-        (S.remaining schedule.old) (string_bytes picture.line)) }
+        (S.left schedule.old) (string_bytes picture.line)) }
 {
     let followed = follow(rt, input, schedule)?;
     Ok(picture_of(rt.alloc(), &followed, form)?)
@@ -284,13 +288,13 @@ struct Followed {
 }
 
 /// Follows the schedule that one input is, on the image that the other is.
-fn follow<R: Intake, S: Read, T: AllocGlobal + Threads + Sync>(
+fn follow<R: Intake, S: Intake, T: AllocGlobal + Threads + Sync>(
     rt: &T,
     input: &mut R,
     schedule: &mut S,
 ) -> Result<Followed, Unreplayed>
     ensures { IfOk result (λ followed. IsFollowed (R.left input.old) (R.left input.new)
-        (S.remaining schedule.old) followed.timeline) }
+        (S.left schedule.old) followed.timeline) }
 {
     let alloc = rt.alloc();
     let image = read_image_by_threads(alloc, input, rt)?;

@@ -10,6 +10,8 @@ mod causes;
 #[cfg(test)]
 mod checks;
 #[cfg(test)]
+mod devices;
+#[cfg(test)]
 mod recorder;
 #[cfg(test)]
 mod replays;
