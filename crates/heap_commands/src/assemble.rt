@@ -10,10 +10,10 @@ use command_support::{
     Failure, FileTarget, FileWord, Late, Role, Trouble, Watched, WorkDone, ended, must_differ,
     target_beside,
 };
-use heap_image::{Fault, Image, Outlet, ToWrite, write_image};
-use heap_text::assemble;
+use heap_image::{Fault, FromRead, Image, Outlet, ToWrite, write_image};
+use heap_text::{AssembleError, assemble_from};
 use std::alloc::{AllocError, Global};
-use std::io::{ErrorKind, Read};
+use std::io::Read;
 use std::rt::Files;
 
 /// Room for the line that counts what an image has, with each number as long as it can be.
@@ -58,6 +58,7 @@ fn open<'a, H: Files + AllocGlobal>(
 /// Reads the text of a heap, and writes the image of which it is the text. What it answers is for
 /// standard output: how many words, roots and live objects the image has.
 ///
+/// Lines are taken as they come, and nothing is asked for behind the piece of the text in which one is wrong.
 /// Nothing is written before all of the text is taken, and nothing takes memory once a byte is. Fault 13
 /// says that a device has failed, fault 11 that memory was refused, and any other failure which line of
 /// the text is none of a heap.
@@ -84,11 +85,10 @@ fn image_in<S: Read>(alloc: Global, file: &mut S) -> Result<Image, Failure>
     ensures text { IfOk result (λ image. IfSome (S.remaining file.old) (λ bytes. bytes ≡ text_of image)) }
     ensures valid { IfOk result (λ image. IsValid image) }
 {
-    let mut text = Vec::new(alloc);
-    match file.read_to_end(&mut text) {
-        Ok(_) => Ok(assemble(alloc, text.as_slice())?),
-        Err(error) if error.kind() == ErrorKind::OutOfMemory => Err(Failure::from(Fault::Memory)),
-        Err(_) => Err(Failure::from(Fault::Io)),
+    match assemble_from(alloc, &mut FromRead::new(file)) {
+        Ok(image) => Ok(image),
+        Err(AssembleError::Device) => Err(Failure::from(Fault::Io)),
+        Err(AssembleError::Text(error)) => Err(Failure::from(error)),
     }
 }
 
