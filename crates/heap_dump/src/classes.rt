@@ -4,7 +4,7 @@ ghost use Rattle.std.specs.Prelude.{◌≢◌};
 use crate::contents::Contents;
 use crate::error::ImportError;
 use crate::field_type::{FieldType, IdSize};
-use indexmap::IndexMap;
+use crate::objects::Objects;
 use std::alloc::{AllocError, Global};
 
 /// What is known of the fields of a class together with those of the classes above it.
@@ -12,145 +12,138 @@ use std::alloc::{AllocError, Global};
 enum Above {
     /// It was not looked for yet.
     Unknown,
-    /// A class on the way up is not in the dump, or comes twice.
+    /// A class on the way up is not in the dump, or comes twice; or it is being looked for.
     Broken,
-    /// The contents of all these fields, and the next class above that has fields.
-    Known { all: Contents, next: Option<u32> },
+    /// The contents of all these fields, and the number of the next class above that has fields, or 0.
+    Known { next: u32, all: Contents },
 }
 
 /// A class.
-#[derive(Drop)]
-pub(crate) struct Class {
-    /// Whether the dump has it. It is noted too where another record names it.
-    is_told: bool,
-    /// The number of the class above it.
-    parent: Option<u32>,
-    /// Its references to other objects and its static fields.
-    own: Contents,
-    /// The fields that it adds to instances, in the order of the dump.
-    fields: Vec<FieldType>,
+#[derive(Clone, Copy)]
+struct Class {
+    id: u64,
+    /// The id of the class above it.
+    parent: u64,
+    /// How many fields the classes before it add to instances.
+    fields_before: usize,
+    /// Its references to other objects, and the bytes of its static fields.
+    references: u32,
+    data_bytes: u32,
     above: Above,
 }
 
-impl Class {
-    /// A class as its record tells it.
-    pub(crate) fn told(parent: Option<u32>, own: Contents, fields: Vec<FieldType>) -> Class {
-        Class {
-            is_told: true,
-            parent,
-            own,
-            fields,
-            above: Above::Unknown,
-        }
-    }
-
-    /// A class that was named and not told.
-    fn named(alloc: Global) -> Class {
-        Class {
-            is_told: false,
-            parent: None,
-            own: Contents::EMPTY,
-            fields: Vec::new(alloc),
-            above: Above::Unknown,
-        }
-    }
-
-    /// The fields that it adds to instances.
-    pub(crate) fn fields(&self) -> &[FieldType] {
-        self.fields.as_slice()
-    }
-
-    /// The next class above it that has fields.
-    pub(crate) fn next(&self) -> Option<u32> {
-        match self.above {
-            Above::Known { next, .. } => next,
-            _ => None,
-        }
-    }
-
-    /// The contents of its own fields.
-    fn contents(&self) -> Contents {
-        let mut contents = Contents::EMPTY;
-        for field in self.fields.as_slice() {
-            contents = contents.with(*field);
-        }
-        contents
-    }
-}
-
-/// The classes of a dump. A class has a number, in the order in which they were named.
+/// The classes of a dump. A class has a number, in the order of the dump, from 1 on. Number 0 stands for a class that is
+/// not in the dump.
 #[derive(Drop)]
 pub(crate) struct Classes {
-    table: IndexMap<u64, Class>,
+    list: Vec<Class>,
+    /// The fields that the classes add to instances, class after class, in the order of the dump.
+    fields: Vec<FieldType>,
     /// How many bytes an id has in the dump.
     ids: IdSize,
     alloc: Global,
 }
 
 impl Classes {
-    /// No class was named yet, in a dump with ids of this size.
+    /// There is no class yet, in a dump with ids of this size.
     pub(crate) fn new(alloc: Global, ids: IdSize) -> Classes {
         Classes {
-            table: IndexMap::new(alloc),
+            list: Vec::new(alloc),
+            fields: Vec::new(alloc),
             ids,
             alloc,
         }
     }
 
-    /// How many classes were named.
-    pub(crate) fn len(&self) -> usize {
-        self.table.len()
-    }
-
-    /// The number of the class with this id.
-    pub(crate) fn number_of(&mut self, id: u64) -> Result<u32, ImportError>
+    /// Adds a class with this parent, references and static fields, and answers its number.
+    pub(crate) fn add(&mut self, id: u64, parent: u64, own: Contents) -> Result<u32, ImportError>
         ensures { result ≢ Err ImportError.Input }
     {
-        let number = match self.table.get_index_of(&id) {
-            Some(number) => number,
-            None => self.table.insert_full(id, Class::named(self.alloc))?.0,
+        let class = Class {
+            id,
+            parent,
+            fields_before: self.fields.len(),
+            references: u32::try_from(own.references).unwrap_or(u32::MAX),
+            data_bytes: u32::try_from(own.data_bytes).unwrap_or(u32::MAX),
+            above: Above::Unknown,
         };
-        u32::try_from(number).map_err(|_| ImportError::Memory)
+        self.list.push(class)?;
+        u32::try_from(self.list.len()).map_err(|_| ImportError::Memory)
     }
 
-    /// The number of the class above another, which has this id. There is none where it is null.
-    pub(crate) fn parent_number(&mut self, id: u64) -> Result<Option<u32>, ImportError>
-        ensures { result ≢ Err ImportError.Input }
-    {
-        if id == 0 {
-            return Ok(None);
-        }
-        Ok(Some(self.number_of(id)?))
-    }
-
-    /// Notes a class as its record tells it.
-    pub(crate) fn tell(&mut self, id: u64, class: Class) -> Result<(), ImportError>
-        ensures { result ≢ Err ImportError.Input }
-    {
-        self.table.insert(id, class)?;
+    /// Adds a field that the last class adds to instances.
+    pub(crate) fn add_field(&mut self, field: FieldType) -> Result<(), AllocError> {
+        self.fields.push(field)?;
         Ok(())
     }
 
+    /// How many classes there are.
+    pub(crate) fn len(&self) -> usize {
+        self.list.len()
+    }
+
     /// The class with this number.
-    pub(crate) fn get(&self, number: u32) -> Option<&Class> {
-        let (_, class) = self.table.get_index(number as usize)?;
-        Some(class)
+    fn get(&self, number: u32) -> Option<&Class> {
+        self.list.get((number as usize).checked_sub(1)?)
     }
 
-    /// The references and static fields of the class with this id.
-    pub(crate) fn own_contents(&self, id: u64) -> Option<Contents> {
-        let class = self.table.get(&id)?;
-        Some(class.own)
+    /// Whether the class with this number has this id.
+    pub(crate) fn has_id(&self, number: u32, id: u64) -> bool {
+        match self.get(number) {
+            Some(class) => class.id == id,
+            None => false,
+        }
     }
 
-    /// The number of a class that was named before.
-    pub(crate) fn known_number(&self, id: u64) -> Option<u32> {
-        u32::try_from(self.table.get_index_of(&id)?).ok()
+    /// The fields that the class with this number adds to instances.
+    pub(crate) fn fields(&self, number: u32) -> &[FieldType] {
+        let (from, to) = self.fields_range(number);
+        self.fields.get(from..to).unwrap_or(&[])
+    }
+
+    /// Where the fields of the class with this number begin and end.
+    fn fields_range(&self, number: u32) -> (usize, usize) {
+        let Some(class) = self.get(number) else {
+            return (0, 0);
+        };
+        let end = match self.get(number.saturating_add(1)) {
+            Some(behind) => behind.fields_before,
+            None => self.fields.len(),
+        };
+        (class.fields_before, end)
+    }
+
+    /// The number of the next class above this one that has fields, or 0.
+    pub(crate) fn next(&self, number: u32) -> u32 {
+        match self.above(number) {
+            Above::Known { next, .. } => next,
+            _ => 0,
+        }
+    }
+
+    /// What is known of the fields of the class with this number.
+    fn above(&self, number: u32) -> Above {
+        match self.get(number) {
+            Some(class) => class.above,
+            None => Above::Broken,
+        }
+    }
+
+    /// The references and static fields of the class with this number, if it has this id.
+    pub(crate) fn own_contents(&self, number: u32, id: u64) -> Option<Contents> {
+        let class = self.get(number)?;
+        if class.id != id {
+            return None;
+        }
+        Some(Contents {
+            references: u64::from(class.references),
+            data_bytes: u64::from(class.data_bytes),
+        })
     }
 
     /// The contents of an instance of this class, if the dump has the class and all those above it.
     pub(crate) fn instance_contents(&self, number: u32) -> Option<Contents> {
-        match self.get(number)?.above {
+        match self.above(number) {
             Above::Known { all, .. } => Some(all),
             _ => None,
         }
@@ -166,73 +159,94 @@ impl Classes {
         }
     }
 
+    /// How many words an instance of this class has in an image, whose fields have so many bytes in the dump. One that does
+    /// not fit its class has one: it is refused once it is read again.
+    pub(crate) fn instance_words(&self, number: u32, bytes: u32) -> u64 {
+        match self.fitting_contents(number, bytes) {
+            Some(contents) => contents.words(),
+            None => 1,
+        }
+    }
+
     /// Finds the contents of the instances of each class.
-    pub(crate) fn settle(&mut self) -> Result<(), AllocError> {
+    pub(crate) fn settle(&mut self, objects: &Objects) -> Result<(), AllocError> {
         let mut path = Vec::new(self.alloc);
-        for number in 0..self.table.len() {
-            self.climb(number, &mut path)?;
+        for index in 0..self.list.len() {
+            let number = u32::try_from(index.saturating_add(1)).map_err(|_| AllocError)?;
+            self.climb(objects, number, &mut path)?;
             while let Some(below) = path.pop() {
-                self.settle_one(below);
+                let above = self.find_above(objects, below);
+                self.set_above(below, above);
             }
         }
         Ok(())
     }
 
-    /// Puts a class and those above it on the path, up to one that is settled.
-    fn climb(&self, number: usize, path: &mut Vec<usize>) -> Result<(), AllocError> {
-        let mut at = Some(number);
-        for _ in 0..=self.table.len() {
-            let Some(number) = at else {
+    /// Puts a class and those above it on the path, up to one that is settled. Until it is settled too, each is broken, so that
+    /// a way up that comes back ends there.
+    fn climb(
+        &mut self,
+        objects: &Objects,
+        number: u32,
+        path: &mut Vec<u32>,
+    ) -> Result<(), AllocError> {
+        let mut number = number;
+        for _ in 0..=self.list.len() {
+            let Some(
+                Class {
+                    parent,
+                    above: Above::Unknown,
+                    ..
+                },
+            ) = self.get(number)
+            else {
                 return Ok(());
             };
-            let Some((_, class)) = self.table.get_index(number) else {
-                return Ok(());
-            };
-            if !matches!(class.above, Above::Unknown) {
-                return Ok(());
-            }
+            let parent = *parent;
             path.push(number)?;
-            at = class.parent.map(|parent| parent as usize);
+            self.set_above(number, Above::Broken);
+            number = objects.class_number(self, parent);
         }
         Ok(())
     }
 
-    /// Settles a class whose parent is settled. One whose parent isn't is above itself.
-    fn settle_one(&mut self, number: usize) {
-        let above = self.above_of(number);
-        if let Some(class) = self.table.get_index_mut(number) {
+    fn set_above(&mut self, number: u32, above: Above) {
+        let index = (number as usize).saturating_sub(1);
+        if let Some(class) = self.list.get_mut(index) {
             class.above = above;
         }
     }
 
-    /// What is known of the fields of a class and of those above it, from what is known of its parent.
-    fn above_of(&self, number: usize) -> Above {
-        let Some((_, class)) = self.table.get_index(number) else {
+    /// What is known of the fields of a class and of those above it, from what is known of its parent. A class whose parent
+    /// isn't settled is above itself.
+    fn find_above(&self, objects: &Objects, number: u32) -> Above {
+        let Some(class) = self.get(number) else {
             return Above::Broken;
         };
-        if !class.is_told {
-            return Above::Broken;
+        let own = self.field_contents(number);
+        if class.parent == 0 {
+            return Above::Known { next: 0, all: own };
         }
-        let own = class.contents();
-        let Some(number) = class.parent else {
-            return Above::Known {
-                all: own,
-                next: None,
-            };
-        };
-        let Some(parent) = self.get(number) else {
-            return Above::Broken;
-        };
-        match parent.above {
-            Above::Known { all, next } => Above::Known {
-                all: own.plus(all),
-                next: if parent.fields.is_empty() {
+        let parent = objects.class_number(self, class.parent);
+        match self.above(parent) {
+            Above::Known { next, all } => Above::Known {
+                next: if self.fields(parent).is_empty() {
                     next
                 } else {
-                    Some(number)
+                    parent
                 },
+                all: own.plus(all),
             },
             _ => Above::Broken,
         }
+    }
+
+    /// The contents of the fields that a class adds to instances.
+    fn field_contents(&self, number: u32) -> Contents {
+        let mut contents = Contents::EMPTY;
+        for field in self.fields(number) {
+            contents = contents.with(*field);
+        }
+        contents
     }
 }

@@ -35,7 +35,7 @@ pub fn import<R: Intake>(
         → IsTrue (R.has_failed first.new) ⊎ IsTrue (R.has_failed second.new) }
 {
     let regions = options.regions()?;
-    let inventory = Inventory::of(alloc, first)?;
+    let inventory = Inventory::of(alloc, first, second)?;
     let draft = if options.live_only {
         live_heap(alloc, inventory, second, regions)?
     } else if inventory.measure(true).words() <= regions.most_words() {
@@ -59,14 +59,14 @@ fn whole_heap<R: Intake>(
     let Transcribed {
         mut heap,
         arrangement,
-        roots,
         unresolved,
     } = Transcribed::of(alloc, &mut inventory, source, regions.log, true)?;
-    inventory.objects.seal(&mut heap);
+    let Inventory { objects, roots, .. } = inventory;
+    objects.seal(&mut heap);
     Ok(Draft {
         heap,
         roots,
-        objects: inventory.objects.len() as u64,
+        objects: objects.len() as u64,
         dropped_gaps: arrangement.dropped_gaps(),
         unresolved,
     })
@@ -82,25 +82,24 @@ fn live_heap<R: Intake>(
     ensures end { OnOk result (IsAtEnd (R.left source.new)) }
     ensures input { result ≡ Err ImportError.Input → IsTrue (R.has_failed source.new) }
 {
-    let packed = Packed::of(alloc, inventory, source)?;
-    let (words, most) = (packed.survivors.words, regions.most_words());
+    let Packed {
+        heap,
+        survivors,
+        roots,
+        unresolved,
+    } = Packed::of(alloc, inventory, source)?;
+    let (words, most) = (survivors.words, regions.most_words());
     if words > most {
         return Err(ImportError::TooManyLiveWords { words, most });
     }
-    let objects = packed.survivors.addresses.len() as u64;
-    let alone = SurvivorHeap::of(
-        alloc,
-        &packed.heap,
-        &packed.survivors,
-        regions,
-        packed.roots.as_slice(),
-    )?;
+    let objects = survivors.addresses.len() as u64;
+    let alone = SurvivorHeap::of(alloc, &heap, &survivors, regions, roots)?;
     Ok(Draft {
         heap: alone.heap,
         roots: alone.roots,
         objects,
         dropped_gaps: 0,
-        unresolved: packed.unresolved,
+        unresolved,
     })
 }
 

@@ -1,17 +1,17 @@
 //! `Inventory`: what the first reading of a dump finds in it.
-ghost use Rattle.std.specs.Prelude.{◌≤◌, OnOk, ◌≡◌, IsTrue};
+ghost use Rattle.std.specs.Prelude.{◌≤◌, OnOk, ◌≡◌, IsTrue, ◌⊎◌};
 ghost use Rattle.std.specs.Io.KnownBytes.{IsAtEnd};
 
 use crate::arrangement::Arrangement;
-use crate::classes::{Class, Classes};
+use crate::classes::Classes;
 use crate::contents::Contents;
 use crate::dump::Dump;
 use crate::error::ImportError;
-use crate::field_type::FieldType;
 use crate::heap::UnsealedHeap;
 use crate::objects::{Object, Objects};
 use crate::record::{Instance, Record};
 use crate::record_visitor::RecordVisitor;
+use crate::repeats::second_object;
 use heap_image::Intake;
 use std::alloc::{AllocError, Global};
 
@@ -20,41 +20,47 @@ use std::alloc::{AllocError, Global};
 pub(crate) struct Inventory {
     pub(crate) classes: Classes,
     pub(crate) objects: Objects,
-    /// The ids that roots name, in the order of the dump.
+    /// The ids that roots name, in the order of the dump; once objects have their places, the addresses to which roots lead.
     pub(crate) roots: Vec<u64>,
-    alloc: Global,
 }
 
 impl Inventory {
-    /// Reads a dump to its end.
-    pub(crate) fn of<R: Intake>(alloc: Global, source: &mut R) -> Result<Inventory, ImportError>
+    /// Reads a dump to its end. Where two objects have one id, it is read again up to the second of them.
+    pub(crate) fn of<R: Intake>(
+        alloc: Global,
+        source: &mut R,
+        again: &mut R,
+    ) -> Result<Inventory, ImportError>
         ensures end { OnOk result (IsAtEnd (R.left source.new)) }
-        ensures input { result ≡ Err ImportError.Input → IsTrue (R.has_failed source.new) }
+        ensures input { result ≡ Err ImportError.Input
+            → IsTrue (R.has_failed source.new) ⊎ IsTrue (R.has_failed again.new) }
     {
         let mut dump = Dump::open(source)?;
         let mut inventory = Inventory {
             classes: Classes::new(alloc, dump.ids()),
             objects: Objects::new(alloc),
             roots: Vec::new(alloc),
-            alloc,
         };
-        inventory.read(&mut dump, source)?;
+        let read = dump.visit_records(source, &mut inventory);
+        if inventory.objects.sort() {
+            return Err(second_object(alloc, inventory.objects, again));
+        }
+        read?;
+        inventory.settle()?;
         Ok(inventory)
     }
 
-    /// Notes what the records of a dump tell, up to its end.
-    fn read<R: Intake>(&mut self, dump: &mut Dump, source: &mut R) -> Result<(), ImportError>
-        ensures end { OnOk result (IsAtEnd (R.left source.new)) }
-        ensures input { result ≡ Err ImportError.Input → IsTrue (R.has_failed source.new) }
-    {
-        dump.visit_records(source, self)?;
-        self.classes.settle()?;
-        self.objects.sort()
+    /// Finds the class and the size of each instance, once all objects are in order.
+    fn settle(&mut self) -> Result<(), AllocError> {
+        self.objects.divide()?;
+        self.classes.settle(&self.objects)?;
+        self.objects.size_instances(&self.classes);
+        Ok(())
     }
 
     /// Lays the objects out and answers how far they reach.
     pub(crate) fn measure(&self, keeps_gaps: bool) -> Arrangement {
-        self.objects.measure(&self.classes, keeps_gaps)
+        self.objects.measure(keeps_gaps)
     }
 
     /// Gives each object its place in a new heap with regions of `2 ^ region_log` words, and notes its size there.
@@ -69,21 +75,23 @@ impl Inventory {
     {
         let arrangement = self.measure(keeps_gaps);
         let mut heap = UnsealedHeap::new(alloc, region_log, arrangement.words())?;
-        self.objects.place(&self.classes, keeps_gaps, &mut heap);
+        self.objects.place(keeps_gaps, &mut heap);
         Ok((heap, arrangement))
     }
 
-    /// The addresses to which the roots lead, once the objects have their places, and how many lead to no object.
-    pub(crate) fn root_addresses(&self, alloc: Global) -> Result<(Vec<u64>, u64), AllocError> {
-        let mut addresses = Vec::new(alloc);
-        let mut missing = 0u64;
-        for root in self.roots.as_slice() {
-            match self.objects.address_of(*root) {
-                Some(address) => addresses.push(address)?,
-                None => missing = missing.saturating_add(1),
+    /// Has roots tell the addresses to which they lead, once the objects have their places, and answers how many lead to no
+    /// object.
+    pub(crate) fn place_roots(&mut self) -> u64 {
+        let objects = &self.objects;
+        let count = self.roots.len();
+        self.roots.retain_mut(|root| match objects.address_of(*root) {
+            Some(address) => {
+                *root = address;
+                true
             }
-        }
-        Ok((addresses, missing))
+            None => false,
+        });
+        count.saturating_sub(self.roots.len()) as u64
     }
 
     /// Notes a root, unless it is null.
@@ -104,11 +112,22 @@ impl Inventory {
         ensures input { result ≡ Err ImportError.Input → IsTrue (R.has_failed source.new) }
     {
         let head = dump.class_head(source)?;
-        let parent = self.classes.parent_number(head.parent)?;
         let own = contents_of_statics(dump, source)?;
-        self.objects.note(dump, id, Object::Sized(own.words()))?;
-        let fields = read_fields(self.alloc, dump, source)?;
-        self.classes.tell(id, Class::told(parent, own, fields))
+        let class = self.classes.add(id, head.parent, own)?;
+        let words = own.words();
+        self.objects.note(dump, id, Object::Sized { class, words })?;
+        self.note_fields(dump, source)
+    }
+
+    /// Notes the fields that the last class adds to instances.
+    fn note_fields<R: Intake>(&mut self, dump: &mut Dump, source: &mut R) -> Result<(), ImportError>
+        ensures input { result ≡ Err ImportError.Input → IsTrue (R.has_failed source.new) }
+    {
+        let count = dump.u16(source)?;
+        for _ in 0..count {
+            self.classes.add_field(dump.field(source)?)?;
+        }
+        Ok(())
     }
 
     /// Notes an instance, and goes on behind it.
@@ -121,9 +140,8 @@ impl Inventory {
         ensures input { result ≡ Err ImportError.Input → IsTrue (R.has_failed source.new) }
     {
         let Instance { id, class, bytes } = instance;
-        let class = self.classes.number_of(class)?;
         self.objects
-            .note(dump, id, Object::Instance { class, bytes })?;
+            .note(dump, id, Object::Instance { bytes, class })?;
         dump.skip(source, u64::from(bytes))
     }
 
@@ -137,8 +155,9 @@ impl Inventory {
     ) -> Result<(), ImportError>
         ensures input { result ≡ Err ImportError.Input → IsTrue (R.has_failed source.new) }
     {
+        let words = contents.words();
         self.objects
-            .note(dump, id, Object::Sized(contents.words()))?;
+            .note(dump, id, Object::Sized { class: 0, words })?;
         dump.skip(source, contents.bytes(dump.ids()))
     }
 }
@@ -160,7 +179,10 @@ impl RecordVisitor for Inventory {
 }
 
 /// The contents of a class, whose static fields come next. It refers to its super class, loader, signers and domain too.
-fn contents_of_statics<R: Intake>(dump: &mut Dump, source: &mut R) -> Result<Contents, ImportError>
+pub(crate) fn contents_of_statics<R: Intake>(
+    dump: &mut Dump,
+    source: &mut R,
+) -> Result<Contents, ImportError>
     ensures input { result ≡ Err ImportError.Input → IsTrue (R.has_failed source.new) }
 {
     let mut contents = Contents {
@@ -174,20 +196,4 @@ fn contents_of_statics<R: Intake>(dump: &mut Dump, source: &mut R) -> Result<Con
         dump.skip_value(source, field)?;
     }
     Ok(contents)
-}
-
-/// Reads the fields that a class adds to instances.
-fn read_fields<R: Intake>(
-    alloc: Global,
-    dump: &mut Dump,
-    source: &mut R,
-) -> Result<Vec<FieldType>, ImportError>
-    ensures input { result ≡ Err ImportError.Input → IsTrue (R.has_failed source.new) }
-{
-    let count = dump.u16(source)?;
-    let mut fields = Vec::new(alloc);
-    for _ in 0..count {
-        fields.push(dump.field(source)?)?;
-    }
-    Ok(fields)
 }

@@ -35,10 +35,16 @@ impl Packed {
         let Transcribed {
             heap,
             arrangement,
-            roots,
             unresolved,
         } = Transcribed::of(alloc, &mut inventory, source, MAX_REGION_LOG, false)?;
-        drop(inventory);
+        let Inventory {
+            classes,
+            objects,
+            roots,
+        } = inventory;
+        // They aren't needed any more, and more memory is taken.
+        drop(classes);
+        drop(objects);
         let survivors = Survivors::of(alloc, &heap, arrangement.words(), roots.as_slice())?;
         Ok(Packed {
             heap,

@@ -16,14 +16,13 @@ pub(crate) struct Transcribed {
     pub(crate) heap: UnsealedHeap,
     /// Where the objects stand.
     pub(crate) arrangement: Arrangement,
-    /// The addresses to which roots lead.
-    pub(crate) roots: Vec<u64>,
     /// How many references and roots lead to no object of the dump.
     pub(crate) unresolved: u64,
 }
 
 impl Transcribed {
-    /// Gives the objects of a dump their places in regions of `2 ^ region_log` words, and reads the dump to its end.
+    /// Gives the objects of a dump their places in regions of `2 ^ region_log` words, reads the dump to its end, and has the
+    /// roots of the inventory lead to addresses.
     pub(crate) fn of<R: Intake>(
         alloc: Global,
         inventory: &mut Inventory,
@@ -38,11 +37,10 @@ impl Transcribed {
     {
         let (heap, arrangement) = inventory.place(alloc, region_log, keeps_gaps)?;
         let (heap, unresolved) = Transcription::of(inventory, heap, source)?;
-        let (roots, missing) = inventory.root_addresses(alloc)?;
+        let missing = inventory.place_roots();
         Ok(Transcribed {
             heap,
             arrangement,
-            roots,
             unresolved: unresolved.saturating_add(missing),
         })
     }

@@ -9,6 +9,7 @@ use crate::error::{ImportError, Problem};
 use crate::field_type::FieldType;
 use crate::heap::{UnsealedHeap, first_word};
 use crate::inventory::Inventory;
+use crate::objects::Place;
 use crate::record::{Instance, Record};
 use crate::record_visitor::RecordVisitor;
 use crate::slots::Slots;
@@ -67,14 +68,21 @@ impl Transcription<'_> {
         Ok((heap, unresolved))
     }
 
-    /// Begins the object with this id, which has these contents.
-    fn begin(&mut self, dump: &Dump, id: u64, contents: Contents) -> Result<Slots, ImportError>
+    /// Where the object with this id stands.
+    fn find(&mut self, dump: &Dump, id: u64) -> Result<Place, ImportError>
         ensures { result ≢ Err ImportError.Input }
     {
-        let Some((index, address)) = self.inventory.objects.find(id, self.next) else {
+        let Some(place) = self.inventory.objects.find(id, self.next) else {
             return Err(dump.problem(Problem::Changed));
         };
-        self.next = index.saturating_add(1);
+        self.next = place.index.saturating_add(1);
+        Ok(place)
+    }
+
+    /// Begins the object at this address, which has these contents.
+    fn begin(&mut self, dump: &Dump, address: u64, contents: Contents) -> Result<Slots, ImportError>
+        ensures { result ≢ Err ImportError.Input }
+    {
         if self.heap.word(address) != first_word(contents.words(), 0) {
             return Err(dump.problem(Problem::Changed));
         }
@@ -177,10 +185,11 @@ impl Transcription<'_> {
     ) -> Result<(), ImportError>
         ensures input { result ≡ Err ImportError.Input → IsTrue (R.has_failed source.new) }
     {
-        let Some(contents) = self.inventory.classes.own_contents(id) else {
+        let place = self.find(dump, id)?;
+        let Some(contents) = self.inventory.classes.own_contents(place.class, id) else {
             return Err(dump.problem(Problem::Changed));
         };
-        let mut slots = self.begin(dump, id, contents)?;
+        let mut slots = self.begin(dump, place.address, contents)?;
         let head = dump.class_head(source)?;
         self.put_head(dump, head, &mut slots)?;
         self.copy_statics(dump, source, &mut slots)?;
@@ -230,27 +239,41 @@ impl Transcription<'_> {
     ) -> Result<(), ImportError>
         ensures input { result ≡ Err ImportError.Input → IsTrue (R.has_failed source.new) }
     {
-        let (class, contents) = self.class_of(dump, instance)?;
-        let mut slots = self.begin(dump, instance.id, contents)?;
-        self.copy_fields(dump, source, class, &mut slots)?;
+        let place = self.find(dump, instance.id)?;
+        let contents = self.contents_of(dump, place.class, instance)?;
+        let mut slots = self.begin(dump, place.address, contents)?;
+        self.copy_fields(dump, source, place.class, &mut slots)?;
         self.end(dump, slots)
     }
 
-    /// The number of an instance's class, and the contents of its fields.
-    fn class_of(&self, dump: &Dump, instance: Instance) -> Result<(u32, Contents), ImportError>
+    /// The contents of the fields of an instance, whose class has this number if the dump has not changed.
+    fn contents_of(
+        &self,
+        dump: &Dump,
+        class: u32,
+        instance: Instance,
+    ) -> Result<Contents, ImportError>
         ensures { result ≢ Err ImportError.Input }
     {
-        let classes = &self.inventory.classes;
-        let number = classes
-            .known_number(instance.class)
-            .ok_or(dump.problem(Problem::NoClass))?;
-        if classes.instance_contents(number).is_none() {
+        let Inventory {
+            classes,
+            objects,
+            ..
+        } = self.inventory;
+        if !classes.has_id(class, instance.class) {
+            let is_there = objects.class_number(classes, instance.class) > 0;
+            return Err(dump.problem(if is_there {
+                Problem::Changed
+            } else {
+                Problem::NoClass
+            }));
+        }
+        if classes.instance_contents(class).is_none() {
             return Err(dump.problem(Problem::NoClass));
         }
-        let contents = classes
-            .fitting_contents(number, instance.bytes)
-            .ok_or(dump.problem(Problem::InstanceSize(instance.bytes)))?;
-        Ok((number, contents))
+        classes
+            .fitting_contents(class, instance.bytes)
+            .ok_or(dump.problem(Problem::InstanceSize(instance.bytes)))
     }
 
     /// Puts the fields of the class with this number, which come next, and then those of the classes above it.
@@ -264,16 +287,13 @@ impl Transcription<'_> {
         ensures input { result ≡ Err ImportError.Input → IsTrue (R.has_failed source.new) }
     {
         let classes = &self.inventory.classes;
-        let mut at = classes.get(class);
+        let mut class = class;
         for _ in 0..=classes.len() {
-            let Some(class) = at else {
+            if class == 0 {
                 break;
-            };
-            self.copy_values(dump, source, class.fields(), slots)?;
-            at = match class.next() {
-                Some(next) => classes.get(next),
-                None => None,
-            };
+            }
+            self.copy_values(dump, source, classes.fields(class), slots)?;
+            class = classes.next(class);
         }
         Ok(())
     }
@@ -304,7 +324,8 @@ impl Transcription<'_> {
     ) -> Result<(), ImportError>
         ensures input { result ≡ Err ImportError.Input → IsTrue (R.has_failed source.new) }
     {
-        let mut slots = self.begin(dump, id, contents)?;
+        let place = self.find(dump, id)?;
+        let mut slots = self.begin(dump, place.address, contents)?;
         for _ in 0..contents.references {
             self.copy_reference(dump, source, &mut slots)?;
         }
