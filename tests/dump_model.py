@@ -10,6 +10,8 @@ import struct
 from model import MAX_REGIONS, MAX_WORDS
 
 NAMES = (b"JAVA PROFILE 1.0.1\0", b"JAVA PROFILE 1.0.2\0")
+# The records that hold a heap or a part of one, and the one that ends the parts.
+WHOLE, SEGMENT, END = 0x0C, 0x1C, 0x2C
 REFERENCE = 2
 DATA_BYTES = {4: 1, 8: 1, 5: 2, 9: 2, 6: 4, 10: 4, 7: 8, 11: 8}
 # What follows the id of a root, in bytes; None is an id.
@@ -89,23 +91,21 @@ class Dump:
             self.objects[id_] = self.instance(class_, values, at)
 
     def read_records(self, dump: bytes) -> None:
-        at, heaps, ended = 31, 0, False
+        at, tags = 31, []
         while at < len(dump):
             if at + 9 > len(dump):
                 raise Malformed(len(dump), "cut")
             tag, _time, length = struct.unpack(">BII", dump[at:at + 9])
             body = Body(dump, at + 9, length, self.id_size)
-            if tag in (0x0C, 0x1C):
-                heaps += 1
-                ended = tag == 0x0C
+            if tag in (WHOLE, SEGMENT):
                 while body.at < body.end:
                     self.read_heap_record(body)
-            ended = ended or tag == 0x2C
+            tags.append(tag)
             at = body.end
-        if not ended:
-            raise Malformed(len(dump), "end")
-        if heaps == 0 and not ended:
+        if WHOLE not in tags and SEGMENT not in tags:
             raise Malformed(len(dump), "heap")
+        if SEGMENT in tags and END not in tags[len(tags) - tags[::-1].index(SEGMENT):]:
+            raise Malformed(len(dump), "end")
 
     def tell(self, id_: int, at: int) -> None:
         if id_ == 0:

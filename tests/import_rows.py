@@ -75,7 +75,9 @@ def malformed_dumps() -> list[tuple[bytes, str]]:
         (heap_dump(to.instance(8, 16)), f"byte 40: {no_class}"),
         (heap_dump(to.instance(8, 16, [(8, 1)]), to.class_(16, 0, [5], [(2, 0)])), f"byte 40: {other_size}"),
         (dump_writer.Writer().record(0x77, b"\1\2\3").text(), "byte 43: the dump ends without a heap"),
+        (dump_writer.Writer().record(0x2C, b"").text(), "byte 40: the dump ends without a heap"),
         (dump_writer.Writer().record(0x1C, b"").text(), "byte 40: the dump ends without the end of its heap"),
+        (dump_writer.Writer().record(0x1C, b"").record(0x0C, b"").text(), "byte 49: the dump ends without the end of its heap"),
     ]
 
 

@@ -22,12 +22,21 @@ const RECORD_HEAD_BYTES: u64 = 9;
 enum Stage {
     /// No heap yet.
     Before,
-    /// A whole heap in one record.
-    Whole,
     /// Segments of a heap, whose end is still to come.
     Segments,
-    /// The end of the heap.
-    Ended,
+    /// A heap in one record, or with its end.
+    Whole,
+}
+
+impl Stage {
+    /// The stage behind a record with this tag. An end without a heap before it ends nothing.
+    fn after(self, tag: u8) -> Stage {
+        match (self, tag) {
+            (_, 0x1C) => Stage::Segments,
+            (Stage::Before, 0x0C) | (Stage::Segments, 0x2C) => Stage::Whole,
+            _ => self,
+        }
+    }
 }
 
 /// A heap dump while it is read.
@@ -149,7 +158,7 @@ impl Dump {
         match self.stage {
             Stage::Before => Err(self.window.problem(Problem::NoHeap)),
             Stage::Segments => Err(self.window.problem(Problem::NoEnd)),
-            Stage::Whole | Stage::Ended => Ok(()),
+            Stage::Whole => Ok(()),
         }
     }
 
@@ -163,12 +172,7 @@ impl Dump {
         let length = u64::from(self.window.u32(source)?);
         self.window.begin(length);
         self.in_heap = tag == 0x0C || tag == 0x1C;
-        self.stage = match tag {
-            0x0C => Stage::Whole,
-            0x1C => Stage::Segments,
-            0x2C => Stage::Ended,
-            _ => self.stage,
-        };
+        self.stage = self.stage.after(tag);
         if !self.in_heap {
             self.window.skip(source, length)?;
         }
