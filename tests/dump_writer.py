@@ -71,7 +71,8 @@ def small(id_size: int = 8, version: str = "1.0.2") -> Writer:
     heap += writer.references(1064, [1000, 0, 1032, 9999])
     writer.record(0x1C, heap)
     heap = writer.primitives(1032, 8, list(range(1, 12)))
-    heap += writer.class_(100, 108, [2, 10, 4], [(2, 1064), (9, 0x0A0B), (5, 0x41)], [(10, 5)], (1032, 0, 77))
+    heap += writer.class_(100, 108, [2, 10, 4], [(2, 1064), (9, 0x0A0B), (5, 0x41)],
+                          [(code, 0x0C0D0E0F) for code in (2, *SIZES)], (1032, 0, 77))
     heap += writer.class_(108, 0, [2, 11])
     heap += writer.primitives(1200, 7, [1]) + writer.primitives(1224, 5, [0x41, 0x42])
     writer.record(0x1C, heap)
@@ -104,7 +105,8 @@ def drawn(seed: int) -> bytes:
         return codes
 
     pieces = [writer.class_(number, parent, fields, [(code, named()) for code in draw.choices((2, *SIZES), k=draw.randrange(4))],
-                            [(10, 1)] * draw.randrange(2), (named(), named(), named()))
+                            [(code, named()) for code in draw.choices((2, *SIZES), k=draw.randrange(3))],
+                            (named(), named(), named()))
               for number, (parent, fields) in classes.items()]
     for number in ids[len(classes):]:
         class_ = draw.choice(list(classes))

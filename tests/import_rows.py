@@ -148,6 +148,24 @@ def try_malformed_dumps(tried: Tried) -> None:
     tried.run("import dump out --region-log 3 --live-only", refused(f"the reachable objects have {many}", {"out": None}))
 
 
+def try_most_words(tried: Tried) -> None:
+    """Heaps of exactly the most words that an image may have, and of one more: with regions of 8 words, and with the usual
+    ones."""
+    to = dump_writer.Writer()
+    for words, most in ((" --region-log 3", 131_072), ("", 4_194_304)):
+        for count in (most, most + 1):
+            # A heap of one array, and with an object behind it that no root reaches.
+            array = to.root(0x05, 8) + to.primitives(8, 11, [], count - 1) + bytes(8 * (count - 1))
+            told = f"words {count} objects 1 roots 1 live 1 dead 0 dropped-gaps 0 unresolved 0\n"
+            many = f"{count} words, and {most} are the most"
+            whole = Answer(0, told) if count == most else refused(f"the heap has {many}; with --live-only it has {count}", {"out": None})
+            live = Answer(0, told) if count == most else refused(f"the reachable objects have {many}", {"out": None})
+            tried.write("dump", heap_dump(array))
+            tried.run(f"import dump out{words}", whole)
+            tried.write("dump", heap_dump(array, to.references(2**40, [8])))
+            tried.run(f"import dump out --live-only{words}", live)
+
+
 def try_refused_dumps(tried: Tried) -> None:
     """What is no dump, or is too large, with the file for the image there or not: it stays as it was."""
     large = dump_writer.Writer()
@@ -219,4 +237,4 @@ def try_import_files(tried: Tried) -> None:
         tried.is_wrong("a dump that was named twice is changed")
 
 
-GROUPS = (try_imports, try_sample, try_malformed_dumps, try_refused_dumps, try_import_words, try_import_files)
+GROUPS = (try_imports, try_sample, try_malformed_dumps, try_most_words, try_refused_dumps, try_import_words, try_import_files)

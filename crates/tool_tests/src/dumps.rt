@@ -158,25 +158,53 @@ fn refusal(
     }
 }
 
-/// A dump with an array of two references in place of the one of the sample.
-fn changed_dump(alloc: Global) -> Result<Vec<u8>, AllocError> {
+/// The sample in one record, without its last array where it `lacks` that, and with so many references in the other one.
+fn variant(alloc: Global, references: &[u64], lacks: bool) -> Result<Vec<u8>, AllocError> {
     let mut heap = Writer::new(alloc);
-    heap.references(336, &[312, 0])?;
+    heap.root(0x05, 312, &[])?;
+    heap.class(256, 312, &[2, 10])?;
+    heap.instance(312, 256, &[0, 0, 0, 0, 0, 0, 0x11, 0x78, 1, 2, 3, 4])?;
+    heap.references(336, references)?;
+    if !lacks {
+        heap.bytes(4472, &[1, 2, 3, 4, 5, 6, 7, 8, 9])?;
+    }
     let mut dump = Writer::dump(alloc)?;
     dump.record(0x0C, heap.as_slice())?;
     Ok(dump.into_bytes())
 }
 
+/// Where it is noticed that the second reading gives a variant of the sample, or None where it isn't.
+fn change_noticed(
+    alloc: Global,
+    references: &[u64],
+    lacks: bool,
+) -> Result<Option<u64>, ImportError> {
+    let whole = variant(alloc, &[312, 0, 999], false)?;
+    let other = variant(alloc, references, lacks)?;
+    match refusal(alloc, whole.as_slice(), other.as_slice(), SMALL)? {
+        Some(
+            ImportError::Malformed {
+                offset,
+                problem: Problem::Changed,
+            },
+        ) => Ok(Some(offset)),
+        Some(error) => Err(error),
+        None => Ok(None),
+    }
+}
+
 #[test]
 fn a_dump_that_changes_is_told(rt: HostRuntime) -> Result<(), Fail> {
-    let dump = sample(rt.alloc())?;
-    let changed = changed_dump(rt.alloc())?;
-    let error = refusal(rt.alloc(), dump.as_slice(), changed.as_slice(), SMALL)?;
-    let told = ImportError::Malformed {
-        offset: 40,
-        problem: Problem::Changed,
-    };
-    equal(&rt, error, Some(told));
+    let same = change_noticed(rt.alloc(), &[312, 0, 999], false)?;
+    equal(&rt, same, None);
+    // An array of another size, and nothing else.
+    let smaller = change_noticed(rt.alloc(), &[312, 0], false)?;
+    equal(&rt, smaller, Some(192));
+    let larger = change_noticed(rt.alloc(), &[312, 0, 999, 0], false)?;
+    equal(&rt, larger, Some(192));
+    // An object that isn't there any more, and nothing else: that is noticed at the end.
+    let fewer = change_noticed(rt.alloc(), &[312, 0, 999], true)?;
+    equal(&rt, fewer, Some(192));
     Ok(())
 }
 
