@@ -1,1 +1,2 @@
 pub mod Concats
+pub mod Increasing

@@ -1,12 +1,14 @@
 //! `Draft`: the heap of an image, before its live objects are found.
 ghost use Rattle.std.specs.Prelude.{◌≡◌, IfOk, ◌≢◌};
-ghost use Rattle.heap_image.specs.HeapImage.{IsValid, version_of};
+ghost use Rattle.std.specs.List.Sorted.{IsStrictlyIncreasing};
+ghost use Rattle.heap_image.specs.HeapImage.{IsValid, roots_of, version_of};
 ghost use Rattle.heap_dump.specs.Figures.{AreFiguresOf};
 
 use crate::error::ImportError;
 use crate::figures::Figures;
 use crate::heap::UnsealedHeap;
 use crate::limits::words_within_limits;
+use crate::options::Regions;
 use crate::roots::roots_to;
 use heap_image::{Fault, Image, mark_from_roots, marked_parts_are_valid};
 use std::alloc::Global;
@@ -35,10 +37,17 @@ pub struct Imported {
 }
 
 impl Draft {
-    /// The image with this heap.
-    pub(crate) fn into_image(self, alloc: Global, allowance: u64) -> Result<Imported, ImportError>
+    /// The image with this heap, which has such regions.
+    pub(crate) fn into_image(
+        self,
+        alloc: Global,
+        asked: Regions,
+        allowance: u64,
+    ) -> Result<Imported, ImportError>
         ensures valid { IfOk result (λ imported. IsValid imported.image) }
         ensures rooted { IfOk result (λ imported. version_of imported.image ≡ 2) }
+        ensures region_log { IfOk result (λ imported. imported.image.region_log ≡ asked.log) }
+        ensures roots { IfOk result (λ imported. IsStrictlyIncreasing (roots_of imported.image)) }
         ensures allowance { IfOk result (λ imported. imported.image.allowance ≡ allowance) }
         ensures figures { IfOk result (λ imported. AreFiguresOf imported.image imported.figures) }
         ensures no_device { result ≢ Err ImportError.Input }
@@ -51,6 +60,9 @@ impl Draft {
             unresolved,
         } = self;
         let (region_log, regions) = heap.into_parts();
+        if region_log != asked.log {
+            return Err(ImportError::NoHeap(Fault::RegionLog));
+        }
         let words = words_within_limits(region_log, regions.as_slice())?;
         let roots = roots_to(alloc, roots.as_slice(), words)?;
         let live = match mark_from_roots(alloc, region_log, regions.as_slice(), roots.as_slice()) {

@@ -1,7 +1,9 @@
 //! `import`: a heap dump as an image.
 ghost use Rattle.std.specs.Prelude.{◌≡◌, IfOk, OnOk, IsTrue, ◌⊎◌};
 ghost use Rattle.std.specs.Io.KnownBytes.{IsAtEnd};
-ghost use Rattle.heap_image.specs.HeapImage.{IsValid, version_of};
+ghost use Rattle.std.specs.List.Sorted.{IsStrictlyIncreasing};
+ghost use Rattle.heap_image.specs.HeapImage.{IsValid, roots_of, version_of};
+ghost use Rattle.heap_dump.specs.Asked.{asked_log};
 ghost use Rattle.heap_dump.specs.Figures.{AreFiguresOf};
 
 use crate::draft::{Draft, Imported};
@@ -25,6 +27,8 @@ pub fn import<R: Intake>(
 ) -> Result<Imported, ImportError>
     ensures valid { IfOk result (λ imported. IsValid imported.image) }
     ensures rooted { IfOk result (λ imported. version_of imported.image ≡ 2) }
+    ensures region_log { IfOk result (λ imported. imported.image.region_log ≡ asked_log options) }
+    ensures roots { IfOk result (λ imported. IsStrictlyIncreasing (roots_of imported.image)) }
     ensures allowance { IfOk result (λ imported. imported.image.allowance ≡ options.allowance) }
     ensures figures { IfOk result (λ imported. AreFiguresOf imported.image imported.figures) }
     // No byte of the dump stands behind what was read.
@@ -43,7 +47,7 @@ pub fn import<R: Intake>(
     } else {
         return Err(refusal(alloc, inventory, second, regions));
     };
-    draft.into_image(alloc, options.allowance)
+    draft.into_image(alloc, regions, options.allowance)
 }
 
 /// The heap with all objects of a dump, and the gaps between them.

@@ -1,5 +1,6 @@
 //! `Options`: how an image is to be made.
-ghost use Rattle.std.specs.Prelude.{◌≤◌, ◌≢◌};
+ghost use Rattle.std.specs.Prelude.{◌≡◌, ◌≤◌, ◌≢◌, IfOk};
+ghost use Rattle.heap_dump.specs.Asked.{asked_log};
 
 use crate::error::ImportError;
 use heap_image::limits::{MAX_HEAP_WORDS, MAX_REGION_LOG, MAX_REGIONS, MIN_REGION_LOG};
@@ -30,7 +31,8 @@ pub(crate) struct Regions {
 impl Options {
     /// The size of regions that is asked for.
     pub(crate) fn regions(&self) -> Result<Regions, ImportError>
-        ensures { result ≢ Err ImportError.Input }
+        ensures asked { IfOk result (λ regions. regions.log ≡ asked_log self.now) }
+        ensures no_device { result ≢ Err ImportError.Input }
     {
         let log = self.region_log.unwrap_or(USUAL_REGION_LOG);
         if log < MIN_REGION_LOG || log > MAX_REGION_LOG {

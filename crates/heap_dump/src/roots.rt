@@ -1,5 +1,6 @@
 //! The roots of an image.
 ghost use Rattle.std.specs.Prelude.{◌≡◌, ◌≤◌, All, length, IfOk};
+ghost use Rattle.std.specs.List.Sorted.{IsStrictlyIncreasing};
 
 use std::alloc::{AllocError, Global};
 
@@ -8,6 +9,7 @@ use std::alloc::{AllocError, Global};
 pub(crate) fn roots_to(alloc: Global, addresses: &[u64], words: u64) -> Result<Vec<u64>, AllocError>
     ensures few { IfOk result (λ roots. length roots.items ≤ words) }
     ensures inside { IfOk result (λ roots. All (λ root. root ≤ words) roots.items) }
+    ensures ascend { IfOk result (λ roots. IsStrictlyIncreasing roots.items) }
 {
     let is_root = marks_of(alloc, addresses, words)?;
     let mut roots = Vec::new(alloc);
