@@ -20,7 +20,7 @@ over_sources() (
 
 # Prints the path and checksum of each file of code and specs below these folders.
 sum_files() {
-    find "$@" -type f '(' -name '*.rt' -o -name '*.antt' ')' -print0 | LC_ALL=C sort -z | xargs -0 sha256sum
+    find -L "$@" -type f '(' -name '*.rt' -o -name '*.antt' ')' -print0 | LC_ALL=C sort -z | xargs -0 sha256sum
 }
 
 # Prints the checksum of the sources as they stand.
@@ -51,6 +51,8 @@ fits() {
 # Finds the program that fits the sources: out/pcompact if it was proved here, or dist. Sets `folder`, or else `why`.
 find_program() {
     sum=$(sources_sum)
+    why="the sources have no checksum here, for which find, sed, sort, xargs, cut and sha256sum are needed"
+    [ -n "$sum" ] || return 1
     for folder in out/pcompact dist; do
         ! fits "$folder" "$sum" || return 0
     done

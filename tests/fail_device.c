@@ -132,12 +132,12 @@ int fchmod(int file, mode_t mode) {
     return fails() ? -1 : next(file, mode);
 }
 
-int chown(const char *name, uid_t owner, gid_t group) {
-    static int (*next)(const char *, uid_t, gid_t);
+int fchown(int file, uid_t owner, gid_t group) {
+    static int (*next)(int, uid_t, gid_t);
     if (!next) {
-        next = (int (*)(const char *, uid_t, gid_t))dlsym(RTLD_NEXT, "chown");
+        next = (int (*)(int, uid_t, gid_t))dlsym(RTLD_NEXT, "fchown");
     }
-    return fails() ? -1 : next(name, owner, group);
+    return fails() ? -1 : next(file, owner, group);
 }
 
 int rename(const char *from, const char *to) {

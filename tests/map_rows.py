@@ -196,6 +196,20 @@ def try_large_drawings(tried: Tried) -> None:
         tried.is_wrong("a drawing of the largest heap hasn't 2000 cells")
 
 
+def try_most_regions(tried: Tried) -> None:
+    """A heap of as many regions as there can be, by each command that looks at it: none is too many."""
+    tried.run("generate most --words 131072 --live 99 --region-log 3 --seed 4", Answer(0, None))
+    for words in ("map most --letters", "order most"):
+        tried.run(words, Answer(0, None))
+    tried.count += 2
+    summary, order = (subprocess.run([tried.program, word, "most"], cwd=tried.folder, capture_output=True, text=True, check=False).stdout
+                      for word in ("summary", "order"))
+    if summary.count("\n") != 16_385:
+        tried.is_wrong(f"of 16,384 regions {summary.count(chr(10))} lines sum up")
+    if not re.fullmatch(r"chain [1-9]\d* words [1-9]\d* speedup \d+\.\d\d workers [1-9]\d*\n", order):
+        tried.is_wrong(f"the order of 16,384 regions is {order!r}")
+
+
 def try_files(tried: Tried) -> None:
     """Files that can't be read or written, one that is the image, and one that is longer than the drawing."""
     line = Answer(0, "words 32 live 19 dead 13 prefix 0 top 19 filled 3\n")
@@ -235,4 +249,4 @@ def try_files(tried: Tried) -> None:
         "pcompact: reason no such file or folder\n")))
 
 
-GROUPS = (try_rows, try_words, try_looks, try_terminal, try_drawings, try_large_drawings, try_files)
+GROUPS = (try_rows, try_words, try_looks, try_terminal, try_drawings, try_large_drawings, try_most_regions, try_files)

@@ -20,6 +20,13 @@ def built() -> pathlib.Path:
     return pathlib.Path(done.stdout.removesuffix("\n"))
 
 
+def launcher() -> list[str]:
+    """The words before those of a program that run it as the launcher and the installed script do: with what both set."""
+    lines = (TOP / "pcompact").read_text().splitlines()
+    first = next(number for number, line in enumerate(lines) if line.startswith("heaps="))
+    return ["sh", "-c", "\n".join([*lines[first:lines.index("export GLIBC_TUNABLES") + 1], 'exec "$@"']), "sh"]
+
+
 @dataclasses.dataclass(frozen=True)
 class Answer:
     status: int
@@ -64,16 +71,19 @@ class Tried:
         return (self.folder / name).read_bytes()
 
     def run(self, words: str | list[str], answer: Answer, **how) -> bool:
-        """Runs the program on words, or on those of a text, and compares what it answers. Whether that is right."""
+        """Runs the program on words, or on those of a text, and compares what it answers. Whether that is right.
+
+        `by` are words of another command, which runs it.
+        """
         words = words.split() if isinstance(words, str) else words
         for name in answer.made:
             (self.folder / name).unlink(missing_ok=True)
         streams = {"stdin": subprocess.DEVNULL, "stdout": subprocess.PIPE, "stderr": subprocess.PIPE, **how}
-        given = streams.pop("input", None)
+        given, by = streams.pop("input", None), streams.pop("by", [])
         if given is not None:
             streams["stdin"] = subprocess.PIPE
         self.count += 1
-        with subprocess.Popen([self.program, *words], cwd=self.folder, **streams) as process:
+        with subprocess.Popen([*by, self.program, *words], cwd=self.folder, **streams) as process:
             try:
                 texts = process.communicate(given, SECONDS)
                 found = self.differences(answer, subprocess.CompletedProcess(words, process.returncode, *texts))

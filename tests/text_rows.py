@@ -4,8 +4,9 @@ import pathlib
 
 from cases import BASE
 from heap_model import Wanted, generated
-from model import Image, decode, encode, header
+from model import MAX_REGIONS, MAX_WORDS, Image, decode, encode, header
 from program import TOP, Answer, Tried, fault, usage
+from text_model import text_of
 
 FULL = pathlib.Path("/dev/full")
 FAULT_13 = "13 input or output"
@@ -189,4 +190,27 @@ def try_largest(tried: Tried) -> None:
     tried.run("assemble lines made", Answer(0, None, made={"made": content}))
 
 
-GROUPS = (try_both_ways, try_mistakes, try_files, try_words, try_largest)
+def try_image(tried: Tried, image: Image) -> int:
+    """The text that the model makes of an image goes both ways. How long it is."""
+    content, text = encode(image), text_of(image).encode()
+    tried.write("heap", content)
+    with (tried.folder / "printed").open("wb") as printed:
+        tried.run("text heap", Answer(0), stdout=printed)
+    if tried.read("printed") != text:
+        tried.is_wrong(f"the text of {len(image.words)} words isn't that of the model")
+    tried.write("lines", text)
+    counts = f"words {len(image.words)} roots {len(image.roots())} live {len(image.live())}\n"
+    tried.run("assemble lines made", Answer(0, counts, made={"made": content}))
+    return len(text)
+
+
+def try_limits(tried: Tried) -> None:
+    """The most regions and the most words, each of 64 bits, of a live object and behind it, in a text of over 80 MB."""
+    try_image(tried, generated(Wanted(8 * MAX_REGIONS, 3, 50, 25, 2, 7, 3))[0])
+    half = MAX_WORDS // 2
+    words = [header(half, 0), *range(2**64 - half, 2**64 - 1), *range(2**64 - 1 - half, 2**64 - 1)]
+    if try_image(tried, Image(2, 16, 0, words, [1])) < 80_000_000:
+        tried.is_wrong("the longest text isn't long")
+
+
+GROUPS = (try_both_ways, try_mistakes, try_files, try_words, try_largest, try_limits)

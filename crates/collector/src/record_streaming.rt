@@ -1,8 +1,9 @@
 //! `record_stream`: a recorded collection from bytes to bytes.
-ghost use Rattle.std.specs.Prelude.{◌≡◌, ◌≢◌, ◌⊎◌, IsTrue, IfOk, OnErr, IfErr, IfSome, Some, Err};
+ghost use Rattle.std.specs.Prelude.{◌≡◌, ◌≢◌, ◌⊎◌, IsTrue, IfOk, OnErr, IfErr, IfSome, MatchResult, Some, Err};
 ghost use Rattle.heap_image.specs.HeapImage.{HeapImage};
 ghost use Rattle.heap_image.specs.ImageText.{first_fault};
 ghost use Rattle.heap_image.specs.Reading.{IsRead};
+ghost use Rattle.heap_image.specs.Refusals.{IsOfReading};
 ghost use Rattle.collector.specs.Collections.{AreNoneOrTooMany};
 ghost use Rattle.collector.specs.Halts.{MayRefuse};
 ghost use Rattle.collector.specs.Streams.{AreRecorded, IsTextBegun, IsOfBytes, IsTextWritten};
@@ -11,7 +12,7 @@ use crate::gate::Gate;
 use crate::outcome::Figures;
 use crate::reading::read_whole;
 use crate::recording::record;
-use heap_image::{Fault, Intake, Outlet, give_all, write_image};
+use heap_image::{Fault, Intake, Outlet, give_all, write_image_buffered};
 use history::write_schedule;
 use std::alloc::Global;
 use std::sync::Wait;
@@ -56,6 +57,9 @@ pub fn record_stream<
     ensures device { result ≡ Err Fault.Io → IsTrue (R.has_failed reader.new)
         ⊎ (IsTrue (O.has_failed writer.new) ⊎ IsTrue (L.has_failed lines.new)) }
     ensures workers { result ≡ Err Fault.Workers → AreNoneOrTooMany workers }
+    // A number of workers that isn't 1 to 64 is refused, unless the input is.
+    ensures refused { AreNoneOrTooMany workers → MatchResult result (λ figures. ⊥)
+        (λ fault. (fault ≡ Fault.Workers) ⊎ IsOfReading fault) }
     ensures gate { result ≡ Err Fault.Gate → (image : HeapImage)
         × IsRead image (R.left reader.old) (R.left reader.new)
         × MayRefuse (G.may_refuse gate.now) workers image }
@@ -64,7 +68,7 @@ pub fn record_stream<
     match record(alloc, image, workers, gate, threads, wait) {
         Ok((outcome, schedule)) => {
             let text = write_schedule(alloc, &schedule)?;
-            write_image(&outcome.image, writer)?;
+            write_image_buffered(alloc, &outcome.image, writer)?;
             give_all(lines, text.as_slice())?;
             Ok(outcome.figures)
         }

@@ -1,5 +1,5 @@
 //! `collect_stream`: a collection from bytes to bytes.
-ghost use Rattle.std.specs.Prelude.{◌≡◌, ◌≢◌, ◌⊎◌, ℕ, IsTrue, IfOk, OnErr, IfErr, IfSome, Some, Err};
+ghost use Rattle.std.specs.Prelude.{◌≡◌, ◌≢◌, ◌⊎◌, ℕ, IsTrue, IfOk, OnErr, IfErr, IfSome, MatchResult, Some, Err};
 ghost use Rattle.std.specs.Io.KnownBytes.{Appends};
 ghost use Rattle.heap_image.specs.HeapImage.{HeapImage};
 ghost use Rattle.heap_image.specs.ImageText.{text, first_fault};
@@ -7,13 +7,14 @@ ghost use Rattle.summary.specs.Compaction.{compact};
 ghost use Rattle.collector.specs.Collections.{figures_of, fault_of, AreNoneOrTooMany};
 ghost use Rattle.collector.specs.Halts.{MayRefuse};
 ghost use Rattle.heap_image.specs.Reading.{IsRead};
+ghost use Rattle.heap_image.specs.Refusals.{IsOfReading};
 ghost use Rattle.collector.specs.Streams.{IsTextBegun, IsOfBytes};
 
 use crate::collection::collect;
 use crate::gate::Gate;
 use crate::outcome::{Figures, Refusal};
 use crate::reading::read_whole;
-use heap_image::{Fault, Intake, Outlet, write_image};
+use heap_image::{Fault, Intake, Outlet, write_image_buffered};
 use std::alloc::Global;
 use std::sync::Wait;
 use std::thread::Threads;
@@ -46,6 +47,9 @@ pub fn collect_stream<R: Intake, O: Outlet, G: Gate + Sync, T: Threads + Sync, W
     ensures device { result ≡ Err Fault.Io
         → IsTrue (R.has_failed reader.new) ⊎ IsTrue (O.has_failed writer.new) }
     ensures workers { result ≡ Err Fault.Workers → AreNoneOrTooMany workers }
+    // A number of workers that isn't 1 to 64 is refused, unless the input is.
+    ensures refused { AreNoneOrTooMany workers → MatchResult result (λ figures. ⊥)
+        (λ fault. (fault ≡ Fault.Workers) ⊎ IsOfReading fault) }
     ensures gate { result ≡ Err Fault.Gate → (image : HeapImage)
         × IsRead image (R.left reader.old) (R.left reader.new)
         × MayRefuse (G.may_refuse gate.now) workers image }
@@ -54,7 +58,7 @@ pub fn collect_stream<R: Intake, O: Outlet, G: Gate + Sync, T: Threads + Sync, W
     let image = read_whole(alloc, reader, workers, threads)?;
     match collect(alloc, image, workers, gate, threads, wait) {
         Ok((outcome, _finished)) => {
-            write_image(&outcome.image, writer)?;
+            write_image_buffered(alloc, &outcome.image, writer)?;
             Ok(outcome.figures)
         }
         Err(refusal) => Err(refusal.fault()),

@@ -153,7 +153,7 @@ fn program<'a>(alloc: Global) -> Result<Command<'a>, AllocError>
     let named = Command::new(alloc, "pcompact").bin_name("pcompact")?;
     Ok(
         named
-            .version("0.1.0")
+            .version("0.2.0")
             .about(ABOUT)
             .after_help(STATUSES)
             .no_binary_name(true)

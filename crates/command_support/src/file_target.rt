@@ -1,23 +1,37 @@
 //! `FileTarget`.
+use crate::access::{Access, first_mode};
 use crate::failed_call::{FailedCall, SystemCall};
 use crate::file_id::FileId;
 use crate::file_word::FileWord;
 use crate::files::not_regular;
 use crate::output::Output;
-use crate::replacement::Replacement;
+use crate::replacement::{Making, Replacement};
+use crate::system_file::SystemFile;
 use crate::trouble::{Trouble, called};
 use crate::watched::Watched;
 use std::alloc::AllocError;
 use std::fs::{Metadata, OpenFile, OpenOptions};
 use std::io::ErrorKind;
+use std::os::unix::fs::OpenOptionsExt;
 use std::path::{Path, PathBuf};
 use std::rt::Files;
 use std::{fs, io};
+
+/// What a command asks of the files that it writes.
+#[derive(Debug, Clone, Copy, PartialEq, Eq)]
+pub struct Writing {
+    /// Whether each is replaced, once all is done.
+    pub atomic: bool,
+    /// Whether one that isn't there yet is made for its owner alone.
+    pub is_private: bool,
+}
 
 /// A file to be written. It still is as it was found.
 #[derive(Drop)]
 pub struct FileTarget<'a, F: Drop> {
     word: FileWord<'a>,
+    /// Whether it is made for its owner alone, if it isn't there yet.
+    is_private: bool,
     /// What was there, or was made for want of it.
     found: Option<Metadata>,
     way: Way<F>,
@@ -41,23 +55,25 @@ impl<'a, F: OpenFile + Drop> FileTarget<'a, F> {
     pub fn find<H: Files<File = F> + AllocGlobal>(
         host: &H,
         word: FileWord<'a>,
-        atomic: bool,
+        writing: Writing,
     ) -> Result<FileTarget<'a, F>, Trouble<'a>> {
-        if atomic {
-            FileTarget::beside(host, word)
+        if writing.atomic {
+            FileTarget::beside(host, word, writing.is_private)
         } else {
-            FileTarget::in_place(host, word)
+            FileTarget::in_place(host, word, writing.is_private)
         }
     }
 
     fn in_place<H: Files<File = F> + AllocGlobal>(
         host: &H,
         word: FileWord<'a>,
+        is_private: bool,
     ) -> Result<FileTarget<'a, F>, Trouble<'a>> {
-        let (file, is_new) = called(word, SystemCall::Open, open(host, word.name))?;
+        let (file, is_new) = called(word, SystemCall::Open, open(host, word.name, is_private))?;
         match called(word, SystemCall::Stat, file.metadata()) {
             Ok(found) => Ok(FileTarget {
                 word,
+                is_private,
                 found: Some(found),
                 way: Way::InPlace { file, is_new },
             }),
@@ -73,10 +89,16 @@ impl<'a, F: OpenFile + Drop> FileTarget<'a, F> {
     fn beside<H: Files<File = F> + AllocGlobal>(
         host: &H,
         word: FileWord<'a>,
+        is_private: bool,
     ) -> Result<FileTarget<'a, F>, Trouble<'a>> {
         let (place, found) = replaced(host, word)?;
         let way = Way::Beside(place);
-        Ok(FileTarget { word, found, way })
+        Ok(FileTarget {
+            word,
+            is_private,
+            found,
+            way,
+        })
     }
 
     /// The file's word.
@@ -89,6 +111,14 @@ impl<'a, F: OpenFile + Drop> FileTarget<'a, F> {
         match &self.way {
             Way::InPlace { .. } => false,
             Way::Beside(_) => true,
+        }
+    }
+
+    /// The name, without its folder, of the file whose place a new one is to take.
+    pub fn place_name(&self) -> Option<&str> {
+        match &self.way {
+            Way::InPlace { .. } => None,
+            Way::Beside(place) => place.file_name(),
         }
     }
 
@@ -120,23 +150,50 @@ impl<'a, F: OpenFile + Drop> FileTarget<'a, F> {
         }
     }
 
-    /// Begins to write it: empties it, or makes the new file beside it. A pipe or a device has nothing
-    /// to be emptied, and a file that is empty isn't emptied again: some systems write a file that was
-    /// emptied to the disk when it is closed.
+    /// Begins to write it: empties it, or makes the new file beside it. A pipe, a device or standard output has nothing to
+    /// be emptied, and a file that is empty isn't emptied again: some systems write a file that was emptied to the disk when
+    /// it is closed.
     ///
     /// After fault 13, or 11 for want of memory, it is as it was.
     pub fn begin<H: Files<File = F> + AllocGlobal>(
         self,
         host: &H,
-    ) -> Result<Output<'a, F>, Trouble<'a>> {
-        let FileTarget { word, found, way } = self;
+    ) -> Result<Output<'a, F>, Trouble<'a>>
+    where
+        F: SystemFile,
+    {
+        self.begin_apart(host, None)
+    }
+
+    /// Begins to write it, as [`FileTarget::begin`]. Where a new file is made it doesn't get this name, which is that of the
+    /// other file that the command writes.
+    pub fn begin_apart<H: Files<File = F> + AllocGlobal>(
+        self,
+        host: &H,
+        apart: Option<&str>,
+    ) -> Result<Output<'a, F>, Trouble<'a>>
+    where
+        F: SystemFile,
+    {
+        let FileTarget {
+            word,
+            is_private,
+            found,
+            way,
+        } = self;
         match way {
             Way::InPlace { file, .. } => begin_in_place(word, file, found),
             Way::Beside(place) => {
-                let (file, replacement) = Replacement::make(host, word, place, found.as_ref())?;
+                let making = Making {
+                    access: found.as_ref().map(Access::of),
+                    is_private,
+                    apart,
+                };
+                let (file, replacement) = Replacement::make(host, word, place, making)?;
+                let may_have_holes = !file.is_standard_output();
                 Ok(Output {
                     file: Watched::new(word, file),
-                    may_have_holes: true,
+                    may_have_holes,
                     replacement: Some(replacement),
                 })
             }
@@ -144,14 +201,14 @@ impl<'a, F: OpenFile + Drop> FileTarget<'a, F> {
     }
 }
 
-/// Empties a file that is written where it stands.
-fn begin_in_place<'a, F: OpenFile + Drop>(
+/// Begins to write a file where it stands.
+fn begin_in_place<'a, F: SystemFile + Drop>(
     word: FileWord<'a>,
     file: F,
     found: Option<Metadata>,
 ) -> Result<Output<'a, F>, Trouble<'a>> {
     let (is_regular, len) = match found {
-        Some(found) => (found.is_file(), found.len()),
+        Some(found) => (found.is_file() && !file.is_standard_output(), found.len()),
         None => (false, 0),
     };
     if is_regular && len > 0 {
@@ -165,18 +222,24 @@ fn begin_in_place<'a, F: OpenFile + Drop>(
 }
 
 /// The file of this name, open for writing, and whether it was made.
-fn open<H: Files>(host: &H, name: &str) -> io::Result<(H::File, bool)> {
+fn open<H: Files>(host: &H, name: &str, is_private: bool) -> io::Result<(H::File, bool)> {
     match OpenOptions::new().write(true).open(host, name) {
         Ok(file) => Ok((file, false)),
-        Err(error) if error.kind() == ErrorKind::NotFound => Ok((make(host, name)?, true)),
+        Err(error) if error.kind() == ErrorKind::NotFound => {
+            Ok((make(host, name, is_private)?, true))
+        }
         Err(error) => Err(error),
     }
 }
 
 /// Makes a file of this name, which was not there. Where a link has the name, the file is made that
 /// it leads to.
-fn make<H: Files>(host: &H, name: &str) -> io::Result<H::File> {
-    OpenOptions::new().write(true).create(true).open(host, name)
+fn make<H: Files>(host: &H, name: &str, is_private: bool) -> io::Result<H::File> {
+    OpenOptions::new()
+        .write(true)
+        .create(true)
+        .mode(first_mode(is_private))
+        .open(host, name)
 }
 
 /// Removes a file that was made under this name. Where a link has the name, the file is removed that it
@@ -205,11 +268,19 @@ fn replaced<'a, H: Files + AllocGlobal>(
 ) -> Result<(PathBuf, Option<Metadata>), Trouble<'a>> {
     match fs::symlink_metadata(host, word.name) {
         Ok(named) => standing(host, word, named.is_symlink()),
-        Err(error) if error.kind() == ErrorKind::NotFound => {
+        Err(error) if error.kind() == ErrorKind::NotFound && may_be_made(word.name) => {
             Ok((PathBuf::from_str(host.alloc(), word.name)?, None))
+        }
+        Err(error) if error.kind() == ErrorKind::NotFound => {
+            Err(Trouble::of_call(word, FailedCall::of(SystemCall::Make, &error)))
         }
         Err(error) => Err(Trouble::of_call(word, FailedCall::of(SystemCall::Stat, &error))),
     }
+}
+
+/// Whether a file can be made under this name: no name at all and that of a folder are none.
+fn may_be_made(name: &str) -> bool {
+    !name.is_empty() && !name.ends_with('/')
 }
 
 /// The place of a file that is to be replaced, and what is told of it. It must be a regular file.

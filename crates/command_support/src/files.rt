@@ -7,6 +7,7 @@ use crate::file_id::FileId;
 use crate::file_target::FileTarget;
 use crate::file_word::{FileWord, Role};
 use crate::output::Output;
+use crate::system_file::SystemFile;
 use crate::trouble::Trouble;
 use crate::watched::Watched;
 use crate::work_done::WorkDone;
@@ -24,7 +25,10 @@ pub fn image_and_out<'a, H: Files + AllocGlobal>(
     image: &'a str,
     out: &'a str,
     atomic: bool,
-) -> Result<ImageAndOut<'a, H::File>, Trouble<'a>> {
+) -> Result<ImageAndOut<'a, H::File>, Trouble<'a>>
+where
+    H::File: SystemFile,
+{
     let image = FileWord::new(Role::Image, image);
     let out = FileWord::new(Role::Out, out);
     let (image, out) = image_and_target(host, image, out, atomic)?;
@@ -91,8 +95,8 @@ pub fn target_beside<'a, H: Files + AllocGlobal>(
     out: FileWord<'a>,
     atomic: bool,
 ) -> Result<FileTarget<'a, H::File>, Trouble<'a>> {
-    let id = read.id()?;
-    let out = FileTarget::find(host, out, atomic)?;
+    let (id, writing) = (read.id()?, read.writing(atomic)?);
+    let out = FileTarget::find(host, out, writing)?;
     if atomic {
         Ok(out)
     } else {
@@ -150,6 +154,8 @@ pub fn ended<'a, H: Files>(
     line: String,
     out: Output<'a, H::File>,
 ) -> Result<WorkDone<'a>, Trouble<'a>>
+where
+    H::File: SystemFile,
     ensures { IfOk result (λ done. done.text.items ≡ string_bytes line) }
 {
     Ok(WorkDone {

@@ -1,6 +1,7 @@
 //! `Late`.
 use crate::file_target::FileTarget;
 use crate::output::Output;
+use crate::system_file::SystemFile;
 use crate::trouble::Trouble;
 use heap_image::Fault;
 use std::io;
@@ -17,7 +18,10 @@ pub struct Late<'a, 'h, H: Files> {
     begun: Option<Result<Output<'a, H::File>, Trouble<'a>>>,
 }
 
-impl<'a, 'h, H: Files + AllocGlobal> Late<'a, 'h, H> {
+impl<'a, 'h, H: Files + AllocGlobal> Late<'a, 'h, H>
+where
+    H::File: SystemFile,
+{
     /// This file, as it was found.
     pub fn new(host: &'h H, found: FileTarget<'a, H::File>) -> Late<'a, 'h, H> {
         Late {
@@ -64,7 +68,10 @@ impl<'a, 'h, H: Files + AllocGlobal> Late<'a, 'h, H> {
     }
 }
 
-impl<H: Files + AllocGlobal> Write for Late<'_, '_, H> {
+impl<H: Files + AllocGlobal> Write for Late<'_, '_, H>
+where
+    H::File: SystemFile,
+{
     fn write(&mut self, buf: &[u8]) -> io::Result<usize> {
         self.begin();
         match &mut self.begun {

@@ -25,6 +25,7 @@
 //! texts of reasons and times. The tests are those of the program (see the README).
 #![tactic(auto)]
 
+mod access;
 mod difference;
 mod failed_call;
 mod failure;
@@ -38,10 +39,12 @@ mod moved;
 mod output;
 mod peak_memory;
 mod phase;
+mod printable;
 mod reason;
 mod replacement;
 mod stats;
 mod stopwatch;
+mod system_file;
 mod tenths;
 mod timed_intake;
 mod timed_outlet;
@@ -53,7 +56,7 @@ pub use difference::Difference;
 pub use failed_call::{FailedCall, SystemCall};
 pub use failure::Failure;
 pub use file_id::FileId;
-pub use file_target::FileTarget;
+pub use file_target::{FileTarget, Writing};
 pub use file_word::{FileWord, Role};
 pub use files::{
     apart_from, ended, failed, failed_between, image_and_out, must_differ, not_regular, same_file,
@@ -64,10 +67,12 @@ pub use late::Late;
 pub use moved::Moved;
 pub use output::Output;
 pub use phase::Phase;
+pub use printable::Printable;
 pub use reason::{LineReason, Reason};
 pub use replacement::Replacement;
 pub use stats::Stats;
 pub use stopwatch::Stopwatch;
+pub use system_file::SystemFile;
 pub use timed_intake::TimedIntake;
 pub use timed_outlet::TimedOutlet;
 pub use trouble::{Trouble, called};

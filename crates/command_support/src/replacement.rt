@@ -2,14 +2,16 @@
 ghost use Rattle.std.specs.Prelude.{◌≡◌, IfErr};
 ghost use Rattle.command_support.specs.Failure.{failed_device};
 
+use crate::access::{Access, first_mode};
 use crate::failed_call::{FailedCall, SystemCall};
 use crate::file_word::FileWord;
+use crate::system_file::SystemFile;
 use crate::trouble::{Trouble, called};
 use heap_image::Fault;
 use std::alloc::{AllocError, Global};
-use std::fs::{Metadata, OpenFile, OpenOptions, Permissions};
+use std::fs::OpenOptions;
 use std::io::ErrorKind;
-use std::os::unix::fs::{MetadataExt, OpenOptionsExt, PermissionsExt, chown};
+use std::os::unix::fs::OpenOptionsExt;
 use std::path::PathBuf;
 use std::rt::Files;
 use std::{fs, io};
@@ -20,42 +22,79 @@ pub struct Replacement<'a> {
     word: FileWord<'a>,
     new: PathBuf,
     place: PathBuf,
+    /// Of the file that stands at the place, who it belongs to and who may read and write it.
+    access: Option<Access>,
+}
+
+/// How a new file is to be made.
+#[derive(Clone, Copy)]
+pub(crate) struct Making<'n> {
+    /// Of the file that it is to replace, who that belongs to and who may read and write it.
+    pub access: Option<Access>,
+    /// Whether it is for its owner alone.
+    pub is_private: bool,
+    /// The name of the other file that the command writes, which it must not have.
+    pub apart: Option<&'n str>,
 }
 
 impl<'a> Replacement<'a> {
-    /// Makes an empty file beside this place, which nobody else has, and opens it for writing. Who
-    /// may read and write it is told by the file that stands there.
+    /// Makes an empty file beside this place, which nobody else has, and opens it for writing. Only its owner may read and
+    /// write it where it is to replace another file, until [`Replacement::complete`].
     ///
     /// Fault 13 where it can't be made, 11 where memory for its name is refused.
-    pub fn make<H: Files + AllocGlobal>(
+    pub(crate) fn make<H: Files + AllocGlobal>(
         host: &H,
         word: FileWord<'a>,
         place: PathBuf,
-        old: Option<&Metadata>,
+        making: Making<'_>,
     ) -> Result<(H::File, Replacement<'a>), Trouble<'a>> {
-        let (new, file) = make_beside(host, word, &place, old.is_some())?;
-        let replacement = Replacement { word, new, place };
-        let Some(old) = old else {
-            return Ok((file, replacement));
-        };
-        match called(
-            word,
-            SystemCall::Access,
-            replacement.take_access(host, &file, old),
-        ) {
-            Ok(()) => Ok((file, replacement)),
+        let (new, file) = make_beside(host, word, &place, making)?;
+        let access = making.access;
+        Ok((
+            file,
+            Replacement {
+                word,
+                new,
+                place,
+                access,
+            },
+        ))
+    }
+
+    /// Ends the new file, which is open here: gives it the owner, the group and the permissions of the one that it replaces,
+    /// and brings it onto the disk.
+    ///
+    /// After fault 13 it is removed.
+    pub(crate) fn complete<H: Files>(
+        self,
+        host: &H,
+        file: &H::File,
+    ) -> Result<Replacement<'a>, Trouble<'a>>
+    where
+        H::File: SystemFile,
+        ensures { IfErr result (λ trouble. trouble.failure ≡ failed_device) }
+    {
+        match self.completed(file) {
+            Ok(()) => Ok(self),
             Err(trouble) => {
-                replacement.remove(host);
+                self.remove(host);
                 Err(trouble)
             }
         }
     }
 
-    /// Gives the new file the permissions of the old one, and its group and owner where this process may.
-    fn take_access<H: Files>(&self, host: &H, file: &H::File, old: &Metadata) -> io::Result<()> {
-        unless_denied(chown(host, &self.new, None, Some(old.gid())))?;
-        unless_denied(chown(host, &self.new, Some(old.uid()), None))?;
-        file.set_permissions(Permissions::from_mode(old.mode() & 0o777))
+    fn completed<F: SystemFile>(&self, file: &F) -> Result<(), Trouble<'a>>
+        ensures { IfErr result (λ trouble. trouble.failure ≡ failed_device) }
+    {
+        if let Some(access) = self.access {
+            called(self.word, SystemCall::Access, access.give(file))?;
+        }
+        called(self.word, SystemCall::Sync, file.sync_all())
+    }
+
+    /// The name of the file whose place it takes, without its folder.
+    pub(crate) fn place_name(&self) -> Option<&str> {
+        self.place.file_name()
     }
 
     /// The new file takes the place, and what stood there is gone.
@@ -80,27 +119,40 @@ impl<'a> Replacement<'a> {
     }
 }
 
-/// Makes a file beside this place under the first name that is free, open for writing. It is for its
-/// owner alone where it is private.
+/// Makes a file beside this place under the first name that is free, open for writing.
 fn make_beside<'a, H: Files + AllocGlobal>(
     host: &H,
     word: FileWord<'a>,
     place: &PathBuf,
-    private: bool,
+    making: Making<'_>,
 ) -> Result<(PathBuf, H::File), Trouble<'a>> {
-    let mode = if private { 0o600 } else { 0o666 };
     for number in 0..u32::MAX {
         let new = beside(host.alloc(), place, number)?;
-        match make_new(host, &new, mode) {
-            Ok(file) => return Ok((new, file)),
-            Err(error) if error.kind() == ErrorKind::AlreadyExists => {}
-            Err(error) => return Err(Trouble::of_call(
-                word,
-                FailedCall::of(SystemCall::Make, &error),
-            )),
+        if is_apart(&new, place, making.apart) {
+            match make_new(host, &new, making.mode()) {
+                Ok(file) => return Ok((new, file)),
+                Err(error) if error.kind() == ErrorKind::AlreadyExists => {}
+                Err(error) => return Err(Trouble::of_call(
+                    word,
+                    FailedCall::of(SystemCall::Make, &error),
+                )),
+            }
         }
     }
     Err(Trouble::from(Fault::Io).about(word))
+}
+
+impl Making<'_> {
+    /// The permissions with which it is made.
+    fn mode(self) -> u32 {
+        first_mode(self.is_private || self.access.is_some())
+    }
+}
+
+/// Whether a new file has another name than the files that the command writes.
+fn is_apart(new: &PathBuf, place: &PathBuf, apart: Option<&str>) -> bool {
+    let name = new.file_name();
+    name != place.file_name() && name != apart
 }
 
 /// Makes a file of this name, which must be free, open for writing, and with these permissions.
@@ -116,12 +168,4 @@ fn make_new<H: Files>(host: &H, new: &PathBuf, mode: u32) -> io::Result<H::File>
 fn beside(alloc: Global, place: &PathBuf, number: u32) -> Result<PathBuf, AllocError> {
     let name = format!(in alloc; ".pcompact-{number}.tmp")?;
     place.as_path().with_file_name(alloc, name.as_str())
-}
-
-/// That this process may not do it is no error.
-fn unless_denied(outcome: io::Result<()>) -> io::Result<()> {
-    match outcome {
-        Err(error) if error.kind() == ErrorKind::PermissionDenied => Ok(()),
-        other => other,
-    }
 }

@@ -7,6 +7,7 @@ ghost use Rattle.command_support.specs.declared.failure.Failure.TheVariants.{Fau
 use crate::failed_call::{FailedCall, SystemCall};
 use crate::failure::Failure;
 use crate::file_word::FileWord;
+use crate::printable::Printable;
 use crate::reason::{LineReason, Reason};
 use crate::watched::Watched;
 use heap_image::{Fault, LengthCause};
@@ -188,7 +189,10 @@ impl<'a> Trouble<'a> {
 /// Writes the line of a file that a failure is about, if there is one.
 fn tell_file<B: Write>(file: Option<FileWord<'_>>, err: &mut B) -> io::Result<()> {
     match file {
-        Some(file) => writeln!(err, "pcompact: file {} {}", file.role, file.name),
+        Some(file) => {
+            let name = Printable(file.name);
+            writeln!(err, "pcompact: file {} {name}", file.role)
+        }
         None => Ok(()),
     }
 }

@@ -1,6 +1,8 @@
 //! `Watched`.
+use crate::access::is_private;
 use crate::failed_call::{FailedCall, SystemCall};
 use crate::file_id::FileId;
+use crate::file_target::Writing;
 use crate::file_word::FileWord;
 use crate::trouble::{Trouble, called};
 use heap_image::FRONT_BYTES;
@@ -61,6 +63,17 @@ impl<'a, F: Drop> Watched<'a, F> {
         called(self.word, SystemCall::Stat, self.file.metadata())
     }
 
+    /// What is asked of a file that is written beside it: one that isn't there yet is for its owner alone where this one is.
+    ///
+    /// Fault 13 where the system doesn't tell.
+    pub fn writing(&self, atomic: bool) -> Result<Writing, Trouble<'a>>
+    where
+        F: OpenFile,
+    {
+        let is_private = is_private(&self.metadata()?);
+        Ok(Writing { atomic, is_private })
+    }
+
     /// The file itself.
     pub fn file(&self) -> &F {
         &self.file
@@ -92,16 +105,16 @@ impl<F: OpenFile + Drop> Watched<'_, F> {
     }
 }
 
-impl<F: Seek + Drop> Watched<'_, F> {
-    /// Passes over the bytes between two places, if the next one that would be read is the first of them. Whether it did.
-    pub fn pass(&mut self, from: u64, to: u64) -> bool {
-        match self.file.stream_position() {
-            Ok(at) if at == from => self.file.seek(SeekFrom::Start(to)).is_ok(),
-            _ => false,
-        }
+impl<'a, F: OpenFile + Seek + Drop> Watched<'a, F> {
+    /// Ends it where what was written to it ends: there may be more, which another process has written.
+    ///
+    /// Fault 13 where the system doesn't.
+    pub fn cut(&mut self) -> Result<(), Trouble<'a>> {
+        let end = called(self.word, SystemCall::Write, self.file.stream_position())?;
+        called(self.word, SystemCall::Empty, self.cut_at(end))
     }
 
-    /// Passes over so many bytes. Those behind the file's end read as zeros once more is written.
+    /// Passes over so many bytes. They read as zeros once more is written, whatever another process has written there.
     pub fn skip(&mut self, count: u64) -> io::Result<()> {
         match self.sought(count) {
             Ok(_) => Ok(()),
@@ -114,7 +127,25 @@ impl<F: Seek + Drop> Watched<'_, F> {
 
     fn sought(&mut self, count: u64) -> io::Result<u64> {
         let at = self.file.stream_position()?;
+        self.cut_at(at)?;
         self.file.seek(SeekFrom::Start(at.saturating_add(count)))
+    }
+
+    fn cut_at(&self, end: u64) -> io::Result<()> {
+        if self.file.metadata()?.len() == end {
+            return Ok(());
+        }
+        self.file.set_len(end)
+    }
+}
+
+impl<F: Seek + Drop> Watched<'_, F> {
+    /// Passes over the bytes between two places, if the next one that would be read is the first of them. Whether it did.
+    pub fn pass(&mut self, from: u64, to: u64) -> bool {
+        match self.file.stream_position() {
+            Ok(at) if at == from => self.file.seek(SeekFrom::Start(to)).is_ok(),
+            _ => false,
+        }
     }
 }
 

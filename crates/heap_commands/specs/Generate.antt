@@ -1,4 +1,4 @@
-use Rattle.std.specs.Prelude.{◌≡◌, ℕ, List, ◌++◌, Option, codes}
+use Rattle.std.specs.Prelude.{◌≡◌, ℕ, List, ◌++◌, ◌==◌, Option, codes}
 use Rattle.std.specs.Io.KnownBytes.{Appends}
 use Rattle.heap_image.specs.HeapImage.{HeapImage, IsValid}
 use Rattle.heap_image.specs.ImageText.{text}
@@ -6,7 +6,13 @@ use Rattle.heap_maker.specs.Figures.{AreFiguresOf, figures_text}
 use Rattle.heap_maker.specs.Wanted.{IsAsWanted}
 use Rattle.heap_maker.specs.declared.figures.Figures.{Figures}
 use Rattle.heap_maker.specs.declared.wanted.Wanted.{Wanted}
+use Rattle.command_line.specs.declared.generate.Generate.{Generate}
 use Rattle.heap_commands.specs.Command.{Command}
+
+-- the heap that the words of the command ask for
+abbrev pub wanted_of : Generate → Wanted
+wanted_of asked = record { words = asked.words; region_log = asked.region_log; live_percent = asked.live
+    ; reference_percent = asked.references; is_rooted = asked.version == 2; allowance = asked.allowance; seed = asked.seed }
 
 -- the line with the figures of an image
 pub record IsFiguresLine (image : HeapImage) (shown : List ℕ) : Type 0 where

@@ -7,8 +7,8 @@ ghost use Rattle.command_support.specs.Failure.{failed_device};
 
 use command_line::Assemble;
 use command_support::{
-    Failure, FileTarget, FileWord, Late, Role, Trouble, Watched, WorkDone, ended, must_differ,
-    target_beside,
+    Failure, FileTarget, FileWord, Late, Role, SystemFile, Trouble, Watched, WorkDone, ended,
+    must_differ, target_beside,
 };
 use heap_image::{Fault, Image, Outlet, ToWrite, write_image};
 use heap_text::assemble;
@@ -24,6 +24,8 @@ pub fn answer<'a, R: Files + AllocGlobal>(
     rt: &R,
     asked: Assemble<'a>,
 ) -> Result<WorkDone<'a>, Trouble<'a>>
+where
+    R::File: SystemFile,
     ensures { IfOk result (λ done. IsCountLine done.text.items) }
 {
     let (mut text, found) = open(rt, &asked)?;

@@ -1,11 +1,13 @@
 //! The command `generate`.
 ghost use Rattle.std.specs.Prelude.{◌≡◌, ◌≢◌, ◌⊎◌, ◌++◌, codes, ℕ, List, IfOk, IfErr, OnOk, OnErr, IsTrue, string_bytes};
 ghost use Rattle.heap_maker.specs.Figures.{figures_text};
-ghost use Rattle.heap_commands.specs.Generate.{IsGeneration, IsGenerationLine};
+ghost use Rattle.heap_commands.specs.Generate.{IsGeneration, IsGenerationLine, wanted_of};
 ghost use Rattle.command_support.specs.Failure.{failed_device};
 
 use command_line::Generate;
-use command_support::{Failure, FileTarget, FileWord, Late, Role, Trouble, WorkDone, ended};
+use command_support::{
+    Failure, FileTarget, FileWord, Late, Role, SystemFile, Trouble, WorkDone, Writing, ended,
+};
 use heap_image::{Outlet, ToWrite, write_image};
 use heap_maker::{Figures, Generated, Wanted, generate};
 use std::alloc::{AllocError, Global};
@@ -19,10 +21,16 @@ pub fn answer<'a, R: Files + AllocGlobal>(
     rt: &R,
     asked: Generate<'a>,
 ) -> Result<WorkDone<'a>, Trouble<'a>>
+where
+    R::File: SystemFile,
     ensures { IfOk result (λ done. IsGenerationLine done.text.items) }
 {
     let image = FileWord::new(Role::Image, asked.image);
-    let found = FileTarget::find(rt, image, asked.atomic)?;
+    let writing = Writing {
+        atomic: asked.atomic,
+        is_private: false,
+    };
+    let found = FileTarget::find(rt, image, writing)?;
     let mut written = ToWrite::new(Late::new(rt, found));
     let line = generate_into(rt.alloc(), &mut written, &wanted_by(&asked));
     let late = written.into_inner();
@@ -33,7 +41,9 @@ pub fn answer<'a, R: Files + AllocGlobal>(
 }
 
 /// Which heap is asked for.
-fn wanted_by(asked: &Generate<'_>) -> Wanted {
+fn wanted_by(asked: &Generate<'_>) -> Wanted
+    ensures { result ≡ wanted_of asked.now }
+{
     Wanted {
         words: u64::from(asked.words),
         region_log: asked.region_log,

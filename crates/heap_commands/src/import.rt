@@ -7,8 +7,8 @@ ghost use Rattle.command_support.specs.Failure.{failed_device};
 
 use command_line::Import;
 use command_support::{
-    Failure, FileTarget, FileWord, Late, Role, Trouble, Watched, WorkDone, ended, must_differ,
-    not_regular, target_beside,
+    Failure, FileTarget, FileWord, Late, Role, SystemFile, Trouble, Watched, WorkDone, ended,
+    must_differ, not_regular, target_beside,
 };
 use heap_dump::{Figures, Imported, Options, import};
 use heap_image::{FromRead, Intake, Outlet, ToWrite, write_image};
@@ -24,6 +24,8 @@ pub fn answer<'a, R: Files + AllocGlobal>(
     rt: &R,
     asked: Import<'a>,
 ) -> Result<WorkDone<'a>, Trouble<'a>>
+where
+    R::File: SystemFile,
     ensures { IfOk result (λ done. IsImportLine done.text.items) }
 {
     let options = Options {

@@ -22,6 +22,7 @@ pub mod assemble;
 pub mod board;
 pub mod generate;
 pub mod import;
+pub mod line;
 pub mod map;
 pub mod order;
 pub mod replay;

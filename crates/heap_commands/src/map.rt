@@ -8,7 +8,8 @@ ghost use Rattle.heap_commands.specs.Map.{IsDrawing, IsMap, IsMapLine, IsPicture
 use crate::screen::Screen;
 use command_line::{Look, Map};
 use command_support::{
-    FileTarget, FileWord, Late, Role, Trouble, Watched, WorkDone, apart_from, ended, must_differ,
+    FileTarget, FileWord, Late, Role, SystemFile, Trouble, Watched, WorkDone, apart_from, ended,
+    must_differ,
 };
 use heap_image::{
     Fault, FromRead, Image, Intake, Outlet, ToWrite, give_all, read_image_by_threads,
@@ -25,6 +26,8 @@ pub fn answer<'a, R: Files + AllocGlobal + Threads + Sync>(
     screen: Screen,
     asked: Map<'a>,
 ) -> Result<WorkDone<'a>, Trouble<'a>>
+where
+    R::File: SystemFile,
     ensures { IfOk result (λ done. IsMap done.text.items) }
 {
     let image = FileWord::new(Role::Image, asked.image);
@@ -86,6 +89,8 @@ fn drawn<'a, R: Files + AllocGlobal + Threads + Sync>(
     cut: Cut,
     atomic: bool,
 ) -> Result<WorkDone<'a>, Trouble<'a>>
+where
+    R::File: SystemFile,
     ensures { IfOk result (λ done. IsMap done.text.items) }
 {
     let image = Watched::open(rt, image)?;
@@ -100,6 +105,8 @@ fn drawn_to<'a, R: Files + AllocGlobal + Threads + Sync>(
     cut: Cut,
     found: FileTarget<'a, R::File>,
 ) -> Result<WorkDone<'a>, Trouble<'a>>
+where
+    R::File: SystemFile,
     ensures { IfOk result (λ done. IsMap done.text.items) }
 {
     let mut image = FromRead::new(image);
@@ -123,8 +130,8 @@ fn found_beside<'a, H: Files + AllocGlobal>(
     atomic: bool,
 ) -> Result<FileTarget<'a, H::File>, Trouble<'a>> {
     must_differ(host.alloc(), image.word(), svg)?;
-    let id = image.id()?;
-    let found = FileTarget::find(host, svg, atomic)?;
+    let (id, writing) = (image.id()?, image.writing(atomic)?);
+    let found = FileTarget::find(host, svg, writing)?;
     apart_from(host, found, image.word(), id)
 }
 

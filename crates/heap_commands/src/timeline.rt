@@ -10,8 +10,8 @@ use crate::replay::{Unreplayed, refused, schedule_in};
 use crate::screen::Screen;
 use command_line::Timeline;
 use command_support::{
-    Failure, FileTarget, FileWord, Late, Role, Trouble, Watched, WorkDone, apart_from, ended,
-    must_differ, two_different_inputs,
+    Failure, FileTarget, FileWord, Late, Role, SystemFile, Trouble, Watched, WorkDone, apart_from,
+    ended, must_differ, two_different_inputs,
 };
 use heap_image::{
     Fault, FromRead, Image, Intake, Outlet, ToWrite, give_all, read_image_by_threads,
@@ -31,6 +31,8 @@ pub fn answer<'a, R: Files + AllocGlobal + Threads + Sync>(
     screen: Screen,
     asked: Timeline<'a>,
 ) -> Result<WorkDone<'a>, Trouble<'a>>
+where
+    R::File: SystemFile,
     ensures { IfOk result (λ done. IsTimeline done.text.items) }
 {
     let inputs = Inputs {
@@ -115,6 +117,8 @@ fn written<'a, R: Files + AllocGlobal + Threads + Sync>(
     file: FileWord<'a>,
     atomic: bool,
 ) -> Result<WorkDone<'a>, Trouble<'a>>
+where
+    R::File: SystemFile,
     ensures { IfOk result (λ done. IsTimeline done.text.items) }
 {
     let opened = open(rt, inputs)?;
@@ -129,6 +133,8 @@ fn written_to<'a, R: Files + AllocGlobal + Threads + Sync>(
     form: Form,
     found: FileTarget<'a, R::File>,
 ) -> Result<WorkDone<'a>, Trouble<'a>>
+where
+    R::File: SystemFile,
     ensures { IfOk result (λ done. IsTimeline done.text.items) }
 {
     let Opened {
@@ -169,7 +175,7 @@ fn found_beside<'a, H: Files + AllocGlobal>(
     must_be_another(host.alloc(), opened, file)?;
     let Opened { image, schedule } = opened;
     let (image_id, schedule_id) = (image.id()?, schedule.id()?);
-    let found = FileTarget::find(host, file, atomic)?;
+    let found = FileTarget::find(host, file, image.writing(atomic)?)?;
     let found = apart_from(host, found, image.word(), image_id)?;
     apart_from(host, found, schedule.word(), schedule_id)
 }

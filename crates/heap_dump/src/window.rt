@@ -7,7 +7,7 @@ use byteorder::{BigEndian, ByteOrder};
 use heap_image::Intake;
 
 /// How many bytes are asked for at a time, at most.
-const ROOM: usize = 65_536;
+const ROOM: usize = 8192;
 
 /// The next bytes of a dump, and how many of them belong to the record that is being read.
 #[derive(Drop)]
@@ -21,7 +21,7 @@ pub(crate) struct Window {
     /// How many bytes the record still has.
     left: u64,
     ghost ordered: { start ≤ end },
-    ghost within: { end ≤ 65536 },
+    ghost within: { end ≤ 8192 },
 }
 
 impl Window {
@@ -73,7 +73,7 @@ impl Window {
 
     /// Brings up so many bytes, and says whether the dump has them.
     fn hold<R: Intake>(&mut self, source: &mut R, count: usize) -> Result<bool, ImportError>
-        requires { count ≤ 65536 }
+        requires { count ≤ 8192 }
         ensures held { result ≡ Ok true → count ≤ held self.new }
         ensures left { self.new.left ≡ self.old.left }
         ensures end { result ≡ Ok false → IsAtEnd (R.left source.new) }
@@ -110,7 +110,7 @@ impl Window {
         source: &mut R,
         count: usize,
     ) -> Result<(), ImportError>
-        requires { count ≤ 65536 }
+        requires { count ≤ 8192 }
         ensures held { OnOk result (count ≤ held self.new) }
         ensures left { OnOk result (count ≤ self.new.left) }
         ensures input { result ≡ Err ImportError.Input → IsTrue (R.has_failed source.new) }
@@ -156,7 +156,7 @@ impl Window {
         unit: usize,
     ) -> Result<usize, ImportError>
         requires some { 1 ≤ unit }
-        requires small { unit ≤ 65536 }
+        requires small { unit ≤ 8192 }
         requires room { unit ≤ most }
         ensures held { IfOk result (λ count. count ≤ held self.new) }
         ensures some { IfOk result (λ count. 1 ≤ count) }

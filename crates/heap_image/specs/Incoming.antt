@@ -6,7 +6,7 @@ use Rattle.heap_image.specs.declared.incoming.Incoming.{Incoming}
 -- the numbers that have come and were not read stand in the buffer
 pub record IsInRange (i : Incoming) : Type 0 where
   pub ordered : i.start ≤ i.end
-  pub within : i.end ≤ 8192
+  pub within : i.end ≤ 2048
 
 -- the bytes that have come and were not read
 abbrev pub unread_bytes : Incoming → List ℕ

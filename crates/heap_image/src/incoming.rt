@@ -9,7 +9,7 @@ use crate::intake::{Intake, fill};
 use crate::numbers::read_all;
 
 /// How many numbers are asked for at a time, at most.
-const ROOM: usize = 8192;
+const ROOM: usize = 2048;
 
 const ROOM_BYTES: usize = 8 * ROOM;
 

@@ -77,4 +77,4 @@ pub use side_by_side::{Extent, body_at};
 pub use soundness::PIECE;
 pub use store::{FileStore, Store};
 pub use upgrading::{upgrade, upgrade_stream};
-pub use write::write_image;
+pub use write::{write_image, write_image_buffered};

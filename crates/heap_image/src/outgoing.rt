@@ -8,38 +8,31 @@ use crate::numbers::write_all;
 use crate::outlet::{Outlet, give_all, give_zeros};
 use raw_region::Region;
 
-/// How many numbers are given at a time, at most.
-const ROOM: usize = 32_768;
-
-const ROOM_BYTES: usize = 8 * ROOM;
-
-/// The numbers of 64 bits that stand behind the front of a text, while they go out. Their bytes are given in large
-/// pieces.
+/// The numbers of 64 bits that stand behind the front of a text, while they go out. Their bytes are given in pieces as large
+/// as the room that was lent for them.
 #[derive(Drop)]
-pub(crate) struct Outgoing {
-    bytes: [u8; ROOM_BYTES],
+pub(crate) struct Outgoing<'a> {
+    bytes: &'a mut [u8],
     /// The numbers before `end` of `bytes` were written and are not given yet.
     end: usize,
 }
 
-impl Outgoing {
-    ghost use Rattle.heap_image.specs.Outgoing.{unsent_bytes, Sends, TakesBeginning};
+impl<'a> Outgoing<'a> {
+    ghost use Rattle.heap_image.specs.Outgoing.{HasRoom, unsent_bytes, Sends, TakesBeginning};
 
     /// With no number written.
-    pub(crate) fn new() -> Outgoing
+    pub(crate) fn new(bytes: &'a mut [u8]) -> Outgoing<'a>
+        requires { 8 ≤ length bytes.old }
         ensures held { unsent_bytes result ≡ [] }
-        ensures in_range { result.end ≤ 32768 }
+        ensures room { HasRoom result }
     {
-        Outgoing {
-            bytes: [0; ROOM_BYTES],
-            end: 0,
-        }
+        Outgoing { bytes, end: 0 }
     }
 
     /// Writes numbers, and gives what there is no room for.
     pub(crate) fn write<W: Outlet>(&mut self, writer: &mut W, words: &[u64]) -> Result<(), Failed>
-        requires { self.old.end ≤ 32768 }
-        ensures in_range { OnOk result (self.new.end ≤ 32768) }
+        requires { HasRoom self.old }
+        ensures room { OnOk result (HasRoom self.new) }
         ensures bytes { OnOk result
             (Sends (W.took writer.old) (W.took writer.new) (unsent_bytes self.old)
             (unsent_bytes self.new) (numbers words.now)) }
@@ -63,8 +56,8 @@ impl Outgoing {
         writer: &mut W,
         region: &Region,
     ) -> Result<(), Failed>
-        requires { self.old.end ≤ 32768 }
-        ensures in_range { OnOk result (self.new.end ≤ 32768) }
+        requires { HasRoom self.old }
+        ensures room { OnOk result (HasRoom self.new) }
         ensures bytes { OnOk result
             (Sends (W.took writer.old) (W.took writer.new) (unsent_bytes self.old)
             (unsent_bytes self.new) (numbers region.now)) }
@@ -82,8 +75,9 @@ impl Outgoing {
 
     /// Where there is no room left, gives what is held.
     fn make_room<W: Outlet>(&mut self, writer: &mut W) -> Result<(), Failed>
-        requires { self.old.end ≤ 32768 }
-        ensures room { OnOk result (self.new.end < 32768) }
+        requires { HasRoom self.old }
+        ensures room { OnOk result (HasRoom self.new) }
+        ensures some { OnOk result (8 * self.new.end + 8 ≤ length self.new.bytes.now) }
         ensures bytes { OnOk result
             (Sends (W.took writer.old) (W.took writer.new) (unsent_bytes self.old)
             (unsent_bytes self.new) []) }
@@ -91,7 +85,7 @@ impl Outgoing {
             (TakesBeginning (W.took writer.old) (W.took writer.new) (unsent_bytes self.old)) }
         ensures failed { W.has_failed writer.new ≡ (is_err result || W.has_failed writer.old) }
     {
-        if self.end < ROOM {
+        if self.end < self.bytes.len() / 8 {
             return Ok(());
         }
         self.flush(writer)
@@ -99,7 +93,8 @@ impl Outgoing {
 
     /// Gives what is held.
     pub(crate) fn flush<W: Outlet>(&mut self, writer: &mut W) -> Result<(), Failed>
-        requires { self.old.end ≤ 32768 }
+        requires { HasRoom self.old }
+        ensures room { OnOk result (HasRoom self.new) }
         ensures empty { OnOk result (self.new.end ≡ 0) }
         ensures bytes { OnOk result
             (Appends (W.took writer.old) (W.took writer.new) (unsent_bytes self.old)) }
@@ -107,22 +102,23 @@ impl Outgoing {
             (TakesBeginning (W.took writer.old) (W.took writer.new) (unsent_bytes self.old)) }
         ensures failed { W.has_failed writer.new ≡ (is_err result || W.has_failed writer.old) }
     {
-        give_all(writer, &self.bytes[..8 * self.end])?;
+        let held = 8 * self.end;
+        give_all(writer, &self.bytes[..held])?;
         self.end = 0;
         Ok(())
     }
 
     /// Holds as many of the numbers as there is room for, and answers how many.
     fn hold(&mut self, words: &[u64]) -> usize
-        requires { self.old.end ≤ 32768 }
-        ensures in_range { self.new.end ≤ 32768 }
+        requires { HasRoom self.old }
+        ensures room { HasRoom self.new }
         ensures within { result ≤ length words.now }
-        ensures some { self.old.end < 32768 → 0 < length words.now → 0 < result }
+        ensures some { 8 * self.old.end + 8 ≤ length self.old.bytes.now → 0 < length words.now → 0 < result }
         ensures bytes { unsent_bytes self.new
             ≡ unsent_bytes self.old ++ numbers (take result words.now) }
-        ensures room { self.new.end ≡ self.old.end + result }
+        ensures end { self.new.end ≡ self.old.end + result }
     {
-        let n = (ROOM - self.end).min(words.len());
+        let n = (self.bytes.len() / 8 - self.end).min(words.len());
         let to = 8 * self.end;
         write_all(&words[..n], &mut self.bytes[to..to + 8 * n]);
         self.end += n;

@@ -10,7 +10,7 @@ ghost use Rattle.heap_image.specs.Upgrade.{upgraded, IsUpgradeBegun};
 use crate::intake::Intake;
 use crate::outlet::Outlet;
 use crate::read::read_image;
-use crate::write::write_image;
+use crate::write::write_image_buffered;
 use crate::{Fault, Image, ImageParts};
 use std::alloc::{AllocError, Global};
 
@@ -85,6 +85,6 @@ pub fn upgrade_stream<R: Intake, O: Outlet>(
         Ok(image) => image,
         Err((_, fault)) => return Err(fault),
     };
-    write_image(&image, writer)?;
+    write_image_buffered(alloc, &image, writer)?;
     Ok(image.roots().len() as u32)
 }

@@ -8,6 +8,8 @@ mod answers;
 #[cfg(test)]
 mod bits;
 #[cfg(test)]
+mod buffered;
+#[cfg(test)]
 mod checks;
 #[cfg(test)]
 mod devices;

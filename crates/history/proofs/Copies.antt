@@ -8,7 +8,8 @@ use Rattle.heap_image.specs.HeapImage.{HeapImage, IsValid, heap_words, word_at, 
 use Rattle.summary.specs.NewAddresses.{new_top}
 use Rattle.summary.specs.WordMoves.{origin}
 use Rattle.history.specs.MoveTable.{MoveTable}
-use Rattle.history.specs.State.{State, opening, Allows, AllAreSettled}
+use Rattle.history.specs.State.{State, opening, state_after, Allows, AllAreSettled}
+use Rattle.history.specs.PackedLine.{IsSmall}
 use Rattle.history.specs.Scheduler.{state_in}
 use Rattle.history.specs.History.{entry, IsLegal, IsReached}
 use Rattle.history.specs.Schedule.{ScheduleView, IsSchedule, is_line, line_of}
@@ -29,7 +30,8 @@ use Rattle.history.proofs.Drained.{IsKept, origin_stands, write_words_known, wri
 use Rattle.summary.specs.Compaction.{moved_word}
 use Rattle.history.proofs.ImageTables.{image_slides, table-lawful}
 use Rattle.history.proofs.DrainedBefore.{drained_before}
-use Rattle.history.proofs.Books.{steps_fit}
+use Rattle.history.proofs.Books.{step_fits, steps_fit}
+use Rattle.history.proofs.SmallLines.{line_small}
 use Rattle.history.proofs.Reaches.{legal_reached}
 use Rattle.history.proofs.Carrying.{origin_inside}
 use Rattle.history.proofs.Machines.{machine_of-push, legal_steps, known-machine_from}
@@ -147,19 +149,24 @@ first_way image v ledger lines heap kept tells none same =
       holds = record { long = ap (length {A = ℕ}) same; each = λ a l. ap (λ (xs : List ℕ). slice_index xs a) same };
     }
 
-module _ (image : HeapImage) (valid : IsValid image) (v : ScheduleView) (items : List Line) (number : ℕ) (old new : Ledger) (lines : List Line) (heap : List ℕ) (r : Reply)
-    (same : items ≡ v.lines) (way : IsUnderWay image v number old lines heap) (inside : number < length items)
-    (call : IsCallOfLine (get_or items number no_line) (entry (get_or items number no_line).worker (get_or items number no_line).event r))
-    (leads : Leads image old.scheduler.workers old (entry (get_or items number no_line).worker (get_or items number no_line).event r) new) where
-  abbrev line : Line
-  line = get_or items number no_line
-
+module _ (image : HeapImage) (valid : IsValid image) (v : ScheduleView) (items : List Line) (number : ℕ) (old new : Ledger) (lines : List Line) (heap : List ℕ) (line : Line) (r : Reply)
+    (same : items ≡ v.lines) (way : IsUnderWay image v number old lines heap) (inside : number < length items) (there : line ≡ get_or items number no_line)
+    (call : IsCallOfLine line (entry line.worker line.event r)) (leads : Leads image old.scheduler.workers old (entry line.worker line.event r) new) where
   -- what the line's event copies
   pub line_copies : IsCopy image heap (places_of image old line.event).0 (places_of image old line.event).1 (copied (image_slide image) (machine_of image way.log) line.event).heap
   line_copies =
       let step = (leads (machine_of image way.log) way.tells).0 in
       let kept = (history_kept (image_table image) (image_slide image) v.workers (word_at image) way.log (image_slides image valid) way.taken.allowed).1 in
       event_copies image valid v.workers way.log heap way.holds old line.worker line.event kept way.tells step.1.allowed step.2
+
+  -- the line with its reply goes into twelve bytes
+  pub line_fits : v.workers ≤ 64 → IsSmall (record { worker = line.worker; event = line.event; reply = Some r })
+  line_fits most =
+      let step = (leads (machine_of image way.log) way.tells).0 in
+      let e : Entry = entry line.worker line.event r in
+      let few : old.scheduler.workers ≤ 64 = subst (λ (n : ℕ). n ≤ 64) (sym way.kept.workers) most in
+      line_small old.scheduler.workers (line_of e) few
+      (step_fits (image_table image) old.scheduler.workers (machine_of image way.log).known (state_after (machine_of image way.log).known e.worker e.event e.reply) e (table-lawful image valid) step.0 step.1)
 
   -- one line more
   pub way_on : (lines' : List Line) (heap' : List ℕ) → IsLedger image old.scheduler.workers new → lines' ≡ lines ++ (record { worker = line.worker; event = line.event; reply = Some r }) ∷ []
@@ -170,7 +177,7 @@ module _ (image : HeapImage) (valid : IsValid image) (v : ScheduleView) (items :
   unfolding followed_of followed_by followed_more
   way_on lines' heap' kept more long here others =
       let e : Entry = entry line.worker line.event r in
-      let followed = followed_by image v items number old new r same (followed_of image v number old lines heap way) inside call leads kept in
+      let followed = followed_by image v items number old new line r same (followed_of image v number old lines heap way) inside there call leads kept in
       let after : machine_of image (way.log ++ e ∷ []) ≡ machine_after (image_slide image) (machine_of image way.log) e = machine_of-push image way.log e in
       record {
         kept = followed.kept;

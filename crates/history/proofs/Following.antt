@@ -1,6 +1,7 @@
 -- A schedule that is followed line by line.
 use Rattle.std.proofs.Common.{◌≡◌, ℕ, suc, ◌+◌, ◌<◌, ◌≤◌, Bool, take_all, None, List, [], ◌∷◌, ◌++◌, length, get_or, take, drop, sym, ap, ◌∙◌, subst, arith}
-use Rattle.std.specs.Prelude.{IsTrue, ◌↔◌}
+use Rattle.std.specs.Prelude.{IsTrue, ◌↔◌, unwrap_or}
+use Rattle.std.proofs.lemmas.Option.{slice_get-get_or}
 use Rattle.history.specs.declared.reply.Reply.{Reply}
 use Rattle.std.proofs.Math.Seq.{take-suc, drop-cons}
 use Rattle.std.proofs.lemmas.List.{take-append-drop, length-take-le}
@@ -51,6 +52,10 @@ take_split lines number d inside = sym (take-append-drop number lines) ∙ ap (�
 abbrev pub no_line : Line
 no_line = record { worker = 0; event = Claim 0; reply = None }
 
+-- an item that stands in the list
+pub item_is : (items : List Line) (number : ℕ) (line : Line) → number < length items → line ≡ get_or items number line → line ≡ get_or items number no_line
+item_is items number line inside is = is ∙ ap (λ o. unwrap_or o line) (sym (slice_get-get_or items number line inside) ∙ slice_get-get_or items number no_line inside)
+
 -- a line that the ledger refuses is the least one
 pub refused_at : (image : HeapImage) (v : ScheduleView) (items : List Line) (number : ℕ) (ledger : Ledger) → items ≡ v.lines → IsFollowed image v number ledger → number < length items
     → RefusesLine image ledger.scheduler.workers ledger (get_or items number no_line) → IsRefusedAt image v (number + 2)
@@ -85,16 +90,14 @@ explained_at image v items number ledger cause same followed inside refuses has 
     }
 
 -- a line that the ledger takes
-unfoldable pub followed_by : (image : HeapImage) (v : ScheduleView) (items : List Line) (number : ℕ) (old new : Ledger) (r : Reply) → items ≡ v.lines → IsFollowed image v number old → number < length items
-    → IsCallOfLine (get_or items number no_line) (entry (get_or items number no_line).worker (get_or items number no_line).event r)
-    → Leads image old.scheduler.workers old (entry (get_or items number no_line).worker (get_or items number no_line).event r) new
-    → IsLedger image old.scheduler.workers new
+unfoldable pub followed_by : (image : HeapImage) (v : ScheduleView) (items : List Line) (number : ℕ) (old new : Ledger) (line : Line) (r : Reply) → items ≡ v.lines → IsFollowed image v number old → number < length items
+    → line ≡ get_or items number no_line → IsCallOfLine line (entry line.worker line.event r) → Leads image old.scheduler.workers old (entry line.worker line.event r) new → IsLedger image old.scheduler.workers new
     → IsFollowed image v (suc number) new
-followed_by image v items number old new r same followed inside call leads kept =
-    let line : Line = get_or items number no_line in
+followed_by image v items number old new line r same followed inside there call leads kept =
     let e : Entry = entry line.worker line.event r in
     let inside' : number < length v.lines = subst (λ (ls : List Line). number < length ls) same inside in
-    let more : take (suc number) v.lines ≡ take number v.lines ++ line ∷ [] = take-suc v.lines number no_line inside' ∙ ap (λ (ls : List Line). take number v.lines ++ get_or ls number no_line ∷ []) (sym same) in
+    let more : take (suc number) v.lines ≡ take number v.lines ++ line ∷ [] =
+    take-suc v.lines number no_line inside' ∙ (ap (λ (ls : List Line). take number v.lines ++ get_or ls number no_line ∷ []) (sym same) ∙ ap (λ (l : Line). take number v.lines ++ l ∷ []) (sym there)) in
     followed_more image v number old new line e followed more call
     (subst (λ (n : ℕ). Leads image n old e new) followed.kept.workers leads) (subst (λ (n : ℕ). IsLedger image n new) followed.kept.workers kept)
 

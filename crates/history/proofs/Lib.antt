@@ -19,7 +19,9 @@ mod Books
 mod Texts
 mod EventTexts
 mod LineTexts
+mod SmallLines
 mod ScheduleTexts
+mod Windows
 mod CopiedOut
 mod Machines
 mod Ledgers

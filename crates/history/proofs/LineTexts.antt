@@ -37,11 +37,11 @@ text_line workers l h =
     let d = and_parts (is_event l.event) (is_told_reply l.event l.reply) b.1 in
     record { worker = ltb-true l.worker workers b.0; event = d.0; reply = d.1; numbers = a.1 }
 
-open_small : (event : Event) (n : ℕ) → is_reply_to event (Open n) ≡ true → n ≤ 2
+pub open_small : (event : Event) (n : ℕ) → is_reply_to event (Open n) ≡ true → n ≤ 2
 open_small (Look r) n h = leb-true n 2 h
 open_small _ n h = absurd (false≢true h)
 
-outside_small : (event : Event) (n : ℕ) → is_reply_to event (Outside n) ≡ true → n ≤ 2
+pub outside_small : (event : Event) (n : ℕ) → is_reply_to event (Outside n) ≡ true → n ≤ 2
 outside_small (Look r) n h = leb-true n 2 h
 outside_small _ n h = absurd (false≢true h)
 

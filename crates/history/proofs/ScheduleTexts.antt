@@ -13,7 +13,7 @@ use Rattle.history.specs.ScheduleText.{line_text, header_text, schedule_text}
 use Rattle.history.specs.declared.line.Line.{Line}
 
 -- the text of one line more
-text_more : (workers : ℕ) (lines : List Line) (l : Line) → schedule_text (record { workers = workers; lines = lines ++ l ∷ [] }) ≡ schedule_text (record { workers = workers; lines = lines }) ++ line_text l
+pub text_more : (workers : ℕ) (lines : List Line) (l : Line) → schedule_text (record { workers = workers; lines = lines ++ l ∷ [] }) ≡ schedule_text (record { workers = workers; lines = lines }) ++ line_text l
 text_more workers lines l =
     ap (λ (t : List ℕ). header_text workers ++ t) (flat_map-append line_text lines (l ∷ []) ∙ ap (λ (t : List ℕ). flat_map line_text lines ++ t) (append-nil (line_text l)))
     ∙ sym (append_assoc (header_text workers) (flat_map line_text lines) (line_text l))

@@ -15,6 +15,8 @@ pub mod Reading
 pub mod Verb
 pub mod ReplyText
 pub mod ReadSchedule
+pub mod PackedLine
+pub mod Window
 pub mod Replay
 pub mod LineCause
 pub mod Ledger

@@ -7,6 +7,7 @@ use crate::call_fault::CallFault;
 use crate::event::Event;
 use crate::line::Line;
 use crate::moves::Moves;
+use crate::packed_line::PackedLine;
 use crate::reply::Reply;
 use crate::schedule::Schedule;
 use crate::scheduler::Scheduler;
@@ -19,7 +20,7 @@ use std::marker::Model;
 pub struct Book {
     scheduler: Scheduler,
     /// The calls, each with its reply.
-    lines: Vec<Line>,
+    lines: Vec<PackedLine>,
 }
 
 impl Model for Book {
@@ -63,11 +64,11 @@ impl Book {
         }
         self.lines.reserve(1)?;
         let reply = self.scheduler.step(worker, event)?;
-        self.lines.push(Line {
+        self.lines.push(PackedLine::of(Line {
             worker,
             event,
             reply: Some(reply),
-        })?;
+        }))?;
         Ok(reply)
     }
 

@@ -51,7 +51,7 @@ fn followed(
 {
     let mut ledger = Ledger::new(alloc, plan, schedule.workers())?;
     for (i, line) in schedule.lines().iter().enumerate() {
-        if let Err(cause) = ledger.follow(plan, *line) {
+        if let Err(cause) = ledger.follow(plan, line.line()) {
             let number = i as u64 + 2;
             return Ok(Err(RefusedLine { number, cause }));
         }

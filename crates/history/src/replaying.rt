@@ -9,6 +9,7 @@ ghost use Rattle.history.specs.Replayed.{IsReplayed, IsCarriedOut};
 use crate::carrier::Carrier;
 use crate::ledger::Ledger;
 use crate::line::Line;
+use crate::packed_line::PackedLine;
 use crate::replayed::{End, Replayed};
 use crate::schedule::Schedule;
 use heap_image::{Fault, Image};
@@ -51,7 +52,7 @@ fn carry_out(
     plan: &Plan,
     schedule: &Schedule,
     heap: &mut [u64],
-) -> Result<(Vec<Line>, bool), Fault>
+) -> Result<(Vec<PackedLine>, bool), Fault>
     requires kept { IsCarrier carrier.now }
     requires plan { carrier.now.plan.now ≡ plan.now }
     requires heap { heap.old ≡ plan.now.words }
@@ -61,15 +62,16 @@ fn carry_out(
     let mut ledger = Ledger::new(alloc, plan, schedule.workers())?;
     let mut lines = Vec::new(alloc);
     for (i, line) in schedule.lines().iter().enumerate() {
+        let line = line.line();
         let (first, number) = ledger.places(plan, line.event);
-        let Ok(reply) = ledger.follow(plan, *line) else {
+        let Ok(reply) = ledger.follow(plan, line) else {
             return Err(Fault::Schedule(i as u64 + 2));
         };
         carrier.copy(heap, first, number);
-        lines.push(Line {
+        lines.push(PackedLine::of(Line {
             reply: Some(reply),
-            ..*line
-        })?;
+            ..line
+        }))?;
     }
     Ok((lines, ledger.is_done()))
 }

@@ -2,7 +2,7 @@ ghost use Rattle.std.specs.Prelude.{◌≡◌, ◌<◌, ◌≤◌, ◌↔◌, So
 ghost use Rattle.history.specs.Schedule.{IsSchedule, is_line};
 
 use crate::event::Event;
-use crate::line::Line;
+use crate::packed_line::PackedLine;
 use crate::reply::Reply;
 use std::marker::Model;
 
@@ -14,7 +14,7 @@ pub const MAX_WORKERS: u32 = 64;
 #[derive(Drop)]
 pub struct Schedule {
     workers: u32,
-    lines: Vec<Line>,
+    lines: Vec<PackedLine>,
 }
 
 impl Model for Schedule {
@@ -29,7 +29,7 @@ impl Model for Schedule {
 
 impl Schedule {
     /// The schedule of these workers and lines.
-    pub(crate) fn of_lines(workers: u32, lines: Vec<Line>) -> Schedule
+    pub(crate) fn of_lines(workers: u32, lines: Vec<PackedLine>) -> Schedule
         requires { IsSchedule (record { workers = workers; lines = lines.items }) }
         ensures { result ≡ record { workers = workers; lines = lines.items } }
     {
@@ -65,12 +65,12 @@ impl Schedule {
         ensures line { slice_get self.now.lines i ≡ Some (record { worker = result.0; event = result.1; reply = result.2 }) }
         ensures formed { IsTrue (is_line self.now.workers (record { worker = result.0; event = result.1; reply = result.2 })) }
     {
-        let line = self.lines[i];
+        let line = self.lines[i].line();
         (line.worker, line.event, line.reply)
     }
 
     /// All lines.
-    pub(crate) fn lines(&self) -> &[Line]
+    pub(crate) fn lines(&self) -> &[PackedLine]
         ensures lines { result.now ≡ self.now.lines }
         ensures formed { IsSchedule self.now }
     {

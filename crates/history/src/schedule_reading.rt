@@ -6,6 +6,7 @@ ghost use Rattle.history.specs.ScheduleText.{schedule_text};
 ghost use Rattle.history.specs.ReadSchedule.{IsTextSchedule, IsMalformedAt};
 
 use crate::line_text::{header, line};
+use crate::packed_line::PackedLine;
 use crate::schedule::Schedule;
 use heap_image::Fault;
 use std::alloc::Global;
@@ -27,7 +28,7 @@ pub fn read_schedule(alloc: Global, bytes: &[u8]) -> Result<Schedule, Fault>
         let Some((next, behind)) = line(workers, rest) else {
             return Err(Fault::Schedule(lines.len() as u64 + 2));
         };
-        lines.push(next)?;
+        lines.push(PackedLine::of(next))?;
         rest = behind;
     }
     Ok(Schedule::of_lines(workers, lines))

@@ -5,6 +5,7 @@ ghost use Rattle.history.specs.ScheduleText.{line_text, header_text, schedule_te
 
 use crate::event::Event;
 use crate::line::Line;
+use crate::packed_line::PackedLine;
 use crate::reply::Reply;
 use crate::schedule::Schedule;
 use std::alloc::{AllocError, Global};
@@ -57,21 +58,36 @@ pub fn write_schedule(alloc: Global, schedule: &Schedule) -> Result<Vec<u8>, All
     ensures { IfOk result (λ text. text.items ≡ schedule_text schedule.now) }
 {
     let mut text = String::new(alloc);
-    writeln!(text, "schedule 1 {}", schedule.workers())?;
-    for line in schedule.lines() {
-        write_line(&mut text, line)?;
-    }
+    append_schedule(&mut text, schedule)?;
     Ok(text.into_bytes())
 }
 
-fn write_line(text: &mut String, line: &Line) -> Result<(), AllocError>
-    ensures { OnOk result (string_bytes text.new ≡ string_bytes text.old ++ line_text line.now) }
+/// Adds the text of a schedule.
+pub fn append_schedule(text: &mut String, schedule: &Schedule) -> Result<(), AllocError>
+    ensures { OnOk result (string_bytes text.new ≡ string_bytes text.old ++ schedule_text schedule.now) }
+{
+    writeln!(text, "schedule 1 {}", schedule.workers())?;
+    write_lines(text, schedule.lines())
+}
+
+/// Adds the text of lines.
+fn write_lines(text: &mut String, lines: &[PackedLine]) -> Result<(), AllocError>
+    ensures { OnOk result (string_bytes text.new ≡ string_bytes text.old ++ flat_map line_text lines.now) }
+{
+    for line in lines {
+        write_line(text, line.line())?;
+    }
+    Ok(())
+}
+
+fn write_line(text: &mut String, line: Line) -> Result<(), AllocError>
+    ensures { OnOk result (string_bytes text.new ≡ string_bytes text.old ++ line_text line) }
 {
     let Line {
         worker,
         event,
         reply,
-    } = *line;
+    } = line;
     match reply {
         Some(reply) => writeln!(text, "{worker} {event} {reply}"),
         None => writeln!(text, "{worker} {event} ?"),

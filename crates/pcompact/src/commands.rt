@@ -11,7 +11,7 @@ mod record;
 mod verify;
 
 use command_line::Request;
-use command_support::{Trouble, WorkDone};
+use command_support::{SystemFile, Trouble, WorkDone};
 use heap_commands::screen::Screen;
 use heap_commands::{
     assemble, board, generate, import, map, order, replay, summarize, text, timeline, upgrade,
@@ -29,7 +29,7 @@ pub fn answer<'a, R: Files + AllocGlobal + Threads + Wait + Clock + Sync>(
     request: Request<'a>,
 ) -> Result<WorkDone<'a>, Trouble<'a>>
 where
-    R::File: FileExt + Sync,
+    R::File: FileExt + SystemFile + Sync,
     ensures prints { (name : List ℕ) → IsFor name request.entry
         → IfOk result (λ done. IsPrintedBy name done.text.items) }
     ensures board { IsFor (codes "board") request.entry

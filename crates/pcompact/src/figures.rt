@@ -1,12 +1,13 @@
 //! `FiguresLine`.
-ghost use Rattle.std.specs.Prelude.{◌≡◌, ◌++◌, OnOk, string_bytes};
+ghost use Rattle.std.specs.Prelude.{◌≡◌, ◌≤◌, [], string_bytes};
+ghost use Rattle.std_alloc.specs.String.{string_capacity};
 ghost use Rattle.pcompact.specs.Figures.{figures_line};
 
 use collector::Figures;
-use std::alloc::AllocError;
+use heap_commands::line::{push_number, push_text};
 
 /// Room for the line, with each figure as long as a number can be.
-pub const LINE_ROOM: usize = 80;
+pub const LINE_ROOM: usize = 81;
 
 /// The figures of a collection, and the line that tells them.
 #[derive(Drop)]
@@ -15,14 +16,24 @@ pub struct FiguresLine {
     pub line: String,
 }
 
-/// Adds the line with the figures.
-pub fn tell_figures(figures: Figures, line: &mut String) -> Result<(), AllocError>
-    ensures { OnOk result (string_bytes line.new ≡ string_bytes line.old ++ figures_line figures) }
+/// The figures with their line, in a text that has room for it and is empty.
+pub fn with_line(figures: Figures, mut line: String) -> FiguresLine
+    requires room { 81 ≤ string_capacity line }
+    requires empty { string_bytes line ≡ [] }
+    ensures figures { result.figures ≡ figures }
+    ensures line { string_bytes result.line ≡ figures_line figures }
 {
     let Figures {
         prefix_end,
         new_top,
         filled,
     } = figures;
-    writeln!(line, "prefix {prefix_end} top {new_top} filled {filled}")
+    push_text(&mut line, "prefix ");
+    push_number(&mut line, prefix_end);
+    push_text(&mut line, " top ");
+    push_number(&mut line, new_top);
+    push_text(&mut line, " filled ");
+    push_number(&mut line, filled as u64);
+    push_text(&mut line, "\n");
+    FiguresLine { figures, line }
 }

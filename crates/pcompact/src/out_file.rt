@@ -4,6 +4,7 @@ ghost use Rattle.std.specs.Prelude.{◌≡◌, ◌≤◌, IfOk, IfSome, Ok, leng
 use crate::figures::FiguresLine;
 use command_support::Watched;
 use heap_image::{Failed, Fault, Outlet};
+use std::fs::OpenFile;
 use std::io::{Seek, Write};
 
 /// The bytes of a file that a collected image is written to, which no contract tells.
@@ -19,7 +20,7 @@ pub struct OutFile<'a, 'f, F: Drop> {
     left_out: u64,
 }
 
-impl<'a, 'f, F: Write + Seek + Drop> OutFile<'a, 'f, F> {
+impl<'a, 'f, F: OpenFile + Write + Seek + Drop> OutFile<'a, 'f, F> {
     /// The bytes of this file, of which none was given yet.
     pub fn new(watched: &'f mut Watched<'a, F>, may_have_holes: bool) -> OutFile<'a, 'f, F> {
         OutFile {
@@ -68,7 +69,7 @@ impl<'a, 'f, F: Write + Seek + Drop> OutFile<'a, 'f, F> {
     }
 }
 
-impl<F: Write + Seek + Drop> Outlet for OutFile<'_, '_, F> {
+impl<F: OpenFile + Write + Seek + Drop> Outlet for OutFile<'_, '_, F> {
     ghost use Rattle.std.specs.Prelude.{None};
 
     ghost took = { λ _. None };

@@ -3,12 +3,17 @@ ghost use Rattle.std.specs.Prelude.{◌≡◌, ◌≤◌, ◌∷◌, ◌⊎◌, 
 ghost use Rattle.std.specs.Io.KnownBytes.{Appends};
 ghost use Rattle.command_line.specs.CommandLine.{AreWords, AreCallOf, HaveWord};
 ghost use Rattle.pcompact.specs.Commands.{IsPrintedBy};
+ghost use Rattle.command_line.specs.declared.unread.Unread.{Unread};
 ghost use Rattle.command_support.specs.Failure.{failed_device, out_of_memory, status_of};
 
 use crate::commands;
-use command_support::{FailedCall, Failure, Reason, Stats, SystemCall, Trouble, WorkDone};
+use command_line::Unread;
+use command_support::{
+    FailedCall, Failure, Printable, Reason, Stats, SystemCall, SystemFile, Trouble, WorkDone,
+};
 use heap_commands::screen::Screen;
 use heap_image::Fault;
+use std::alloc::{AllocError, Global};
 use std::io;
 use std::io::Write;
 use std::os::unix::fs::FileExt;
@@ -34,7 +39,7 @@ pub fn run<R: Files + AllocGlobal + Threads + Wait + Clock + Sync, A: Write, B: 
     err: &mut B,
 ) -> u8
 where
-    R::File: FileExt + Sync,
+    R::File: FileExt + SystemFile + Sync,
     ensures status { result ≤ 2 }
     ensures good { result ≡ 0 → (err.new ≡ err.old) ⊎ HaveWord (codes "--stats") words.now }
     ensures usage { result ≡ 2 → out.new ≡ out.old }
@@ -48,7 +53,7 @@ where
     let request = match command_line::read(rt.alloc(), words) {
         Ok(request) => request,
         Err(unread) => {
-            let failure = Failure::of_unread(rt.alloc(), unread);
+            let failure = refused(rt.alloc(), words, unread);
             return tell(&Trouble::new(failure), false, err);
         }
     };
@@ -67,6 +72,50 @@ where
         tell_stats(rt, stats, err);
     }
     0
+}
+
+/// Why words give no request.
+fn refused(alloc: Global, words: &[String], unread: Unread) -> Failure
+    ensures { unread ≡ Unread.Memory → result ≡ out_of_memory }
+{
+    match Failure::of_unread(alloc, unread) {
+        Failure::Usage(text) => misused(alloc, words, text),
+        other => other,
+    }
+}
+
+/// What is wrong with words, which this text says. It shows them, and they must not break its lines: where one isn't shown as
+/// it is, what is wrong is told of what is shown in their place.
+fn misused(alloc: Global, words: &[String], text: String) -> Failure {
+    if words.iter().all(is_plain) {
+        return Failure::Usage(text);
+    }
+    match misused_as_shown(alloc, words) {
+        Ok(failure) => failure,
+        Err(refused) => Failure::from(refused),
+    }
+}
+
+/// Whether a word is shown as it is.
+fn is_plain(word: &String) -> bool {
+    Printable(word.as_str()).is_plain()
+}
+
+/// What is wrong with what is shown in place of words.
+fn misused_as_shown(alloc: Global, words: &[String]) -> Result<Failure, AllocError> {
+    let mut shown = Vec::new(alloc);
+    for word in words {
+        shown.push(format!(in alloc; "{}", Printable(word.as_str()))?)?;
+    }
+    why_refused(alloc, shown.as_slice())
+}
+
+/// Why words give no request that give none.
+fn why_refused(alloc: Global, words: &[String]) -> Result<Failure, AllocError> {
+    match command_line::read(alloc, words) {
+        Ok(_request) => Failure::usage(alloc, "pcompact: no such command\n"),
+        Err(unread) => Ok(Failure::of_unread(alloc, unread)),
+    }
 }
 
 /// Whether one of the words has this text.

@@ -1,16 +1,36 @@
-use Rattle.std.specs.Prelude.{◌≡◌, ℕ, List, Option, codes}
+use Rattle.std.specs.Prelude.{◌≡◌, ℕ, List, Option, IfSome, codes}
 use Rattle.std.specs.Io.KnownBytes.{Consumes}
 use Rattle.heap_image.specs.HeapImage.{HeapImage, IsValid}
 use Rattle.heap_image.specs.ImageText.{text}
+use Rattle.heap_image.specs.Refusals.{IsReason}
+use Rattle.heap_image.specs.declared.fault.Fault.TheVariants.{Memory}
 use Rattle.summary.specs.Compaction.{compact}
 use Rattle.collector.specs.Verdict.{IsVerdict}
 use Rattle.collector.specs.declared.verdict.Verdict.{Verdict}
+use Rattle.collector.specs.declared.verdict.Verdict.TheVariants.{Shape, Word, Live, Root}
+use Rattle.command_support.specs.declared.difference.Difference.{Difference}
+use Rattle.pcompact.specs.declared.commands.verify.Unverified.{Unverified}
 use Rattle.heap_commands.specs.Command.{Command}
 
 -- each device gave the text of a valid image, and this is the verdict on the second beside the compaction of the first
 abbrev pub IsVerdictOf : Option (List ℕ) → Option (List ℕ) → Option (List ℕ) → Option (List ℕ) → Verdict → Type 0
 IsVerdictOf before before' after after' verdict = (was is : HeapImage) × IsValid was × IsValid is
     × Consumes before before' (text was) × Consumes after after' (text is) × IsVerdict (compact was) is verdict
+
+-- the verdict that tells of a difference
+abbrev pub verdict_of : Difference → Verdict
+verdict_of Difference.Shape = Shape
+verdict_of (Difference.Word address) = Word address
+verdict_of (Difference.Live index) = Live index
+verdict_of (Difference.Root index) = Root index
+
+-- The fault is a reason to refuse the first input, or that of the second once all of the first was taken as the text of an
+-- image, or memory was refused for the comparison.
+abbrev pub IsUnverified : Option (List ℕ) → Option (List ℕ) → Option (List ℕ) → Unverified → Type 0
+IsUnverified before before' after (Unverified.Before fault) = IfSome before (λ bytes. IsReason bytes fault)
+IsUnverified before before' after (Unverified.After fault) = ((image : HeapImage) × IsValid image
+    × Consumes before before' (text image)) × IfSome after (λ bytes. IsReason bytes fault)
+IsUnverified before before' after (Unverified.Neither fault) = fault ≡ Memory
 
 abbrev pub verify_command : Command
 verify_command = record { name = codes "verify"; prints = (λ shown. shown ≡ codes "same\n") }

@@ -1,10 +1,12 @@
 //! The command `collect`.
-ghost use Rattle.std.specs.Prelude.{◌≡◌, codes, ℕ, List, IfOk, IfErr, string_bytes};
+ghost use Rattle.std.specs.Prelude.{◌≡◌, ◌≢◌, ◌⊎◌, codes, ℕ, List, IfOk, IfErr, OnErr, string_bytes};
+ghost use Rattle.heap_image.specs.declared.fault.Fault.{Fault};
+ghost use Rattle.collector.specs.Streams.{IsTextBegun};
 ghost use Rattle.pcompact.specs.Commands.Collect.{IsCollection, IsFirstOfBytes};
 ghost use Rattle.pcompact.specs.Figures.{IsFigures, figures_line};
 
 use crate::collection_times::CollectionTimes;
-use crate::figures::{FiguresLine, LINE_ROOM, tell_figures};
+use crate::figures::{FiguresLine, LINE_ROOM, with_line};
 use crate::image_file::ImageFile;
 use crate::out_file::OutFile;
 use crate::timed_gate::TimedGate;
@@ -12,8 +14,8 @@ use crate::workers::Workers;
 use collector::{Gate, collect_stream};
 use command_line::Collect;
 use command_support::{
-    Stats, Stopwatch, TimedIntake, TimedOutlet, Trouble, WorkDone, ended, failed_between,
-    image_and_out,
+    Stats, Stopwatch, SystemFile, TimedIntake, TimedOutlet, Trouble, WorkDone, ended,
+    failed_between, image_and_out,
 };
 use heap_image::{Fault, Intake, Outlet};
 use std::os::unix::fs::FileExt;
@@ -28,7 +30,7 @@ pub fn answer<'a, R: Files + AllocGlobal + Threads + Wait + Clock + Sync>(
     asked: Collect<'a>,
 ) -> Result<WorkDone<'a>, Trouble<'a>>
 where
-    R::File: FileExt + Sync,
+    R::File: FileExt + SystemFile + Sync,
     ensures { IfOk result (λ done. IsFigures done.text.items) }
 {
     let watch = Stopwatch::start(rt, asked.stats);
@@ -74,11 +76,15 @@ pub fn collect_into<R: AllocGlobal + Threads + Wait + Sync, I: Intake, O: Outlet
     ensures collection { IfOk result (λ told. IsCollection (I.left input.old) (I.left input.new)
         (O.took output.old) (O.took output.new) (string_bytes told.line)) }
     ensures figures { IfOk result (λ told. string_bytes told.line ≡ figures_line told.figures) }
+    // Nothing was written, or the collection had ended well.
+    ensures written { OnErr result ((output.new ≡ output.old)
+        ⊎ IsTextBegun (I.left input.old) (I.left input.new) (O.took output.old) (O.took output.new)) }
+    // Only the device stops it once it writes.
+    ensures nothing_yet { IfErr result (λ fault. fault ≢ Fault.Io → output.new ≡ output.old) }
     ensures fault { IfErr result (IsFirstOfBytes (I.left input.old)) }
 {
-    let mut line = String::with_capacity(rt.alloc(), LINE_ROOM)?;
+    let line = String::with_capacity(rt.alloc(), LINE_ROOM)?;
     let Workers { count, gate } = workers;
     let figures = collect_stream(rt.alloc(), input, output, count, gate, rt, rt)?;
-    tell_figures(figures, &mut line)?;
-    Ok(FiguresLine { figures, line })
+    Ok(with_line(figures, line))
 }

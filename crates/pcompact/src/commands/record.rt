@@ -1,11 +1,13 @@
 //! The command `record`.
-ghost use Rattle.std.specs.Prelude.{◌≡◌, codes, ℕ, List, IfOk, IfErr, string_bytes};
+ghost use Rattle.std.specs.Prelude.{◌≡◌, ◌≢◌, ◌⊎◌, codes, ℕ, List, IfOk, IfErr, OnErr, string_bytes};
+ghost use Rattle.heap_image.specs.declared.fault.Fault.{Fault};
+ghost use Rattle.collector.specs.Streams.{IsTextBegun, IsTextWritten};
 ghost use Rattle.pcompact.specs.Commands.Collect.{IsFirstOfBytes};
 ghost use Rattle.pcompact.specs.Commands.Record.{IsRecording};
 ghost use Rattle.pcompact.specs.Figures.{IsFigures, figures_line};
 
 use crate::collection_times::CollectionTimes;
-use crate::figures::{FiguresLine, LINE_ROOM, tell_figures};
+use crate::figures::{FiguresLine, LINE_ROOM, with_line};
 use crate::image_file::ImageFile;
 use crate::out_file::OutFile;
 use crate::timed_gate::TimedGate;
@@ -13,8 +15,8 @@ use crate::workers::Workers;
 use collector::{Gate, record_stream};
 use command_line::Record;
 use command_support::{
-    FileId, FileTarget, FileWord, Output, Phase, Role, Stats, Stopwatch, TimedIntake, TimedOutlet,
-    Trouble, Watched, WorkDone, failed, must_differ, same_file,
+    FileId, FileTarget, FileWord, Output, Phase, Role, Stats, Stopwatch, SystemFile, TimedIntake,
+    TimedOutlet, Trouble, Watched, WorkDone, failed, must_differ, same_file,
 };
 use heap_image::{Fault, Intake, Outlet, ToWrite};
 use std::alloc::Global;
@@ -31,7 +33,7 @@ pub fn answer<'a, R: Files + AllocGlobal + Threads + Wait + Clock + Sync>(
     asked: Record<'a>,
 ) -> Result<WorkDone<'a>, Trouble<'a>>
 where
-    R::File: FileExt + Sync,
+    R::File: FileExt + SystemFile + Sync,
     ensures { IfOk result (λ done. IsFigures done.text.items) }
 {
     let watch = Stopwatch::start(rt, asked.stats);
@@ -90,7 +92,10 @@ type ImageOutAndSchedule<'a, F> = (Watched<'a, F>, Output<'a, F>, Output<'a, F>)
 fn image_out_and_schedule<'a, H: Files + AllocGlobal>(
     host: &H,
     asked: &Record<'a>,
-) -> Result<ImageOutAndSchedule<'a, H::File>, Trouble<'a>> {
+) -> Result<ImageOutAndSchedule<'a, H::File>, Trouble<'a>>
+where
+    H::File: SystemFile,
+{
     let named = Named {
         image: FileWord::new(Role::Image, asked.image),
         out: FileWord::new(Role::Out, asked.out),
@@ -130,9 +135,9 @@ fn targets_beside<'a, H: Files + AllocGlobal>(
     named: Named<'a>,
     atomic: bool,
 ) -> Result<Targets<'a, H::File>, Trouble<'a>> {
-    let id = image.id()?;
-    let out = FileTarget::find(host, named.out, atomic)?;
-    let schedule = FileTarget::find(host, named.schedule, atomic)?;
+    let (id, writing) = (image.id()?, image.writing(atomic)?);
+    let out = FileTarget::find(host, named.out, writing)?;
+    let schedule = FileTarget::find(host, named.schedule, writing)?;
     if let Some((one, other)) = one_file(host, (named.image, id), &out, &schedule)? {
         let same = same_file(host.alloc(), one, other);
         schedule.leave(host);
@@ -145,14 +150,17 @@ fn targets_beside<'a, H: Files + AllocGlobal>(
 /// Two files that are written.
 type Outputs<'a, F> = (Output<'a, F>, Output<'a, F>);
 
-/// Begins to write both files.
+/// Begins to write both files. No new file gets the name of one that is to be replaced.
 fn begin_both<'a, H: Files + AllocGlobal>(
     host: &H,
     out: FileTarget<'a, H::File>,
     schedule: FileTarget<'a, H::File>,
-) -> Result<Outputs<'a, H::File>, Trouble<'a>> {
-    let out = out.begin(host)?;
-    match schedule.begin(host) {
+) -> Result<Outputs<'a, H::File>, Trouble<'a>>
+where
+    H::File: SystemFile,
+{
+    let out = out.begin_apart(host, schedule.place_name())?;
+    match schedule.begin_apart(host, out.place_name()) {
         Ok(schedule) => Ok((out, schedule)),
         Err(trouble) => Err(failed(host, trouble, out)),
     }
@@ -184,6 +192,8 @@ fn both_ended<'a, H: Files>(
     out: Output<'a, H::File>,
     schedule: Output<'a, H::File>,
 ) -> Result<WorkDone<'a>, Trouble<'a>>
+where
+    H::File: SystemFile,
     ensures { IfOk result (λ done. done.text.items ≡ string_bytes line) }
 {
     let out = match out.finish(host) {
@@ -229,12 +239,20 @@ pub fn record_into<
         (O.took output.old) (O.took output.new)
         (L.took lines.old) (L.took lines.new) (string_bytes told.line)) }
     ensures figures { IfOk result (λ told. string_bytes told.line ≡ figures_line told.figures) }
+    // Nothing was written, or the collection had ended well.
+    ensures written { OnErr result ((output.new ≡ output.old)
+        ⊎ IsTextBegun (I.left input.old) (I.left input.new) (O.took output.old) (O.took output.new)) }
+    // No line was written before the whole compaction.
+    ensures lines_last { OnErr result ((lines.new ≡ lines.old)
+        ⊎ IsTextWritten (I.left input.old) (I.left input.new) (O.took output.old) (O.took output.new)) }
+    // Only the devices stop it once it writes.
+    ensures nothing_yet { IfErr result (λ fault. fault ≢ Fault.Io
+        → (output.new ≡ output.old) × (lines.new ≡ lines.old)) }
     ensures fault { IfErr result (λ fault. IsFirstOfBytes (I.left input.old) fault) }
 {
     let alloc = rt.alloc();
-    let mut line = String::with_capacity(alloc, LINE_ROOM)?;
+    let line = String::with_capacity(alloc, LINE_ROOM)?;
     let Workers { count, gate } = workers;
     let figures = record_stream(alloc, input, output, lines, count, gate, rt, rt)?;
-    tell_figures(figures, &mut line)?;
-    Ok(FiguresLine { figures, line })
+    Ok(with_line(figures, line))
 }

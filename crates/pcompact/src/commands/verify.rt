@@ -1,6 +1,7 @@
 //! The command `verify`.
-ghost use Rattle.std.specs.Prelude.{◌≡◌, codes, ℕ, List, IfOk};
-ghost use Rattle.pcompact.specs.Commands.Verify.{IsVerdictOf};
+ghost use Rattle.std.specs.Prelude.{◌≡◌, codes, ℕ, List, IfOk, IfErr, MatchOption};
+ghost use Rattle.collector.specs.declared.verdict.Verdict.TheVariants.{Same};
+ghost use Rattle.pcompact.specs.Commands.Verify.{IsVerdictOf, IsUnverified, verdict_of};
 
 use collector::{Verdict, verify};
 use command_line::Verify;
@@ -35,7 +36,9 @@ pub fn answer<'a, R: Files + AllocGlobal + Threads + Clock + Sync>(
 }
 
 /// The difference that a verdict names. None where it names none.
-fn difference(verdict: Verdict) -> Option<Difference> {
+fn difference(verdict: Verdict) -> Option<Difference>
+    ensures { MatchOption result (verdict ≡ Same) (λ difference. verdict ≡ verdict_of difference) }
+{
     match verdict {
         Verdict::Same => None,
         Verdict::Shape => Some(Difference::Shape),
@@ -104,6 +107,7 @@ pub fn verify_images<R: Intake, S: Intake, T: Threads + Sync>(
 ) -> Result<Verdict, Unverified>
     ensures { IfOk result (λ verdict. IsVerdictOf (R.left before.old) (R.left before.new)
         (S.left after.old) (S.left after.new) verdict) }
+    ensures fault { IfErr result (IsUnverified (R.left before.old) (R.left before.new) (S.left after.old)) }
 {
     let was = match read_image_by_threads(alloc, before, threads) {
         Ok(image) => image,

@@ -20,16 +20,16 @@ returns-in_err-image-clause-schedule g c =
     let p = err_from_is_err_and c.from_residual.result c.from_residual.ensures.1 in
     rw (p.1, p.2) (λ line same. no_such_reading c.in_err-image.field-0.0 (Schedule line) same (λ none. none) c.in_err-image.ensures.kind)
 
-pub returns-in_err-write_image-in-Ok-clause-written : goal.returns-in_err-write_image-in-Ok-clause-written
-returns-in_err-write_image-in-Ok-clause-written g c =
-    let p = err_from_is_err_and c.from_residual-in_err-write_image-in-Ok.result c.from_residual-in_err-write_image-in-Ok.ensures.1 in
-    rw (p.1) (inr (text_begun _ _ _ _ _ _ c.in_ok-image.ensures.read c.in-Ok.ensures.image c.in_err-write_image-in-Ok.ensures.beginning))
+pub returns-in_err-write_image_buffered-in-Ok-clause-written : goal.returns-in_err-write_image_buffered-in-Ok-clause-written
+returns-in_err-write_image_buffered-in-Ok-clause-written g c =
+    let p = err_from_is_err_and c.from_residual-in_err-write_image_buffered-in-Ok.result c.from_residual-in_err-write_image_buffered-in-Ok.ensures.1 in
+    rw (p.1) (inr (text_begun _ _ _ _ _ _ c.in_ok-image.ensures.read c.in-Ok.ensures.image c.in_err-write_image_buffered-in-Ok.ensures.beginning))
 
-pub returns-in_ok-write_image-in-Ok-clause-text : goal.returns-in_ok-write_image-in-Ok-clause-text
-returns-in_ok-write_image-in-Ok-clause-text g c = (
+pub returns-in_ok-write_image_buffered-in-Ok-clause-text : goal.returns-in_ok-write_image_buffered-in-Ok-clause-text
+returns-in_ok-write_image_buffered-in-Ok-clause-text g c = (
   c.in_ok-image.image,
   c.in_ok-image.ensures.read,
-  appended _ _ _ _ _ _ c.in_ok-image.ensures.read c.in-Ok.ensures.image c.in_ok-write_image-in-Ok.ensures.text,
+  appended _ _ _ _ _ _ c.in_ok-image.ensures.read c.in-Ok.ensures.image c.in_ok-write_image_buffered-in-Ok.ensures.text,
   c.in-Ok.ensures.figures,
 )
 

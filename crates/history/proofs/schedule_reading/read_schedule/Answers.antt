@@ -1,4 +1,6 @@
-use Rattle.std.proofs.Common.{◌≡◌, ◌∷◌, [], ◌++◌, refl, sym, ◌∙◌, inr, rules}
+use Rattle.std.proofs.Common.{◌≡◌, ◌∷◌, [], ◌++◌, refl, sym, ap, ◌∙◌, inr, rules}
+use Rattle.history.specs.declared.line.Line.{Line}
+use Rattle.history.proofs.SmallLines.{text_line_small}
 use Rattle.history.proofs.ScheduleTexts.{read_more, not_empty}
 use Rattle.history.proofs.schedule_reading.read_schedule.Goals as goal
 use Rattle.std.proofs.Common.{◌+◌}
@@ -22,6 +24,9 @@ returns-in_default-line-clause-fault c =
 
 pub loop-rest-preserved : goal.loop-rest-preserved
 loop-rest-preserved c =
-    let more : c.push.new.self.items ≡ c.loop-rest.lines.items ++ c.in-Some-line.next ∷ [] = c.in_ok-push.ensures.items in
+    let more : c.push.new.self.items ≡ c.loop-rest.lines.items ++ c.in-Some-line.next ∷ [] = c.in_ok-push.ensures.items ∙ ap (λ (l : Line). c.loop-rest.lines.items ++ l ∷ []) c.of.ensures in
     let all = read_more c.args.bytes.now c.in-Some.workers c.loop-rest.lines.items c.push.new.self.items c.in-Some-line.next c.loop-rest.rest.now c.in-Some-line.behind.now more c.loop-rest.invariant.kept c.loop-rest.invariant.is c.in-Some-line.ensures.0 c.in-Some-line.ensures.1 in
     record { kept = all.kept; is = all.is }
+
+pub of-requires : goal.of-requires
+of-requires c = text_line_small c.in-Some.workers c.in-Some-line.next c.loop-rest.invariant.kept.few c.in-Some-line.ensures.0

@@ -5,7 +5,7 @@ use Rattle.pcompact.proofs.program.run.Goals as goal
 
 pub returns-in-Err-clause-board_is_known : goal.returns-in-Err-clause-board_is_known
 returns-in-Err-clause-board_is_known g c = λ words_are.
-    let memory : c.of_unread-failure.result ≡ out_of_memory = c.of_unread-failure.ensures (c.in-Err.ensures.board words_are) in
+    let memory : c.refused-failure.result ≡ out_of_memory = c.refused-failure.ensures (c.in-Err.ensures.board words_are) in
     let status : c.tell.result ≡ 1 = c.tell.ensures ∙ ap status_of (c.new.ensures ∙ memory) in
     omega arith
 

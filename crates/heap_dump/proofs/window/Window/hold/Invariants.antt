@@ -8,4 +8,4 @@ invariant-loop-self g l = record {
 }
 
 abbrev pub decreases-loop-self : goal.decreases-loop-self
-decreases-loop-self g l = 65536 - l.self.end
+decreases-loop-self g l = 8192 - l.self.end

@@ -37,7 +37,7 @@ loop-done-preserved g c =
     ap (λ l. l ++ numbers (take n (take (length words - done) (drop done words)))) (append-nil (numbers (take done words))) ∙ ap (λ l. numbers (take done words) ++ numbers l) piece ∙ sym (numbers_more words done n) in
     record {
       within = let w = so_far.within in omega arith;
-      in_range = c.hold-done.ensures.in_range;
+      room = c.hold-done.ensures.room;
       sent = subst (λ bytes. Sends start end held (unsent_bytes c.hold-done.new.self) bytes) grown more;
       failed = c.in_ok-make_room.ensures.failed ∙ so_far.failed;
     }

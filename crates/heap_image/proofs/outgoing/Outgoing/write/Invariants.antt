@@ -1,12 +1,12 @@
 use Rattle.std.proofs.Common.{length, ◌-◌, ◌≡◌, ◌≤◌, take}
 use Rattle.heap_image.specs.ImageText.{numbers}
-use Rattle.heap_image.specs.Outgoing.{unsent_bytes, Sends}
+use Rattle.heap_image.specs.Outgoing.{HasRoom, unsent_bytes, Sends}
 use Rattle.heap_image.proofs.outgoing.Outgoing.write.Given as goal
 
 abbrev pub invariant-loop-done : goal.invariant-loop-done
 invariant-loop-done g l = record {
   within : l.done ≤ length l.words;
-  in_range : l.self.end ≤ 32768;
+  room : HasRoom l.self;
   sent : Sends (g.W.Outlet.took l.initial.writer) (g.W.Outlet.took l.writer) (unsent_bytes l.initial.self) (unsent_bytes l.self) (numbers (take l.done l.words));
   failed : g.W.Outlet.has_failed l.writer ≡ g.W.Outlet.has_failed l.initial.writer;
 }

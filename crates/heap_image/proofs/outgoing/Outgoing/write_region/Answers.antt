@@ -18,7 +18,7 @@ returns-clause-bytes g c =
     let middle = g.W.Outlet.took c.flush.new.writer in
     let end = g.W.Outlet.took c.give_zeros.new.writer in
     let cleared = c.is_cleared.ensures c.if-not-is_cleared.false in
-    let none = none_held c.flush.new.self.end c.flush.new.self.bytes c.in_ok-flush.ensures.empty in
+    let none = none_held c.flush.new.self.end c.flush.new.self.bytes.now c.in_ok-flush.ensures.empty in
     on_ok_weaker c.give_zeros.result (λ zeros. sends_zeros start middle end (unsent_bytes c.args.self.now) (unsent_bytes c.flush.new.self) words c.in_ok-flush.ensures.bytes none cleared (subst (λ n. Appends middle end (replicate (8 * n) 0)) c.len.ensures.value zeros)) c.give_zeros.ensures.zeros
 
 pub returns-clause-beginning : goal.returns-clause-beginning

@@ -6,7 +6,7 @@ use Rattle.heap_image.specs.HeapImage.{region_words, region_count, block_of}
 use Rattle.heap_image.specs.ImageText.{numbers, text, with_tail}
 use Rattle.heap_image.specs.Outgoing.{unsent_bytes, Sends, TakesBeginning}
 use Rattle.heap_image.proofs.Sending.{beginning_of_first, sends_none, sends_first, sends_on, sends_more, failed_piece, all_sent, first, front_is, text_split, block_first, block_more, all_blocks}
-use Rattle.heap_image.proofs.write.write_image.Goals as goal
+use Rattle.heap_image.proofs.write.write_through.Goals as goal
 
 pub returns-in_err-give_all-clause-beginning : goal.returns-in_err-give_all-clause-beginning
 returns-in_err-give_all-clause-beginning g c =
@@ -20,7 +20,7 @@ returns-in_err-give_all-clause-beginning g c =
 
 pub loop-r-init : goal.loop-r-init
 loop-r-init g c = record {
-  in_range = c.new-outgoing.ensures.in_range;
+  room = c.new-outgoing.ensures.room;
   sent = let none : 0 * region_words c.args.image.now ≡ 0 = omega arith in rw none (sends_none (g.W.Outlet.took c.give_all.new.writer) (unsent_bytes c.new-outgoing.result));
   failed = refl;
 }
@@ -56,7 +56,7 @@ loop-r-preserved g c =
     let more = sends_more fronted looped end (unsent_bytes c.new-outgoing.result) (unsent_bytes c.loop-r.outgoing) (unsent_bytes c.write_region.new.self) (numbers (take (c.loop-r.r * region_words image) image.words)) (numbers c.region.result.now) so_far.sent c.in_ok-write_region.ensures.bytes in
     let grown = ap (λ b. numbers (take (c.loop-r.r * region_words image) image.words) ++ numbers b) block ∙ sym (block_more image c.loop-r.r) in
     record {
-      in_range = c.in_ok-write_region.ensures.in_range;
+      room = c.in_ok-write_region.ensures.room;
       sent = subst (λ bytes. Sends fronted end (unsent_bytes c.new-outgoing.result) (unsent_bytes c.write_region.new.self) bytes) grown more;
       failed = c.in_ok-write_region.ensures.failed ∙ so_far.failed;
     }

@@ -1,0 +1,120 @@
+//! `Window`: the bytes of a schedule's text, as they come.
+ghost use Rattle.std.specs.Prelude.{◌≡◌, ◌≢◌, ◌<◌, ◌≤◌, ◌+◌, ◌⊎◌, ◌++◌, ◌||◌, ◌↔◌, true, false, List, ℕ, [], length, Ok, IsTrue, IfOk, IsErr, OnOk, is_err};
+ghost use Rattle.std.specs.Io.KnownBytes.{Consumes, IsAtEnd};
+ghost use Rattle.history.specs.Window.{HoldLine};
+
+use crate::reading::word;
+use heap_image::{Failed, Intake};
+
+/// How many bytes are held at most.
+const ROOM: usize = 8_192;
+
+/// No line of a schedule has more bytes, its newline among them.
+const LINE_ROOM: usize = 64;
+
+/// The next bytes of a text, which are asked for in large pieces.
+#[derive(Drop)]
+pub(crate) struct Window {
+    bytes: [u8; ROOM],
+    /// The bytes from `start` to `end` have come and were not read.
+    start: usize,
+    end: usize,
+}
+
+impl Window {
+    ghost use Rattle.history.specs.Window.{IsInRange, rest_of, unread};
+
+    /// No byte has come yet.
+    pub(crate) fn new() -> Window
+        ensures in_range { IsInRange result }
+        ensures none { unread result ≡ [] }
+    {
+        Window {
+            bytes: [0; ROOM],
+            start: 0,
+            end: 0,
+        }
+    }
+
+    /// The bytes that have come and were not read.
+    pub(crate) fn unread(&self) -> &[u8]
+        requires { IsInRange self.now }
+        ensures { result.now ≡ unread self.now }
+    {
+        &self.bytes[self.start..self.end]
+    }
+
+    /// Whether no byte is held.
+    fn is_empty(&self) -> bool
+        requires { IsInRange self.now }
+        ensures { IsTrue result ↔ (unread self.now ≡ []) }
+    {
+        self.unread().is_empty()
+    }
+
+    /// Goes on behind so many bytes that have come.
+    pub(crate) fn pass(&mut self, count: usize)
+        requires in_range { IsInRange self.old }
+        requires held { count ≤ length (unread self.old) }
+        ensures in_range { IsInRange self.new }
+        ensures passed { (front rest : List ℕ) → unread self.old ≡ front ++ rest → length front ≡ count → unread self.new ≡ rest }
+    {
+        self.start += count;
+    }
+
+    /// Takes bytes until a whole line has come, or more than a line can have, or the device has none left. Answers whether
+    /// any byte is held.
+    pub(crate) fn hold_line<R: Intake>(&mut self, source: &mut R) -> Result<bool, Failed>
+        requires { IsInRange self.old }
+        ensures in_range { IsInRange self.new }
+        ensures same { OnOk result (Consumes (rest_of self.old (R.left source.old)) (rest_of self.new (R.left source.new)) []) }
+        ensures whole { OnOk result (HoldLine (unread self.new) ⊎ IsAtEnd (R.left source.new)) }
+        ensures some { result ≡ Ok true → unread self.new ≢ [] }
+        ensures none { result ≡ Ok false → (unread self.new ≡ []) × IsAtEnd (R.left source.new) }
+        ensures failed { R.has_failed source.new ≡ (is_err result || R.has_failed source.old) }
+    {
+        while !holds_line(self.unread()) {
+            if self.take_more(source)? == 0 {
+                return Ok(!self.is_empty());
+            }
+        }
+        Ok(true)
+    }
+
+    /// Takes more bytes, and answers how many: 0 only where the device has none left.
+    fn take_more<R: Intake>(&mut self, source: &mut R) -> Result<usize, Failed>
+        requires in_range { IsInRange self.old }
+        requires short { length (unread self.old) < 64 }
+        ensures in_range { IsInRange self.new }
+        ensures same { OnOk result (Consumes (rest_of self.old (R.left source.old)) (rest_of self.new (R.left source.new)) []) }
+        ensures more { IfOk result (λ came. length (unread self.new) ≡ length (unread self.old) + came) }
+        ensures end { result ≡ Ok 0 → IsAtEnd (R.left source.new) }
+        ensures failed { R.has_failed source.new ≡ is_err result }
+        ensures stays_failed { IsTrue (R.has_failed source.old) → IsErr result }
+    {
+        self.make_room();
+        let came = source.take(&mut self.bytes[self.end..])?;
+        self.end += came;
+        Ok(came)
+    }
+
+    /// Moves what has come and was not read to the front.
+    fn make_room(&mut self)
+        requires { IsInRange self.old }
+        ensures in_range { IsInRange self.new }
+        ensures front { self.new.start ≡ 0 }
+        ensures same { unread self.new ≡ unread self.old }
+    {
+        self.bytes.copy_within(self.start..self.end, 0);
+        self.end -= self.start;
+        self.start = 0;
+    }
+}
+
+/// Whether the bytes have a newline, or are more than a line can have.
+fn holds_line(bytes: &[u8]) -> bool
+    ensures yes { IsTrue result → HoldLine bytes.now }
+    ensures no { result ≡ false → length bytes.now < 64 }
+{
+    bytes.len() >= LINE_ROOM || word(bytes, b'\n').is_some()
+}
