@@ -50,7 +50,7 @@ def environment(**names: str) -> dict[str, str]:
 
 
 def try_rows(tried: Tried) -> None:
-    """The rows of docs/FORMATS.md, in both versions."""
+    """The rows of docs/COMMANDS.md, in both versions."""
     for allowance, figures, *strips in ROWS:
         line = f"words 32 live 19 dead 13 {figures}\n"
         shades, areas, new_shades, new_areas = strips

@@ -1,4 +1,4 @@
-"""A slow plain model of docs/FORMATS.md, "Timelines": what a schedule with all its replies shows. It shares nothing with
+"""A slow plain model of docs/COMMANDS.md, "timeline": what a schedule with all its replies shows. It shares nothing with
 the crates."""
 import dataclasses
 
