@@ -94,7 +94,7 @@ fn with_pictures<'a>(alloc: Global, command: Command<'a>) -> Result<Command<'a>,
 }
 
 /// What was called, with what it is given.
-pub fn called<'a>(matches: &ArgMatches<'a>) -> Result<Request<'a>, Unread>
+pub fn parse_request<'a>(matches: &ArgMatches<'a>) -> Result<Request<'a>, Unread>
     ensures calls { (name : List ℕ) → subcommand_name_of matches.now ≡ Some name
         → MatchResult result (IsFor name) IsNoUsage }
     ensures board { subcommand_name_of matches.now ≡ Some (codes "board") → result ≡ Ok Board }

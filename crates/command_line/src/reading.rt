@@ -22,7 +22,7 @@ pub fn read(alloc: Global, words: &[String]) -> Result<Request<'_>, Unread>
         → MatchResult result (IsFor (codes "board")) (λ unread. unread ≡ Memory) }
 {
     match commands::words(alloc)?.try_get_matches_from(words) {
-        Ok(matches) => commands::called(&matches),
+        Ok(matches) => commands::parse_request(&matches),
         Err(error) => answered(alloc, &error),
     }
 }

@@ -67,7 +67,7 @@ impl FailedCall {
     }
 
     /// Writes the lines that tell it: the call, and the reason.
-    pub fn tell<B: Write>(&self, err: &mut B) -> io::Result<()> {
+    pub fn print<B: Write>(&self, err: &mut B) -> io::Result<()> {
         writeln!(err, "pcompact: call {}", self.call)?;
         writeln!(err, "pcompact: reason {self}")
     }

@@ -7,7 +7,7 @@ use crate::files::not_regular;
 use crate::output::Output;
 use crate::replacement::{Making, Replacement};
 use crate::system_file::SystemFile;
-use crate::trouble::{Trouble, called};
+use crate::trouble::{Trouble, on_file};
 use crate::watched::Watched;
 use std::alloc::AllocError;
 use std::fs::{Metadata, OpenFile, OpenOptions};
@@ -69,8 +69,8 @@ impl<'a, F: OpenFile + Drop> FileTarget<'a, F> {
         word: FileWord<'a>,
         is_private: bool,
     ) -> Result<FileTarget<'a, F>, Trouble<'a>> {
-        let (file, is_new) = called(word, SystemCall::Open, open(host, word.name, is_private))?;
-        match called(word, SystemCall::Stat, file.metadata()) {
+        let (file, is_new) = on_file(word, SystemCall::Open, open(host, word.name, is_private))?;
+        match on_file(word, SystemCall::Stat, file.metadata()) {
             Ok(found) => Ok(FileTarget {
                 word,
                 is_private,
@@ -212,7 +212,7 @@ fn begin_in_place<'a, F: SystemFile + Drop>(
         None => (false, 0),
     };
     if is_regular && len > 0 {
-        called(word, SystemCall::Empty, file.set_len(0))?;
+        on_file(word, SystemCall::Empty, file.set_len(0))?;
     }
     Ok(Output {
         file: Watched::new(word, file),
@@ -291,7 +291,7 @@ fn standing<'a, H: Files + AllocGlobal>(
 ) -> Result<(PathBuf, Option<Metadata>), Trouble<'a>> {
     must_be_regular(host, word)?;
     let place = place_of(host, word, is_link)?;
-    let found = called(word, SystemCall::Open, writable(host, word.name))?;
+    let found = on_file(word, SystemCall::Open, writable(host, word.name))?;
     Ok((place, Some(found)))
 }
 
@@ -334,12 +334,12 @@ fn is_one_place<'a, H: Files>(
     if Path::new(one.name).file_name() != Path::new(other.name).file_name() {
         return Ok(false);
     }
-    let first = called(
+    let first = on_file(
         one,
         SystemCall::Stat,
         fs::metadata(host, folder_of(Path::new(one.name))),
     )?;
-    let second = called(
+    let second = on_file(
         other,
         SystemCall::Stat,
         fs::metadata(host, folder_of(Path::new(other.name))),

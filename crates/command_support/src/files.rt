@@ -100,12 +100,12 @@ pub fn target_beside<'a, H: Files + AllocGlobal>(
     if atomic {
         Ok(out)
     } else {
-        apart_from(host, out, read.word(), id)
+        reject_same_file(host, out, read.word(), id)
     }
 }
 
 /// The file to write, as it was found, unless it is this one that is read. Then it is left as it stood.
-pub fn apart_from<'a, H: Files + AllocGlobal>(
+pub fn reject_same_file<'a, H: Files + AllocGlobal>(
     host: &H,
     found: FileTarget<'a, H::File>,
     read: FileWord<'a>,

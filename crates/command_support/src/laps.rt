@@ -26,7 +26,7 @@ struct Lap {
 
 impl Lap {
     /// Writes its line.
-    fn tell<B: Write>(&self, err: &mut B) -> io::Result<()> {
+    fn print<B: Write>(&self, err: &mut B) -> io::Result<()> {
         let took = Tenths::of_milliseconds(self.took);
         writeln!(err, "pcompact: {} {took} ms", self.phase)
     }
@@ -55,18 +55,18 @@ impl Laps {
     }
 
     /// Writes a line for each phase, and where the time of all is known one for the rest of it, and one for all of it.
-    pub fn tell<B: Write>(&self, total: Option<Duration>, err: &mut B) -> io::Result<()> {
+    pub fn print<B: Write>(&self, total: Option<Duration>, err: &mut B) -> io::Result<()> {
         for lap in self.laps.iter().flatten() {
-            lap.tell(err)?;
+            lap.print(err)?;
         }
         match total {
-            Some(total) => self.tell_total(total, err),
+            Some(total) => self.print_total(total, err),
             None => Ok(()),
         }
     }
 
     /// Writes the lines for the rest of this time and for all of it.
-    fn tell_total<B: Write>(&self, total: Duration, err: &mut B) -> io::Result<()> {
+    fn print_total<B: Write>(&self, total: Duration, err: &mut B) -> io::Result<()> {
         let rest = total.saturating_sub(self.end);
         writeln!(err, "pcompact: finish {} ms", Tenths::of_milliseconds(rest))?;
         writeln!(err, "pcompact: total {} ms", Tenths::of_milliseconds(total))

@@ -59,7 +59,7 @@ pub use file_id::FileId;
 pub use file_target::{FileTarget, Writing};
 pub use file_word::{FileWord, Role};
 pub use files::{
-    apart_from, ended, failed, failed_between, image_and_out, must_differ, not_regular, same_file,
+    reject_same_file, ended, failed, failed_between, image_and_out, must_differ, not_regular, same_file,
     target_beside, two_different_inputs, two_inputs,
 };
 pub use laps::Laps;
@@ -75,6 +75,6 @@ pub use stopwatch::Stopwatch;
 pub use system_file::SystemFile;
 pub use timed_intake::TimedIntake;
 pub use timed_outlet::TimedOutlet;
-pub use trouble::{Trouble, called};
+pub use trouble::{Trouble, on_file};
 pub use watched::Watched;
 pub use work_done::WorkDone;

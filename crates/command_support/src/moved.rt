@@ -20,7 +20,7 @@ impl Moved {
     }
 
     /// Writes the line that tells it, with the rate where the time is known.
-    pub fn tell<B: Write>(&self, err: &mut B) -> io::Result<()> {
+    pub fn print<B: Write>(&self, err: &mut B) -> io::Result<()> {
         let bytes = self.words.saturating_mul(BYTES_IN_A_WORD);
         write!(err, "pcompact: live {} MiB moved", Tenths::of_mib(bytes))?;
         match self.took {

@@ -31,7 +31,7 @@ pub enum LineReason {
 
 impl Reason {
     /// Writes the lines that tell it, one fact a line.
-    pub fn tell<B: Write>(&self, err: &mut B) -> io::Result<()> {
+    pub fn print<B: Write>(&self, err: &mut B) -> io::Result<()> {
         match self {
             Reason::Length(cause) => writeln!(err, "pcompact: reason {cause}"),
             Reason::Workers(asked) => {
@@ -40,19 +40,19 @@ impl Reason {
                     "pcompact: reason {asked} is not from 1 to {MAX_WORKERS}"
                 )
             }
-            Reason::SystemCall(failed) => failed.tell(err),
+            Reason::SystemCall(failed) => failed.print(err),
             Reason::Output(failed) => {
                 writeln!(err, "pcompact: standard output")?;
-                failed.tell(err)
+                failed.print(err)
             }
-            Reason::Line(reason) => reason.tell(err),
+            Reason::Line(reason) => reason.print(err),
         }
     }
 }
 
 impl LineReason {
     /// Writes the lines that tell it: the reason, and the reply where one was found.
-    fn tell<B: Write>(&self, err: &mut B) -> io::Result<()> {
+    fn print<B: Write>(&self, err: &mut B) -> io::Result<()> {
         match self {
             LineReason::Malformed => writeln!(err, "pcompact: reason the line is malformed"),
             LineReason::Refused(LineCause::NotAllowed) => {

@@ -6,7 +6,7 @@ use crate::access::{Access, first_mode};
 use crate::failed_call::{FailedCall, SystemCall};
 use crate::file_word::FileWord;
 use crate::system_file::SystemFile;
-use crate::trouble::{Trouble, called};
+use crate::trouble::{Trouble, on_file};
 use heap_image::Fault;
 use std::alloc::{AllocError, Global};
 use std::fs::OpenOptions;
@@ -87,9 +87,9 @@ impl<'a> Replacement<'a> {
         ensures { IfErr result (λ trouble. trouble.failure ≡ failed_device) }
     {
         if let Some(access) = self.access {
-            called(self.word, SystemCall::Access, access.give(file))?;
+            on_file(self.word, SystemCall::Access, access.give(file))?;
         }
-        called(self.word, SystemCall::Sync, file.sync_all())
+        on_file(self.word, SystemCall::Sync, file.sync_all())
     }
 
     /// The name of the file whose place it takes, without its folder.
@@ -104,7 +104,7 @@ impl<'a> Replacement<'a> {
         ensures { IfErr result (λ trouble. trouble.failure ≡ failed_device) }
     {
         let renamed = fs::rename(host, &self.new, &self.place);
-        match called(self.word, SystemCall::Rename, renamed) {
+        match on_file(self.word, SystemCall::Rename, renamed) {
             Ok(()) => Ok(()),
             Err(trouble) => {
                 self.remove(host);

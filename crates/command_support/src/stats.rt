@@ -44,24 +44,24 @@ impl Stats {
     }
 
     /// Writes the lines that tell it, one fact a line, and with them what the process has taken until now.
-    pub fn tell<H: Files + Threads + Clock, B: Write>(
+    pub fn print<H: Files + Threads + Clock, B: Write>(
         &self,
         host: &H,
         err: &mut B,
     ) -> io::Result<()> {
-        self.laps.tell(self.watch.elapsed(host), err)?;
+        self.laps.print(self.watch.elapsed(host), err)?;
         if let Some(moved) = &self.moved {
-            moved.tell(err)?;
+            moved.print(err)?;
         }
         if let Some(threads) = self.workers.or_else(|| processors(host)) {
             writeln!(err, "pcompact: threads {threads}")?;
         }
-        tell_peak(host, err)
+        print_peak(host, err)
     }
 }
 
 /// Writes the line of the peak memory of this process, where the system tells it.
-fn tell_peak<H: Files, B: Write>(host: &H, err: &mut B) -> io::Result<()> {
+fn print_peak<H: Files, B: Write>(host: &H, err: &mut B) -> io::Result<()> {
     match peak_kib(host) {
         Some(kib) => {
             let peak = Tenths::of_mib(kib.saturating_mul(1024));

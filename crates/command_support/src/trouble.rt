@@ -146,11 +146,11 @@ impl<'a> Trouble<'a> {
     }
 
     /// Writes the lines that tell more than the first: the files, and the reason.
-    pub fn tell_more<B: Write>(&self, err: &mut B) -> io::Result<()> {
-        tell_file(self.other, err)?;
-        tell_file(self.file, err)?;
+    pub fn print_details<B: Write>(&self, err: &mut B) -> io::Result<()> {
+        print_file(self.other, err)?;
+        print_file(self.file, err)?;
         match &self.reason {
-            Some(reason) => reason.tell(err),
+            Some(reason) => reason.print(err),
             None => Ok(()),
         }
     }
@@ -187,7 +187,7 @@ impl<'a> Trouble<'a> {
 }
 
 /// Writes the line of a file that a failure is about, if there is one.
-fn tell_file<B: Write>(file: Option<FileWord<'_>>, err: &mut B) -> io::Result<()> {
+fn print_file<B: Write>(file: Option<FileWord<'_>>, err: &mut B) -> io::Result<()> {
     match file {
         Some(file) => {
             let name = Printable(file.name);
@@ -198,7 +198,7 @@ fn tell_file<B: Write>(file: Option<FileWord<'_>>, err: &mut B) -> io::Result<()
 }
 
 /// What a call of the system on this file answered. Fault 13 where it failed.
-pub fn called<'a, T>(
+pub fn on_file<'a, T>(
     file: FileWord<'a>,
     call: SystemCall,
     outcome: io::Result<T>,

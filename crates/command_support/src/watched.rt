@@ -4,7 +4,7 @@ use crate::failed_call::{FailedCall, SystemCall};
 use crate::file_id::FileId;
 use crate::file_target::Writing;
 use crate::file_word::FileWord;
-use crate::trouble::{Trouble, called};
+use crate::trouble::{Trouble, on_file};
 use heap_image::FRONT_BYTES;
 use std::fs::{Metadata, OpenFile};
 use std::io::{Read, Seek, SeekFrom, Write};
@@ -39,7 +39,7 @@ impl<'a, F: Drop> Watched<'a, F> {
         host: &H,
         word: FileWord<'a>,
     ) -> Result<Watched<'a, F>, Trouble<'a>> {
-        let file = called(word, SystemCall::Open, fs::open(host, word.name))?;
+        let file = on_file(word, SystemCall::Open, fs::open(host, word.name))?;
         Ok(Watched::new(word, file))
     }
 
@@ -60,7 +60,7 @@ impl<'a, F: Drop> Watched<'a, F> {
     where
         F: OpenFile,
     {
-        called(self.word, SystemCall::Stat, self.file.metadata())
+        on_file(self.word, SystemCall::Stat, self.file.metadata())
     }
 
     /// What is asked of a file that is written beside it: one that isn't there yet is for its owner alone where this one is.
@@ -110,8 +110,8 @@ impl<'a, F: OpenFile + Seek + Drop> Watched<'a, F> {
     ///
     /// Fault 13 where the system doesn't.
     pub fn cut(&mut self) -> Result<(), Trouble<'a>> {
-        let end = called(self.word, SystemCall::Write, self.file.stream_position())?;
-        called(self.word, SystemCall::Empty, self.cut_at(end))
+        let end = on_file(self.word, SystemCall::Write, self.file.stream_position())?;
+        on_file(self.word, SystemCall::Empty, self.cut_at(end))
     }
 
     /// Passes over so many bytes. They read as zeros once more is written, whatever another process has written there.

@@ -2,9 +2,9 @@ use Rattle.std.specs.Prelude.{◌≡◌, ℕ, List, ◌++◌, ◌==◌, Option, 
 use Rattle.std.specs.Io.KnownBytes.{Appends}
 use Rattle.heap_image.specs.HeapImage.{HeapImage, IsValid}
 use Rattle.heap_image.specs.ImageText.{text}
-use Rattle.heap_maker.specs.Figures.{AreFiguresOf, figures_text}
+use Rattle.heap_maker.specs.GenerationFigures.{AreFiguresOf, figures_text}
 use Rattle.heap_maker.specs.Wanted.{IsAsWanted}
-use Rattle.heap_maker.specs.declared.figures.Figures.{Figures}
+use Rattle.heap_maker.specs.declared.figures.GenerationFigures.{GenerationFigures}
 use Rattle.heap_maker.specs.declared.wanted.Wanted.{Wanted}
 use Rattle.command_line.specs.declared.generate.Generate.{Generate}
 use Rattle.heap_commands.specs.Command.{Command}
@@ -23,7 +23,7 @@ wanted_of asked = record {
 
 -- the line with the figures of an image
 pub record IsFiguresLine (image : HeapImage) (shown : List ℕ) : Type 0 where
-  pub figures : Figures
+  pub figures : GenerationFigures
   pub counted : AreFiguresOf image figures
   pub tells : shown ≡ figures_text figures ++ codes "\n"
 

@@ -2,15 +2,15 @@ use Rattle.std.specs.Prelude.{◌≡◌, ℕ, List, ◌++◌, Option, Some, code
 use Rattle.std.specs.Io.KnownBytes.{Appends}
 use Rattle.heap_image.specs.HeapImage.{HeapImage, IsValid, version_of}
 use Rattle.heap_image.specs.ImageText.{text}
-use Rattle.heap_dump.specs.Figures.{AreFiguresOf, figures_text}
-use Rattle.heap_dump.specs.declared.figures.Figures.{Figures}
+use Rattle.heap_dump.specs.ImportFigures.{AreFiguresOf, figures_text}
+use Rattle.heap_dump.specs.declared.figures.ImportFigures.{ImportFigures}
 use Rattle.heap_commands.specs.Command.{Command}
 
 -- the line with the figures of an image of version 2
 pub record IsLineOf (image : HeapImage) (shown : List ℕ) : Type 0 where
   pub valid : IsValid image
   pub rooted : version_of image ≡ 2
-  pub figures : Figures
+  pub figures : ImportFigures
   pub counted : AreFiguresOf image figures
   pub tells : shown ≡ figures_text figures ++ codes "\n"
 

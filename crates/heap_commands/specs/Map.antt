@@ -3,10 +3,10 @@ use Rattle.std.specs.Io.KnownBytes.{Consumes}
 use Rattle.heap_image.specs.HeapImage.{HeapImage, IsValid}
 use Rattle.heap_image.specs.ImageText.{text}
 use Rattle.heap_map.specs.Cells.{cells_after, cells_before}
-use Rattle.heap_map.specs.Figures.{AreFiguresOf, figures_text}
+use Rattle.heap_map.specs.MapFigures.{AreFiguresOf, figures_text}
 use Rattle.heap_map.specs.Text.{picture_text}
 use Rattle.heap_map.specs.declared.cell.Cell.{Cell}
-use Rattle.heap_map.specs.declared.figures.Figures.{Figures}
+use Rattle.heap_map.specs.declared.figures.MapFigures.{MapFigures}
 use Rattle.heap_map.specs.declared.style.Style.{Style}
 use Rattle.heap_commands.specs.Command.{Command}
 use Rattle.heap_commands.specs.declared.map.Cut.{Cut}
@@ -21,13 +21,13 @@ after_shown image cut = if cut.after then Some (cells_after image (cells_shown c
 
 -- the picture of an image, cut so, in this style
 pub record IsPicture (style : Style) (cut : Cut) (image : HeapImage) (shown : List ℕ) : Type 0 where
-  pub figures : Figures
+  pub figures : MapFigures
   pub counted : AreFiguresOf image figures
   pub tells : shown ≡ picture_text style figures (cells_before image (cells_shown cut.cells)) (after_shown image cut)
 
 -- the line with the figures of an image
 pub record IsMapLine (image : HeapImage) (shown : List ℕ) : Type 0 where
-  pub figures : Figures
+  pub figures : MapFigures
   pub counted : AreFiguresOf image figures
   pub tells : shown ≡ figures_text figures ++ codes "\n"
 

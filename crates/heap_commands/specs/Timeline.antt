@@ -4,7 +4,7 @@ use Rattle.heap_image.specs.HeapImage.{HeapImage, IsValid}
 use Rattle.heap_image.specs.ImageText.{text}
 use Rattle.history.specs.Schedule.{ScheduleView}
 use Rattle.history.specs.ScheduleText.{schedule_text}
-use Rattle.schedule_timeline.specs.Figures.{BeginsWithFigures, IsFiguresLine}
+use Rattle.schedule_timeline.specs.TimelineFigures.{BeginsWithFigures, IsFiguresLine}
 use Rattle.schedule_timeline.specs.Timeline.{IsTimelineOf}
 use Rattle.schedule_timeline.specs.declared.timeline.Timeline.{Timeline}
 use Rattle.heap_commands.specs.Command.{Command}

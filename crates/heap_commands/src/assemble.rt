@@ -76,7 +76,7 @@ pub fn assemble_into<S: Read, O: Outlet>(
 {
     let mut line = String::with_capacity(alloc, LINE_ROOM)?;
     let image = image_in(alloc, text)?;
-    tell_counts(&image, &mut line)?;
+    push_counts(&image, &mut line)?;
     write_image(&image, output)?;
     Ok(line)
 }
@@ -95,7 +95,7 @@ fn image_in<S: Read>(alloc: Global, file: &mut S) -> Result<Image, Failure>
 }
 
 /// Adds the line that counts what an image has.
-fn tell_counts(image: &Image, line: &mut String) -> Result<(), AllocError>
+fn push_counts(image: &Image, line: &mut String) -> Result<(), AllocError>
     ensures { OnOk result (string_bytes line.new ≡ string_bytes line.old ++ count_line image.now) }
 {
     let (words, roots, live) = (image.len(), image.roots().len(), image.live().len());

@@ -1,6 +1,6 @@
 //! The command `generate`.
 ghost use Rattle.std.specs.Prelude.{◌≡◌, ◌≢◌, ◌⊎◌, ◌++◌, codes, ℕ, List, IfOk, IfErr, OnOk, OnErr, IsTrue, string_bytes};
-ghost use Rattle.heap_maker.specs.Figures.{figures_text};
+ghost use Rattle.heap_maker.specs.GenerationFigures.{figures_text};
 ghost use Rattle.heap_commands.specs.Generate.{IsGeneration, IsGenerationLine, wanted_of};
 ghost use Rattle.command_support.specs.Failure.{failed_device};
 
@@ -9,7 +9,7 @@ use command_support::{
     Failure, FileTarget, FileWord, Late, Role, SystemFile, Trouble, WorkDone, Writing, ended,
 };
 use heap_image::{Outlet, ToWrite, write_image};
-use heap_maker::{Figures, Generated, Wanted, generate};
+use heap_maker::{GenerationFigures, Generated, Wanted, generate};
 use std::alloc::{AllocError, Global};
 use std::rt::Files;
 
@@ -75,13 +75,13 @@ pub fn generate_into<O: Outlet>(
 {
     let mut line = String::with_capacity(alloc, LINE_ROOM)?;
     let Generated { image, figures } = generate(alloc, wanted)?;
-    tell_generation(figures, &mut line)?;
+    push_generation_line(figures, &mut line)?;
     write_image(&image, output)?;
     Ok(line)
 }
 
 /// Adds the line with the figures of a heap.
-fn tell_generation(figures: Figures, line: &mut String) -> Result<(), AllocError>
+fn push_generation_line(figures: GenerationFigures, line: &mut String) -> Result<(), AllocError>
     ensures { OnOk result (string_bytes line.new
         ≡ string_bytes line.old ++ (figures_text figures ++ codes "\n")) }
 {

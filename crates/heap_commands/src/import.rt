@@ -1,7 +1,7 @@
 //! The command `import`.
 ghost use Rattle.std.specs.Prelude.{◌≡◌, ◌≢◌, ◌⊎◌, ◌++◌, codes, ℕ, List, IfOk, IfErr, OnOk, OnErr, IsTrue, string_bytes};
 ghost use Rattle.std.specs.Io.KnownBytes.{IsAtEnd};
-ghost use Rattle.heap_dump.specs.Figures.{figures_text};
+ghost use Rattle.heap_dump.specs.ImportFigures.{figures_text};
 ghost use Rattle.heap_commands.specs.Import.{IsImport, IsImportLine};
 ghost use Rattle.command_support.specs.Failure.{failed_device};
 
@@ -10,7 +10,7 @@ use command_support::{
     Failure, FileTarget, FileWord, Late, Role, SystemFile, Trouble, Watched, WorkDone, ended,
     must_differ, not_regular, target_beside,
 };
-use heap_dump::{Figures, Imported, Options, import};
+use heap_dump::{ImportFigures, Imported, Options, import};
 use heap_image::{FromRead, Intake, Outlet, ToWrite, write_image};
 use std::alloc::{AllocError, Global};
 use std::fs::Metadata;
@@ -115,13 +115,13 @@ pub fn import_into<R: Intake, O: Outlet>(
 {
     let mut line = String::with_capacity(alloc, LINE_ROOM)?;
     let Imported { image, figures } = import(alloc, first, second, options)?;
-    tell_import(figures, &mut line)?;
+    push_import_line(figures, &mut line)?;
     write_image(&image, output)?;
     Ok(line)
 }
 
 /// Adds the line with the figures of an imported image.
-fn tell_import(figures: Figures, line: &mut String) -> Result<(), AllocError>
+fn push_import_line(figures: ImportFigures, line: &mut String) -> Result<(), AllocError>
     ensures { OnOk result (string_bytes line.new
         ≡ string_bytes line.old ++ (figures_text figures ++ codes "\n")) }
 {

@@ -2,19 +2,19 @@
 ghost use Rattle.std.specs.Prelude.{◌≡◌, ◌≢◌, ◌⊎◌, ◌++◌, codes, option_map, ℕ, List, IfOk, IfErr, IfSome, OnErr, IsTrue, string_bytes};
 ghost use Rattle.heap_image.specs.Refusals.{IsReason};
 ghost use Rattle.heap_map.specs.Cells.{cells_before};
-ghost use Rattle.heap_map.specs.Figures.{AreFiguresOf, figures_text};
+ghost use Rattle.heap_map.specs.MapFigures.{AreFiguresOf, figures_text};
 ghost use Rattle.heap_commands.specs.Map.{IsDrawing, IsMap, IsMapLine, IsPicture, IsPrinted, after_shown, cells_shown};
 
 use crate::screen::Screen;
 use command_line::{Look, Map};
 use command_support::{
-    FileTarget, FileWord, Late, Role, SystemFile, Trouble, Watched, WorkDone, apart_from, ended,
+    FileTarget, FileWord, Late, Role, SystemFile, Trouble, Watched, WorkDone, reject_same_file, ended,
     must_differ,
 };
 use heap_image::{
     Fault, FromRead, Image, Intake, Outlet, ToWrite, give_all, read_image_by_threads,
 };
-use heap_map::{Figures, Glyphs, MAX_CELLS, Picture, Style};
+use heap_map::{MapFigures, Glyphs, MAX_CELLS, Picture, Style};
 use std::alloc::{AllocError, Global};
 use std::rt::Files;
 use std::thread::Threads;
@@ -132,7 +132,7 @@ fn found_beside<'a, H: Files + AllocGlobal>(
     must_differ(host.alloc(), image.word(), svg)?;
     let (id, writing) = (image.id()?, image.writing(atomic)?);
     let found = FileTarget::find(host, svg, writing)?;
-    apart_from(host, found, image.word(), id)
+    reject_same_file(host, found, image.word(), id)
 }
 
 /// The picture of the image that the input is, as text.
@@ -248,7 +248,7 @@ fn picture_of(
 }
 
 /// The line with the figures of a heap.
-fn text_of_figures(alloc: Global, figures: Figures) -> Result<String, AllocError>
+fn text_of_figures(alloc: Global, figures: MapFigures) -> Result<String, AllocError>
     ensures { IfOk result (λ text. string_bytes text ≡ figures_text figures ++ codes "\n") }
 {
     let mut line = String::new(alloc);

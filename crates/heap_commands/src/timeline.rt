@@ -1,7 +1,7 @@
 //! The command `timeline`.
 ghost use Rattle.std.specs.Prelude.{◌≡◌, ◌≢◌, ◌⊎◌, codes, ℕ, List, IfOk, IfErr, OnErr, IsTrue, string_bytes};
 ghost use Rattle.heap_image.specs.declared.fault.Fault.{Fault};
-ghost use Rattle.schedule_timeline.specs.Figures.{BeginsWithFigures, IsFiguresLine};
+ghost use Rattle.schedule_timeline.specs.TimelineFigures.{BeginsWithFigures, IsFiguresLine};
 ghost use Rattle.schedule_timeline.specs.Timeline.{IsTimelineOf};
 ghost use Rattle.heap_commands.specs.Timeline.{HasFigures, HasLanes, IsFollowed, IsTimeline};
 
@@ -10,7 +10,7 @@ use crate::replay::{Unreplayed, refused, schedule_in};
 use crate::screen::Screen;
 use command_line::Timeline;
 use command_support::{
-    Failure, FileTarget, FileWord, Late, Role, SystemFile, Trouble, Watched, WorkDone, apart_from,
+    Failure, FileTarget, FileWord, Late, Role, SystemFile, Trouble, Watched, WorkDone, reject_same_file,
     ended, must_differ, two_different_inputs,
 };
 use heap_image::{
@@ -176,8 +176,8 @@ fn found_beside<'a, H: Files + AllocGlobal>(
     let Opened { image, schedule } = opened;
     let (image_id, schedule_id) = (image.id()?, schedule.id()?);
     let found = FileTarget::find(host, file, image.writing(atomic)?)?;
-    let found = apart_from(host, found, image.word(), image_id)?;
-    apart_from(host, found, schedule.word(), schedule_id)
+    let found = reject_same_file(host, found, image.word(), image_id)?;
+    reject_same_file(host, found, schedule.word(), schedule_id)
 }
 
 /// The file to write must have another name than those that are read.

@@ -2,10 +2,10 @@
 ghost use Rattle.std.specs.Prelude.{◌≡◌, IfOk, ◌≢◌};
 ghost use Rattle.std.specs.List.Sorted.{IsStrictlyIncreasing};
 ghost use Rattle.heap_image.specs.HeapImage.{IsValid, roots_of, version_of};
-ghost use Rattle.heap_dump.specs.Figures.{AreFiguresOf};
+ghost use Rattle.heap_dump.specs.ImportFigures.{AreFiguresOf};
 
 use crate::error::ImportError;
-use crate::figures::Figures;
+use crate::figures::ImportFigures;
 use crate::heap::UnsealedHeap;
 use crate::limits::words_within_limits;
 use crate::options::Regions;
@@ -33,7 +33,7 @@ pub struct Imported {
     /// The image, of version 2.
     pub image: Image,
     /// What it was made of.
-    pub figures: Figures,
+    pub figures: ImportFigures,
 }
 
 impl Draft {
@@ -70,7 +70,7 @@ impl Draft {
             Err(Fault::Memory) => return Err(ImportError::Memory),
             Err(fault) => return Err(ImportError::NoHeap(fault)),
         };
-        let figures = Figures {
+        let figures = ImportFigures {
             words,
             objects,
             roots: roots.len() as u64,

@@ -1,9 +1,9 @@
-//! `Figures`: what an image was made of.
+//! `ImportFigures`: what an image was made of.
 use std::fmt;
 
 /// What an image was made of.
 #[derive(Debug, Clone, Copy, PartialEq, Eq)]
-pub struct Figures {
+pub struct ImportFigures {
     /// The words of the image.
     pub words: u64,
     /// The objects in it.
@@ -20,14 +20,14 @@ pub struct Figures {
     pub unresolved: u64,
 }
 
-impl fmt::Display for Figures {
+impl fmt::Display for ImportFigures {
     ghost use Rattle.std.specs.Prelude.{Some};
-    ghost use Rattle.heap_dump.specs.Figures.{figures_text};
+    ghost use Rattle.heap_dump.specs.ImportFigures.{figures_text};
 
     ghost output = { λ figures. Some (figures_text figures) };
 
     fn fmt<W: fmt::Write>(&self, f: &mut fmt::Formatter<W>) -> fmt::Result {
-        let Figures {
+        let ImportFigures {
             words,
             objects,
             roots,

@@ -4,7 +4,7 @@ ghost use Rattle.std.specs.Io.KnownBytes.{IsAtEnd};
 ghost use Rattle.std.specs.List.Sorted.{IsStrictlyIncreasing};
 ghost use Rattle.heap_image.specs.HeapImage.{IsValid, roots_of, version_of};
 ghost use Rattle.heap_dump.specs.Asked.{asked_log};
-ghost use Rattle.heap_dump.specs.Figures.{AreFiguresOf};
+ghost use Rattle.heap_dump.specs.ImportFigures.{AreFiguresOf};
 
 use crate::draft::{Draft, Imported};
 use crate::error::ImportError;

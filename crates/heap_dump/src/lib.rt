@@ -40,6 +40,6 @@ mod window;
 
 pub use draft::Imported;
 pub use error::{ImportError, Problem};
-pub use figures::Figures;
+pub use figures::ImportFigures;
 pub use importing::import;
 pub use options::Options;

@@ -1,9 +1,9 @@
-//! `Figures`: what a heap has that was made.
+//! `GenerationFigures`: what a heap has that was made.
 use std::fmt;
 
 /// What a heap has that was made.
 #[derive(Debug, Clone, Copy, PartialEq, Eq)]
-pub struct Figures {
+pub struct GenerationFigures {
     /// The words of the image.
     pub words: u64,
     /// The objects in it, live and dead.
@@ -14,14 +14,14 @@ pub struct Figures {
     pub live: u64,
 }
 
-impl fmt::Display for Figures {
+impl fmt::Display for GenerationFigures {
     ghost use Rattle.std.specs.Prelude.{Some};
-    ghost use Rattle.heap_maker.specs.Figures.{figures_text};
+    ghost use Rattle.heap_maker.specs.GenerationFigures.{figures_text};
 
     ghost output = { λ figures. Some (figures_text figures) };
 
     fn fmt<W: fmt::Write>(&self, f: &mut fmt::Formatter<W>) -> fmt::Result {
-        let Figures {
+        let GenerationFigures {
             words,
             objects,
             roots,

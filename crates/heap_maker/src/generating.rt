@@ -2,12 +2,12 @@
 ghost use Rattle.std.specs.Prelude.{◌≡◌, ◌<◌, ◌≤◌, ◌^◌, All, IfOk, OnOk, length, if◌then◌else◌};
 ghost use Rattle.std.specs.List.{concat};
 ghost use Rattle.heap_image.specs.HeapImage.{AreBlocks, IsValid, heap_words, live_words, version_of};
-ghost use Rattle.heap_maker.specs.Figures.{AreFiguresOf};
+ghost use Rattle.heap_maker.specs.GenerationFigures.{AreFiguresOf};
 ghost use Rattle.heap_maker.specs.Wanted.{IsAsWanted};
 
 use crate::dice::Dice;
 use crate::error::GenerationError;
-use crate::figures::Figures;
+use crate::figures::GenerationFigures;
 use crate::heap_words::HeapWords;
 use crate::layout::Layout;
 use crate::limits::Limits;
@@ -25,7 +25,7 @@ pub struct Generated {
     /// The heap, with its live objects.
     pub image: Image,
     /// What it has.
-    pub figures: Figures,
+    pub figures: GenerationFigures,
 }
 
 /// Makes the heap that is wanted.
@@ -59,10 +59,10 @@ fn check_live(alloc: Global, image: &Image, room: Room) -> Result<(), Generation
 }
 
 /// What the image with these objects has.
-fn figures_of(layout: &Layout, image: &Image) -> Figures
+fn figures_of(layout: &Layout, image: &Image) -> GenerationFigures
     ensures { AreFiguresOf image.now result }
 {
-    Figures {
+    GenerationFigures {
         words: image.len(),
         objects: layout.objects.len() as u64,
         roots: image.roots().len() as u64,

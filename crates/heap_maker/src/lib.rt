@@ -24,6 +24,6 @@ mod room;
 mod wanted;
 
 pub use error::GenerationError;
-pub use figures::Figures;
+pub use figures::GenerationFigures;
 pub use generating::{Generated, generate};
 pub use wanted::Wanted;

@@ -8,8 +8,8 @@ use Rattle.heap_map.specs.declared.shade.Shade.TheVariants.{Empty, Low, Middle, 
 use Rattle.heap_map.specs.declared.style.Glyphs.{Glyphs}
 use Rattle.heap_map.specs.declared.style.Glyphs.TheVariants.{Letters, Blocks}
 use Rattle.heap_map.specs.declared.style.Style.{Style}
-use Rattle.heap_map.specs.declared.figures.Figures.{Figures}
-use Rattle.heap_map.specs.Figures.{figures_text}
+use Rattle.heap_map.specs.declared.figures.MapFigures.{MapFigures}
+use Rattle.heap_map.specs.MapFigures.{figures_text}
 
 -- how much of a cell lives
 abbrev pub shade_of : Cell → Shade
@@ -91,7 +91,7 @@ legend_text glyphs =
     ++ codes "\narea: p prefix f prefix with fillers m moving - free x several\n")))))
 
 -- a picture: the figures, the strips and what their characters mean
-abbrev pub picture_text : Style → Figures → List Cell → Option (List Cell) → List ℕ
+abbrev pub picture_text : Style → MapFigures → List Cell → Option (List Cell) → List ℕ
 picture_text style figures before after =
     figures_text figures ++ (codes "\n" ++ (strip_text style (codes "before") before
     ++ (after_text style after ++ legend_text style.glyphs)))

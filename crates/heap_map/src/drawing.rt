@@ -3,7 +3,7 @@ ghost use Rattle.std.specs.Prelude.{◌≤◌, length};
 
 use crate::area::Area;
 use crate::cell::Cell;
-use crate::figures::Figures;
+use crate::figures::MapFigures;
 use crate::map::Map;
 use crate::patterns::{
     AREAS, SHADES, cover_of, digit_of, hatching_colour, hatching_of, key_of, name_of, share_of,
@@ -42,7 +42,7 @@ pub(crate) fn draw(alloc: Global, picture: &Picture) -> Result<String, AllocErro
 }
 
 /// Writes the beginning of the drawing, which is so high, and the figures.
-fn begin(svg: &mut String, figures: Figures, height: u64) -> Result<(), AllocError> {
+fn begin(svg: &mut String, figures: MapFigures, height: u64) -> Result<(), AllocError> {
     let words = figures.words;
     writeln!(
         svg,

@@ -1,6 +1,6 @@
-//! `Figures`: what a map tells in numbers.
+//! `MapFigures`: what a map tells in numbers.
 ghost use Rattle.std.specs.Prelude.{◌≡◌};
-ghost use Rattle.heap_map.specs.Figures.{AreFiguresOf};
+ghost use Rattle.heap_map.specs.MapFigures.{AreFiguresOf};
 
 use std::fmt;
 use summary::Survey;
@@ -8,7 +8,7 @@ use summary::laws::dense_prefix::dead_words_by_region;
 
 /// A heap and its collection in numbers.
 #[derive(Debug, Clone, Copy, PartialEq, Eq)]
-pub struct Figures {
+pub struct MapFigures {
     /// The words of the heap.
     pub words: u64,
     /// Those that belong to live objects.
@@ -23,16 +23,16 @@ pub struct Figures {
     pub filled: u32,
 }
 
-impl Figures {
+impl MapFigures {
     /// Those of this heap.
-    pub fn of(survey: &Survey) -> Figures
+    pub fn of(survey: &Survey) -> MapFigures
         ensures { AreFiguresOf survey.now result }
     {
         dead_words_by_region();
         let plan = survey.plan();
         let words = u64::from(plan.regions()) * plan.region_words();
         let live = survey.marks().live_words(0, words);
-        Figures {
+        MapFigures {
             words,
             live,
             dead: words - live,
@@ -43,14 +43,14 @@ impl Figures {
     }
 }
 
-impl fmt::Display for Figures {
+impl fmt::Display for MapFigures {
     ghost use Rattle.std.specs.Prelude.{Some};
-    ghost use Rattle.heap_map.specs.Figures.{figures_text};
+    ghost use Rattle.heap_map.specs.MapFigures.{figures_text};
 
     ghost output = { λ figures. Some (figures_text figures) };
 
     fn fmt<W: fmt::Write>(&self, f: &mut fmt::Formatter<W>) -> fmt::Result {
-        let Figures {
+        let MapFigures {
             words,
             live,
             dead,

@@ -27,7 +27,7 @@ mod style;
 
 pub use area::Area;
 pub use cell::Cell;
-pub use figures::Figures;
+pub use figures::MapFigures;
 pub use map::{MAX_CELLS, Map};
 pub use picture::Picture;
 pub use shade::Shade;

@@ -1,11 +1,11 @@
 //! `Picture`: a heap before its collection and after it.
 ghost use Rattle.std.specs.Prelude.{◌≡◌, ◌≤◌, IfOk, None, Some, option_map, string_bytes};
 ghost use Rattle.heap_map.specs.Cells.{cells_after, cells_before};
-ghost use Rattle.heap_map.specs.Figures.{AreFiguresOf};
+ghost use Rattle.heap_map.specs.MapFigures.{AreFiguresOf};
 ghost use Rattle.heap_map.specs.Text.{picture_text};
 
 use crate::drawing::draw;
-use crate::figures::Figures;
+use crate::figures::MapFigures;
 use crate::map::Map;
 use crate::strips::{write_legend, write_strip};
 use crate::style::Style;
@@ -17,7 +17,7 @@ use summary::Survey;
 #[derive(Drop)]
 pub struct Picture {
     /// What there is to tell in numbers.
-    pub figures: Figures,
+    pub figures: MapFigures,
     /// The heap as it is.
     pub before: Map,
     /// The heap as its collection will leave it.
@@ -40,7 +40,7 @@ impl Picture {
         ensures after { IfOk result (λ picture. option_map (λ map. map.cells.items) picture.after ≡ None) }
     {
         Ok(Picture {
-            figures: Figures::of(survey),
+            figures: MapFigures::of(survey),
             before: Map::before(alloc, image, survey, cells)?,
             after: None,
         })
@@ -61,7 +61,7 @@ impl Picture {
         ensures after { IfOk result (λ picture. option_map (λ map. map.cells.items) picture.after ≡ Some (cells_after image.now cells)) }
     {
         Ok(Picture {
-            figures: Figures::of(survey),
+            figures: MapFigures::of(survey),
             before: Map::before(alloc, image, survey, cells)?,
             after: Some(Map::after(alloc, image, survey, cells)?),
         })

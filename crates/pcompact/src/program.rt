@@ -54,7 +54,7 @@ where
         Ok(request) => request,
         Err(unread) => {
             let failure = refused(rt.alloc(), words, unread);
-            return tell(&Trouble::new(failure), false, err);
+            return report(&Trouble::new(failure), false, err);
         }
     };
     let verbose = request.is_verbose();
@@ -62,14 +62,14 @@ where
     let measured = request.asks_stats() && have_word(words, "--stats");
     let done = match commands::answer(rt, screen, request) {
         Ok(done) => done,
-        Err(trouble) => return tell(&trouble, verbose, err),
+        Err(trouble) => return report(&trouble, verbose, err),
     };
     let stats = done.stats;
     if let Err(trouble) = end(rt, done, out) {
-        return tell(&trouble, verbose, err);
+        return report(&trouble, verbose, err);
     }
     if measured {
-        tell_stats(rt, stats, err);
+        report_stats(rt, stats, err);
     }
     0
 }
@@ -126,9 +126,9 @@ fn have_word(words: &[String], text: &str) -> bool
 }
 
 /// Says on `err` what the work took. Where `err` takes no text nothing changes.
-fn tell_stats<H: Files + Threads + Clock, B: Write>(host: &H, stats: Option<Stats>, err: &mut B) {
+fn report_stats<H: Files + Threads + Clock, B: Write>(host: &H, stats: Option<Stats>, err: &mut B) {
     if let Some(stats) = stats {
-        let _ = stats.tell(host, err);
+        let _ = stats.print(host, err);
         let _ = err.flush();
     }
 }
@@ -158,7 +158,7 @@ fn show<A: Write>(text: &[u8], out: &mut A) -> io::Result<()>
 
 /// Says on `err` why the program fails, at length where that is asked for, and answers the exit
 /// status: 2 for words that are no command, else 1. Where `err` takes no text the status is the same.
-pub fn tell<B: Write>(trouble: &Trouble<'_>, verbose: bool, err: &mut B) -> u8
+pub fn report<B: Write>(trouble: &Trouble<'_>, verbose: bool, err: &mut B) -> u8
     ensures { result ≡ status_of trouble.now.failure }
 {
     let _ = match &trouble.failure {
@@ -170,7 +170,7 @@ pub fn tell<B: Write>(trouble: &Trouble<'_>, verbose: bool, err: &mut B) -> u8
         Failure::Text(error) => writeln!(err, "pcompact: TEXT {error}"),
     };
     if verbose {
-        let _ = trouble.tell_more(err);
+        let _ = trouble.print_details(err);
     }
     let _ = err.flush();
     trouble.failure.status()

@@ -1,4 +1,4 @@
 pub mod Timeline
-pub mod Figures
+pub mod TimelineFigures
 pub mod FirstCalls
 pub mod Page

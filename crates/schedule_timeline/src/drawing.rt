@@ -2,7 +2,7 @@
 ghost use Rattle.std.specs.Prelude.{◌≤◌, ◌^◌};
 
 use crate::bar::Bar;
-use crate::figures::Figures;
+use crate::figures::TimelineFigures;
 use crate::freeing::Freeing;
 use crate::group::Group;
 use crate::scale::Scale;
@@ -66,7 +66,7 @@ fn top_of(worker: u32) -> u64
 
 /// Writes the beginning of the drawing, the figures and how bars look.
 fn begin(svg: &mut String, timeline: &Timeline) -> Result<(), AllocError> {
-    let figures = Figures::of(timeline);
+    let figures = TimelineFigures::of(timeline);
     let (lines, workers) = (figures.lines, figures.workers);
     let height = top_of(workers) + 100;
     writeln!(

@@ -12,7 +12,7 @@ pub enum Ending {
 
 impl fmt::Display for Ending {
     ghost use Rattle.std.specs.Prelude.{Some};
-    ghost use Rattle.schedule_timeline.specs.Figures.{ending_text};
+    ghost use Rattle.schedule_timeline.specs.TimelineFigures.{ending_text};
 
     ghost output = { λ ending. Some (ending_text ending) };
 

@@ -1,6 +1,6 @@
-//! `Figures`: what a timeline tells in numbers.
+//! `TimelineFigures`: what a timeline tells in numbers.
 ghost use Rattle.std.specs.Prelude.{◌≡◌};
-ghost use Rattle.schedule_timeline.specs.Figures.{AreFiguresOf};
+ghost use Rattle.schedule_timeline.specs.TimelineFigures.{AreFiguresOf};
 
 use crate::ending::Ending;
 use crate::timeline::Timeline;
@@ -8,7 +8,7 @@ use std::fmt;
 
 /// A timeline in numbers.
 #[derive(Debug, Clone, Copy, PartialEq, Eq)]
-pub struct Figures {
+pub struct TimelineFigures {
     /// How many workers there are.
     pub workers: u32,
     /// How many calls they made, a line each.
@@ -27,9 +27,9 @@ pub struct Figures {
     pub ending: Ending,
 }
 
-impl Figures {
+impl TimelineFigures {
     /// Those of this timeline.
-    pub fn of(timeline: &Timeline) -> Figures
+    pub fn of(timeline: &Timeline) -> TimelineFigures
         ensures { AreFiguresOf timeline.now result }
     {
         let Timeline {
@@ -38,7 +38,7 @@ impl Figures {
             freeings,
             ending,
         } = timeline;
-        Figures {
+        TimelineFigures {
             workers: schedule.workers(),
             lines: schedule.len(),
             granted: bars.len(),
@@ -54,14 +54,14 @@ impl Figures {
     }
 }
 
-impl fmt::Display for Figures {
+impl fmt::Display for TimelineFigures {
     ghost use Rattle.std.specs.Prelude.{Some};
-    ghost use Rattle.schedule_timeline.specs.Figures.{figures_text};
+    ghost use Rattle.schedule_timeline.specs.TimelineFigures.{figures_text};
 
     ghost output = { λ figures. Some (figures_text figures) };
 
     fn fmt<W: fmt::Write>(&self, f: &mut fmt::Formatter<W>) -> fmt::Result {
-        let Figures {
+        let TimelineFigures {
             workers,
             lines,
             granted,

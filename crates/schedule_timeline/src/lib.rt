@@ -9,7 +9,7 @@
 //!
 //! **Proved**, for all images and schedules: the bars and marks are those that `specs/Timeline.antt` defines of the legal
 //! history which the word machine finds, and fault 14 comes as from `replay`; the figures are the counts of
-//! `specs/Figures.antt`, and stand in the first line of the text; a page has the schedule's text. **Only tested**: the
+//! `specs/TimelineFigures.antt`, and stand in the first line of the text; a page has the schedule's text. **Only tested**: the
 //! lanes, the SVG, the page's script, and that memory is enough. See the README.
 #![tactic(auto)]
 
@@ -36,6 +36,6 @@ mod timeline;
 pub use bar::Bar;
 pub use call::Call;
 pub use ending::Ending;
-pub use figures::Figures;
+pub use figures::TimelineFigures;
 pub use freeing::Freeing;
 pub use timeline::Timeline;

@@ -5,7 +5,7 @@ ghost use Rattle.history.specs.Replay.{IsRefusedAt};
 ghost use Rattle.history.specs.Schedule.{line_of};
 ghost use Rattle.history.specs.ScheduleText.{schedule_text};
 ghost use Rattle.history.specs.declared.entry.Entry.{Entry};
-ghost use Rattle.schedule_timeline.specs.Figures.{BeginsWithFigures, IsFiguresLine};
+ghost use Rattle.schedule_timeline.specs.TimelineFigures.{BeginsWithFigures, IsFiguresLine};
 ghost use Rattle.schedule_timeline.specs.FirstCalls.{AreGrantedBelow};
 ghost use Rattle.schedule_timeline.specs.Page.{Has};
 ghost use Rattle.schedule_timeline.specs.Timeline.{IsTimelineOf, bars_of, ending_of, freed_pair, freeings_of};
@@ -14,7 +14,7 @@ use crate::bar::Bar;
 use crate::deed::{Deed, granted};
 use crate::drawing::draw;
 use crate::ending::Ending;
-use crate::figures::Figures;
+use crate::figures::TimelineFigures;
 use crate::first_calls::{call_at, call_of, first_calls};
 use crate::freeing::Freeing;
 use crate::laws::grants_are_inside;
@@ -70,7 +70,7 @@ impl Timeline {
         ensures { IfOk result (λ text. IsFiguresLine self.now (string_bytes text)) }
     {
         let mut text = String::new(alloc);
-        writeln!(text, "{}", Figures::of(self))?;
+        writeln!(text, "{}", TimelineFigures::of(self))?;
         Ok(text)
     }
 

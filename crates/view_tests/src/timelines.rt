@@ -6,7 +6,7 @@ use crate::checks::{equal, equal_items};
 use heap_image::{Fault, Image};
 use heap_samples::{BASE_LIVE, base_image};
 use history::read_schedule;
-use schedule_timeline::{Bar, Call, Ending, Figures, Freeing, Timeline};
+use schedule_timeline::{Bar, Call, Ending, TimelineFigures, Freeing, Timeline};
 use std::alloc::Global;
 use std::test::Fail;
 use std::thread::Threads;
@@ -78,7 +78,7 @@ fn bars_and_freed_regions_have_their_lines(rt: HostRuntime) -> Result<(), Fail> 
     equal_items(&rt, timeline.bars.as_slice(), &BARS);
     equal_items(&rt, timeline.freeings.as_slice(), &FREEINGS);
     equal(&rt, timeline.ending, Ending::Open);
-    let figures = Figures::of(&timeline);
+    let figures = TimelineFigures::of(&timeline);
     let counts = (figures.granted, figures.settled, figures.taken);
     equal(&rt, counts, (2, 1, 1));
     Ok(())

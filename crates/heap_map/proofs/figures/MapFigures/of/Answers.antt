@@ -2,7 +2,7 @@ use Rattle.std.proofs.Common.{◌≡◌, ◌∙◌, ◌<◌, ◌*◌, ℕ, ap, a
 use Rattle.heap_image.specs.HeapImage.{HeapImage, IsValid, heap_words, live_words, region_count, region_words}
 use Rattle.summary.specs.NewAddresses.{new_top, prefix_end}
 use Rattle.summary.specs.RegionData.{fill_count}
-use Rattle.heap_map.proofs.figures.Figures.of.Goals as goal
+use Rattle.heap_map.proofs.figures.MapFigures.of.Goals as goal
 
 whole : (image : HeapImage) → IsValid image → 0 < region_words image → region_count image * region_words image ≡ heap_words image
 whole image valid some = let h = valid.limits.whole_regions in omega arith

@@ -4,10 +4,10 @@ use Rattle.std.specs.List.{range_with_len}
 use Rattle.heap_image.specs.HeapImage.{HeapImage, heap_words, is_dead_word, live_words}
 use Rattle.summary.specs.NewAddresses.{prefix_end, new_top}
 use Rattle.summary.specs.RegionData.{fill_count}
-use Rattle.heap_map.specs.declared.figures.Figures.{Figures}
+use Rattle.heap_map.specs.declared.figures.MapFigures.{MapFigures}
 
 -- they are those of this heap
-pub record AreFiguresOf (image : HeapImage) (figures : Figures) : Type 0 where
+pub record AreFiguresOf (image : HeapImage) (figures : MapFigures) : Type 0 where
   pub words : figures.words ≡ heap_words image
   pub live : figures.live ≡ live_words image 0 (heap_words image)
   pub dead : figures.dead ≡ count_by (is_dead_word image) (range_with_len 0 (heap_words image))
@@ -16,7 +16,7 @@ pub record AreFiguresOf (image : HeapImage) (figures : Figures) : Type 0 where
   pub filled : figures.filled ≡ fill_count image
 
 -- the line that tells them, without its end
-abbrev pub figures_text : Figures → List ℕ
+abbrev pub figures_text : MapFigures → List ℕ
 figures_text figures =
     codes "words " ++ (decimal figures.words ++ (codes " live " ++ (decimal figures.live
     ++ (codes " dead " ++ (decimal figures.dead ++ (codes " prefix " ++ (decimal figures.prefix_end

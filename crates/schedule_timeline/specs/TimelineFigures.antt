@@ -4,11 +4,11 @@ use Rattle.schedule_timeline.specs.declared.bar.Bar.{Bar}
 use Rattle.schedule_timeline.specs.declared.ending.Ending.{Ending}
 use Rattle.schedule_timeline.specs.declared.ending.Ending.TheVariants.{Finished, Open}
 use Rattle.schedule_timeline.specs.declared.freeing.Freeing.{Freeing}
-use Rattle.schedule_timeline.specs.declared.figures.Figures.{Figures}
+use Rattle.schedule_timeline.specs.declared.figures.TimelineFigures.{TimelineFigures}
 use Rattle.schedule_timeline.specs.declared.timeline.Timeline.{Timeline}
 
 -- the figures of a timeline
-pub record AreFiguresOf (timeline : Timeline) (figures : Figures) : Type 0 where
+pub record AreFiguresOf (timeline : Timeline) (figures : TimelineFigures) : Type 0 where
   pub workers : figures.workers ≡ timeline.schedule.workers
   pub lines : figures.lines ≡ length timeline.schedule.lines
   pub granted : figures.granted ≡ length timeline.bars.items
@@ -23,7 +23,7 @@ ending_text Finished = codes "finished"
 ending_text Open = codes "open"
 
 -- the line that tells them, without its end
-abbrev pub figures_text : Figures → List ℕ
+abbrev pub figures_text : TimelineFigures → List ℕ
 figures_text figures =
     codes "workers " ++ (decimal figures.workers ++ (codes " lines " ++ (decimal figures.lines
     ++ (codes " granted " ++ (decimal figures.granted ++ (codes " completed " ++ (decimal figures.completed
@@ -32,7 +32,7 @@ figures_text figures =
 
 -- the line with the figures of a timeline
 pub record IsFiguresLine (timeline : Timeline) (shown : List ℕ) : Type 0 where
-  pub figures : Figures
+  pub figures : TimelineFigures
   pub counted : AreFiguresOf timeline figures
   pub tells : shown ≡ figures_text figures ++ codes "\n"
 
