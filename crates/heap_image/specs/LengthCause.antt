@@ -18,6 +18,6 @@ length_causes region_log count words =
     ∷ cause_if (nat_lt words count) CountAboveWords
     ∷ []
 
--- the first of these causes, of what the front of a byte list tells
+-- the first of these causes for the front of a byte list
 abbrev pub first_length_cause : List ℕ → Option LengthCause
 first_length_cause bytes = first_some (length_causes (told_region_log bytes) (told_count bytes) (told_words bytes))

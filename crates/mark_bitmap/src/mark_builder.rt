@@ -1,4 +1,4 @@
-//! `MarkBuilder`: end bits and live bits in parts, each by a thread of its own.
+//! Sets the end bits and the live bits of an image in parts, each in a thread.
 ghost use Rattle.std.specs.Prelude.{◌≡◌, ◌+◌, ◌<◌, length};
 ghost use Rattle.mark_bitmap.specs.Marks.{AreBegins, IsBlankPart, IsMarkedPart};
 
@@ -6,20 +6,20 @@ use crate::objects::mark_part;
 use heap_image::{Bits, Image};
 use std::thread::{Threads, join_mut};
 
-/// What the threads share that make the marks of an image.
+/// What the threads share.
 #[derive(Drop)]
 pub(crate) struct MarkBuilder<'a, T: Threads + Sync> {
     pub(crate) image: &'a Image,
     /// The bits of the first words of the live objects.
     pub(crate) begins: &'a Bits,
     pub(crate) threads: &'a T,
-    /// How many words of bits a thread takes.
+    /// The number of words of bits that a thread sets.
     pub(crate) share: usize,
 }
 
 impl<T: Threads + Sync> MarkBuilder<'_, T> {
-    /// Sets the end bits and the live bits of the addresses from `64 * start` on. Of more words than a share each share but
-    /// the last is for a thread that this one starts.
+    /// Sets the end bits and the live bits of the addresses from `64 * start` on. Each share of words but the last gets
+    /// a thread, which this one starts.
     #[cycle(parts)]
     pub(crate) fn mark(&self, start: usize, ends: &mut [u64], live: &mut [u64])
         requires share { 0 < self.now.share }
@@ -38,8 +38,8 @@ impl<T: Threads + Sync> MarkBuilder<'_, T> {
         self.mark_both(start, low_ends, low_live, high_ends, high_live);
     }
 
-    /// Sets the end bits and the live bits of two parts, of which the first begins with the addresses from `64 * start` on,
-    /// by two threads.
+    /// Sets the end bits and the live bits of two adjacent parts in two threads. The first part begins with the
+    /// addresses from `64 * start` on.
     #[cycle(parts)]
     fn mark_both(
         &self,
