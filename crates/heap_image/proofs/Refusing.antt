@@ -9,7 +9,7 @@ use Rattle.std.specs.Io.KnownBytes.{Consumes, IsAtEnd}
 use Rattle.heap_image.specs.Reading.{HasFittingNumbers}
 use Rattle.heap_image.specs.declared.fault.Fault.{Fault}
 use Rattle.heap_image.specs.declared.fault.Fault.TheVariants.{TruncatedHeader, Magic, RegionLog, Length, TruncatedBody, LiveOrder, Header, Overlap, Reference, Trailing, Memory, Io, Workers, Schedule, Overwritten, Gate, Root}
-use Rattle.heap_image.specs.ImageText.{magic, fault_if, first_some, first_fault, front_faults, front, numbers, listed_text, from_tail, misplaced_root, told_length, live_list_faults, misplaced_index, unsound_header, overlapping, dangling, first_object_fault}
+use Rattle.heap_image.specs.ImageText.{magic, fault_if, first_some, first_fault, front_faults, front, numbers, listed_text, from_tail, misplaced_root, encoded_length, live_list_faults, misplaced_index, unsound_header, overlapping, dangling, first_object_fault}
 use Rattle.heap_image.specs.HeapImage.{HeapImage, IsWithinLimits, heap_words, image_of, rooted_image_of, with_live, reachable, roots_or}
 use Rattle.heap_image.specs.Device.{is_io}
 use Rattle.heap_image.proofs.Known.{consumes_more}
@@ -107,7 +107,7 @@ nothing_left (Some input) (Some rest) came h e = ap Some e
 -- every fault that the list can give leaves what the first of its kind does
 leaves_live : (root order header overlap : Option ℕ) (reference : Option (ℕ × ℕ)) (fault : Fault) (input : List ℕ) (left : Option (List ℕ))
     → first_some (option_map Root root ∷ option_map LiveOrder order ∷ option_map Header header ∷ option_map Overlap overlap ∷ option_map (λ (p : ℕ × ℕ). Reference p.0 p.1) reference ∷ []) ≡ Some fault
-    → left ≡ Some (drop (told_length input) input) → LeavesRest fault input left
+    → left ≡ Some (drop (encoded_length input) input) → LeavesRest fault input left
 leaves_live (Some i) order header overlap reference fault input left h q = let e : Root i ≡ fault = cc in subst (λ f. LeavesRest f input left) e q
 leaves_live None (Some i) header overlap reference fault input left h q = let e : LiveOrder i ≡ fault = cc in subst (λ f. LeavesRest f input left) e q
 leaves_live None None (Some a) overlap reference fault input left h q = let e : Header a ≡ fault = cc in subst (λ f. LeavesRest f input left) e q
@@ -131,8 +131,8 @@ module _ (rooted : Bool) (image : HeapImage) (fits : HasFittingNumbers image) (b
       by None after h = tt
       by (Some input) None h = absurd h
       by (Some input) (Some rest) h =
-          let told : told_length input ≡ length (listed_text rooted image) = ap told_length h ∙ length_told rooted image fits rest in
-          let all = from_tail rooted image in leaves_live (misplaced_root all) (misplaced_index (heap_words all) all.live) (unsound_header all) (overlapping all) (dangling all) fault input (Some rest) first (ap Some (sym (drop_at (listed_text rooted image) rest (told_length input) (sym told)) ∙ ap (drop (told_length input)) (sym h)))
+          let told : encoded_length input ≡ length (listed_text rooted image) = ap encoded_length h ∙ length_told rooted image fits rest in
+          let all = from_tail rooted image in leaves_live (misplaced_root all) (misplaced_index (heap_words all) all.live) (unsound_header all) (overlapping all) (dangling all) fault input (Some rest) first (ap Some (sym (drop_at (listed_text rooted image) rest (encoded_length input) (sym told)) ∙ ap (drop (encoded_length input)) (sym h)))
 
   module _ (sound : first_some (live_list_faults (from_tail rooted image)) ≡ None) (more : List ℕ) (last : Option (List ℕ)) (then : Consumes after last more) (one : length more ≡ 1) where
     pub trailing_reason : IfSome before (λ input. IsReason input Trailing)
@@ -148,18 +148,18 @@ module _ (rooted : Bool) (image : HeapImage) (fits : HasFittingNumbers image) (b
             let behind : ltb (length (listed_text rooted image)) (length (listed_text rooted image ++ rest)) ≡ true = lt-ltb (length (listed_text rooted image)) (length (listed_text rooted image ++ rest)) (omega arith) in
             inr (inr (ap first_fault h ∙ first_fault-append rooted image fits rest ∙ first_some_past (live_list_faults (from_tail rooted image)) (fault_if (ltb (length (listed_text rooted image)) (length (listed_text rooted image ++ rest))) Trailing ∷ []) sound ∙ ap (λ b. first_some (fault_if b Trailing ∷ [])) behind))
 
-    pub trailing_leaves : IfSome before (λ input. last ≡ Some (drop (told_length input + 1) input))
+    pub trailing_leaves : IfSome before (λ input. last ≡ Some (drop (encoded_length input + 1) input))
     trailing_leaves = by before after last read then
       where
-        by : (before after last : Option (List ℕ)) → Consumes before after (listed_text rooted image) → Consumes after last more → IfSome before (λ input. last ≡ Some (drop (told_length input + 1) input))
+        by : (before after last : Option (List ℕ)) → Consumes before after (listed_text rooted image) → Consumes after last more → IfSome before (λ input. last ≡ Some (drop (encoded_length input + 1) input))
         by None after last h k = tt
         by (Some input) None last h k = absurd h
         by (Some input) (Some rest) None h k = absurd k
         by (Some input) (Some rest) (Some end) h k =
-            let told : told_length input ≡ length (listed_text rooted image) = ap told_length h ∙ length_told rooted image fits rest in
+            let told : encoded_length input ≡ length (listed_text rooted image) = ap encoded_length h ∙ length_told rooted image fits rest in
             let both = length-append (listed_text rooted image) more in
             let joined : input ≡ (listed_text rooted image ++ more) ++ end = h ∙ ap (λ l. listed_text rooted image ++ l) k ∙ sym (append_assoc (listed_text rooted image) more end) in
-            ap Some (sym (drop_at (listed_text rooted image ++ more) end (told_length input + 1) (omega arith)) ∙ ap (drop (told_length input + 1)) (sym joined))
+            ap Some (sym (drop_at (listed_text rooted image ++ more) end (encoded_length input + 1) (omega arith)) ∙ ap (drop (encoded_length input + 1)) (sym joined))
 
 -- some memory was taken, so some byte behind the front had come
 pub memory_behind : (front : List ℕ) (before after : Option (List ℕ)) → length front ≡ 32 → Consumes before after front → IfSome after (λ rest. 0 < length rest) → IfSome before (λ input. 32 < length input)

@@ -2,7 +2,7 @@
 use Rattle.std.specs.Prelude.{◌≡◌, ℕ, ◌+◌, List, [], drop, Option, Some, ◌⊎◌}
 use Rattle.heap_image.specs.declared.fault.Fault.{Fault}
 use Rattle.heap_image.specs.declared.fault.Fault.TheVariants.{TruncatedHeader, Magic, RegionLog, Length, TruncatedBody, LiveOrder, Header, Overlap, Reference, Trailing, Memory, Io, Root, Workers, Schedule, Overwritten, Gate}
-use Rattle.heap_image.specs.ImageText.{first_fault, told_length}
+use Rattle.heap_image.specs.ImageText.{first_fault, encoded_length}
 
 -- memory ran out, the device failed, or this is the first fault of the input
 abbrev pub IsReason : List ℕ → Fault → Type 0
@@ -28,12 +28,12 @@ LeavesRest Magic input left = left ≡ Some (drop 32 input)
 LeavesRest RegionLog input left = left ≡ Some (drop 32 input)
 LeavesRest Length input left = left ≡ Some (drop 32 input)
 LeavesRest TruncatedBody input left = left ≡ Some []
-LeavesRest (LiveOrder i) input left = left ≡ Some (drop (told_length input) input)
-LeavesRest (Header a) input left = left ≡ Some (drop (told_length input) input)
-LeavesRest (Overlap a) input left = left ≡ Some (drop (told_length input) input)
-LeavesRest (Reference a f) input left = left ≡ Some (drop (told_length input) input)
-LeavesRest (Root i) input left = left ≡ Some (drop (told_length input) input)
-LeavesRest Trailing input left = left ≡ Some (drop (told_length input + 1) input)
+LeavesRest (LiveOrder i) input left = left ≡ Some (drop (encoded_length input) input)
+LeavesRest (Header a) input left = left ≡ Some (drop (encoded_length input) input)
+LeavesRest (Overlap a) input left = left ≡ Some (drop (encoded_length input) input)
+LeavesRest (Reference a f) input left = left ≡ Some (drop (encoded_length input) input)
+LeavesRest (Root i) input left = left ≡ Some (drop (encoded_length input) input)
+LeavesRest Trailing input left = left ≡ Some (drop (encoded_length input + 1) input)
 LeavesRest _ input left = (n : ℕ) × (left ≡ Some (drop n input))
 
 -- a fault of the numbers in a front of 32 bytes

@@ -60,12 +60,12 @@ impl Bits {
     }
 
     /// The set of 0 and of `a + 1` for each address `a` of this set. It has room for 64 more addresses.
-    pub(crate) fn raised(&self, alloc: Global) -> Result<Bits, AllocError>
+    pub(crate) fn shift_up(&self, alloc: Global) -> Result<Bits, AllocError>
         ensures room { IfOk result (λ bits. length bits ≡ length self.now + 1) }
         ensures zero { IfOk result (λ bits. IsTrue (has bits 0)) }
         ensures above { IfOk result (λ bits. (k : ℕ) → has bits (k + 1) ≡ has self.now k) }
     {
-        let words = raised_by_one(alloc, self.words.as_slice())?;
+        let words = shift_words_up(alloc, self.words.as_slice())?;
         Ok(Bits { words })
     }
 
@@ -199,7 +199,7 @@ impl Bits {
 }
 
 /// These words shifted up by one bit, with the lowest bit set.
-fn raised_by_one(alloc: Global, words: &[u64]) -> Result<Vec<u64>, AllocError>
+fn shift_words_up(alloc: Global, words: &[u64]) -> Result<Vec<u64>, AllocError>
     ensures room { IfOk result (λ new. length new.items ≡ length words.now + 1) }
     ensures zero { IfOk result (λ new. IsTrue (has new.items 0)) }
     ensures above { IfOk result (λ new. (k : ℕ) → has new.items (k + 1) ≡ has words.now k) }
@@ -238,13 +238,13 @@ fn first_not_in(words: &[u64], from: u64) -> u64
     let Some(word) = words.get(start) else {
         return from;
     };
-    let rest = lacking(*word) & (u64::MAX << (from % 64));
+    let rest = complement(*word) & (u64::MAX << (from % 64));
     if rest != 0 {
         return 64 * start as u64 + lowest(rest);
     }
     let behind = &words[start + 1..];
     match first_not_full(behind) {
-        Some(i) => 64 * (start + 1 + i) as u64 + lowest(lacking(behind[i])),
+        Some(i) => 64 * (start + 1 + i) as u64 + lowest(complement(behind[i])),
         None => 64 * words.len() as u64,
     }
 }
@@ -257,7 +257,7 @@ fn first_nonzero(words: &[u64]) -> Option<usize>
 
 /// The bits that a word lacks.
 #[inline]
-fn lacking(word: u64) -> u64
+fn complement(word: u64) -> u64
     ensures bits { (j : ℕ) → j < 64 → bit_at result j ≡ 1 - bit_at word j }
     ensures some { (word ≡ 2 ^ 64 - 1 → ⊥) → 0 < result }
 {

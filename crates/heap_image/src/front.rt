@@ -1,6 +1,6 @@
 //! The front: the first 32 bytes of an image's text.
 ghost use Rattle.std.specs.Prelude.{◌≡◌, ◌≢◌, ◌<◌, ◌≤◌, ◌^◌, ◌+◌, ◌*◌, length, Some, IfOk, IfErr, IfNone, option_map};
-ghost use Rattle.heap_image.specs.ImageText.{front, front_faults, first_some, told_region_log, told_count, told_words};
+ghost use Rattle.heap_image.specs.ImageText.{front, front_faults, first_some, encoded_region_log, encoded_count, encoded_words};
 ghost use Rattle.heap_image.specs.HeapImage.{IsWithinLimits};
 ghost use Rattle.heap_image.specs.LengthCause.{length_causes, first_length_cause};
 ghost use Rattle.heap_image.specs.Refusals.{IsOfFront};
@@ -37,35 +37,35 @@ impl Front {
     /// Parses a front, or returns its first fault.
     pub(crate) fn parse(bytes: &[u8]) -> Result<Front, Fault>
         requires { length bytes.now ≡ 32 }
-        ensures told { IfOk result
-            (λ told. bytes.now ≡ front told.rooted told.region_log told.count told.words told.allowance) }
+        ensures bytes { IfOk result
+            (λ parsed. bytes.now ≡ front parsed.rooted parsed.region_log parsed.count parsed.words parsed.allowance) }
         ensures limits { IfOk result
-            (λ told. IsWithinLimits told.region_log told.words told.count) }
-        ensures fit { IfOk result (λ told. told.allowance < 2 ^ 64) }
+            (λ parsed. IsWithinLimits parsed.region_log parsed.words parsed.count) }
+        ensures fit { IfOk result (λ parsed. parsed.allowance < 2 ^ 64) }
         ensures fault { IfErr result (λ fault. first_some (front_faults bytes.now) ≡ Some fault) }
         ensures of_front { IfErr result IsOfFront }
     {
-        let told = Front::told(bytes)?;
-        match told.length_cause() {
-            None => Ok(told),
+        let parsed = Front::parse_unvalidated(bytes)?;
+        match parsed.length_cause() {
+            None => Ok(parsed),
             Some(_) => Err(Fault::Length),
         }
     }
 
     /// Parses a front whose sizes may be outside the limits of the format. The faults are a wrong magic and a wrong
     /// region log.
-    pub(crate) fn told(bytes: &[u8]) -> Result<Front, Fault>
+    pub(crate) fn parse_unvalidated(bytes: &[u8]) -> Result<Front, Fault>
         requires { length bytes.now ≡ 32 }
-        ensures told { IfOk result
-            (λ told. bytes.now ≡ front told.rooted told.region_log told.count told.words told.allowance) }
-        ensures region_log { IfOk result (λ told. told.region_log ≡ told_region_log bytes.now) }
-        ensures count { IfOk result (λ told. told.count ≡ told_count bytes.now) }
-        ensures words { IfOk result (λ told. told.words ≡ told_words bytes.now) }
-        ensures low { IfOk result (λ told. 3 ≤ told.region_log) }
-        ensures high { IfOk result (λ told. told.region_log ≤ 16) }
-        ensures fit { IfOk result (λ told. told.allowance < 2 ^ 64) }
+        ensures bytes { IfOk result
+            (λ parsed. bytes.now ≡ front parsed.rooted parsed.region_log parsed.count parsed.words parsed.allowance) }
+        ensures region_log { IfOk result (λ parsed. parsed.region_log ≡ encoded_region_log bytes.now) }
+        ensures count { IfOk result (λ parsed. parsed.count ≡ encoded_count bytes.now) }
+        ensures words { IfOk result (λ parsed. parsed.words ≡ encoded_words bytes.now) }
+        ensures low { IfOk result (λ parsed. 3 ≤ parsed.region_log) }
+        ensures high { IfOk result (λ parsed. parsed.region_log ≤ 16) }
+        ensures fit { IfOk result (λ parsed. parsed.allowance < 2 ^ 64) }
         // The only fault that such a front can have is 4.
-        ensures length { IfOk result (λ told. first_some (front_faults bytes.now)
+        ensures length { IfOk result (λ parsed. first_some (front_faults bytes.now)
             ≡ option_map (λ cause. Fault.Length) (first_length_cause bytes.now)) }
         ensures fault { IfErr result (λ fault. first_some (front_faults bytes.now) ≡ Some fault) }
         ensures of_front { IfErr result IsOfFront }

@@ -34,8 +34,8 @@ impl LengthCause {
         ensures cause { IfSome result (λ cause. first_length_cause front.now ≡ Some cause) }
         ensures only { IsTrue (is_some result) ↔ (first_some (front_faults front.now) ≡ Some Fault.Length) }
     {
-        match Front::told(front) {
-            Ok(told) => told.length_cause(),
+        match Front::parse_unvalidated(front) {
+            Ok(parsed) => parsed.length_cause(),
             Err(_) => None,
         }
     }

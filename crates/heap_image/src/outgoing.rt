@@ -43,7 +43,7 @@ impl<'a> Outgoing<'a> {
         let mut done = 0;
         while done < words.len() {
             self.make_room(writer)?;
-            done += self.hold(&words[done..]);
+            done += self.buffer(&words[done..]);
         }
         Ok(())
     }
@@ -108,7 +108,7 @@ impl<'a> Outgoing<'a> {
     }
 
     /// Buffers as many of the numbers as there is room for, and returns how many.
-    fn hold(&mut self, words: &[u64]) -> usize
+    fn buffer(&mut self, words: &[u64]) -> usize
         requires { HasRoom self.old }
         ensures room { HasRoom self.new }
         ensures within { result ≤ length words.now }

@@ -40,7 +40,7 @@ pub fn mark_from_roots(
         live,
         begins,
         well_formed,
-    } = reached_from_roots(alloc, &heap, roots)?;
+    } = find_reachable(alloc, &heap, roots)?;
     check_live(&heap, live.as_slice(), &begins, well_formed)?;
     Ok(live)
 }
@@ -58,7 +58,7 @@ pub(crate) struct Reached {
 }
 
 /// Finds what is reachable from the roots of a heap. Fault 17 comes if a root is above the number of words.
-pub(crate) fn reached_from_roots(
+pub(crate) fn find_reachable(
     alloc: Global,
     heap: &Heap<'_>,
     roots: &[u64],

@@ -223,12 +223,12 @@ impl Unchecked {
 
 /// Reads the first 32 bytes, and no byte after them.
 fn read_front<R: Intake>(reader: &mut R) -> Result<Front, Fault>
-    ensures told { IfOk result
-        (λ told. Consumes (R.left reader.old) (R.left reader.new)
-        (front told.rooted told.region_log told.count told.words told.allowance)) }
+    ensures bytes { IfOk result
+        (λ parsed. Consumes (R.left reader.old) (R.left reader.new)
+        (front parsed.rooted parsed.region_log parsed.count parsed.words parsed.allowance)) }
     ensures limits { IfOk result
-        (λ told. IsWithinLimits told.region_log told.words told.count) }
-    ensures fit { IfOk result (λ told. told.allowance < 2 ^ 64) }
+        (λ parsed. IsWithinLimits parsed.region_log parsed.words parsed.count) }
+    ensures fit { IfOk result (λ parsed. parsed.allowance < 2 ^ 64) }
     ensures fault { IfErr result
         (λ fault. IfSome (R.left reader.old) (λ input. IsReason input fault)) }
     ensures left { IfErr result (λ fault. IfSome (R.left reader.old)

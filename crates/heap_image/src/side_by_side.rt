@@ -113,7 +113,7 @@ fn body_in_row<S: Store>(
         ensures { IfSome result (IsBodyOf (S.bytes store.entry.now) high) }
     { body_in_row(alloc, store, high, others, threads) };
     let (first, second) = thread::join(threads, first, second);
-    both(first?, second?)
+    join_bodies(first?, second?)
 }
 
 /// Reads the body in an extent in this thread. Returns `None` as [`body_at`] does.
@@ -130,7 +130,7 @@ fn body_in_order<S: Store>(alloc: Global, store: &S, extent: Extent) -> Option<B
 }
 
 /// Joins two bodies, of which the first has regions only. Returns `None` if memory runs out.
-fn both(first: Body, second: Body) -> Option<Body>
+fn join_bodies(first: Body, second: Body) -> Option<Body>
     requires { first.tail.items ≡ [] }
     ensures { IfSome result (λ body. (body.regions.items ≡ first.regions.items ++ second.regions.items)
         × (body.tail.items ≡ second.tail.items)) }

@@ -38,10 +38,10 @@ pub(crate) fn sizes_if_sound<T: Threads + Sync>(
     ensures sound { IfSome result (λ _. HasLiveList (with_live heap.now live.now)) }
     ensures sizes { IfSome result (λ sizes. AreSizes (with_live heap.now live.now) sizes.items) }
 {
-    let Ok(targets) = begins.raised(alloc) else {
+    let Ok(targets) = begins.shift_up(alloc) else {
         return None;
     };
-    let Ok(sizes) = noted_sizes(alloc, heap, live, &targets, crowd) else {
+    let Ok(sizes) = note_all_sizes(alloc, heap, live, &targets, crowd) else {
         return None;
     };
     if are_all_noted(sizes.as_slice(), live.len()) {
@@ -53,7 +53,7 @@ pub(crate) fn sizes_if_sound<T: Threads + Sync>(
 
 /// The size of each sound live object, and 0 for each unsound one. `targets` has the bits of null and of the references
 /// to live objects.
-fn noted_sizes<T: Threads + Sync>(
+fn note_all_sizes<T: Threads + Sync>(
     alloc: Global,
     heap: &Heap<'_>,
     live: &[u64],

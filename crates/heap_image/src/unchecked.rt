@@ -11,7 +11,7 @@ use crate::bits::Bits;
 use crate::check::{check_live, misplaced_index};
 use crate::crowd::Crowd;
 use crate::heap::Heap;
-use crate::reach::{Reached, reached_from_roots};
+use crate::reach::{Reached, find_reachable};
 use crate::soundness::{PIECE, sizes_if_sound};
 use std::alloc::Global;
 use std::thread::Threads;
@@ -60,7 +60,7 @@ pub(crate) fn find_live_objects(
             live,
             begins,
             well_formed,
-        } = reached_from_roots(alloc, heap, tail.as_slice())?;
+        } = find_reachable(alloc, heap, tail.as_slice())?;
         let roots = Some(tail);
         return Ok(Found {
             live,

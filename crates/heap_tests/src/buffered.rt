@@ -99,7 +99,7 @@ fn is_written(alloc: Global) -> Result<bool, Fault> {
     }
 }
 
-/// The script tests/crate-allocations runs this with each allocation refused in turn.
+/// A script runs this with each allocation refused in turn.
 #[test]
 fn refused_memory_is_reported(rt: HostRuntime) {
     let answers = [is_written(rt.alloc()), is_written(rt.alloc())];

@@ -145,8 +145,7 @@ fn write_once(alloc: Global, image: &Image) -> (bool, FailsOnce<'static>) {
     (is_written, writer.into_inner())
 }
 
-/// No memory is allocated for a front without a body. The script tests/crate-allocations runs this with each allocation
-/// refused in turn.
+/// No memory is allocated for a front without a body. A script runs this with each allocation refused in turn.
 #[test]
 fn front_alone_where_refused_memory_is_reported(rt: HostRuntime) {
     let bytes = front(8, 0, 4_194_304);

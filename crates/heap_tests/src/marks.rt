@@ -184,7 +184,7 @@ fn large_comes_through(alloc: Global, threads: &(impl Threads + Sync)) -> Result
     are_made_alike(threads, alloc, &decode(alloc, text.as_slice())?)
 }
 
-/// The script tests/crate-allocations runs this with each allocation refused in turn.
+/// A script runs this with each allocation refused in turn.
 #[test]
 fn two_threads_make_the_same_marks_and_refused_memory_is_reported(rt: HostRuntime) {
     let answers = [
@@ -200,7 +200,7 @@ fn base_comes_through(alloc: Global, threads: &(impl Threads + Sync)) -> Result<
     are_made_alike(threads, alloc, &decode(alloc, text.as_slice())?)
 }
 
-/// The script tests/crate-allocations runs this with each allocation refused in turn.
+/// A script runs this with each allocation refused in turn.
 #[test]
 fn refused_memory_is_reported(rt: HostRuntime) {
     let answers = [

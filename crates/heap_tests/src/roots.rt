@@ -250,7 +250,7 @@ fn base_comes_through(alloc: Global, threads: &(impl Threads + Sync)) -> Result<
     Ok(marked.as_slice() == BASE_LIVE.as_slice() && comes_through(alloc, threads, &text)?)
 }
 
-/// The script tests/crate-allocations runs this with each allocation refused in turn.
+/// A script runs this with each allocation refused in turn.
 #[test]
 fn refused_memory_is_reported(rt: HostRuntime) {
     let answers = [

@@ -188,7 +188,7 @@ fn comes_through(alloc: Global, threads: &(impl Threads + Sync)) -> Result<bool,
     Ok(is_right && stays(alloc, threads, &texts)?)
 }
 
-/// The script tests/crate-allocations runs this with each allocation refused in turn.
+/// A script runs this with each allocation refused in turn.
 #[test]
 fn refused_memory_is_reported(rt: HostRuntime) {
     let answers = [

@@ -13,7 +13,7 @@ use Rattle.std.proofs.lemmas.Nat.Bits.{bit_at-zero}
 use Rattle.heap_image.specs.HeapImage.{HeapImage, IsValid, size_at, end_of, is_live_word}
 use Rattle.heap_image.specs.Bits.{has}
 use Rattle.heap_image.proofs.Places.{same_tests}
-use Rattle.mark_bitmap.specs.Marks.{AreBitsFrom, IsFirstObject, IsMarkedPart, goes_on, is_end}
+use Rattle.mark_bitmap.specs.Marks.{AreBitsFrom, IsFirstObject, IsMarkedPart, continues_at, is_end}
 use Rattle.mark_bitmap.proofs.Apart.{apart, sound_at, place_of}
 
 -- the bits of two parts, the one behind the other
@@ -98,20 +98,20 @@ module _ (image : HeapImage) (valid : IsValid image) where
       ne_eqb (end_of image (get_or image.live j 0)) e (λ same. omega arith))
 
   -- no object goes on at a place before which none begins
-  pub none-goes_on : (place : ℕ) → IsFirstObject image place 0 → goes_on image place ≡ false
-  none-goes_on place first = false_from_ne_true (goes_on image place) (λ h.
+  pub none-continues_at : (place : ℕ) → IsFirstObject image place 0 → continues_at image place ≡ false
+  none-continues_at place first = false_from_ne_true (continues_at image place) (λ h.
       let here = place_of image valid (λ a. ltb a place && ltb place (end_of image a)) h in
       let begin : place ≤ get_or image.live here.0 0 = first.behind here.0 (omega arith) here.1 in
       let low : get_or image.live here.0 0 < place = ltb-true (get_or image.live here.0 0) place (and_parts (ltb (get_or image.live here.0 0) place) (ltb place (end_of image (get_or image.live here.0 0))) here.2).0 in
       omega arith)
 
   -- else the last object that begins before it goes on, or none does
-  pub last-goes_on : (place i : ℕ) → IsFirstObject image place i → 0 < i → ltb place (end_of image (get_or image.live (i - 1) 0)) ≡ goes_on image place
-  last-goes_on place i first some =
+  pub last-continues_at : (place i : ℕ) → IsFirstObject image place i → 0 < i → ltb place (end_of image (get_or image.live (i - 1) 0)) ≡ continues_at image place
+  last-continues_at place i first some =
       let most : i ≤ length image.live = first.inside in
       let last : ℕ = get_or image.live (i - 1) 0 in
       let low : last < place = first.before (i - 1) (omega arith) in
-      same_tests (ltb place (end_of image last)) (goes_on image place)
+      same_tests (ltb place (end_of image last)) (continues_at image place)
       (λ h. list_any_at (λ a. ltb a place && ltb place (end_of image a)) image.live (i - 1) 0 (omega arith) (and_from (ltb last place) (ltb place (end_of image last)) (lt-ltb last place low) h))
       (λ h. let here = place_of image valid (λ a. ltb a place && ltb place (end_of image a)) h in
       let j : ℕ = here.0 in

@@ -48,8 +48,8 @@ module _ (image : HeapImage) where
     pub bits : HaveMarks image.live begins ends live
 
   -- the words at k - 1 and at k belong to the same object
-  abbrev pub goes_on : ℕ → Bool
-  goes_on k = list_any (λ a. nat_lt a k && nat_lt k (end_of image a)) image.live
+  abbrev pub continues_at : ℕ → Bool
+  continues_at k = list_any (λ a. nat_lt a k && nat_lt k (end_of image a)) image.live
 
   -- the live objects with indices below i begin below the address, and the others don't
   pub record IsFirstObject (address i : ℕ) : Type 0 where

@@ -4,7 +4,7 @@ ghost use Rattle.std.specs.List.{list_any};
 ghost use Rattle.heap_image.specs.HeapImage.{IsValid, HasSoundHeader, end_of, size_at, is_live_word};
 ghost use Rattle.heap_image.specs.Bits.{has, room};
 ghost use Rattle.heap_image.specs.Sizes.{AreSizesOf};
-ghost use Rattle.mark_bitmap.specs.Marks.{AreBegins, AreBitsFrom, IsBlankPart, IsFirstObject, IsMarkedPart, bit_words, goes_on, is_end};
+ghost use Rattle.mark_bitmap.specs.Marks.{AreBegins, AreBitsFrom, IsBlankPart, IsFirstObject, IsMarkedPart, bit_words, continues_at, is_end};
 
 use crate::part_bits::insert_within;
 use heap_image::{Bits, Image, PIECE};
@@ -111,8 +111,8 @@ fn last_words(image: &Image, objects: &[u64], sizes: Option<&[u32; PIECE]>) -> [
     ensures { take (length objects.now) result ≡ map (λ a. end_of image.now a - 1) objects.now }
 {
     match sizes {
-        Some(sizes) => last_words_by(image, objects, sizes),
-        None => last_words_read(image, objects),
+        Some(sizes) => last_words_by_sizes(image, objects, sizes),
+        None => last_words_by_headers(image, objects),
     }
 }
 
@@ -120,7 +120,7 @@ fn last_words(image: &Image, objects: &[u64], sizes: Option<&[u32; PIECE]>) -> [
 ///
 /// The loop does nothing but read headers, so that their cache misses overlap.
 #[inline]
-fn last_words_read(image: &Image, objects: &[u64]) -> [u64; PIECE]
+fn last_words_by_headers(image: &Image, objects: &[u64]) -> [u64; PIECE]
     requires valid { IsValid image.now }
     requires few { length objects.now ≤ 64 }
     requires sound { All (HasSoundHeader image.now) objects.now }
@@ -136,7 +136,7 @@ fn last_words_read(image: &Image, objects: &[u64]) -> [u64; PIECE]
 
 /// The addresses of the last words of a few objects of these sizes, and zeros after them.
 #[inline]
-fn last_words_by(image: &Image, objects: &[u64], sizes: &[u32; PIECE]) -> [u64; PIECE]
+fn last_words_by_sizes(image: &Image, objects: &[u64], sizes: &[u32; PIECE]) -> [u64; PIECE]
     requires valid { IsValid image.now }
     requires few { length objects.now ≤ 64 }
     requires sound { All (HasSoundHeader image.now) objects.now }
@@ -161,7 +161,7 @@ fn mark_words(image: &Image, begins: &Bits, start: usize, ends: &[u64], live: &m
     ensures room { length live.new ≡ length live.old }
     ensures bits { AreBitsFrom (is_live_word image.now) start live.new }
 {
-    let mut carried = u64::from(goes_on(image, 64 * start as u64));
+    let mut carried = u64::from(continues_at(image, 64 * start as u64));
     for i in 0..ends.len() {
         let word = live_word(begins.word(start + i), ends[i], carried);
         live[i] = word;
@@ -170,8 +170,8 @@ fn mark_words(image: &Image, begins: &Bits, start: usize, ends: &[u64], live: &m
 }
 
 /// Whether the word at this address belongs to an object that begins below it.
-fn goes_on(image: &Image, address: u64) -> bool
-    ensures { result ≡ goes_on image.now address }
+fn continues_at(image: &Image, address: u64) -> bool
+    ensures { result ≡ continues_at image.now address }
 {
     let objects = image.live();
     let first = first_from(image, address);

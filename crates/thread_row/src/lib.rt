@@ -7,8 +7,7 @@
 //! first place.
 //!
 //! Proved: [`for_each_mut`] changes each element by its own call, as `std::thread::for_each_mut` does, and
-//! [`behind_an_empty_thread`] returns what its call returns. Only tested: the number of threads (`tests/threads`), and
-//! the gain in speed (`bench/collect --memory`).
+//! [`behind_an_empty_thread`] returns what its call returns. Only tested: the number of threads, and the gain in speed.
 #![tactic(auto)]
 
 mod row;

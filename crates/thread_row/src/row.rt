@@ -73,16 +73,16 @@ impl<R: Threads + Sync, F: Sync> Row<'_, R, F> {
         ensures { BecomeFrom (ChangesAt F.Fn self.now.f.now) base s.old s.new }
     {
         if s.len() <= self.share {
-            self.in_turn(base, s);
+            self.work_in_order(base, s);
             return;
         }
         let (first, rest) = s.split_at_mut(self.share);
-        self.both(base, first, rest);
+        self.work_both(base, first, rest);
     }
 
     /// Calls `f` for each element of two adjacent parts, the first of them in a new thread.
     #[cycle(parts)]
-    fn both<T: Send>(&self, base: usize, first: &mut [T], rest: &mut [T])
+    fn work_both<T: Send>(&self, base: usize, first: &mut [T], rest: &mut [T])
     where
         F: Fn(usize, &mut T),
         requires share { 0 < self.now.share }
@@ -97,7 +97,7 @@ impl<R: Threads + Sync, F: Sync> Row<'_, R, F> {
         let mut front = ||
             requires { (base + length first.now < 2 ^ 64) × HoldFrom (AcceptsAt F.Fn self.now.f.now) base first.now }
             ensures { BecomeFrom (ChangesAt F.Fn self.entry.now.f.now) base first.entry.now first.exit.now }
-        { self.in_turn(base, first) };
+        { self.work_in_order(base, first) };
         let mut back = ||
             requires { (0 < self.now.share) × (up + length rest.now < 2 ^ 64) × HoldFrom (AcceptsAt F.Fn self.now.f.now) up rest.now }
             ensures { BecomeFrom (ChangesAt F.Fn self.entry.now.f.now) up rest.entry.now rest.exit.now }
@@ -106,7 +106,7 @@ impl<R: Threads + Sync, F: Sync> Row<'_, R, F> {
     }
 
     /// Calls `f` for each element of a part, in this thread.
-    fn in_turn<T: Send>(&self, base: usize, s: &mut [T])
+    fn work_in_order<T: Send>(&self, base: usize, s: &mut [T])
     where
         F: Fn(usize, &mut T),
         requires room { base + length s.old < 2 ^ 64 }
@@ -117,12 +117,12 @@ impl<R: Threads + Sync, F: Sync> Row<'_, R, F> {
         let shifted = |k: usize, it: &mut T|
             requires { (base + k < 2 ^ 64) × AcceptsAt F.Fn f.now (base + k) it.old }
             ensures { ChangesAt F.Fn f.entry.now (base + k) it.old it.new }
-        { at_one(f, base + k, it) };
+        { call_at(f, base + k, it) };
         thread::for_each_mut(self.rt, s, 1, &shifted);
     }
 }
 
-fn at_one<T, F: Fn(usize, &mut T)>(f: &F, i: usize, it: &mut T)
+fn call_at<T, F: Fn(usize, &mut T)>(f: &F, i: usize, it: &mut T)
     requires { AcceptsAt F.Fn f.now i it.old }
     ensures { ChangesAt F.Fn f.now i it.old it.new }
 {

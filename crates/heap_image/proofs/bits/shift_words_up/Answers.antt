@@ -1,8 +1,8 @@
 use Rattle.std.proofs.Common.{◌≡◌, ◌+◌, length, ◌∙◌, ap, arith}
 use Rattle.heap_image.specs.Bits.{has}
 use Rattle.heap_image.proofs.Raised.{raised, raised_more, raised_all, length-raised, has_raised, has_raised-zero}
-use Rattle.heap_image.proofs.bits.raised_by_one.Goals as goal
-use Rattle.heap_image.proofs.bits.raised_by_one.Goals.{In_ok-push-2}
+use Rattle.heap_image.proofs.bits.shift_words_up.Goals as goal
+use Rattle.heap_image.proofs.bits.shift_words_up.Goals.{In_ok-push-2}
 
 pub loop-word-preserved : goal.loop-word-preserved
 loop-word-preserved c = raised_more c.loop-word.new.items c.push.new.self.items c.args.words.now c.loop-word.carried c.loop-word.word-index c.loop-word-test.true c.in_ok-push.ensures.items c.loop-word.invariant

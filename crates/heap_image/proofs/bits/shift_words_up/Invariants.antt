@@ -1,6 +1,6 @@
 use Rattle.std.proofs.Common.{◌≡◌, ◌++◌, drop}
 use Rattle.heap_image.proofs.Raised.{raised}
-use Rattle.heap_image.proofs.bits.raised_by_one.Given as goal
+use Rattle.heap_image.proofs.bits.shift_words_up.Given as goal
 
 -- what is made so far, and what is to come
 abbrev pub invariant-loop-word : goal.invariant-loop-word

@@ -1,6 +1,6 @@
 use Rattle.std.proofs.Common.{◌≡◌, ◌-◌, length, map, take}
 use Rattle.heap_image.specs.HeapImage.{end_of}
-use Rattle.mark_bitmap.proofs.objects.last_words_read.Given as goal
+use Rattle.mark_bitmap.proofs.objects.last_words_by_headers.Given as goal
 
 abbrev pub invariant-loop-i : goal.invariant-loop-i
 invariant-loop-i l =

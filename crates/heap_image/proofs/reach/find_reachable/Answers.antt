@@ -4,7 +4,7 @@ use Rattle.std.specs.List.{range_with_len}
 use Rattle.heap_image.specs.Bits.{MarkBegins, has}
 use Rattle.heap_image.proofs.Marked.{live_is, live_inside, live_begins, root_fault, no_root_fault}
 use Rattle.heap_image.proofs.WellFormed.{reached_well}
-use Rattle.heap_image.proofs.reach.reached_from_roots.Goals as goal
+use Rattle.heap_image.proofs.reach.find_reachable.Goals as goal
 
 pub returns-in-Some-clause-fault : goal.returns-in-Some-clause-fault
 returns-in-Some-clause-fault c =

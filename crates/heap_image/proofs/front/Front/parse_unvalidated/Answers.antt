@@ -2,11 +2,11 @@ use Rattle.std.proofs.Common.{◌≡◌, false, not, ◌&&◌, take, ap, arith}
 use Rattle.std.proofs.lemmas.Bool.{and_left, and_right}
 use Rattle.heap_image.specs.ImageText.{magic}
 use Rattle.heap_image.proofs.ReadBack.{front_of_bytes, magic_by_tests}
-use Rattle.heap_image.proofs.front.Front.told.Goals as goal
-use Rattle.heap_image.proofs.front.Front.told.Goals.{else-ne-via-then-ne+else-not-rooted, else-ne-via-else-ne}
+use Rattle.heap_image.proofs.front.Front.parse_unvalidated.Goals as goal
+use Rattle.heap_image.proofs.front.Front.parse_unvalidated.Goals.{else-ne-via-then-ne+else-not-rooted, else-ne-via-else-ne}
 
-pub returns-clause-told : goal.returns-clause-told
-returns-clause-told c =
+pub returns-clause-bytes : goal.returns-clause-bytes
+returns-clause-bytes c =
     let rooted = c.eq-rooted.result in
     let differs = c.ne.result in
     let either : (differs && not rooted) ≡ false = elim c.else-ne.branch [
