@@ -6,7 +6,7 @@ ghost use Rattle.heap_image.specs.ImageText.{text, from_tail, first_some, live_l
 ghost use Rattle.heap_image.specs.Reading.{HasFittingNumbers};
 ghost use Rattle.heap_image.specs.Reachable.{is_listed, beyond, IsClosed};
 
-/// Bytes without a fault are the text of the valid image that they encode.
+/// Bytes without a fault are the text of the valid image that they tell.
 pub fn faultless_is_text()
     ensures { FaultlessIsText }
 {}
