@@ -110,7 +110,7 @@ known_magic : (rooted : Bool) → not (bytes_eq (magic rooted) (magic false) || 
 known_magic true = refl
 known_magic false = refl
 
--- a front within the limits is without a fault, whatever stands behind it
+-- a front within the limits is without a fault, whatever follows it
 module _ (rooted : Bool) (log live_count words allowance : ℕ) (limits : IsWithinLimits log words live_count) (behind : List ℕ) where
   abbrev whole : List ℕ
   whole = fronted rooted log live_count words allowance limits behind
@@ -142,7 +142,7 @@ module _ (rooted : Bool) (log live_count words allowance : ℕ) (limits : IsWith
         ),
       )
 
-  -- too few bytes stand behind it
+  -- too few bytes come after it
   pub layout_fault-truncated : length behind < 8 * (words + live_count) → first_some (layout_faults whole) ≡ Some TruncatedBody
   layout_fault-truncated few =
       let long : length whole ≡ 32 + length behind = length-append (front rooted log live_count words allowance) behind in

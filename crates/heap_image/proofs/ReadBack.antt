@@ -1,4 +1,4 @@
--- A text without a fault is that of the image which it tells, and that image is valid.
+-- A text without a fault is that of the image that it encodes, and that image is valid.
 use Rattle.std.proofs.Common.{◌≡◌, ℕ, zero, suc, ◌+◌, ◌-◌, ◌*◌, ◌/◌, ◌%◌, ◌≤◌, ◌<◌, ◌^◌, inl, inr, Bool, true, false, ◌||◌, ◌&&◌, List, [], ◌++◌, length, get_or, take, drop, refl, sym, ◌∙◌, ap, subst, arith, ltb, eqb, add-zero, length-take, length-drop}
 use Rattle.std.proofs.lemmas.Bool.{cases_lt, ltb-false, eqb-true, eqb-false, or_parts, or_cases, not-false, true≢false}
 use Rattle.std.proofs.lemmas.Nat.{le_bytes_4, le_bytes_8}
@@ -61,7 +61,7 @@ module _ (bytes : List ℕ) (fit : All (λ b. b < 256) bytes) where
       ∙ ap (λ xs. xs ++ drop (o + 8 * b + 8) bytes) (u64_back (o + 8 * b) (omega arith))
       ∙ sym (drop_split bytes (o + 8 * b) (o + 8 * b + 8) (omega arith))
 
-  -- the front that the first 32 bytes tell, and the bytes behind it
+  -- the front that the first 32 bytes encode, and the bytes after it
   pub front-back : (rooted : Bool) → 32 ≤ length bytes → take 8 bytes ≡ magic rooted → front rooted (u32_at bytes 8) (u32_at bytes 12) (u64_at bytes 16) (u64_at bytes 24) ++ drop 32 bytes ≡ bytes
   front-back rooted long magic_is =
       let from_24 : to_le_bytes w64 (u64_at bytes 24) ++ drop 32 bytes ≡ drop 24 bytes = ap (λ xs. xs ++ drop 32 bytes) (u64_back 24 (omega arith)) ∙ sym (drop_split bytes 24 32 (omega arith)) in
@@ -81,7 +81,7 @@ module _ (bytes : List ℕ) (fit : All (λ b. b < 256) bytes) where
     abbrev rooted : Bool
     rooted = is_rooted bytes
 
-    -- with the numbers behind the words for its live list
+    -- with the numbers after the words for its live list
     abbrev image : HeapImage
     image = encoded_numbers bytes
 

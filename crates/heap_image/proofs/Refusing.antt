@@ -89,7 +89,7 @@ front_leaves bytes long before after h (Ok x) of = tt
 front_leaves bytes long None after h (Err fault) of = tt
 front_leaves bytes long (Some input) after h (Err fault) of = leaves_front fault input after of (exact_rest (Some input) after bytes 32 long h)
 
--- ---- too few bytes behind a front
+-- ---- too few bytes after a front
 
 pub truncated_reason : (rooted : Bool) (log live_count words allowance : ℕ) (limits : IsWithinLimits log words live_count) (before after : Option (List ℕ)) → Consumes before after (front rooted log live_count words allowance) → IfSome after (λ rest. length rest < 8 * (words + live_count)) → IfSome before (λ input. IsReason input TruncatedBody)
 truncated_reason rooted log live_count words allowance limits None after h few = tt
@@ -102,7 +102,7 @@ nothing_left None after came h e = tt
 nothing_left (Some input) None came h e = absurd h
 nothing_left (Some input) (Some rest) came h e = ap Some e
 
--- ---- a fault of the live list, or bytes behind it
+-- ---- a fault of the live list, or bytes after it
 
 -- every fault that the list can give leaves what the first of its kind does
 leaves_live : (root order header overlap : Option ℕ) (reference : Option (ℕ × ℕ)) (fault : Fault) (input : List ℕ) (left : Option (List ℕ))
@@ -161,7 +161,7 @@ module _ (rooted : Bool) (image : HeapImage) (fits : HasFittingNumbers image) (b
             let joined : input ≡ (listed_text rooted image ++ more) ++ end = h ∙ ap (λ l. listed_text rooted image ++ l) k ∙ sym (append_assoc (listed_text rooted image) more end) in
             ap Some (sym (drop_at (listed_text rooted image ++ more) end (encoded_length input + 1) (omega arith)) ∙ ap (drop (encoded_length input + 1)) (sym joined))
 
--- some memory was taken, so some byte behind the front had come
+-- memory was allocated, so some byte after the front had come
 pub memory_behind : (front : List ℕ) (before after : Option (List ℕ)) → length front ≡ 32 → Consumes before after front → IfSome after (λ rest. 0 < length rest) → IfSome before (λ input. 32 < length input)
 memory_behind front None after l h some = tt
 memory_behind front (Some input) None l h some = absurd h
@@ -177,7 +177,7 @@ memory_behind_front rooted log live_count words allowance limits (Some input) (S
   ap (λ b. first_some (front_faults b)) h ∙ front_faults-None rooted log live_count words allowance limits rest,
 )
 
--- a fault of the live list is one that reading may answer, and neither want of memory nor the device's
+-- a fault of the live list is one that reading may return, and neither fault 11 nor the device's
 list_kind : (root order header overlap : Option ℕ) (reference : Option (ℕ × ℕ)) (fault : Fault) → first_some (option_map Root root ∷ option_map LiveOrder order ∷ option_map Header header ∷ option_map Overlap overlap ∷ option_map (λ (p : ℕ × ℕ). Reference p.0 p.1) reference ∷ []) ≡ Some fault
     → IsOfReading fault × (fault ≡ Memory → ⊥) × ((A : Type 0) → is_io {A = A} (Err fault) ≡ false)
 list_kind (Some i) order header overlap reference fault h = let e : fault ≡ Root i = cc in (subst IsOfReading (sym e) tt, λ m. cc, λ A. ap (λ f. is_io {A = A} (Err f)) e)
@@ -190,7 +190,7 @@ list_kind None None None None None fault h = cc
 pub object_kind : (image : HeapImage) (fault : Fault) → first_object_fault image ≡ Some fault → IsOfReading fault × (fault ≡ Memory → ⊥) × ((A : Type 0) → is_io {A = A} (Err fault) ≡ false)
 object_kind image fault h = list_kind None None (unsound_header image) (overlapping image) (dangling image) fault h
 
--- so is what ends the search for live objects, but for want of memory
+-- so is what ends the search for live objects, unless memory runs out
 pub search_kind : (image : HeapImage) (fault : Fault) → (fault ≡ Memory) ⊎ (first_some (live_list_faults image) ≡ Some fault) → IsOfReading fault × ((A : Type 0) → is_io {A = A} (Err fault) ≡ false)
 search_kind image fault (inl memory) = (subst IsOfReading (sym memory) tt, λ A. ap (λ f. is_io {A = A} (Err f)) memory)
 search_kind image fault (inr first) = let k = list_kind (misplaced_root image) (misplaced_index (heap_words image) image.live) (unsound_header image) (overlapping image) (dangling image) fault first in (k.0, k.2)
@@ -234,7 +234,7 @@ fitting_parts log allowance blocks live words live_count limits w l a fit live_f
   plain = refl;
 }
 
--- the front and the numbers behind it are the text
+-- the front and the numbers after it are the text
 pub read_parts : (rooted : Bool) (log allowance : ℕ) (blocks : List (List ℕ)) (live : List ℕ) (words live_count : ℕ) → length (concat blocks) ≡ words → length live ≡ live_count → (before middle after : Option (List ℕ))
     → Consumes before middle (front rooted log live_count words allowance) → Consumes middle after (numbers (concat blocks) ++ numbers live) → Consumes before after (listed_text rooted (image_of log allowance blocks live))
 read_parts rooted log allowance blocks live words live_count w l before middle after h k =
@@ -333,7 +333,7 @@ parts_are rooted log allowance blocks blocks' tail live roots b l r =
     whole true = refl
     whole false = refl
 
--- the numbers behind the words are the roots, or else the live list
+-- the numbers after the words are the roots, or else the live list
 pub tail_is : (rooted : Bool) (heap : HeapImage) (tail live : List ℕ) (roots : Option (List ℕ)) → live ≡ (from_tail rooted (with_live heap tail)).live → roots ≡ (from_tail rooted (with_live heap tail)).roots → roots_or live roots ≡ tail
 tail_is true heap tail live roots l r = ap (roots_or live) r
 tail_is false heap tail live roots l r = ap (roots_or live) r ∙ l

@@ -1,4 +1,4 @@
--- The text of a valid image tells that image.
+-- The text of a valid image encodes that image.
 use Rattle.std.proofs.Common.{◌≡◌, ℕ, zero, suc, ◌+◌, ◌-◌, ◌*◌, ◌≤◌, ◌<◌, ◌^◌, Bool, true, false, List, [], ◌∷◌, ◌++◌, length, get_or, take, drop, refl, sym, ◌∙◌, ap, subst, arith, append_assoc, length-append, Option, Some, None}
 use Rattle.std.proofs.lemmas.Nat.{from_le_bytes-to_le_bytes_4, from_le_bytes-to_le_bytes_8}
 use Rattle.std.proofs.lemmas.List.{drop-drop, drop_at, append-nil}
@@ -26,7 +26,7 @@ number_bytes (x ∷ xs) ys (suc i) l =
     ∙ ap (take 8) (sym (drop-drop (8 * i) 8 (numbers (x ∷ xs) ++ ys)))
     ∙ number_bytes xs ys i (omega arith)
 
--- a number that stands behind the first bytes
+-- a number after the first bytes
 u64_at-behind : (bytes rest : List ℕ) (n i x : ℕ) → drop n bytes ≡ rest → take 8 (drop (8 * i) rest) ≡ to_le_bytes w64 x → x < 2 ^ 64 → u64_at bytes (n + 8 * i) ≡ x
 u64_at-behind bytes rest n i x e at fits =
     let width : n + 8 * i + 8 - (n + 8 * i) ≡ 8 = omega arith in
@@ -35,7 +35,7 @@ u64_at-behind bytes rest n i x e at fits =
     ∙ ap (from_le_bytes w64) at
     ∙ from_le_bytes-to_le_bytes_8 x fits
 
--- what a front tells, whatever stands behind it
+-- what a front encodes, whatever follows it
 module _ (rooted : Bool) (log live_count words allowance : ℕ) (limits : IsWithinLimits log words live_count) (behind : List ℕ) where
   abbrev pub fronted : List ℕ
   fronted = front rooted log live_count words allowance ++ behind
@@ -52,7 +52,7 @@ module _ (rooted : Bool) (log live_count words allowance : ℕ) (limits : IsWith
   pub front_length : encoded_length fronted ≡ 32 + 8 * words + 8 * live_count
   front_length = let w = front_words in let l = front_live in omega arith
 
--- the numbers behind the words are no more than the words, and fit
+-- the numbers after the words are no more than the words, and fit
 tail_fits : (image : HeapImage) → IsValid image → (roots : Option (List ℕ)) → image.roots ≡ roots
     → (length (roots_or image.live roots) ≤ heap_words image) × All (λ a. a < 2 ^ 64) (roots_or image.live roots)
 tail_fits image valid None e = (
@@ -87,7 +87,7 @@ pub reachable-words : (image : HeapImage) (live : List ℕ) (other : Option (Lis
 unfolding reachable
 reachable-words image live other roots = refl
 
--- a valid image is told by its words and the numbers behind them
+-- a valid image is determined by its words and the numbers after them
 from_tail-of : (image : HeapImage) → IsValid image → (roots : Option (List ℕ)) → image.roots ≡ roots → from_tail (is_some roots) (record image { live = roots_or image.live roots; roots = None }) ≡ image
 from_tail-of image valid None e = λ i. record { region_log = image.region_log; allowance = image.allowance; words = image.words; live = image.live; roots = sym e i }
 from_tail-of image valid (Some roots) e =
@@ -149,7 +149,7 @@ module _ (rooted : Bool) (image : HeapImage) (fits : HasFittingNumbers image) (r
       let l = live_told in
       omega arith
 
-  -- the magic tells the version
+  -- the magic determines the version
   pub rooted_told : is_rooted bytes ≡ rooted
   rooted_told = by rooted
     where

@@ -81,8 +81,8 @@ number-bit bits (suc n) j h = elim (cases_lt j n) [
       ∙ ap (bit_at (one (bits n))) place ∙ one-bit (bits n) ∙ ap (λ m. one (bits m)) (sym same)
 ]
 
--- Of runs apart from one another: a place is in one where one begins or goes on from the place before, and not both; and
--- it is in one where one ends or goes on to the next place, and not both.
+-- Of runs apart from one another: a place is in one where one begins or continues from the place before, and not both; and
+-- it is in one where one ends or continues to the next place, and not both.
 pub record AreRuns (begins ends live on : ℕ → Bool) : Type 0 where
   pub first : (k : ℕ) → one (live k) ≡ one (begins k) + one (on k)
   pub last : (k : ℕ) → one (live k) ≡ one (ends k) + one (on (k + 1))
@@ -138,7 +138,7 @@ has-set words i word test inside so_far bits k h = elim (cases_lt k (64 * i)) [
       ∙ ap test place
 ]
 
--- the word that the sums of the bits of a word give, and what goes on behind it
+-- the word that the sums of the bits of a word give, and what continues after it
 module _ (begins ends live on : ℕ → Bool) (runs : AreRuns begins ends live on) (b e w o : ℕ) (b_bits : (j : ℕ) → j < 64 → bit_at b j ≡ one (begins j)) (e_bits : (j : ℕ) → j < 64 → bit_at e j ≡ one (ends j)) (b_fits : b < 2 ^ 64) (e_fits : e < 2 ^ 64) (w_fits : w < 2 ^ 64) (before : o ≡ one (on 0)) (sums : (w + b + o) % 2 ^ 64 ≡ 2 * e % 2 ^ 64) where
   number-of : (n : ℕ) (bits : ℕ → Bool) → n < 2 ^ 64 → ((j : ℕ) → j < 64 → bit_at n j ≡ one (bits j)) → n ≡ number bits 64
   number-of n bits fits same = same_from_bits_below 64 n (number bits 64) fits (number-lt bits 64) (λ j l. same j l ∙ sym (number-bit bits 64 j l))
@@ -170,7 +170,7 @@ one-or t false true h k = ap one h
 one-or t false false h k = ap one h
 
 module _ (image : HeapImage) (valid : IsValid image) where
-  -- a word of an object is its first, or one behind another of its words
+  -- a word of an object is its first, or one after another of its words
   first-or : (k : ℕ) → is_live_word image k ≡ (is_begin image k || continues_at image k)
   first-or k = same_tests (is_live_word image k) (is_begin image k || continues_at image k)
       (λ h. let here = place_of image valid (λ b. is_word_of image b k) h in
@@ -269,7 +269,7 @@ module _ (image : HeapImage) (valid : IsValid image) where
     last = λ k. one-or (is_live_word image k) (is_end image k) (continues_at image (k + 1)) (last-or k) (last-not_both k);
   }
 
-  -- word i of the live bits, and whether an object goes on behind it
+  -- word i of the live bits, and whether an object continues after it
   live_word-is : (i b e w o : ℕ) → ((j : ℕ) → j < 64 → bit_at b j ≡ one (is_begin image (64 * i + j))) → ((j : ℕ) → j < 64 → bit_at e j ≡ one (is_end image (64 * i + j)))
       → b < 2 ^ 64 → e < 2 ^ 64 → w < 2 ^ 64 → o ≡ one (continues_at image (64 * i)) → (w + b + o) % 2 ^ 64 ≡ 2 * e % 2 ^ 64
       → ((j : ℕ) → j < 64 → bit_at w j ≡ one (is_live_word image (64 * i + j))) × (w / 2 ^ 63 ≡ e / 2 ^ 63 + one (continues_at image (64 * (i + 1))))
