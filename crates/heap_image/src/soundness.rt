@@ -22,7 +22,7 @@ use thread_row::for_each_mut;
 pub const PIECE: usize = 64;
 
 /// The least number of pieces that are worth a thread.
-const LEAST: usize = 16;
+const LEAST_PIECES: usize = 16;
 
 /// The sizes in words of the live objects, if all of them are sound. `begins` marks their addresses. The crowd visits
 /// each object once. Returns `None` also if memory runs out.
@@ -67,7 +67,7 @@ fn note_all_sizes<T: Threads + Sync>(
         → AreNoted (with_live heap.now live.now) p (slice_index_or sizes.items p [])) }
 {
     let mut sizes = vec![in alloc; [0u32; PIECE]; live.len().div_ceil(PIECE)]?;
-    let count = crowd.most.min(sizes.len() / LEAST).max(1);
+    let count = crowd.most.min(sizes.len() / LEAST_PIECES).max(1);
     let note = |piece: usize, sizes: &mut [u32; PIECE]|
         requires { All (λ a. a < heap_words heap.now) live.now
             × AreTargets (with_live heap.now live.now) targets.now × (64 * piece < length live.now) }

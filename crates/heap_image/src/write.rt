@@ -12,10 +12,10 @@ use crate::{Fault, Image};
 use std::alloc::{AllocError, Global};
 
 /// The most numbers that [`write_image`] gives at a time.
-const FEW: usize = 2048;
+const PLAIN_NUMBERS: usize = 2048;
 
 /// The most numbers that [`write_image_buffered`] gives at a time.
-const MANY: usize = 32_768;
+const BUFFERED_NUMBERS: usize = 32_768;
 
 /// Writes the text of an image in pieces of at most 16 KiB, and allocates no memory. Fault 13 comes when the device
 /// fails: it has then taken a prefix of the text, and is not called again.
@@ -26,7 +26,7 @@ pub fn write_image<W: Outlet>(image: &Image, writer: &mut W) -> Result<(), Fault
     ensures fault { IfErr result (λ fault. fault ≡ Fault.Io) }
     ensures io { W.has_failed writer.new ≡ is_io result }
 {
-    write_through(image, writer, &mut [0; 8 * FEW])
+    write_through(image, writer, &mut [0; 8 * PLAIN_NUMBERS])
 }
 
 /// Like [`write_image`], but in pieces of up to 256 KiB. The memory for them is allocated first: fault 11 comes if it
@@ -48,11 +48,11 @@ pub fn write_image_buffered<W: Outlet>(
     write_through(image, writer, room.as_mut_slice())
 }
 
-/// A buffer for at most [`MANY`] numbers, and for no more than the image has words.
+/// A buffer for at most [`BUFFERED_NUMBERS`] numbers, and for no more than the image has words.
 fn room_for(alloc: Global, image: &Image) -> Result<Vec<u8>, AllocError>
     ensures { IfOk result (λ room. 8 ≤ length room.items) }
 {
-    let numbers = (image.len() as usize).clamp(1, MANY);
+    let numbers = (image.len() as usize).clamp(1, BUFFERED_NUMBERS);
     vec![in alloc; 0u8; 8 * numbers]
 }
 

@@ -14,7 +14,7 @@ use std::snapshot::Snapshot;
 use std::thread::Threads;
 
 /// The least number of words of bits that are worth a thread.
-const LEAST: usize = 16_384;
+const LEAST_BIT_WORDS: usize = 16_384;
 
 /// Where the live objects of an image begin and end, and which words they occupy.
 ///
@@ -63,7 +63,7 @@ impl Marks {
         ensures { IfOk result (λ marks. marks ≡ image.now) }
     {
         let words = (image.len() / 64 + 1) as usize;
-        let share = words.div_ceil(workers.max(1)).max(LEAST);
+        let share = words.div_ceil(workers.max(1)).max(LEAST_BIT_WORDS);
         Marks::in_shares(alloc, image, share, threads)
     }
 
