@@ -39,7 +39,7 @@ impl Model for RegionTable {
 }
 
 impl RegionTable {
-    /// The table of an image whose regions have these counts.
+    /// Makes the table of an image from the counts of its regions.
     pub(crate) fn of(
         alloc: Global,
         image: &Image,
