@@ -14,7 +14,7 @@ pub(crate) enum Verb {
     Copy,
 }
 
-/// The verb that these bytes spell.
+/// Parses a verb.
 pub(crate) fn spelled(word: &[u8]) -> Option<Verb>
     ensures found { IfSome result (λ verb. word.now ≡ verb_text verb) }
     ensures none { IfNone result ((verb : Verb) → word.now ≢ verb_text verb) }
