@@ -29,7 +29,7 @@ const COMPLETED: u64 = 12;
 const OUTSIDE: u64 = 16;
 
 /// The status of a region whose word has this value.
-fn standing(found: u64) -> Reply
+fn status_of_word(found: u64) -> Reply
     ensures { result ≡ look_reply found }
 {
     if found == COMPLETED {
@@ -44,7 +44,7 @@ fn standing(found: u64) -> Reply
 }
 
 /// The reply to a drain that found this value in the source's word.
-fn drained(found: u64) -> Drained
+fn drain_reply(found: u64) -> Drained
     ensures { reply_of result ≡ drain_reply found }
 {
     if found == 1 || found == OUTSIDE + 1 {
@@ -87,7 +87,7 @@ impl Board {
         requires region { region < region_count (moves self.now) }
         ensures { Appends self.now pass.old pass.new (Look region) result }
     {
-        standing(steps::look::<Brand>(&self.table.shared, &mut pass.place, region as usize))
+        status_of_word(steps::look::<Brand>(&self.table.shared, &mut pass.place, region as usize))
     }
 
     /// Reports that all words that the ticket's region takes from a source are copied. Returns `Last` if
@@ -109,7 +109,7 @@ impl Board {
             ticket: _,
         } = closed;
         ticket.left -= 1;
-        drained(steps::drain::<Brand>(
+        drain_reply(steps::drain::<Brand>(
             &self.table.shared,
             &mut pass.place,
             destination as usize,

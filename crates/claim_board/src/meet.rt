@@ -27,7 +27,7 @@ fn see<E: About>(words: &Words, seat: &mut Place)
 }
 
 /// Lets the seat see the history that another seat has passed to it.
-fn take_told(words: &Words, seat: &mut Place)
+fn adopt_history(words: &Words, seat: &mut Place)
     requires seat { seat.old.table_id ≡ words.now.table_id }
     requires size { words.now.table_id.words ≡ suc (region_count words.now.key.moves) }
     requires told { IsToldView seat.old.me.0 }
@@ -54,6 +54,6 @@ impl Board {
         see::<Brand>(words, &mut b.place);
         let from_b = words.split_seat::<Note>(&mut b.place);
         words.join_seat::<Note>(&mut a.place, from_b);
-        take_told(words, &mut a.place);
+        adopt_history(words, &mut a.place);
     }
 }

@@ -140,7 +140,7 @@ impl Desk for Recorder {
             from,
         } = ticket;
         written.give_up();
-        let _done = self.call(*seat, Event::Complete(region), region, wait)?;
+        self.call(*seat, Event::Complete(region), region, wait)?;
         Ok(Done { region, from })
     }
 
@@ -163,7 +163,7 @@ impl Desk for Recorder {
     ) -> Result<(), Fault> {
         if words > 0 {
             let event = Event::Copy(ticket.region, words);
-            let _done = self.call(*seat, event, ticket.region, wait)?;
+            self.call(*seat, event, ticket.region, wait)?;
         }
         Ok(())
     }

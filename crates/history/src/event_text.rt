@@ -7,7 +7,7 @@ ghost use Rattle.history.specs.declared.event.Event.{Event};
 
 use crate::event::Event;
 use crate::reading::{number_to, word};
-use crate::verb::{Verb, spelled};
+use crate::verb::{Verb, parse_verb};
 
 /// Parses the event at the front of `bytes`, up to a space. Returns it with the bytes after the space.
 pub(crate) fn event(bytes: &[u8]) -> Option<(Event, &[u8])>
@@ -16,7 +16,7 @@ pub(crate) fn event(bytes: &[u8]) -> Option<(Event, &[u8])>
         (λ parts. IsTrue (has_numbers parts.0) × (bytes.now ≡ event_text parts.0 ++ 32 ∷ parts.1.now)) }
 {
     let (name, rest) = word(bytes, b' ')?;
-    let verb = spelled(name)?;
+    let verb = parse_verb(name)?;
     numbers(verb, rest)
 }
 

@@ -10,7 +10,7 @@ use crate::event::Event;
 use crate::event_text::event;
 use crate::line::Line;
 use crate::reading::{number_to, word};
-use crate::reply_text::told;
+use crate::reply_text::parse_reply;
 use crate::schedule::MAX_WORKERS;
 
 /// Parses the line at the front of `bytes`, of a schedule with this number of workers. Returns it with
@@ -24,7 +24,7 @@ pub(crate) fn line(workers: u32, bytes: &[u8]) -> Option<(Line, &[u8])>
     let (worker, after_worker) = number_to(bytes, b' ')?;
     let (event, after_event) = event(after_worker)?;
     let (reply, rest) = word(after_event, b'\n')?;
-    let reply = told(event, reply)?;
+    let reply = parse_reply(event, reply)?;
     if worker >= workers || !is_event(event) {
         return None;
     }

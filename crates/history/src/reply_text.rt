@@ -8,7 +8,7 @@ use crate::reading::number;
 use crate::reply::Reply;
 
 /// Parses a reply to this event; `?` leaves the reply open.
-pub(crate) fn told(event: Event, word: &[u8]) -> Option<Option<Reply>>
+pub(crate) fn parse_reply(event: Event, word: &[u8]) -> Option<Option<Reply>>
     ensures { ReadsTold event word.now result }
 {
     match word {

@@ -15,7 +15,7 @@ pub(crate) enum Verb {
 }
 
 /// Parses a verb.
-pub(crate) fn spelled(word: &[u8]) -> Option<Verb>
+pub(crate) fn parse_verb(word: &[u8]) -> Option<Verb>
     ensures found { IfSome result (λ verb. word.now ≡ verb_text verb) }
     ensures none { IfNone result ((verb : Verb) → word.now ≢ verb_text verb) }
 {
