@@ -12,7 +12,7 @@ use crate::region_data::RegionData;
 use heap_image::Image;
 
 /// Sets the source of each region in a table that is complete but for the sources.
-pub fn tell_sources(image: &Image, prefix: u64, regions: &mut [RegionData])
+pub fn set_sources(image: &Image, prefix: u64, regions: &mut [RegionData])
     requires prefix { prefix ≡ prefix_end image.now }
     requires regions { regions.old ≡ map (placed_region image.now) (range_with_len 0 (region_count image.now)) }
     ensures { regions.new ≡ map (region_data image.now) (range_with_len 0 (region_count image.now)) }
