@@ -56,7 +56,7 @@ fn drain_reply(found: u64) -> Drained
 
 impl Board {
     /// Claims a region. Returns a ticket if and only if the region is to be filled, unclaimed and without
-    /// pending readers; it won't get any later. `None` changes nothing.
+    /// pending readers. A claimed region never has pending readers. `None` changes nothing.
     pub fn claim(&self, pass: &mut Pass, region: u32) -> Option<Ticket>
         requires board { board_of pass.old ≡ identity self.now }
         requires region { region < region_count (moves self.now) }

@@ -138,13 +138,13 @@ fn first_places(alloc: Global, moves: &GivenMoves) -> Result<Vec<usize>, AllocEr
     let mut place = 0;
     for destination in 0..moves.regions() {
         first.push(place)?;
-        place = behind(moves.pairs(), place, destination);
+        place = end_of_pairs(moves.pairs(), place, destination);
     }
     Ok(first)
 }
 
 /// The index after the pairs of this destination, which begin at index `first`.
-fn behind(pairs: &[(u32, u32)], first: usize, destination: u32) -> usize
+fn end_of_pairs(pairs: &[(u32, u32)], first: usize, destination: u32) -> usize
     requires ascending { IsAscending pairs.now }
     requires first { IsFirstPlace pairs.now destination 0 first }
     ensures { IsFirstPlace pairs.now (destination + 1) 0 result }

@@ -27,7 +27,7 @@ pub(crate) fn early_references(
     for a in image.live() {
         let header = image.word(*a);
         if !is_deferred(plan, marks, *a, header) {
-            set_behind(&mut flags, *a, header::references(header));
+            set_after(&mut flags, *a, header::references(header));
         }
     }
     Ok(flags)
@@ -49,7 +49,7 @@ pub(crate) fn late_references(
         let header = image.word(*a);
         if is_deferred(plan, marks, *a, header) {
             let begin = plan.new_address(marks, *a);
-            set_behind(&mut flags, begin, header::references(header));
+            set_after(&mut flags, begin, header::references(header));
         }
     }
     Ok(flags)
@@ -69,7 +69,7 @@ fn is_deferred(plan: &Plan, marks: &Marks, a: u64, header: u64) -> bool
 }
 
 /// Sets the flags of the `number` words after `begin`.
-fn set_behind(flags: &mut [bool], begin: u64, number: u32)
+fn set_after(flags: &mut [bool], begin: u64, number: u32)
     requires { begin + number < length flags.old }
     ensures { AreSet flags.old flags.new begin (begin + number) }
 {

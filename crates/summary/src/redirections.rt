@@ -59,7 +59,7 @@ impl Redirections {
         let mut carried = 1;
         let mut rank = 0;
         for i in 0..words {
-            let shifted = bits_behind(marks, prefix, i);
+            let shifted = bits_after(marks, prefix, i);
             let word = with_first(shifted, carried);
             carried = shifted >> 63;
             bits.push(word)?;
@@ -118,7 +118,7 @@ impl Redirections {
 
 /// The 64 bits after the first one of word `i`: those of the addresses from `64 * i` on.
 #[inline]
-fn bits_behind(marks: &Marks, prefix: u64, i: u64) -> u64
+fn bits_after(marks: &Marks, prefix: u64, i: u64) -> u64
     requires prefix { prefix ≡ prefix_end marks.now }
     requires inside { 64 * i ≤ heap_words marks.now }
     ensures { AreBits (is_counted marks.now) (64 * i + 1) result }
