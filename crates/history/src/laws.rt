@@ -6,9 +6,9 @@ ghost use Rattle.history.specs.History.{IsLegal, IsOrderly, IsReached, TellsOwn,
 ghost use Rattle.history.specs.WordMachine.{IsAllowed, IsDrainedBeforeWritten};
 ghost use Rattle.history.specs.declared.entry.Entry.{Entry};
 
-/// Whatever any number of workers call, in any order: a region is granted at most once, when it has no
-/// pending readers and will have none, only its claimant completes it, after all its reads are drained,
-/// and the last settling and no other returns `All`.
+/// For any number of workers and any order of calls: a region is granted at most once, when it has no
+/// pending readers and will have none; only its claimant completes it, after all its reads are drained;
+/// and exactly the last settling returns `All`.
 pub fn legal_histories_are_orderly()
     ensures { (m : MoveTable) (workers : ℕ) (log : List Entry) → IsLegal m workers log → IsOrderly m log }
 {}
