@@ -195,7 +195,12 @@ fn poll(board: &Board, passes: &mut Vec<Pass>, kept: usize) -> Result<bool, Fail
 
 /// For a board of one region, to be filled or not: the reply to a poll, and whether the board finishes with `kept`
 /// passes.
-fn poll_and_finish(alloc: Global, fills: bool, workers: u32, kept: usize) -> Result<(bool, bool), Fail>
+fn poll_and_finish(
+    alloc: Global,
+    fills: bool,
+    workers: u32,
+    kept: usize,
+) -> Result<(bool, bool), Fail>
     requires { (1 ≤ workers) × (workers ≤ 64) }
 {
     let (board, mut passes) = board_with(alloc, &[fills], &[], workers)?;
@@ -206,8 +211,16 @@ fn poll_and_finish(alloc: Global, fills: bool, workers: u32, kept: usize) -> Res
 #[test]
 fn a_board_with_nothing_to_fill_finishes_only_with_all_passes(rt: HostRuntime) -> Result<(), Fail> {
     equal(&rt, poll_and_finish(rt.alloc(), false, 1, 1)?, (true, true));
-    equal(&rt, poll_and_finish(rt.alloc(), false, 2, 1)?, (true, false));
-    equal(&rt, poll_and_finish(rt.alloc(), true, 1, 1)?, (false, false));
+    equal(
+        &rt,
+        poll_and_finish(rt.alloc(), false, 2, 1)?,
+        (true, false),
+    );
+    equal(
+        &rt,
+        poll_and_finish(rt.alloc(), true, 1, 1)?,
+        (false, false),
+    );
     Ok(())
 }
 

@@ -50,7 +50,12 @@ const REFUSED: [Row<'_>; 8] = [
 ];
 
 /// Fails the test if the refused line of a schedule isn't that of its row.
-fn check_causes(alloc: Global, rt: &impl Abort, plan: &Plan, rows: &[Row<'_>]) -> Result<(), Fault> {
+fn check_causes(
+    alloc: Global,
+    rt: &impl Abort,
+    plan: &Plan,
+    rows: &[Row<'_>],
+) -> Result<(), Fault> {
     for (row, (lines, refused)) in rows.iter().enumerate() {
         equal_at(rt, cause_of(alloc, plan, lines)?, *refused, row);
     }

@@ -120,7 +120,10 @@ fn fill_base<W: Wait>(setting: &Setting, wait: &W) -> Result<[(bool, bool); 3], 
 }
 
 /// Fills the base heap by one worker. Returns the result of each fill, the reply to a poll, and the schedule's text.
-fn record_base<W: Wait>(alloc: Global, wait: &W) -> Result<([(bool, bool); 3], bool, Vec<u8>), Fault> {
+fn record_base<W: Wait>(
+    alloc: Global,
+    wait: &W,
+) -> Result<([(bool, bool); 3], bool, Vec<u8>), Fault> {
     let setting = start(alloc, 1)?;
     let answers = fill_base(&setting, wait)?;
     let all = setting.recorder.poll(&mut 0, wait)?;

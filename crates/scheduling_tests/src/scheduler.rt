@@ -161,7 +161,10 @@ fn look_by_book<M: Moves>(alloc: Global, moves: &M) -> Result<Reply, CallFault> 
 /// The replies of both.
 fn look_by_both(alloc: Global) -> Result<(Reply, Reply), CallFault> {
     let moves = IndexedMoves::new(alloc, moves_with_prefix(alloc)?)?;
-    Ok((look_by_scheduler(alloc, &moves)?, look_by_book(alloc, &moves)?))
+    Ok((
+        look_by_scheduler(alloc, &moves)?,
+        look_by_book(alloc, &moves)?,
+    ))
 }
 
 /// Looks at region 3. Tries again if memory ran out.

@@ -152,6 +152,10 @@ fn an_index_finds_each_source_from_anywhere(rt: HostRuntime) -> Result<(), Fail>
     let indexed = IndexedMoves::new(rt.alloc(), table)?;
     holds(&rt, indexed.regions() == 6);
     check_sources(&rt, &indexed);
-    equal(&rt, look_up_others(&indexed), ([Some(5), None, None], [0, 1, 2]));
+    equal(
+        &rt,
+        look_up_others(&indexed),
+        ([Some(5), None, None], [0, 1, 2]),
+    );
     Ok(())
 }

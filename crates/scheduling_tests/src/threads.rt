@@ -55,7 +55,12 @@ fn wait_then_claim(
 }
 
 /// Runs both, each in its own thread.
-fn claim_by_both<R: Threads>(rt: &R, board: &Board, a: Pass, b: Pass) -> ((bool, bool), (bool, bool))
+fn claim_by_both<R: Threads>(
+    rt: &R,
+    board: &Board,
+    a: Pass,
+    b: Pass,
+) -> ((bool, bool), (bool, bool))
     requires { (board_of a ≡ identity board.now) × (board_of b ≡ identity board.now) × (0 < region_count (moves_of board.now)) }
 {
     let first = AtomicU64::new(0);
