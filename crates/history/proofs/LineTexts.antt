@@ -23,7 +23,7 @@ line_parts l rest =
     ∙ ap (λ (xs : List ℕ). decimal l.worker ++ 32 ∷ xs)
     (append_assoc (event_text l.event) (32 ∷ told) rest ∙ ap (λ (xs : List ℕ). event_text l.event ++ 32 ∷ xs) (append_assoc (told_text l.reply) (10 ∷ []) rest))
 
--- what a line of a text keeps
+-- the invariant of a line of a text
 pub record IsTextLine (workers : ℕ) (l : Line) : Type 0 where
   pub worker : l.worker < workers
   pub event : is_event l.event ≡ true
@@ -65,7 +65,7 @@ pub told_without : (event : Event) (told : Option Reply) → is_told_reply event
 told_without event None h = refl
 told_without event (Some reply) h = reply_without event reply h
 
--- what stands behind a line's worker, and behind its event
+-- what follows a line's worker, and its event
 pub behind_worker : (workers worker : ℕ) (l : Line) (bytes after rest : List ℕ) → workers ≤ 64 → IsTextLine workers l → worker < 2 ^ 32 → bytes ≡ decimal worker ++ 32 ∷ after → bytes ≡ line_text l ++ rest
     → (worker ≡ l.worker) × (after ≡ event_text l.event ++ 32 ∷ (told_text l.reply ++ 10 ∷ rest))
 behind_worker workers worker l bytes after rest most fits few is same =
@@ -89,7 +89,7 @@ header_number told workers bytes after rest few most is same =
     let words = (split_unique 10 (decimal told) (decimal workers) after rest (decimal_without 10 told (omega arith) (omega arith)) (decimal_without 10 workers (omega arith) (omega arith)) (sym is ∙ (same ∙ header_parts workers rest))).0 in
     decimal_injective told workers (omega arith) (omega arith) words
 
--- the number behind the first eleven bytes of a first line
+-- the number after the first 11 bytes of a header
 pub header_told : (told workers : ℕ) (bytes after rest : List ℕ) → told < 2 ^ 32 → workers ≤ 64 → take (length bytes - 11) (drop 11 bytes) ≡ decimal told ++ 10 ∷ after → bytes ≡ header_text workers ++ rest → told ≡ workers
 header_told told workers bytes after rest few most is same =
     let all : take (length bytes - 11) (drop 11 bytes) ≡ drop 11 bytes = take_all (length bytes - 11) (drop 11 bytes) (omega (arith, length-drop 11 bytes)) in

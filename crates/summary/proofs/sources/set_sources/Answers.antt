@@ -3,8 +3,8 @@ use Rattle.std.specs.Prelude.{Some, None}
 use Rattle.heap_image.specs.HeapImage.{region_count}
 use Rattle.summary.specs.declared.region_data.RegionData.{RegionData}
 use Rattle.summary.proofs.Telling.{told_first, told_none, told_one, told_last}
-use Rattle.summary.proofs.sources.tell_sources.Goals as goal
-use Rattle.summary.proofs.sources.tell_sources.Goals.{in-Some, in_default}
+use Rattle.summary.proofs.sources.set_sources.Goals as goal
+use Rattle.summary.proofs.sources.set_sources.Goals.{in-Some, in_default}
 
 pub loop-s-init : goal.loop-s-init
 loop-s-init c = told_first c.args.image.now c.regions-s-end.ensures.valid c.args.regions.now c.requires.regions

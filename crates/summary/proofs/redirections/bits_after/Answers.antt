@@ -5,7 +5,7 @@ use Rattle.heap_image.specs.HeapImage.{HeapImage, is_live_word}
 use Rattle.summary.specs.NewAddresses.{prefix_end}
 use Rattle.summary.specs.Redirections.{is_counted}
 use Rattle.summary.proofs.BitWords.{either-bit}
-use Rattle.summary.proofs.redirections.bits_behind.Goals as goal
+use Rattle.summary.proofs.redirections.bits_after.Goals as goal
 
 -- the numbers below what is left of an end
 less : (j end a : ℕ) → ltb j (end - a) ≡ ltb (a + j) end

@@ -1,7 +1,7 @@
 use Rattle.std.proofs.Common.{ℕ, ap, ◌∙◌}
 use Rattle.std.proofs.lemmas.List.{get_or_default}
 use Rattle.history.proofs.Indexes.{first_of_next}
-use Rattle.history.proofs.indexed_moves.behind.Goals as goal
+use Rattle.history.proofs.indexed_moves.end_of_pairs.Goals as goal
 
 pub returns-else-pairs-place : goal.returns-else-pairs-place
 returns-else-pairs-place c =
