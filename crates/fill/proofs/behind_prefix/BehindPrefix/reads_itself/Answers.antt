@@ -8,8 +8,8 @@ use Rattle.fill.proofs.behind_prefix.BehindPrefix.reads_itself.Goals as goal
 pub destination-first-requires : goal.destination-first-requires
 destination-first-requires c = record { inside = c.args.self.now.site.inside; behind_prefix = c.args.self.now.behind_prefix }
 
-pub behind-behind-requires : goal.behind-behind-requires
-behind-behind-requires c = record { inside = c.args.self.now.site.inside; behind_prefix = c.args.self.now.behind_prefix }
+pub destination_after-after-requires : goal.destination_after-after-requires
+destination_after-after-requires c = record { inside = c.args.self.now.site.inside; behind_prefix = c.args.self.now.behind_prefix }
 
 pub returns : goal.returns
 returns c =
@@ -21,8 +21,8 @@ returns c =
     let e : ℕ = start_of image d + region_words image in
     let behind = c.args.self.now.behind_prefix in
     c.reaches.ensures
-    ∙ ap (λ m. reaches m site.span.end c.destination-first.result c.behind-behind.result) site.start
-    ∙ ap (λ m. reaches s m c.destination-first.result c.behind-behind.result) site.end
-    ∙ ap (λ m. reaches s e m c.behind-behind.result) c.destination-first.ensures
-    ∙ ap (λ m. reaches s e (slid image s) m) c.behind-behind.ensures
+    ∙ ap (λ m. reaches m site.span.end c.destination-first.result c.destination_after-after.result) site.start
+    ∙ ap (λ m. reaches s m c.destination-first.result c.destination_after-after.result) site.end
+    ∙ ap (λ m. reaches s e m c.destination_after-after.result) c.destination-first.ensures
+    ∙ ap (λ m. reaches s e (slid image s) m) c.destination_after-after.ensures
     ∙ reads-is image valid.live_list d d behind behind (region_fits image valid d site.inside)

@@ -30,7 +30,7 @@ module _ (c : After-source-s) where
   behind : prefix_end image ≤ start_of image s
   behind = source_behind image c.image_is_valid.ensures d s ((on).1) c.args.self.now.behind_prefix
 
-  -- all that comes to the region is copied
+  -- all words for the region are copied
   shows : Shows (copied_word image) (start_of image d) c.args.target.now.words
   shows =
       let r = c.requires in

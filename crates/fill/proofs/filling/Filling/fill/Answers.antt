@@ -12,7 +12,7 @@ use Rattle.claim_board.specs.Drains.{reply_of}
 use Rattle.claim_board.specs.Tickets.{IsTicketOf}
 use Rattle.fill.specs.declared.site.Site.{Site}
 use Rattle.fill.specs.Targets.{Becomes, IsUnwritten, IsCopied, IsMoved}
-use Rattle.fill.specs.SourceDrains.{HasDrained, TellsLast, other_sources_below}
+use Rattle.fill.specs.SourceDrains.{HasDrained, ReportsLast, other_sources_below}
 use Rattle.fill.proofs.Targets.{target_over}
 use Rattle.fill.proofs.Draining.{undrained, opened_source, skipped_sources, unread_above, last_sources_past, drained_more, drained_all}
 use Rattle.fill.proofs.filling.Filling.fill.Goals as goal
@@ -124,16 +124,16 @@ loop-opening-preserved g c =
     let number : c.source-s.result ≡ s = c.source-s.ensures in
     let inside : s < table_regions (image_table image) = subst (λ (p : HeapImage). s < table_regions (image_table p)) c.plan.ensures o.inside in
     let regions = c.moves_of_images.ensures.regions image in
-    let told = subst (λ (q : ℕ). TellsLast (λ f q h. goal.F-step g f q tt h) q c.in_ok-answer.answer c.loop-opening.on_last c.tell.new.on_last) number c.tell.ensures.told in
+    let reported = subst (λ (q : ℕ). ReportsLast (λ f q h. goal.F-step g f q tt h) q c.in_ok-answer.answer c.loop-opening.on_last c.report_last.new.on_last) number c.report_last.ensures.reported in
     record {
       serves = a.seat;
-      callable = c.tell.ensures.callable;
+      callable = c.report_last.ensures.callable;
       region = a.same.0 ∙ (o.same.0 ∙ i.region);
       claimed = a.same.2 ∙ (o.same.3 ∙ i.claimed);
       is_ticket = a.ticket;
       swept = λ tells. c.one_more_source_is_drained.ensures (desk.moves c.args.self.now.desk.now) old new t c.drain.new.ticket s (reply_of c.in_ok-answer.answer) (i.swept tells) (a.same.0 ∙ o.same.0) next skipped_moves (gains tells);
-      drained = subst (λ (n : ℕ). HasDrained (λ f q h. goal.F-step g f q tt h) desk.tells (image_table image) d n (desk.caller c.args.seat.now) new c.args.on_last.now c.tell.new.on_last) (sym next)
-          (drained_more (λ f q h. goal.F-step g f q tt h) desk.tells (image_table image) d t.next s c.in_ok-answer.answer (desk.caller c.args.seat.now) old new c.args.on_last.now c.loop-opening.on_last c.tell.new.on_last i.drained low skipped read.0 told gains_here);
+      drained = subst (λ (n : ℕ). HasDrained (λ f q h. goal.F-step g f q tt h) desk.tells (image_table image) d n (desk.caller c.args.seat.now) new c.args.on_last.now c.report_last.new.on_last) (sym next)
+          (drained_more (λ f q h. goal.F-step g f q tt h) desk.tells (image_table image) d t.next s c.in_ok-answer.answer (desk.caller c.args.seat.now) old new c.args.on_last.now c.loop-opening.on_last c.report_last.new.on_last i.drained low skipped read.0 reported gains_here);
       inside = omega arith;
       next = omega arith;
       copied = subst (λ (n : ℕ). IsCopied image d (n + 1) c.in_ok-closed.end c.copy_opened.new.target) (sym number) x.copied.now;

@@ -16,7 +16,7 @@ use Rattle.region_cells.proofs.Blocks.{block_left}
 use Rattle.region_cells.proofs.Places.{length-places, place-at}
 use Rattle.region_cells.proofs.cells.Cells.into_regions.Goals as goal
 
--- an iterator that gave an item may be asked again
+-- an iterator that returned an item may be called again
 keeps : {S A : Type 0} {can : S → Type 0} {left : S → Count} {s t : S} {r : Option A} (x : A) → MakesProgress can left s r t → r ≡ Some x → can t
 keeps {can = can} {t = t} x goes is = subst (λ r. IfSome r (λ _. can t)) is goes.keeps
 

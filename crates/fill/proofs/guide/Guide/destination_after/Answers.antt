@@ -5,8 +5,8 @@ use Rattle.summary.specs.RegionData.{region_data, partial_words, own_words}
 use Rattle.summary.proofs.Words.{slid-le, live_words-le}
 use Rattle.fill.proofs.Slides.{slid-from}
 use Rattle.fill.proofs.WrittenTo.{region_fits}
-use Rattle.fill.proofs.guide.Guide.behind.Goals as goal
-use Rattle.fill.proofs.guide.Guide.behind.Goals.{After-from-2}
+use Rattle.fill.proofs.guide.Guide.destination_after.Goals as goal
+use Rattle.fill.proofs.guide.Guide.destination_after.Goals.{After-from-2}
 
 sum_is : (c : After-from-2) → c.destination.result + c.from.result + c.from-2.result ≡ slid c.args.self.now (start_of c.args.self.now c.args.r + region_words c.args.self.now)
 sum_is c =
