@@ -16,8 +16,8 @@ MayBeRefused may_refuse regions = (r : ℕ) × (r < regions) × may_refuse r
 abbrev pub MayRefuse : (ℕ → ℕ → Type 0) → ℕ → HeapImage → Type 0
 MayRefuse may_refuse workers image = MayBeRefused (λ r. MayBeRefused (λ n. may_refuse n r) workers) (fill_count image)
 
--- A worker is stopped by another's fault, or meets one itself: that of a fill, or the gate's, which may refuse it one of
--- the first `regions` regions.
+-- A worker is stopped by another's fault, or meets one itself: that of a fill, or the gate's, which may refuse it one
+-- of the first `regions` regions.
 abbrev pub MayHalt : (Fault → Type 0) → (ℕ → Type 0) → ℕ → Halt → Type 0
 MayHalt may_fail may_refuse regions Stopped = Unit {0}
 MayHalt may_fail may_refuse regions (Failed fault) = IsFaultOf may_fail fault ⊎ ((fault ≡ Gate) × MayBeRefused may_refuse regions)

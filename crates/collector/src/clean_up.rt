@@ -16,8 +16,8 @@ use thread_row::for_each_mut;
 /// The least number of words that is worth a thread.
 const LEAST: usize = 16_384;
 
-/// Ends a collection once all regions have moved, and returns the compaction. At most `workers` threads update the deferred
-/// objects and redirect the live list and the roots.
+/// Ends a collection once all regions have moved, and returns the compaction. At most `workers` threads update the
+/// deferred objects and redirect the live list and the roots.
 ///
 /// Returns fault 15 if a region to fill has not moved, or another one has changed. Allocates nothing apart from the
 /// threads.

@@ -24,10 +24,10 @@ use std::thread::Threads;
 
 /// Compacts an image. Its regions are filled by 1 to 64 workers, each in a thread of its own if one can be started.
 ///
-/// Returns `Kept` before any worker begins: with fault 12 exactly if the number of workers, which is tested first, isn't 1
-/// to 64, and with fault 11 if memory runs out. Returns `Lost` afterwards: with fault 16 if the gate refused a region, and
-/// with fault 15 if a cell or a queue contradicts the order of work. If several workers meet a fault, the lowest worker's
-/// is returned.
+/// Returns `Kept` before any worker begins: with fault 12 exactly if the number of workers, which is tested first,
+/// isn't 1 to 64, and with fault 11 if memory runs out. Returns `Lost` afterwards: with fault 16 if the gate refused a
+/// region, and with fault 15 if a cell or a queue contradicts the order of work. If several workers meet a fault, the
+/// lowest worker's is returned.
 ///
 /// Nothing but the threads allocates once the workers begin. One worker alone never waits.
 pub fn collect<G: Gate + Sync, T: Threads + Sync, W: Wait + Sync>(
@@ -80,7 +80,8 @@ fn collected<G: Gate + Sync, T: Threads + Sync, W: Wait + Sync>(
     Ok((worked.outcome, finished))
 }
 
-/// Finishes the board. Contracts don't show the flag that stops workers early, so none says that the board is finished here.
+/// Finishes the board. Contracts don't show the flag that stops workers early, so none says that the board is finished
+/// here.
 fn finish(board: Board, passes: Vec<Pass>) -> Result<Finished, Fault>
     requires { All (λ pass. board_of pass ≡ identity board) passes.items }
     ensures legal { IfOk result (λ finished. IsLegal (moves_of board) (worker_count board) (history finished)) }

@@ -10,8 +10,8 @@ use std::alloc::Global;
 use std::thread::Threads;
 use summary::Survey;
 
-/// What a collection needs apart from the cells: the survey of the image, a desk for its moves, and 1 to 64 workers, each
-/// with a seat at the desk and a queue.
+/// What a collection needs apart from the cells: the survey of the image, a desk for its moves, and 1 to 64 workers,
+/// each with a seat at the desk and a queue.
 #[derive(Drop)]
 pub(crate) struct Equipment<D: CollectionDesk + Drop>
 where
@@ -30,7 +30,8 @@ impl<D: CollectionDesk + Drop> Equipment<D>
 where
     D::Seat: Drop,
 {
-    /// Makes the equipment for an image and `workers` workers, with as many threads. Its only fault is that memory runs out.
+    /// Makes the equipment for an image and `workers` workers, with as many threads. Its only fault is that memory runs
+    /// out.
     ///
     /// What the reader kept of the image is freed once the marks are made, which leaves its memory to the rest.
     pub(crate) fn of(

@@ -31,9 +31,9 @@
 //!
 //! That a collection ends, that several threads run, and that fault 15 does not come: tests with gates cover this. That
 //! the fault returned is the lowest worker's: this is proved of the function that picks it, and stated by no public
-//! contract. That the schedule of `record` is what its own workers did: tests force orders by a gate. That what a `Thief`
-//! takes was pushed, and that each number is taken once: a test steals with two threads. The order in which `take` tries
-//! the queues. No contract says how long a call takes, nor that `verify` has enough memory.
+//! contract. That the schedule of `record` is what its own workers did: tests force orders by a gate. That what a
+//! `Thief` takes was pushed, and that each number is taken once: a test steals with two threads. The order in which
+//! `take` tries the queues. No contract says how long a call takes, nor that `verify` has enough memory.
 #![tactic(auto)]
 
 mod clean_up;

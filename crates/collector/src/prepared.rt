@@ -87,8 +87,8 @@ impl<D: CollectionDesk + Drop> Prepared<D>
 where
     D::Seat: Drop,
 {
-    /// Prepares the collection of an image. On failure it returns the image unchanged, with fault 12 exactly if the number
-    /// of workers, which is tested first, isn't 1 to 64, and with fault 11 if memory runs out.
+    /// Prepares the collection of an image. On failure it returns the image unchanged, with fault 12 exactly if the
+    /// number of workers, which is tested first, isn't 1 to 64, and with fault 11 if memory runs out.
     pub(crate) fn new(
         alloc: Global,
         mut image: Image,
@@ -115,8 +115,8 @@ where
         }
     }
 
-    /// Lets all workers work, and cleans up. Returns the fault of the lowest worker that met one, or fault 15 if a region
-    /// has not moved.
+    /// Lets all workers work, and cleans up. Returns the fault of the lowest worker that met one, or fault 15 if a
+    /// region has not moved.
     pub(crate) fn work<G: Gate + Sync, T: Threads + Sync, W: Wait + Sync>(
         self,
         gate: &G,

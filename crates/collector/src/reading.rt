@@ -8,8 +8,8 @@ use heap_image::{Fault, Image, Intake, read_image_by_workers};
 use std::alloc::Global;
 use std::thread::Threads;
 
-/// Reads all of the input, the text of an image, and checks it with at most `workers` threads. A fault is the first of the
-/// input, or 11 if memory runs out, or 13 if the device fails.
+/// Reads all of the input, the text of an image, and checks it with at most `workers` threads. A fault is the first of
+/// the input, or 11 if memory runs out, or 13 if the device fails.
 pub(crate) fn read_whole<R: Intake>(
     alloc: Global,
     reader: &mut R,

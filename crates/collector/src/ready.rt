@@ -7,7 +7,8 @@ use std::alloc::{AllocError, Global};
 use std::collections::LinkedList;
 use std::marker::Model;
 
-/// What a pass of the deque knows: whether it is the owner's, and if so, the numbers that were pushed. Used by proofs only.
+/// What a pass of the deque knows: whether it is the owner's, and if so, the numbers that were pushed. Used by proofs
+/// only.
 pub struct Pushed {
     pub owner: bool,
     pub numbers: LinkedList<u32>,
@@ -83,8 +84,8 @@ impl Ready {
         })
     }
 
-    /// Queues a number and returns true, or returns false and changes nothing if as many numbers as the room were pushed
-    /// before. Allocates nothing.
+    /// Queues a number and returns true, or returns false and changes nothing if as many numbers as the room were
+    /// pushed before. Allocates nothing.
     pub fn push(&mut self, r: u32) -> bool
         ensures room { self.new.room ≡ self.old.room }
         ensures answer { IsTrue result ↔ length self.old.pushed < self.old.room }
@@ -111,8 +112,8 @@ impl Ready {
         self.deque.pop_as::<Pop>()
     }
 
-    /// Takes the oldest number that is left here, or else steals one from the other workers, in turn from the worker after
-    /// this one round to the one before it.
+    /// Takes the oldest number that is left here, or else steals one from the other workers, in turn from the worker
+    /// after this one round to the one before it.
     ///
     /// `thieves` has a handle to each worker's queue, by worker number; this worker's own is not used.
     pub fn take(&mut self, thieves: &[Thief], worker: usize) -> Option<u32>
@@ -145,8 +146,8 @@ pub struct Thief {
 }
 
 impl Thief {
-    /// Takes the oldest number that is left. `Empty` means that there was none at some moment; `Retry` means that, or that
-    /// another thread took a number meanwhile.
+    /// Takes the oldest number that is left. `Empty` means that there was none at some moment; `Retry` means that, or
+    /// that another thread took a number meanwhile.
     pub fn steal(&self) -> Steal<u32> {
         let mut pass = self.deque.pass();
         self.deque.steal_as::<Take>(&mut pass)

@@ -18,12 +18,13 @@ use std::alloc::Global;
 use std::sync::Wait;
 use std::thread::Threads;
 
-/// Reads an image, compacts it as [`record`] does, and writes the compaction and then, to `lines`, the text of the schedule.
+/// Reads an image, compacts it as [`record`] does, and writes the compaction and then, to `lines`, the text of the
+/// schedule.
 ///
-/// Nothing is written before the collection has succeeded with a whole schedule, and nothing is allocated once a byte is
-/// written. Faults 1 to 10 and 17 are the first fault of the input, fault 13 means that a device has failed, and the others
-/// are those of `record`. If writing fails with fault 13, a prefix of the two texts was written, the compaction's first;
-/// after any other fault, nothing was.
+/// Nothing is written before the collection has succeeded with a whole schedule, and nothing is allocated once a byte
+/// is written. Faults 1 to 10 and 17 are the first fault of the input, fault 13 means that a device has failed, and the
+/// others are those of `record`. If writing fails with fault 13, a prefix of the two texts was written, the
+/// compaction's first; after any other fault, nothing was.
 pub fn record_stream<
     R: Intake,
     O: Outlet,
@@ -38,7 +39,8 @@ pub fn record_stream<
     lines: &mut L,
     workers: Workers<'_, G, T, W>,
 ) -> Result<Figures, Fault>
-    // All of the input was read, the text of an image, and the texts of its compaction and of the schedule were written.
+    // All of the input was read, the text of an image, and the texts of its compaction and of the schedule were
+    // written.
     ensures texts { IfOk result (AreRecorded workers.entry.count (R.left reader.old) (R.left reader.new)
         (O.took writer.old) (O.took writer.new) (L.took lines.old) (L.took lines.new)) }
     // Nothing was written, or the collection had succeeded.

@@ -20,12 +20,12 @@ use std::sync::Wait;
 use std::thread::Threads;
 use summary::Plan;
 
-/// Compacts an image as [`collect`](crate::collect) does, but under one lock, and returns the schedule of all the workers'
-/// calls and copies. Each call and copy allocates its line.
+/// Compacts an image as [`collect`](crate::collect) does, but under one lock, and returns the schedule of all the
+/// workers' calls and copies. Each call and copy allocates its line.
 ///
-/// Returns `Kept` as `collect` does. Returns `Lost` once a worker has begun: with the faults of `collect`, with fault 11 if
-/// memory for a line runs out, and with fault 14 if the schedule isn't one that moves all regions. Fault 14 names the first
-/// line at fault, or the line after the last if some region isn't settled.
+/// Returns `Kept` as `collect` does. Returns `Lost` once a worker has begun: with the faults of `collect`, with fault
+/// 11 if memory for a line runs out, and with fault 14 if the schedule isn't one that moves all regions. Fault 14 names
+/// the first line at fault, or the line after the last if some region isn't settled.
 pub fn record<G: Gate + Sync, T: Threads + Sync, W: Wait + Sync>(
     alloc: Global,
     image: Image,
@@ -74,8 +74,8 @@ fn recorded<G: Gate + Sync, T: Threads + Sync, W: Wait + Sync>(
     Ok((worked.outcome, schedule))
 }
 
-/// The recorder's schedule, if it records a whole collection of the plan's image. Otherwise fault 14 names the first line
-/// at fault, or the line after the last if some region isn't settled. Returns fault 11 if memory runs out.
+/// The recorder's schedule, if it records a whole collection of the plan's image. Otherwise fault 14 names the first
+/// line at fault, or the line after the last if some region isn't settled. Returns fault 11 if memory runs out.
 fn whole_schedule(
     alloc: Global,
     recorder: Recorder,

@@ -48,8 +48,8 @@ impl<S: Drop> Staff<S> {
     }
 }
 
-/// The queue with which worker `number` begins: of the regions to fill that have no pending readers, counted from 0, those
-/// whose place is `number` modulo `workers`.
+/// The queue with which worker `number` begins: of the regions to fill that have no pending readers, counted from 0,
+/// those whose place is `number` modulo `workers`.
 fn first_regions(
     alloc: Global,
     plan: &Plan,

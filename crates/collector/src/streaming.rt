@@ -20,9 +20,9 @@ use std::thread::Threads;
 
 /// Reads an image, compacts it as [`collect`] does, and writes the compaction.
 ///
-/// Nothing is written before the collection has succeeded. Faults 1 to 10 and 17 are the first fault of the input, fault
-/// 13 means that a device has failed, and the others are those of `collect`. If writing fails with fault 13, a prefix of
-/// the text was written; after any other fault, nothing was.
+/// Nothing is written before the collection has succeeded. Faults 1 to 10 and 17 are the first fault of the input,
+/// fault 13 means that a device has failed, and the others are those of `collect`. If writing fails with fault 13, a
+/// prefix of the text was written; after any other fault, nothing was.
 pub fn collect_stream<R: Intake, O: Outlet, G: Gate + Sync, T: Threads + Sync, W: Wait + Sync>(
     alloc: Global,
     reader: &mut R,

@@ -3,8 +3,8 @@
 pub enum Verdict {
     /// It is the compaction.
     Same,
-    /// The region log, the number of words, the allowance, the number of live objects, the version or the number of roots
-    /// differs.
+    /// The region log, the number of words, the allowance, the number of live objects, the version or the number of
+    /// roots differs.
     Shape,
     /// The word at this address differs, the lowest such address.
     Word(u64),

@@ -40,8 +40,8 @@ fn a_region_is_claimed_before_the_gate_is_asked(rt: HostRuntime) -> Result<(), F
     Ok(())
 }
 
-/// Calling `after_complete` before the fill or before the completion meets the contract, and fails here: region 1 is ready
-/// only once region 0 is filled.
+/// Calling `after_complete` before the fill or before the completion meets the contract, and fails here: region 1 is
+/// ready only once region 0 is filled.
 #[test]
 fn the_gate_is_notified_of_a_region_once_it_is_completed(rt: HostRuntime) -> Result<(), Fail> {
     let gate = Awaits::new([(Before(1), After(0)), (After(0), After(1))]);

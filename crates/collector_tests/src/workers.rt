@@ -28,8 +28,8 @@ fn a_worker_steals_what_the_other_leaves(rt: HostRuntime) -> Result<(), Fail> {
     Ok(())
 }
 
-/// Collects the text `before` with two workers, from bytes to bytes. Returns the figures, and whether all of it was read
-/// and `after` written.
+/// Collects the text `before` with two workers, from bytes to bytes. Returns the figures, and whether all of it was
+/// read and `after` written.
 fn streamed<G: Gate + Sync, R: Threads + Wait + Sync>(
     alloc: Global,
     (before, after): (&[u8], &[u8]),
@@ -171,8 +171,9 @@ impl Gate for FourMeet {
     }
 }
 
-/// A body that runs at most two threads, whatever the number of workers, meets the contract, and fails here. So does one
-/// that calls `before_fill` twice, or doesn't call `after_complete` exactly once, with the fill's worker and region.
+/// A body that runs at most two threads, whatever the number of workers, meets the contract, and fails here. So does
+/// one that calls `before_fill` twice, or doesn't call `after_complete` exactly once, with the fill's worker and
+/// region.
 #[test]
 fn four_workers_fill_at_the_same_time(rt: HostRuntime) -> Result<(), Fail> {
     let gate = FourMeet {
@@ -186,7 +187,8 @@ fn four_workers_fill_at_the_same_time(rt: HostRuntime) -> Result<(), Fail> {
     Ok(())
 }
 
-/// Holds the first fill for a long time, while nothing else is ready, and each of the next two until the other has begun.
+/// Holds the first fill for a long time, while nothing else is ready, and each of the next two until the other has
+/// begun.
 #[derive(Drop)]
 struct TwoMeetLater(Awaits);
 

@@ -230,7 +230,8 @@ fn cells_do_not_end_if_nothing_is_filled(rt: HostRuntime) -> Result<(), Fail> {
     Ok(())
 }
 
-/// The fault of a write of region 2 that is given up in a heap without live objects, and the fault with which the cells end.
+/// The fault of a write of region 2 that is given up in a heap without live objects, and the fault with which the cells
+/// end.
 fn faults_of_a_dead_region<R: Threads + Wait + Sync>(
     alloc: Global,
     rt: &R,

@@ -78,7 +78,8 @@ fn filled_image<R: Threads + Wait + Sync>(
     Ok(filled_heap(heap, pass, alloc, order, rt)?)
 }
 
-/// The outcome of fills in this order of the heap with these words, live addresses and allowance, in regions of 8 words.
+/// The outcome of fills in this order of the heap with these words, live addresses and allowance, in regions of 8
+/// words.
 fn filled<R: Threads + Wait + Sync>(
     alloc: Global,
     allowance: u64,

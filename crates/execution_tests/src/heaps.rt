@@ -67,8 +67,8 @@ fn heap_with_board(alloc: Global, survey: Survey, cells: Cells) -> Result<(Heap,
     Ok((heap, pass))
 }
 
-/// Claims, fills and settles a region, and appends the sources that it reports as last drained. Returns false if the region
-/// is not to be filled, or cannot be claimed.
+/// Claims, fills and settles a region, and appends the sources that it reports as last drained. Returns false if the
+/// region is not to be filled, or cannot be claimed.
 pub fn fill<W: Wait>(
     heap: &Heap,
     pass: &mut Pass,

@@ -1,5 +1,5 @@
-//! Fault 15: reads, writes and fills of a base-heap region that is being written, was filled, or was given up. The rights
-//! and openings come from other boards.
+//! Fault 15: reads, writes and fills of a base-heap region that is being written, was filled, or was given up. The
+//! rights and openings come from other boards.
 ghost use Rattle.std.specs.Prelude.{◌≡◌, ◌<◌, IfOk};
 ghost use Rattle.heap_image.specs.HeapImage.{region_count};
 ghost use Rattle.claim_board.specs.Boards.{identity, board_of};
@@ -76,8 +76,8 @@ fn a_fill_fails_at_a_region_that_is_being_written(rt: HostRuntime) -> Result<(),
     Ok(())
 }
 
-/// The faults of a write of region 1 that is given up, of a fill of region 0, and of a write of region 0; and the number
-/// of sources that the fill reported as last drained.
+/// The faults of a write of region 1 that is given up, of a fill of region 0, and of a write of region 0; and the
+/// number of sources that the fill reported as last drained.
 type Spoiled = ([Option<Fault>; 3], usize);
 
 fn spoil<W: Wait>(heap: &Heap, pass: Pass, alloc: Global, wait: &W) -> Result<Spoiled, Fail>

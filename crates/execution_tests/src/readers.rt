@@ -24,7 +24,8 @@ const PAIRS: [(u32, u32); 4] = [(0, 1), (1, 2), (1, 3), (2, 3)];
 /// How often a reader polls whether the other one reads too.
 const TURNS: u32 = 1_000_000;
 
-/// Claims regions 0, 1 and 2 and drains (0, 1) and (1, 2), so that the tickets of 1 and 2 have only region 3 left to read.
+/// Claims regions 0, 1 and 2 and drains (0, 1) and (1, 2), so that the tickets of 1 and 2 have only region 3 left to
+/// read.
 fn last_tickets(board: &Board, moves: &GivenMoves, pass: &mut Pass) -> Option<(Ticket, Ticket)>
     requires moves { moves_of board.now ≡ moves.now }
     requires regions { table_regions moves.now ≡ 4 }

@@ -1,5 +1,5 @@
-//! The cells of a heap of four regions, and openings and rights to read and write them without a fill. Each comes from a
-//! board of its own.
+//! The cells of a heap of four regions, and openings and rights to read and write them without a fill. Each comes from
+//! a board of its own.
 ghost use Rattle.std.specs.Prelude.{◌≡◌, ◌<◌, IfOk};
 ghost use Rattle.heap_image.specs.HeapImage.{region_count};
 ghost use Rattle.history.specs.MoveTable.{region_count as table_regions};

@@ -44,7 +44,7 @@ module _ (image : HeapImage) (sound : HasLiveList image) where
       let all = slid-all image sound in
       let on = slid-onto image sound t (omega arith) (omega arith) in
       let q : ℕ = on.0 in
-      let behind_prefix : P ≤ q = on.1 in
+      let after_prefix : P ≤ q = on.1 in
       let live : is_live_word image q ≡ true = on.2 in
       let to : slid image q ≡ t = on.3 in
       let from : start_of image s ≤ q = elim (cases_lt q (start_of image s)) [

@@ -57,8 +57,8 @@ module _ (image : HeapImage) where
   abbrev pub IsCut : ℕ → Type 0
   IsCut d = (p : ℕ) → start_of image d ≤ p → is_late_before d p ≡ false
 
-  -- The blocks are regions from region `first` on, each with its moved words, and no deferred object has references both
-  -- inside and outside of them.
+  -- The blocks are regions from region `first` on, each with its moved words, and no deferred object has references
+  -- both inside and outside of them.
   pub record IsMovedPart (first : ℕ) (blocks : List (List ℕ)) : Type 0 where
     pub inside : first + length blocks ≤ region_count image
     pub moved : blocks ≡ moved_regions_from first (length blocks)

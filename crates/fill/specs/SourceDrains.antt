@@ -54,8 +54,9 @@ ReportsLast step s Last f f' = step f s f'
 ReportsLast step s NotLast f f' = f ≡ f'
 
 module _ {F : Type 0} (step : F → ℕ → F → Type 0) (tells : Type 0) (m : MoveTable) (d : ℕ) where
-  -- The other sources of region d below `next` were drained once each, in ascending order, and f was called with exactly
-  -- those whose drain returned Last, in this order. If the desk shows calls, the caller made these drains and no others.
+  -- The other sources of region d below `next` were drained once each, in ascending order, and f was called with
+  -- exactly those whose drain returned Last, in this order. If the desk shows calls, the caller made these drains and
+  -- no others.
   pub record HasDrained (next : ℕ) (old new : Caller) (f f' : F) : Type 0 where
     pub drains : List SourceDrain
     pub each : sources_of drains ≡ other_sources_below m d next

@@ -6,9 +6,9 @@ use Rattle.summary.specs.WordMoves.{reads}
 use Rattle.region_cells.specs.Views.{Reading}
 
 -- a region after the prefix
-pub record IsBehindPrefix (image : HeapImage) (r : ℕ) : Type 0 where
+pub record IsAfterPrefix (image : HeapImage) (r : ℕ) : Type 0 where
   pub inside : r < region_count image
-  pub behind_prefix : prefix_end image ≤ start_of image r
+  pub after_prefix : prefix_end image ≤ start_of image r
 
 -- s is the first region, from `from` on, that has words for region d; `from` comes after d
 pub record IsNextOtherSource (image : HeapImage) (d from s : ℕ) : Type 0 where

@@ -19,8 +19,8 @@ use summary::laws::new_addresses::objects_keep_their_order;
 use summary::laws::region_data::regions_to_fill;
 use summary::{Plan, Survey};
 
-/// Redirects the references of the deferred objects, once all regions are filled. `regions` are all regions of the heap,
-/// in order, with their moved words.
+/// Redirects the references of the deferred objects, once all regions are filled. `regions` are all regions of the
+/// heap, in order, with their moved words.
 ///
 /// Afterwards they hold the compacted words, except from the new top up, where [`clear_above`](crate::clear_above) puts
 /// the zeros. Allocates nothing.
@@ -98,8 +98,8 @@ fn update_region(regions: &mut [Region], plan: &Plan, first: u32, d: u32)
         late_references(plan, d, begin);
         references_in_part(plan, regions, first, d, begin);
         let header = begin - part_start(plan, first);
-        let behind = header + 1;
-        for p in behind..behind + u64::from(references(word(regions, log, header))) {
+        let start = header + 1;
+        for p in start..start + u64::from(references(word(regions, log, header))) {
             let reference = word(regions, log, p);
             set_word(regions, log, p, plan.redirected(reference));
         }

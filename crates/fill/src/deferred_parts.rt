@@ -21,8 +21,8 @@ pub(crate) struct DeferredParts<'a, T: Threads + Sync> {
 }
 
 impl<T: Threads + Sync> DeferredParts<'_, T> {
-    /// Redirects the references of the deferred objects of a heap with at most `most` threads, and an extra one that does
-    /// nothing: the system delays the first thread that the caller starts.
+    /// Redirects the references of the deferred objects of a heap with at most `most` threads, and an extra one that
+    /// does nothing: the system delays the first thread that the caller starts.
     pub(crate) fn start(&self, regions: &mut [Region], most: usize)
         requires { IsMovedPart self.now.plan.now 0 regions.old }
         ensures { IsUpdatedPart self.now.plan.now 0 (length regions.old) regions.new }
@@ -78,8 +78,8 @@ impl<T: Threads + Sync> DeferredParts<'_, T> {
     }
 }
 
-/// Where to split a part: the number of its regions that come before the cut. They are one thread's share, or more if the
-/// part cannot be cut there. None if the part has too few regions to fill for two threads, or cannot be cut at all.
+/// Where to split a part: the number of its regions that come before the cut. They are one thread's share, or more if
+/// the part cannot be cut there. None if the part has too few regions to fill for two threads, or cannot be cut at all.
 fn first_cut(regions: &[Region], plan: &Plan, first: u32, most: usize) -> Option<usize>
     requires { IsMovedPart plan.now first regions.now }
     ensures most { IsSome result → 1 < most }

@@ -23,9 +23,9 @@ use summary::laws::region_data::regions_to_fill;
 /// and calls `on_last` with the source's number after each drain that returned `Last`. It reports the number of words
 /// written to the desk before each drain and before the completion.
 ///
-/// Returns fault 15 if the region is not to be filled, or if a cell is not in the state that a legal history leaves; the
-/// desk may return faults of its own. The ticket and what came from it are given up then, and the region is spoiled if it
-/// was open for writing.
+/// Returns fault 15 if the region is not to be filled, or if a cell is not in the state that a legal history leaves;
+/// the desk may return faults of its own. The ticket and what came from it are given up then, and the region is spoiled
+/// if it was open for writing.
 pub fn fill_region<D: Desk, F: FnMut(u32), W: Wait>(
     desk: &D,
     cells: &Cells,

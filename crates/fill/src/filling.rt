@@ -63,7 +63,7 @@ impl<D: Desk, W: Wait> Filling<'_, '_, '_, '_, D, W> {
         if self.site.span.start < self.site.guide.prefix_end() {
             return self.fill_in_prefix(seat, ticket, target);
         }
-        let place = self.site.behind_prefix();
+        let place = self.site.after_prefix();
         let mut from = self.site.region + 1;
         let mut to = place.slide_own(target);
         self.note(seat, ticket, to - self.site.span.start)?;
@@ -106,8 +106,8 @@ impl<D: Desk, W: Wait> Filling<'_, '_, '_, '_, D, W> {
         self.note(seat, ticket, words)
     }
 
-    /// Opens a source, copies its words to the target, and closes it. On entry the words from all regions below `from` are
-    /// copied, and the target is written up to `to`. Returns the address up to which it is written afterwards.
+    /// Opens a source, copies its words to the target, and closes it. On entry the words from all regions below `from`
+    /// are copied, and the target is written up to `to`. Returns the address up to which it is written afterwards.
     fn copy_opened(
         &self,
         opening: Opening,
@@ -115,7 +115,7 @@ impl<D: Desk, W: Wait> Filling<'_, '_, '_, '_, D, W> {
         from: u32,
         to: u64,
     ) -> Result<(Closed, u64), Fault>
-        requires behind_prefix { prefix_end self.now.site.guide.now ≤ self.now.site.span.start }
+        requires after_prefix { prefix_end self.now.site.guide.now ≤ self.now.site.span.start }
         requires next { IsNextOtherSource self.now.site.guide.now self.now.site.region from opening.source }
         requires copied { IsCopied self.now.site.guide.now self.now.site.region from to target.old }
         ensures closed { IfOk result (λ x. (x.0.destination ≡ opening.destination) × (x.0.source ≡ opening.source) × (x.0.ticket ≡ opening.ticket)) }
@@ -124,7 +124,7 @@ impl<D: Desk, W: Wait> Filling<'_, '_, '_, '_, D, W> {
         ensures fault { IfErr result IsOverwritten }
     {
         self.site.guide.image_is_valid();
-        let place = self.site.behind_prefix();
+        let place = self.site.after_prefix();
         let s = opening.source();
         let source = self.cells.read(opening, self.wait)?;
         let end = place.copy_source(&source, s, target, to);

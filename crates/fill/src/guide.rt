@@ -3,7 +3,7 @@ ghost use Rattle.heap_image.specs.HeapImage.{IsValid, heap_words, region_words, 
 ghost use Rattle.summary.specs.NewAddresses.{prefix_end, new_address, new_top};
 ghost use Rattle.summary.specs.WordMoves.{slid};
 ghost use Rattle.summary.specs.RegionData.{source};
-ghost use Rattle.fill.specs.SourceRegions.{IsBehindPrefix};
+ghost use Rattle.fill.specs.SourceRegions.{IsAfterPrefix};
 ghost use Rattle.fill.specs.Runs.{IsNextRun};
 ghost use Rattle.fill.specs.Objects.{IsObject, IsNextObject, HasNoObject};
 
@@ -87,7 +87,7 @@ impl<'a> Guide<'a> {
 
     /// The new address of the first live word from the start of region `r` on. The region lies after the prefix.
     pub(crate) fn destination(&self, r: u32) -> u64
-        requires { IsBehindPrefix self.now r }
+        requires { IsAfterPrefix self.now r }
         ensures { result ≡ slid self.now (start_of self.now r) }
     {
         planned_image_is_valid(self.plan);
@@ -96,7 +96,7 @@ impl<'a> Guide<'a> {
 
     /// The new address of the first live word after region `r`, which lies after the prefix.
     pub(crate) fn destination_after(&self, r: u32) -> u64
-        requires { IsBehindPrefix self.now r }
+        requires { IsAfterPrefix self.now r }
         ensures { result ≡ slid self.now (start_of self.now r + region_words self.now) }
     {
         planned_image_is_valid(self.plan);
@@ -107,7 +107,7 @@ impl<'a> Guide<'a> {
 
     /// The region from which the first word of region `d` comes.
     pub(crate) fn source(&self, d: u32) -> u32
-        requires region { IsBehindPrefix self.now d }
+        requires region { IsAfterPrefix self.now d }
         requires to_fill { start_of self.now d < new_top self.now }
         ensures { source self.now d ≡ Some result }
     {
@@ -121,7 +121,7 @@ impl<'a> Guide<'a> {
 
     /// The address in region `r` from which its live words go to `to` and above. The region lies after the prefix.
     pub(crate) fn first_from(&self, r: u32, to: u64) -> u64
-        requires region { IsBehindPrefix self.now r }
+        requires region { IsAfterPrefix self.now r }
         requires low { slid self.now (start_of self.now r) ≤ to }
         requires high { to ≤ slid self.now (start_of self.now r + region_words self.now) }
         ensures after { start_of self.now r ≤ result }
@@ -161,7 +161,7 @@ impl<'a> Guide<'a> {
     /// The first live word from `at` on, or the prefix end if no word of the prefix from there on is live.
     pub(crate) fn gap_end(&self, at: u64) -> u64
         requires { at ≤ prefix_end self.now }
-        ensures behind { at ≤ result }
+        ensures after { at ≤ result }
         ensures inside { result ≤ prefix_end self.now }
         ensures dead { (q : ℕ) → at ≤ q → q < result → is_live_word self.now q ≡ false }
         ensures live { result < prefix_end self.now → is_live_word self.now result ≡ true }

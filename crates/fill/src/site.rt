@@ -8,7 +8,7 @@ ghost use Rattle.fill.specs.CopiedWords.{copied_word};
 ghost use Rattle.fill.specs.Objects.{IsMovedTo, IsEarlyAt};
 ghost use Rattle.fill.specs.Targets.{Becomes, IsBlockOf};
 
-use crate::behind_prefix::BehindPrefix;
+use crate::after_prefix::AfterPrefix;
 use crate::guide::Guide;
 use crate::in_prefix::InPrefix;
 use crate::span::Span;
@@ -51,11 +51,11 @@ impl<'a> Site<'a> {
         InPrefix { site: self }
     }
 
-    pub(crate) fn behind_prefix(self) -> BehindPrefix<'a>
+    pub(crate) fn after_prefix(self) -> AfterPrefix<'a>
         requires { prefix_end self.guide.now ≤ self.span.start }
         ensures { result.site ≡ self.entry }
     {
-        BehindPrefix { site: self }
+        AfterPrefix { site: self }
     }
 
     /// Redirects the references of the live object whose new address is `at`. Its new words lie wholly in the region.

@@ -47,8 +47,8 @@ impl Model for Cells {
 impl Cells {
     /// Moves each region of the image into a cell, in its original state.
     ///
-    /// Allocates the cells and the list that [`into_regions`](Cells::into_regions) returns. If memory runs out, the image
-    /// comes back unchanged.
+    /// Allocates the cells and the list that [`into_regions`](Cells::into_regions) returns. If memory runs out, the
+    /// image comes back unchanged.
     pub fn of(alloc: Global, image: Image, plan: &Plan) -> Result<Cells, Image>
         requires same { plan.now ≡ image }
         ensures cells { IfOk result (λ cells. cells ≡ image) }

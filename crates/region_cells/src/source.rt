@@ -15,7 +15,8 @@ use std::marker::Model;
 /// A region that is open for reading, with its original words. Several sources of one region may be open at the same
 /// time; no one writes it meanwhile.
 ///
-/// A source owns its opening, so that opening's pair cannot be drained before the source is closed. It cannot be dropped.
+/// A source owns its opening, so that opening's pair cannot be drained before the source is closed. It cannot be
+/// dropped.
 ///
 /// Contracts view it as the image and the opening.
 pub struct Source<'a> {

@@ -42,8 +42,8 @@ impl<'a> Model for Target<'a> {
 }
 
 impl<'a> Target<'a> {
-    /// Makes a target from a writer's claim and what the cell held. Returns fault 15, and gives the right up, unless that
-    /// is the original region.
+    /// Makes a target from a writer's claim and what the cell held. Returns fault 15, and gives the right up, unless
+    /// that is the original region.
     pub(crate) fn new(
         hand: Claim<'a, Kept>,
         cells: Snapshot<Cells>,

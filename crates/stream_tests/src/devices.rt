@@ -49,8 +49,8 @@ impl Read for Trickle<'_> {
     }
 }
 
-/// A writer that compares what it receives with a text. It accepts at most `step` bytes at a time and `limit` in all; then
-/// it fails, or accepts 0.
+/// A writer that compares what it receives with a text. It accepts at most `step` bytes at a time and `limit` in all;
+/// then it fails, or accepts 0.
 #[derive(Drop)]
 pub(crate) struct Checked<'a> {
     rest: &'a [u8],

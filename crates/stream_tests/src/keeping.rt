@@ -25,8 +25,8 @@ impl Gate for WasCalled {
     fn after_complete(&self, _worker: u32, _region: u32) {}
 }
 
-/// Whether a recorded collection of the base heap by one worker succeeds, keeps the image, or loses it after the worker has
-/// called the gate. Fails if it loses the image before.
+/// Whether a recorded collection of the base heap by one worker succeeds, keeps the image, or loses it after the worker
+/// has called the gate. Fails if it loses the image before.
 fn is_kept_or_begun<R: Threads + Wait + Sync>(alloc: Global, rt: &R) -> Result<bool, Fail> {
     match image(alloc, Base::WithLiveList, rt) {
         Ok(image) => succeeds_or_reports(alloc, image, rt),
@@ -55,8 +55,8 @@ fn reports_memory(alloc: Global, refusal: Refusal, has_begun: bool) -> Result<bo
     }
 }
 
-/// The script tests/crate-allocations runs this with each allocation refused in turn. Only one refusal may fail the test:
-/// that of the line for the first claim, which is recorded before the gate is called.
+/// The script tests/crate-allocations runs this with each allocation refused in turn. Only one refusal may fail the
+/// test: that of the line for the first claim, which is recorded before the gate is called.
 #[test]
 fn image_is_kept_where_refused_memory_is_reported(rt: HostRuntime) -> Result<(), Fail> {
     holds(&rt, is_kept_or_begun(rt.alloc(), &rt)?);

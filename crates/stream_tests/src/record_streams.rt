@@ -12,8 +12,8 @@ use std::sync::Wait;
 use std::test::Fail;
 use std::thread::Threads;
 
-/// The result of a recorded collection, and the numbers of bytes of the compaction and of the lines that are not written,
-/// if the written ones are prefixes.
+/// The result of a recorded collection, and the numbers of bytes of the compaction and of the lines that are not
+/// written, if the written ones are prefixes.
 type Recorded = (Result<Figures, Fault>, Option<usize>, Option<usize>);
 
 /// A recorded collection of these bytes by one worker.
@@ -37,7 +37,8 @@ fn record_from<R: Threads + Wait + Sync>(
     (answer, compaction, lines.into_inner().unwritten())
 }
 
-/// A recorded collection of `texts.before`, whose devices compare what they receive with `texts.after` and the schedule.
+/// A recorded collection of `texts.before`, whose devices compare what they receive with `texts.after` and the
+/// schedule.
 fn record_whole<R: Threads + Wait + Sync>(alloc: Global, rt: &R, texts: &Texts) -> Recorded {
     let writer = Checked::against(&texts.after);
     let lines = Checked::against(BASE_SCHEDULE.as_bytes());

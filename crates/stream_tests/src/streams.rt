@@ -1,5 +1,5 @@
-//! Collections from bytes to bytes: devices that read and write in small pieces or fail at any byte, and nothing written
-//! before a collection has succeeded.
+//! Collections from bytes to bytes: devices that read and write in small pieces or fail at any byte, and nothing
+//! written before a collection has succeeded.
 use crate::checks::equal;
 use crate::devices::{Checked, Trickle};
 use crate::texts::{Texts, figures, slid, with_prefix, without_the_last};
@@ -44,7 +44,8 @@ fn streamed<R: Threads + Wait + Sync>(
     }
 }
 
-/// The figures of a collection whose devices move `step` bytes at a time, if it succeeds and reads and writes everything.
+/// The figures of a collection whose devices move `step` bytes at a time, if it succeeds and reads and writes
+/// everything.
 fn whole<R: Threads + Wait + Sync>(
     alloc: Global,
     rt: &R,

@@ -18,7 +18,7 @@ sum_is c =
     let own : c.from-2.result ≡ own_words image r = c.from-2.ensures ∙ ap (λ d. d.live) told in
     let counted = c.region_data_by_words.ensures.counted image valid.live_list r in
     let goes : c.destination.result ≡ slid image (start_of image r) = c.destination.ensures in
-    let all = slid-from image (start_of image r) (start_of image r + region_words image) c.requires.behind_prefix (omega arith) in
+    let all = slid-from image (start_of image r) (start_of image r + region_words image) c.requires.after_prefix (omega arith) in
     omega arith
 
 pub overflow_add-result : goal.overflow_add-result

@@ -22,12 +22,12 @@ fn reaches(start: u64, limit: u64, first: u64, after: u64) -> bool
 
 /// A region after the dense prefix, which is filled with its own words and those of regions above it.
 #[derive(Drop)]
-pub(crate) struct BehindPrefix<'a> {
+pub(crate) struct AfterPrefix<'a> {
     pub(crate) site: Site<'a>,
-    pub(crate) ghost behind_prefix: { prefix_end site.guide.now ≤ start_of site.guide.now site.region },
+    pub(crate) ghost after_prefix: { prefix_end site.guide.now ≤ start_of site.guide.now site.region },
 }
 
-impl BehindPrefix<'_> {
+impl AfterPrefix<'_> {
     /// Whether the region has words for itself.
     fn reads_itself(&self) -> bool
         ensures { result ≡ reads self.now.site.guide.now self.now.site.region self.now.site.region }
@@ -63,8 +63,8 @@ impl BehindPrefix<'_> {
         to
     }
 
-    /// Copies the words that come from source `s`. On entry the words from all regions below `s` are copied, and the region
-    /// is written up to `to`. Returns the address up to which it is written afterwards.
+    /// Copies the words that come from source `s`. On entry the words from all regions below `s` are copied, and the
+    /// region is written up to `to`. Returns the address up to which it is written afterwards.
     pub(crate) fn copy_source(
         &self,
         source: &Source<'_>,
@@ -92,8 +92,8 @@ impl BehindPrefix<'_> {
         to
     }
 
-    /// Redirects the references of the live objects that lie wholly in the region. The words from all regions below `from`
-    /// are copied, the region is written up to `to`, and the other regions have no words for it.
+    /// Redirects the references of the live objects that lie wholly in the region. The words from all regions below
+    /// `from` are copied, the region is written up to `to`, and the other regions have no words for it.
     pub(crate) fn redirect_objects(&self, target: &mut Target<'_>, from: u32, to: u64)
         requires own { self.now.site.region < from }
         requires within { from ≤ region_count self.now.site.guide.now }

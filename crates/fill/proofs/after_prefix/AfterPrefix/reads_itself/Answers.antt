@@ -3,13 +3,13 @@ use Rattle.heap_image.specs.HeapImage.{HeapImage, region_words, start_of}
 use Rattle.summary.specs.WordMoves.{slid}
 use Rattle.fill.specs.CopiedWords.{reaches}
 use Rattle.fill.proofs.WrittenTo.{region_fits, reads-is}
-use Rattle.fill.proofs.behind_prefix.BehindPrefix.reads_itself.Goals as goal
+use Rattle.fill.proofs.after_prefix.AfterPrefix.reads_itself.Goals as goal
 
 pub destination-first-requires : goal.destination-first-requires
-destination-first-requires c = record { inside = c.args.self.now.site.inside; behind_prefix = c.args.self.now.behind_prefix }
+destination-first-requires c = record { inside = c.args.self.now.site.inside; after_prefix = c.args.self.now.after_prefix }
 
 pub destination_after-after-requires : goal.destination_after-after-requires
-destination_after-after-requires c = record { inside = c.args.self.now.site.inside; behind_prefix = c.args.self.now.behind_prefix }
+destination_after-after-requires c = record { inside = c.args.self.now.site.inside; after_prefix = c.args.self.now.after_prefix }
 
 pub returns : goal.returns
 returns c =
@@ -19,7 +19,7 @@ returns c =
     let d : ℕ = site.region in
     let s : ℕ = start_of image d in
     let e : ℕ = start_of image d + region_words image in
-    let behind = c.args.self.now.behind_prefix in
+    let behind = c.args.self.now.after_prefix in
     c.reaches.ensures
     ∙ ap (λ m. reaches m site.span.end c.destination-first.result c.destination_after-after.result) site.start
     ∙ ap (λ m. reaches s m c.destination-first.result c.destination_after-after.result) site.end
