@@ -58,7 +58,7 @@ pub fn collect<G: Gate + Sync, T: Threads + Sync, W: Wait + Sync>(
     }
 }
 
-/// Lets all workers work, and ends the board.
+/// Runs all workers, and finishes the board.
 fn collected<G: Gate + Sync, T: Threads + Sync, W: Wait + Sync>(
     prepared: Prepared<Board>,
     gate: &G,

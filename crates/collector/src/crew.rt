@@ -225,7 +225,7 @@ impl<'a, D: Desk, G: Gate, W: Wait> Crew<'a, D, G, W> {
     }
 }
 
-/// Lets all workers work, each in a thread of its own if one can be started, and otherwise one after another.
+/// Runs all workers, each in a thread of its own if one can be started, and otherwise one after another.
 pub(crate) fn work_all<D: Desk + Sync, G: Gate + Sync, T: Threads + Sync, W: Wait + Sync>(
     crew: &Crew<'_, D, G, W>,
     workers: &mut [Worker<D::Seat>],

@@ -115,7 +115,7 @@ where
         }
     }
 
-    /// Lets all workers work, and cleans up. Returns the fault of the lowest worker that met one, or fault 15 if a
+    /// Runs all workers, and cleans up. Returns the fault of the lowest worker that met one, or fault 15 if a
     /// region has not moved.
     pub(crate) fn work<G: Gate + Sync, T: Threads + Sync, W: Wait + Sync>(
         self,

@@ -53,7 +53,7 @@ pub fn record<G: Gate + Sync, T: Threads + Sync, W: Wait + Sync>(
     }
 }
 
-/// Lets all workers work, and returns the schedule of their calls.
+/// Runs all workers, and returns the schedule of their calls.
 fn recorded<G: Gate + Sync, T: Threads + Sync, W: Wait + Sync>(
     alloc: Global,
     prepared: Prepared<Recorder>,

@@ -20,8 +20,8 @@ use summary::laws::region_data::regions_to_fill;
 /// Fills the region of a ticket: puts its moved words back into its cell, and completes it.
 ///
 /// Writes the region's own words first. Then it opens, copies, closes and drains each other source, in ascending order,
-/// and calls `on_last` with the source's number after each drain that returned `Last`. It reports the number of words
-/// written to the desk before each drain and before the completion.
+/// and calls `on_last` with the source's number after each drain that returned `Last`. Before each drain and before the
+/// completion it reports to the desk how many words it has written.
 ///
 /// Returns fault 15 if the region is not to be filled, or if a cell is not in the state that a legal history leaves;
 /// the desk may return faults of its own. The ticket and what came from it are given up then, and the region is spoiled
