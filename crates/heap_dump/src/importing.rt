@@ -86,25 +86,24 @@ fn live_heap<R: Intake>(
     ensures end { OnOk result (IsAtEnd (R.left source.new)) }
     ensures input { result ≡ Err ImportError.Input → IsTrue (R.has_failed source.new) }
 {
-    let packed = Packed::of(alloc, inventory, source)?;
-    let (words, most) = (packed.survivors.words, regions.most_words());
+    let Packed {
+        heap,
+        survivors,
+        roots,
+        unresolved,
+    } = Packed::of(alloc, inventory, source)?;
+    let (words, most) = (survivors.words, regions.most_words());
     if words > most {
         return Err(ImportError::TooManyLiveWords { words, most });
     }
-    let objects = packed.survivors.addresses.len() as u64;
-    let alone = SurvivorHeap::of(
-        alloc,
-        &packed.heap,
-        &packed.survivors,
-        regions,
-        packed.roots.as_slice(),
-    )?;
+    let objects = survivors.addresses.len() as u64;
+    let alone = SurvivorHeap::of(alloc, &heap, &survivors, regions, roots)?;
     Ok(Draft {
         heap: alone.heap,
         roots: alone.roots,
         objects,
         dropped_gaps: 0,
-        unresolved: packed.unresolved,
+        unresolved,
     })
 }
 

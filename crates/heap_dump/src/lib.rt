@@ -3,9 +3,10 @@
 //! [`import`] reads a dump of the public form HPROF, versions 1.0.1 and 1.0.2, twice, and makes an image of version 2 of it.
 //! What is read and what stands where in the image is said in `docs/DUMPS.md`.
 //!
-//! **Proved**, for all inputs: the image is valid; at Ok both readings are at the end of the dump; an error of input comes
-//! only where a device failed; no call indexes out of range, overflows or runs forever. **Only tested**: that the objects,
-//! references, roots and figures are those of the dump. See the README.
+//! **Proved**, for all inputs: the image is valid, has the region log and the allowance that are asked for, and its roots
+//! ascend; at Ok both readings are at the end of the dump; an error of input comes only where a device failed; no call indexes
+//! out of range, overflows or runs forever. **Only tested**: that the objects, references, roots and figures are those of the
+//! dump. See the README.
 #![tactic(auto)]
 
 mod arrangement;

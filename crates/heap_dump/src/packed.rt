@@ -37,8 +37,14 @@ impl Packed {
             arrangement,
             unresolved,
         } = Transcribed::of(alloc, &mut inventory, source, MAX_REGION_LOG, false)?;
-        // What isn't needed any more is let go before more memory is taken.
-        let Inventory { roots, .. } = inventory;
+        let Inventory {
+            classes,
+            objects,
+            roots,
+        } = inventory;
+        // They aren't needed any more, and more memory is taken.
+        drop(classes);
+        drop(objects);
         let survivors = Survivors::of(alloc, &heap, arrangement.words(), roots.as_slice())?;
         Ok(Packed {
             heap,

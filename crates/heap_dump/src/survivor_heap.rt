@@ -15,28 +15,26 @@ pub(crate) struct SurvivorHeap {
 
 impl SurvivorHeap {
     /// A heap with the survivors of this one, in their order and without gaps, in such regions. The roots lead to these
-    /// addresses.
+    /// addresses, and then to the new ones.
     pub(crate) fn of(
         alloc: Global,
         old: &UnsealedHeap,
         survivors: &Survivors,
         regions: Regions,
-        roots: &[u64],
+        mut roots: Vec<u64>,
     ) -> Result<SurvivorHeap, AllocError> {
         let forwarding = Forwarding::of(alloc, old, survivors.addresses.as_slice())?;
         let mut heap = UnsealedHeap::new(alloc, regions.log, survivors.words)?;
         for (from, to) in survivors.addresses.iter().zip(forwarding.addresses()) {
             forwarding.copy(old, &mut heap, *from, *to);
         }
-        let mut new_roots = Vec::new(alloc);
-        for root in roots {
-            if let Some(address) = forwarding.find(*root) {
-                new_roots.push(address)?;
+        roots.retain_mut(|root| match forwarding.find(*root) {
+            Some(address) => {
+                *root = address;
+                true
             }
-        }
-        Ok(SurvivorHeap {
-            heap,
-            roots: new_roots,
-        })
+            None => false,
+        });
+        Ok(SurvivorHeap { heap, roots })
     }
 }

@@ -1,11 +1,17 @@
 -- Texts of runs of words, a word at a time, and counts of lines.
-use Rattle.std.proofs.Common.{◌≡◌, ◌∙◌, ◌+◌, ◌-◌, ◌<◌, ◌≤◌, ◌==◌, ◌&&◌, ℕ, Bool, true, List, ◌∷◌, ◌++◌, suc, sym, ap, take, drop, length, slice_index, append_assoc, arith, if◌then◌else◌}
+use Rattle.std.proofs.Common.{◌≡◌, ◌∙◌, ◌+◌, ◌-◌, ◌<◌, ◌≤◌, ◌==◌, ◌&&◌, ℕ, Bool, true, List, [], ◌∷◌, ◌++◌, suc, refl, sym, ap, take, drop, length, slice_index, append_assoc, append-nil, length-append, arith, subst, Option, None, Some, IfSome, if◌then◌else◌}
 use Rattle.std.specs.Prelude.{flat_map}
 use Rattle.std.specs.List.{list_all, range_with_len}
 use Rattle.std.proofs.lemmas.List.Concat.{flat_map-cons}
-use Rattle.std.proofs.lemmas.List.Sums.{count_by_more_yes, sum_by-take-drop, sum_by-take-le}
+use Rattle.std.proofs.lemmas.List.Sums.{count_by_more_yes, sum_by-append, sum_by-take-drop, sum_by-take-le, sum_by_more}
 use Rattle.heap_text.specs.Text.{addresses_between, number_line}
-use Rattle.heap_text.specs.TextLines.{ended_lines}
+use Rattle.std.specs.Io.KnownBytes.{Consumes, IsAtEnd}
+use Rattle.std.proofs.KnownBytes.{Consumes-nil, Consumes-trans}
+use Rattle.heap_text.specs.TextLines.{ended_lines, IsAbout, IsLineOf, IsOfLine, IsOfNoLine, IsWithin, StandsAt}
+use Rattle.heap_text.specs.declared.error.TextError.{TextError}
+use Rattle.heap_text.specs.declared.error.TextError.TheVariants.{Memory, Line}
+use Rattle.heap_text.specs.declared.error.AssembleError.{AssembleError}
+use Rattle.heap_text.specs.declared.error.AssembleError.TheVariants.{Device, Text}
 
 -- the first of the addresses_between, and the others
 pub addresses_between-cons : (i to : ℕ) → i < to → addresses_between i to ≡ i ∷ addresses_between (i + 1) to
@@ -47,3 +53,85 @@ four_told t0 t1 t2 t3 t4 a b c d e1 e2 e3 e4 =
 -- the line of a number is that of an equal one
 pub same_line : (name told new : List ℕ) (n m : ℕ) → new ≡ told ++ number_line name n → n ≡ m → new ≡ told ++ number_line name m
 same_line name told new n m is same = is ∙ ap (λ k. told ++ number_line name k) same
+
+-- how far a text was seen, a byte further
+pub stands_more : (bytes : List ℕ) (place line begin : ℕ) → StandsAt bytes place line begin → place < length bytes → StandsAt bytes (place + 1) line begin
+stands_more bytes place line begin s inside =
+    let more = sum_by_more (λ b. if b == 10 then 1 else 0) bytes place 0 inside in
+    record {
+      within = omega arith;
+      begun = omega (arith, s.begun);
+      some = s.some;
+      few = omega (arith, s.few);
+      counted = omega (arith, more, s.counted);
+    }
+
+-- and behind a newline
+pub stands_behind : (bytes : List ℕ) (place line begin : ℕ) → StandsAt bytes place line begin → place < length bytes → slice_index bytes place ≡ 10
+    → StandsAt bytes (place + 1) (line + 1) (place + 1)
+stands_behind bytes place line begin s inside is =
+    let more = count_by_more_yes (λ b. b == 10) bytes place 0 inside (ap (λ b. b == 10) is) in
+    record {
+      within = omega arith;
+      begun = omega arith;
+      some = omega arith;
+      few = omega (arith, s.few);
+      counted = omega (arith, more, s.counted);
+    }
+
+take_front : (bytes came : List ℕ) → take (length bytes) (bytes ++ came) ≡ take (length bytes) bytes
+take_front [] came = refl
+take_front (b ∷ bytes) came = ap (λ (xs : List ℕ). b ∷ xs) (take_front bytes came)
+
+-- more bytes have come
+pub stands_on : (bytes came : List ℕ) (line begin : ℕ) → StandsAt bytes (length bytes) line begin → StandsAt (bytes ++ came) (length bytes) line begin
+stands_on bytes came line begin s =
+    record {
+      within = omega (arith, length-append bytes came);
+      begun = s.begun;
+      some = s.some;
+      few = s.few;
+      counted = subst (λ (xs : List ℕ). line ≤ ended_lines xs + 1) (sym (take_front bytes came)) s.counted;
+    }
+
+pub stands_behind_piece : (old new came : List ℕ) (seen line begin : ℕ) → new ≡ old ++ came → seen ≡ length old → StandsAt old seen line begin → StandsAt new seen line begin
+stands_behind_piece old new came seen line begin is at s =
+    subst (λ (xs : List ℕ). StandsAt xs seen line begin) (sym is)
+    (subst (λ (n : ℕ). StandsAt (old ++ came) n line begin) (sym at) (stands_on old came line begin (subst (λ (n : ℕ). StandsAt old n line begin) at s)))
+
+pub line_of_stand : (bytes : List ℕ) (seen line begin : ℕ) → StandsAt bytes seen line begin → IsLineOf bytes line
+line_of_stand bytes seen line begin s = (s.some, omega (arith, s.counted, sum_by-take-le (λ b. if b == 10 then 1 else 0) bytes seen))
+
+-- an error at the line where a text stands is about it
+pub at_line : (bytes : List ℕ) (seen line begin : ℕ) (error : TextError) → StandsAt bytes seen line begin → IsOfLine line error → IsWithin bytes error
+at_line bytes seen line begin Memory s is = tt
+at_line bytes seen line begin (Line other expected) s is = subst (IsLineOf bytes) (sym is) (line_of_stand bytes seen line begin s)
+
+-- what is about the first bytes that a device gave is about all of them
+pub about_all : (old new : Option (List ℕ)) (bytes : List ℕ) (error : TextError) → Consumes old new bytes → IsWithin bytes error → IfSome old (λ all. IsAbout all (Text error))
+about_all None new bytes error c w = tt
+about_all (Some all) None bytes error c w = absurd c
+about_all (Some all) (Some rest) bytes Memory c w = tt
+about_all (Some all) (Some rest) bytes (Line line expected) c w =
+    let more = sum_by-append (λ b. if b == 10 then 1 else 0) bytes rest in
+    (w.0, subst (λ (xs : List ℕ). line ≤ ended_lines xs + 1) (sym c) (omega (arith, more, w.1)))
+
+pub about_none : (old : Option (List ℕ)) (error : AssembleError) → IsOfNoLine error → IfSome old (λ all. IsAbout all error)
+about_none None error h = tt
+about_none (Some all) Device h = tt
+about_none (Some all) (Text Memory) h = tt
+about_none (Some all) (Text (Line line expected)) h = absurd h
+
+-- a device that is at its end gave all that it had
+pub all_given : (old new : Option (List ℕ)) (bytes : List ℕ) → Consumes old new bytes → IsAtEnd new → IfSome old (λ all. all ≡ bytes)
+all_given None new bytes c e = tt
+all_given (Some all) None bytes c e = absurd c
+all_given (Some all) (Some rest) bytes c e = c ∙ (ap (λ (xs : List ℕ). bytes ++ xs) e ∙ append-nil bytes)
+
+pub none_given : (device : Option (List ℕ)) (bytes : List ℕ) → bytes ≡ [] → Consumes device device bytes
+none_given device bytes none = subst (Consumes device device) (sym none) (Consumes-nil device)
+
+-- a piece more was given
+pub more_given : (first old new : Option (List ℕ)) (before after came : List ℕ) → Consumes first old before → Consumes old new came → after ≡ before ++ came
+    → Consumes first new after
+more_given first old new before after came c d is = subst (Consumes first new) (sym is) (Consumes-trans first old new before came c d)

@@ -1,7 +1,9 @@
 -- The lines of a text, and which of them an error is about.
-use Rattle.std.specs.Prelude.{⊤, ℕ, ◌+◌, ◌≤◌, ◌==◌, List, count_by}
+use Rattle.std.specs.Prelude.{⊤, ◌≡◌, ℕ, ◌+◌, ◌≤◌, ◌==◌, List, count_by, length, take}
 use Rattle.heap_text.specs.declared.error.TextError.{TextError}
 use Rattle.heap_text.specs.declared.error.TextError.TheVariants.{Memory, Line}
+use Rattle.heap_text.specs.declared.error.AssembleError.{AssembleError}
+use Rattle.heap_text.specs.declared.error.AssembleError.TheVariants.{Device, Text}
 
 -- how many lines have an end
 abbrev pub ended_lines : List ℕ → ℕ
@@ -14,3 +16,25 @@ IsLineOf bytes line = (1 ≤ line) × (line ≤ ended_lines bytes + 1)
 abbrev pub IsWithin : List ℕ → TextError → Type 0
 IsWithin bytes Memory = ⊤
 IsWithin bytes (Line line _) = IsLineOf bytes line
+
+abbrev pub IsAbout : List ℕ → AssembleError → Type 0
+IsAbout bytes Device = ⊤
+IsAbout bytes (Text error) = IsWithin bytes error
+
+abbrev pub IsOfNoLine : AssembleError → Type 0
+IsOfNoLine Device = ⊤
+IsOfNoLine (Text Memory) = ⊤
+IsOfNoLine (Text (Line _ _)) = ⊥
+
+-- an error that names a line names this one
+abbrev pub IsOfLine : ℕ → TextError → Type 0
+IsOfLine line Memory = ⊤
+IsOfLine line (Line other _) = other ≡ line
+
+-- the first bytes of a text end in the line, counted from 1, that begins here, or just before it
+pub record StandsAt (bytes : List ℕ) (seen line begin : ℕ) : Type 0 where
+  pub within : seen ≤ length bytes
+  pub begun : begin ≤ seen
+  pub some : 1 ≤ line
+  pub few : line ≤ seen + 1
+  pub counted : line ≤ ended_lines (take seen bytes) + 1

@@ -1,8 +1,10 @@
-//! `TextError`: why a text is none of a heap.
+//! `TextError` and `AssembleError`: why a text is none of a heap.
 ghost use Rattle.std.specs.Prelude.{◌≡◌};
 ghost use Rattle.heap_text.specs.declared.error.TextError.TheVariants.{Memory};
+ghost use Rattle.heap_text.specs.declared.error.AssembleError.TheVariants.{Device, Text};
 
 use crate::expected::Expected;
+use heap_image::Failed;
 use std::alloc::AllocError;
 use thiserror::Error;
 
@@ -22,5 +24,40 @@ impl From<AllocError> for TextError {
 
     fn from(_refused: AllocError) -> TextError {
         TextError::Memory
+    }
+}
+
+/// Why there is no image of the text that a device gives.
+#[derive(Debug, Clone, Copy, PartialEq, Eq, Error)]
+pub enum AssembleError {
+    /// The device failed.
+    #[error("the device failed")]
+    Device,
+    /// There is no image of the text.
+    #[error("{0}")]
+    Text(TextError),
+}
+
+impl From<Failed> for AssembleError {
+    ghost from_gives = { λ _ error. error ≡ Device };
+
+    fn from(_failed: Failed) -> AssembleError {
+        AssembleError::Device
+    }
+}
+
+impl From<TextError> for AssembleError {
+    ghost from_gives = { λ text error. error ≡ Text text };
+
+    fn from(error: TextError) -> AssembleError {
+        AssembleError::Text(error)
+    }
+}
+
+impl From<AllocError> for AssembleError {
+    ghost from_gives = { λ _ error. error ≡ Text Memory };
+
+    fn from(_refused: AllocError) -> AssembleError {
+        AssembleError::Text(TextError::Memory)
     }
 }

@@ -19,13 +19,14 @@ mod expected;
 mod lines;
 mod object_line;
 mod parts;
+mod progress;
 mod reader;
 mod reading;
 mod stop;
 mod words;
 mod writing;
 
-pub use assembling::assemble;
-pub use error::TextError;
+pub use assembling::{assemble, assemble_from};
+pub use error::{AssembleError, TextError};
 pub use expected::Expected;
 pub use writing::write_text;

@@ -32,8 +32,15 @@ impl Parts {
         }
     }
 
+    /// The bytes of an image with these parts. The words are given up then.
+    pub(crate) fn take_bytes(&mut self, alloc: Global) -> Result<Vec<u8>, AllocError> {
+        let bytes = self.bytes(alloc)?;
+        self.words = Vec::new(alloc);
+        Ok(bytes)
+    }
+
     /// The bytes of an image with these parts.
-    pub(crate) fn bytes(&self, alloc: Global) -> Result<Vec<u8>, AllocError> {
+    fn bytes(&self, alloc: Global) -> Result<Vec<u8>, AllocError> {
         let tail = if self.is_rooted {
             self.roots.as_slice()
         } else {

@@ -10,7 +10,18 @@ use std::alloc::{AllocError, Global};
 pub fn write_text(alloc: Global, image: &Image) -> Result<Vec<u8>, AllocError>
     ensures { IfOk result (λ text. text.items ≡ text_of image.now) }
 {
-    let mut text = String::new(alloc);
+    write_text_in(alloc, image, 0)
+}
+
+/// The text of an image, which fits in so many bytes at first.
+pub(crate) fn write_text_in(
+    alloc: Global,
+    image: &Image,
+    room: usize,
+) -> Result<Vec<u8>, AllocError>
+    ensures { IfOk result (λ text. text.items ≡ text_of image.now) }
+{
+    let mut text = String::with_capacity(alloc, room)?;
     write_front(&mut text, image)?;
     write_roots_line(&mut text, image)?;
     write_lines(&mut text, image)?;
