@@ -1,4 +1,4 @@
-//! `TextError` and `AssembleError`: why a text is none of a heap.
+//! Why a text is rejected.
 ghost use Rattle.std.specs.Prelude.{◌≡◌};
 ghost use Rattle.heap_text.specs.declared.error.TextError.TheVariants.{Memory};
 ghost use Rattle.heap_text.specs.declared.error.AssembleError.TheVariants.{Device, Text};
@@ -8,13 +8,13 @@ use heap_image::Failed;
 use std::alloc::AllocError;
 use thiserror::Error;
 
-/// Why there is no image of a text.
+/// Why [`assemble`](crate::assemble) returns no image.
 #[derive(Debug, Clone, Copy, PartialEq, Eq, Error)]
 pub enum TextError {
     /// Memory was refused.
     #[error("memory was refused")]
     Memory,
-    /// This line, counted from 1, is another than was expected, or is missing.
+    /// This line, counted from 1, is missing or differs from what is expected.
     #[error("line {0}: expected {1}")]
     Line(u64, Expected),
 }
@@ -27,13 +27,13 @@ impl From<AllocError> for TextError {
     }
 }
 
-/// Why there is no image of the text that a device gives.
+/// Why [`assemble_from`](crate::assemble_from) returns no image.
 #[derive(Debug, Clone, Copy, PartialEq, Eq, Error)]
 pub enum AssembleError {
     /// The device failed.
     #[error("the device failed")]
     Device,
-    /// There is no image of the text.
+    /// The text is rejected, or memory was refused.
     #[error("{0}")]
     Text(TextError),
 }

@@ -1,33 +1,33 @@
-//! A text read line by line.
+//! Parses a text in memory or from a device.
 ghost use Rattle.std.specs.Prelude.{◌≡◌, ◌<◌, ◌++◌, ◌≢◌, [], true, false, List, ℕ, IfErr, IfSome, IsTrue, OnOk, length, vec_len};
 ghost use Rattle.std.specs.Io.KnownBytes.{Consumes, IsAtEnd};
 ghost use Rattle.heap_text.specs.TextLines.{IsAbout, IsOfNoLine, IsWithin};
 
 use crate::error::{AssembleError, TextError};
-use crate::parts::Parts;
-use crate::progress::Progress;
+use crate::parsed_heap::ParsedHeap;
+use crate::text_parser::TextParser;
 use heap_image::Intake;
 use std::alloc::Global;
 
-/// How many bytes are asked for at a time.
+/// How many bytes are requested from a device at a time.
 const PIECE: usize = 65_536;
 
-/// What a text says, before it is known to be a heap, or which line is none.
-pub(crate) fn read_text(alloc: Global, text: &[u8]) -> Result<Parts, TextError>
+/// Parses a text, which may still describe an invalid heap.
+pub(crate) fn parse_text(alloc: Global, text: &[u8]) -> Result<ParsedHeap, TextError>
     ensures { IfErr result (λ error. IsWithin text.now error) }
 {
-    let mut progress = Progress::new(alloc);
-    progress.take_lines(text, 0)?;
-    progress.end(text)
+    let mut parser = TextParser::new(alloc);
+    parser.parse_lines(text, 0)?;
+    parser.finish(text)
 }
 
-/// What the text that a device gives says, before it is known to be a heap, or which line is none. The text is kept in an
-/// empty vector, and no more of it is asked for once a line is wrong.
-pub(crate) fn read_lines<R: Intake>(
+/// As [`parse_text`], of a text that a device gives and that is kept in `text`. Nothing is requested after the piece in
+/// which a line is wrong.
+pub(crate) fn parse_from<R: Intake>(
     alloc: Global,
     device: &mut R,
     text: &mut Vec<u8>,
-) -> Result<Parts, AssembleError>
+) -> Result<ParsedHeap, AssembleError>
     requires { text.old.items ≡ [] }
     ensures text { OnOk result (Consumes (R.left device.old) (R.left device.new) text.new.items) }
     ensures end { OnOk result (IsAtEnd (R.left device.new)) }
@@ -35,18 +35,18 @@ pub(crate) fn read_lines<R: Intake>(
     ensures device { result ≡ Err AssembleError.Device → IsTrue (R.has_failed device.new) }
 {
     let mut piece = vec![in alloc; 0u8; PIECE]?;
-    let mut progress = Progress::new(alloc);
+    let mut parser = TextParser::new(alloc);
     let mut seen = 0;
-    while take_piece(device, piece.as_mut_slice(), text)? {
-        progress.take_lines(text.as_slice(), seen)?;
-        progress.check_length(text.as_slice())?;
+    while read_piece(device, piece.as_mut_slice(), text)? {
+        parser.parse_lines(text.as_slice(), seen)?;
+        parser.check_unfinished_line(text.as_slice(), seen)?;
         seen = text.len();
     }
-    Ok(progress.end(text.as_slice())?)
+    Ok(parser.finish(text.as_slice())?)
 }
 
-/// Adds the next bytes of a device to those before, and says whether there were some.
-fn take_piece<R: Intake>(
+/// Appends the next bytes of a device to `text`, and returns whether there are any.
+fn read_piece<R: Intake>(
     device: &mut R,
     piece: &mut [u8],
     text: &mut Vec<u8>,
