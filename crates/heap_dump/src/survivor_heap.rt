@@ -1,21 +1,21 @@
-//! `SurvivorHeap`: the survivors of a heap, moved together.
+//! Copies the survivors of a heap into a new one, without gaps.
 use crate::forwarding::Forwarding;
 use crate::heap::UnsealedHeap;
 use crate::options::Regions;
 use crate::survivors::Survivors;
 use std::alloc::{AllocError, Global};
 
-/// The survivors of a heap alone.
+/// A heap of survivors only.
 #[derive(Drop)]
 pub(crate) struct SurvivorHeap {
     pub(crate) heap: UnsealedHeap,
-    /// The new addresses of what roots lead to.
+    /// The new addresses of the objects to which roots lead.
     pub(crate) roots: Vec<u64>,
 }
 
 impl SurvivorHeap {
-    /// A heap with the survivors of this one, in their order and without gaps, in such regions. The roots lead to these
-    /// addresses, and then to the new ones.
+    /// Copies the survivors of a heap in their order and without gaps into a new one with these regions. `roots` are
+    /// old addresses.
     pub(crate) fn of(
         alloc: Global,
         old: &UnsealedHeap,
