@@ -2,26 +2,30 @@
 ghost use Rattle.std.specs.Prelude.{◌≡◌, ◌≢◌, ◌<◌, ◌≤◌, ◌^◌, ℕ, IfOk, None, Some, length, slice_index_or};
 ghost use Rattle.schedule_timeline.specs.Timeline.{call_at, does, first_call};
 ghost use Rattle.schedule_timeline.specs.FirstCalls.{AreFirst, earlier_of};
+ghost use Rattle.schedule_timeline.specs.Log.{IsTold, log_of};
 
 use crate::call::Call;
 use crate::deed::Deed;
+use crate::entry_at::entry_at;
 use crate::scale::FIRST_LINE;
-use history::Entry;
+use history::{Entry, Schedule};
 use std::alloc::{AllocError, Global};
 
 /// Of each of so many regions the first call that does this to it.
 pub(crate) fn first_calls(
     alloc: Global,
-    log: &[Entry],
+    schedule: &Schedule,
     regions: u32,
     deed: Deed,
 ) -> Result<Vec<Option<Call>>, AllocError>
-    ensures { IfOk result (λ calls. AreFirst deed regions log.now calls.items) }
+    requires { IsTold schedule.now }
+    ensures { IfOk result (λ calls. AreFirst deed regions (log_of schedule.now) calls.items) }
 {
     let mut calls = vec![in alloc; None; regions as usize]?;
-    for (i, entry) in log.iter().enumerate() {
-        if let Some(region) = deed.region(entry) {
-            note(&mut calls, region, call_at(i, entry));
+    for i in 0..schedule.len() {
+        let entry = entry_at(schedule, i);
+        if let Some(region) = deed.region(&entry) {
+            note(&mut calls, region, call_at(i, &entry));
         }
     }
     Ok(calls)

@@ -18,6 +18,7 @@ mod call;
 mod deed;
 mod drawing;
 mod ending;
+mod entry_at;
 mod figures;
 mod first_calls;
 mod freeing;

@@ -1,11 +1,11 @@
 //! A timeline as a page that stands alone.
-ghost use Rattle.std.specs.Prelude.{◌<◌, ◌-◌, ◌^◌, IfOk};
+ghost use Rattle.std.specs.Prelude.{◌≡◌, ◌<◌, ◌-◌, ◌^◌, ◌++◌, ℕ, List, IfOk, OnOk, string_bytes};
 ghost use Rattle.history.specs.ScheduleText.{schedule_text};
 ghost use Rattle.schedule_timeline.specs.Page.{Has};
 
 use crate::page_layout::{BEHIND, BETWEEN, HEAD, TAIL};
 use crate::page_script::SCRIPT;
-use history::{Schedule, write_schedule};
+use history::{Schedule, append_schedule};
 use std::alloc::{AllocError, Global};
 use summary::Plan;
 
@@ -18,29 +18,27 @@ pub(crate) fn page_of(
     ensures { IfOk result (λ page. Has (schedule_text schedule.now) page.items) }
 {
     let mut page = front_of(alloc, plan)?;
-    let text = write_schedule(alloc, schedule)?;
-    page.extend_from_slice(&text)?;
-    let back = back(alloc)?;
-    page.extend_from_slice(back.as_bytes())?;
-    Ok(page)
+    append_schedule(&mut page, schedule)?;
+    write_back(&mut page)?;
+    Ok(page.into_bytes())
 }
 
 /// What stands before the schedule.
-fn front_of(alloc: Global, plan: &Plan) -> Result<Vec<u8>, AllocError> {
+fn front_of(alloc: Global, plan: &Plan) -> Result<String, AllocError> {
     let mut front = String::new(alloc);
     front.push_str(HEAD)?;
     write_moves(&mut front, plan)?;
     front.push_str(BETWEEN)?;
-    Ok(front.into_bytes())
+    Ok(front)
 }
 
-/// What stands behind the schedule.
-fn back(alloc: Global) -> Result<String, AllocError> {
-    let mut back = String::new(alloc);
-    back.push_str(BEHIND)?;
-    back.push_str(SCRIPT)?;
-    back.push_str(TAIL)?;
-    Ok(back)
+/// Writes what stands behind the schedule.
+fn write_back(page: &mut String) -> Result<(), AllocError>
+    ensures { OnOk result ((back : List ℕ) × (string_bytes page.new ≡ string_bytes page.old ++ back)) }
+{
+    page.push_str(BEHIND)?;
+    page.push_str(SCRIPT)?;
+    page.push_str(TAIL)
 }
 
 /// Writes how many regions there are, how many of them are to be filled, and the pairs, a line each.

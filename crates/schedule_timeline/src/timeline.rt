@@ -1,12 +1,11 @@
 //! `Timeline`: a schedule as bars and marks.
-ghost use Rattle.std.specs.Prelude.{◌≡◌, ◌⊎◌, ℕ, List, IfOk, IfErr, map, string_bytes};
+ghost use Rattle.std.specs.Prelude.{◌≡◌, ◌⊎◌, ℕ, IfOk, IfErr, string_bytes};
 ghost use Rattle.heap_image.specs.declared.fault.Fault.{Fault};
 ghost use Rattle.history.specs.Replay.{IsRefusedAt};
-ghost use Rattle.history.specs.Schedule.{line_of};
 ghost use Rattle.history.specs.ScheduleText.{schedule_text};
-ghost use Rattle.history.specs.declared.entry.Entry.{Entry};
 ghost use Rattle.schedule_timeline.specs.TimelineFigures.{BeginsWithFigures, IsFiguresLine};
 ghost use Rattle.schedule_timeline.specs.FirstCalls.{AreGrantedBelow};
+ghost use Rattle.schedule_timeline.specs.Log.{IsTold, log_of};
 ghost use Rattle.schedule_timeline.specs.Page.{Has};
 ghost use Rattle.schedule_timeline.specs.Timeline.{IsTimelineOf, bars_of, ending_of, freed_pair, freeings_of};
 
@@ -14,6 +13,7 @@ use crate::bar::Bar;
 use crate::deed::{Deed, granted};
 use crate::drawing::draw;
 use crate::ending::Ending;
+use crate::entry_at::entry_at;
 use crate::figures::TimelineFigures;
 use crate::first_calls::{call_at, call_of, first_calls};
 use crate::freeing::Freeing;
@@ -55,11 +55,10 @@ impl Timeline {
     {
         grants_are_inside();
         let (lines, ending) = parts_of(replay(alloc, image, survey, schedule)?);
-        let log = entries_of(alloc, &lines)?;
         let regions = survey.plan().regions();
         Ok(Timeline {
-            bars: bars_of(alloc, &log, regions)?,
-            freeings: freeings_of(alloc, &log, regions)?,
+            bars: bars_of(alloc, &lines, regions)?,
+            freeings: freeings_of(alloc, &lines, regions)?,
             schedule: lines,
             ending,
         })
@@ -112,37 +111,21 @@ fn parts_of(replayed: Replayed) -> (Schedule, Ending)
     (replayed.lines, ending)
 }
 
-/// The calls of a schedule that tells all replies.
-fn entries_of(alloc: Global, schedule: &Schedule) -> Result<Vec<Entry>, AllocError>
-    ensures { IfOk result (λ log. (told : List Entry) → schedule.now.lines ≡ map line_of told → log.items ≡ told) }
+/// The bars of a schedule that tells all replies, in which regions below this number are granted.
+fn bars_of(alloc: Global, schedule: &Schedule, regions: u32) -> Result<Vec<Bar>, AllocError>
+    requires told { IsTold schedule.now }
+    requires below { AreGrantedBelow regions (log_of schedule.now) }
+    ensures { IfOk result (λ bars. bars.items ≡ bars_of (log_of schedule.now)) }
 {
-    let mut log = Vec::new(alloc);
-    for i in 0..schedule.len() {
-        let (worker, event, told) = schedule.line(i);
-        if let Some(reply) = told {
-            log.push(Entry {
-                worker,
-                event,
-                reply,
-            })?;
-        }
-    }
-    Ok(log)
-}
-
-/// The bars of a history in which regions below this number are granted.
-fn bars_of(alloc: Global, log: &[Entry], regions: u32) -> Result<Vec<Bar>, AllocError>
-    requires { AreGrantedBelow regions log.now }
-    ensures { IfOk result (λ bars. bars.items ≡ bars_of log.now) }
-{
-    let completed = first_calls(alloc, log, regions, Deed::Completion)?;
-    let settled = first_calls(alloc, log, regions, Deed::Settling)?;
+    let completed = first_calls(alloc, schedule, regions, Deed::Completion)?;
+    let settled = first_calls(alloc, schedule, regions, Deed::Settling)?;
     let mut bars = Vec::new(alloc);
-    for (i, entry) in log.iter().enumerate() {
-        if let Some(region) = granted(entry) {
+    for i in 0..schedule.len() {
+        let entry = entry_at(schedule, i);
+        if let Some(region) = granted(&entry) {
             bars.push(Bar {
                 region,
-                claimed: call_at(i, entry),
+                claimed: call_at(i, &entry),
                 completed: call_of(&completed, region),
                 settled: call_of(&settled, region),
             })?;
@@ -151,17 +134,19 @@ fn bars_of(alloc: Global, log: &[Entry], regions: u32) -> Result<Vec<Bar>, Alloc
     Ok(bars)
 }
 
-/// The marks of a history in which regions below this number are granted.
-fn freeings_of(alloc: Global, log: &[Entry], regions: u32) -> Result<Vec<Freeing>, AllocError>
-    requires { AreGrantedBelow regions log.now }
-    ensures { IfOk result (λ freeings. freeings.items ≡ freeings_of log.now) }
+/// The marks of a schedule that tells all replies, in which regions below this number are granted.
+fn freeings_of(alloc: Global, schedule: &Schedule, regions: u32) -> Result<Vec<Freeing>, AllocError>
+    requires told { IsTold schedule.now }
+    requires below { AreGrantedBelow regions (log_of schedule.now) }
+    ensures { IfOk result (λ freeings. freeings.items ≡ freeings_of (log_of schedule.now)) }
 {
-    let granted = first_calls(alloc, log, regions, Deed::Grant)?;
+    let granted = first_calls(alloc, schedule, regions, Deed::Grant)?;
     let mut freeings = Vec::new(alloc);
-    for (i, entry) in log.iter().enumerate() {
-        if let Some((destination, source)) = freed_pair(entry) {
+    for i in 0..schedule.len() {
+        let entry = entry_at(schedule, i);
+        if let Some((destination, source)) = freed_pair(&entry) {
             freeings.push(Freeing {
-                drain: call_at(i, entry),
+                drain: call_at(i, &entry),
                 destination,
                 source,
                 taken: call_of(&granted, source),
