@@ -1,4 +1,4 @@
 pub mod Calls
-pub mod Told
+pub mod Replies
 pub mod Tables
 pub mod Bars

@@ -1,8 +1,8 @@
-//! The first call that does something to each region.
+//! A table of the first call that grants, completes or settles each region.
 ghost use Rattle.std.specs.Prelude.{◌≡◌, ◌≢◌, ◌<◌, ◌≤◌, ◌^◌, ℕ, IfOk, None, Some, length, slice_index_or};
 ghost use Rattle.schedule_timeline.specs.Timeline.{call_at, does, first_call};
 ghost use Rattle.schedule_timeline.specs.FirstCalls.{AreFirst, earlier_of};
-ghost use Rattle.schedule_timeline.specs.Log.{IsTold, log_of};
+ghost use Rattle.schedule_timeline.specs.Log.{HasAllReplies, log_of};
 
 use crate::call::Call;
 use crate::deed::Deed;
@@ -11,14 +11,14 @@ use crate::scale::FIRST_LINE;
 use history::{Entry, Schedule};
 use std::alloc::{AllocError, Global};
 
-/// Of each of so many regions the first call that does this to it.
+/// For each region below `regions`, the first call that does `deed` to it. Each line of the schedule has its reply.
 pub(crate) fn first_calls(
     alloc: Global,
     schedule: &Schedule,
     regions: u32,
     deed: Deed,
 ) -> Result<Vec<Option<Call>>, AllocError>
-    requires { IsTold schedule.now }
+    requires { HasAllReplies schedule.now }
     ensures { IfOk result (λ calls. AreFirst deed regions (log_of schedule.now) calls.items) }
 {
     let mut calls = vec![in alloc; None; regions as usize]?;
@@ -31,11 +31,11 @@ pub(crate) fn first_calls(
     Ok(calls)
 }
 
-/// Notes a call of a region, where none is noted yet.
+/// Enters a call of a region in a table, unless the table has an earlier one or no such region.
 fn note(calls: &mut [Option<Call>], region: u32, call: Call)
     ensures all { length calls.new ≡ length calls.old }
     ensures others { (r : ℕ) → r ≢ region → slice_index_or calls.new r None ≡ slice_index_or calls.old r None }
-    ensures noted { region < length calls.old → slice_index_or calls.new region None ≡ earlier_of (slice_index_or calls.old region None) call }
+    ensures first { region < length calls.old → slice_index_or calls.new region None ≡ earlier_of (slice_index_or calls.old region None) call }
 {
     let at = region as usize;
     if at < calls.len() && calls[at].is_none() {
@@ -43,7 +43,7 @@ fn note(calls: &mut [Option<Call>], region: u32, call: Call)
     }
 }
 
-/// The call that stands there of a history.
+/// The call of entry `i` of a history.
 pub(crate) fn call_at(i: usize, entry: &Entry) -> Call
     requires { i < 2 ^ 63 }
     ensures { result ≡ call_at (i, entry.now) }
@@ -54,7 +54,7 @@ pub(crate) fn call_at(i: usize, entry: &Entry) -> Call
     }
 }
 
-/// The call that is noted of a region.
+/// The call of a region in a table.
 pub(crate) fn call_of(calls: &[Option<Call>], region: u32) -> Option<Call>
     ensures { result ≡ slice_index_or calls.now region None }
 {

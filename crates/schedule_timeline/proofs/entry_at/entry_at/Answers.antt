@@ -9,10 +9,10 @@ use Rattle.history.specs.declared.line.Line.{Line}
 use Rattle.history.specs.declared.reply.Reply.{Reply}
 use Rattle.history.specs.declared.reply.Reply.TheVariants.{Yes, Done}
 use Rattle.schedule_timeline.specs.Log.{log_of}
-use Rattle.schedule_timeline.proofs.Told.{calls_of_lines}
+use Rattle.schedule_timeline.proofs.Replies.{a_call_for_each_line}
 use Rattle.schedule_timeline.proofs.entry_at.entry_at.Goals as goal
 
--- an entry, for places where there is none
+-- the default for places past the end
 abbrev other : Entry
 other = record { worker = 0; event = Claim 0; reply = Yes }
 
@@ -23,7 +23,7 @@ line_is lines log i line are here is =
     sym is ∙ ap (λ (l : List Line). slice_get l i) are ∙ slice_get-map line_of log i ∙ ap (option_map line_of) (slice_get-get_or log i other here) in
     ap (λ o. unwrap_or o line) both
 
--- an entry by its parts
+-- equal entries, by their parts
 entry_same : (e : Entry) (worker : ℕ) (event : Event) (reply : Reply) → worker ≡ e.worker → event ≡ e.event → reply ≡ e.reply
     → record { worker = worker; event = event; reply = reply } ≡ e
 entry_same e worker event reply w v r =
@@ -34,8 +34,8 @@ pub returns : goal.returns
 returns c =
     let log = log_of c.args.schedule.now in
     let i = c.args.i in
-    let here : i < length log = omega (arith, calls_of_lines c.args.schedule.now c.requires.told, c.requires.inside) in
-    let line = line_is c.args.schedule.now.lines log i (record { worker = c.line-worker.result.0; event = c.line-worker.result.1; reply = c.line-worker.result.2 }) c.requires.told here c.line-worker.ensures.line in
+    let here : i < length log = omega (arith, a_call_for_each_line c.args.schedule.now c.requires.replies, c.requires.inside) in
+    let line = line_is c.args.schedule.now.lines log i (record { worker = c.line-worker.result.0; event = c.line-worker.result.1; reply = c.line-worker.result.2 }) c.requires.replies here c.line-worker.ensures.line in
     let replied = c.unwrap_or-reply.ensures ∙ ap (λ (l : Line). unwrap_or l.reply Done) line in
     slice_get-get_or log i other here
     ∙ ap Some (sym (entry_same (get_or log i other) c.line-worker.result.0 c.line-worker.result.1 c.unwrap_or-reply.result (ap (λ (l : Line). l.worker) line) (ap (λ (l : Line). l.event) line) replied))

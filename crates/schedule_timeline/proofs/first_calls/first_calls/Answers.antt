@@ -9,11 +9,11 @@ use Rattle.history.specs.declared.event.Event.TheVariants.{Claim}
 use Rattle.history.specs.declared.reply.Reply.TheVariants.{Yes}
 use Rattle.schedule_timeline.specs.FirstCalls.{AreFirst, earlier_of}
 use Rattle.schedule_timeline.proofs.Tables.{noted, same}
-use Rattle.schedule_timeline.proofs.Told.{all_calls, call_there, calls_of_lines}
+use Rattle.schedule_timeline.proofs.Replies.{a_call_for_each_line, all_calls, call_there}
 use Rattle.schedule_timeline.proofs.first_calls.first_calls.Goals as goal
 use Rattle.schedule_timeline.proofs.first_calls.first_calls.Goals.{in-Some, in_default}
 
--- the entry that is read where there is none
+-- the default for places past the end
 abbrev other : Entry
 other = record { worker = 0; event = Claim 0; reply = Yes }
 
@@ -21,7 +21,7 @@ pub loop-i-preserved : goal.loop-i-preserved
 loop-i-preserved c =
     let log = log_of c.args.schedule.now in
     let i = c.loop-i.i in
-    let inside : i < length log = omega (arith, calls_of_lines c.args.schedule.now c.requires, c.loop-i-test.true, c.len-i-end.ensures) in
+    let inside : i < length log = omega (arith, a_call_for_each_line c.args.schedule.now c.requires, c.loop-i-test.true, c.len-i-end.ensures) in
     let here = call_there log i c.entry_at-entry.result other inside c.entry_at-entry.ensures in
     elim c.match-region.branch [
       | in-Some w ↦
@@ -33,7 +33,7 @@ loop-i-preserved c =
           (w.call_at.ensures ∙ ap (λ (e : Entry). call_at (i, e)) here)
           (ap length items ∙ w.note.ensures.all ∙ ap length is)
           (λ r apart. ap (λ (list : List (Option Call)). slice_index_or list r None) items ∙ w.note.ensures.others r apart ∙ ap (λ (list : List (Option Call)). slice_index_or list r None) is)
-          (λ few. ap (λ (list : List (Option Call)). slice_index_or list region None) items ∙ w.note.ensures.noted (subst (λ (list : List (Option Call)). region < length list) (sym is) few)
+          (λ few. ap (λ (list : List (Option Call)). slice_index_or list region None) items ∙ w.note.ensures.first (subst (λ (list : List (Option Call)). region < length list) (sym is) few)
           ∙ ap (λ (list : List (Option Call)). earlier_of (slice_index_or list region None) w.call_at.result) is)
       | in_default w ↦
           same c.args.deed c.args.regions log i other c.loop-i.calls.items c.match-region.calls.items inside c.loop-i.invariant
