@@ -18,7 +18,8 @@ pub(crate) fn first_calls(
     regions: u32,
     deed: Deed,
 ) -> Result<Vec<Option<Call>>, AllocError>
-    requires { HasAllReplies schedule.now }
+    requires replies { HasAllReplies schedule.now }
+    requires few { length schedule.now.lines < 2 ^ 63 }
     ensures { IfOk result (λ calls. AreFirst deed regions (log_of schedule.now) calls.items) }
 {
     let mut calls = vec![in alloc; None; regions as usize]?;

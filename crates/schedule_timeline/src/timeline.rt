@@ -1,4 +1,4 @@
-ghost use Rattle.std.specs.Prelude.{◌≡◌, ◌⊎◌, ℕ, IfOk, IfErr, string_bytes};
+ghost use Rattle.std.specs.Prelude.{◌≡◌, ◌<◌, ◌^◌, ◌⊎◌, ℕ, IfOk, IfErr, length, string_bytes};
 ghost use Rattle.heap_image.specs.declared.fault.Fault.{Fault};
 ghost use Rattle.history.specs.Replay.{IsRefusedAt};
 ghost use Rattle.history.specs.ScheduleText.{schedule_text};
@@ -24,6 +24,9 @@ use heap_map::Style;
 use history::{End, Entry, Event, Replayed, Reply, Schedule, replay};
 use std::alloc::{AllocError, Global};
 use summary::{Plan, Survey};
+
+/// The largest number of lines. No memory holds more.
+const MAX_LINES: usize = 0x7fff_ffff_ffff_ffff;
 
 /// A schedule that the word machine of an image accepts, with the bars of granted regions and the marks of drains that free a
 /// region. The lines of the schedule's text are the time.
@@ -55,6 +58,9 @@ impl Timeline {
     {
         grants_are_inside();
         let (lines, ending) = parts_of(replay(alloc, image, survey, schedule)?);
+        if lines.len() > MAX_LINES {
+            return Err(Fault::Memory);
+        }
         let regions = survey.plan().regions();
         Ok(Timeline {
             bars: bars_of(alloc, &lines, regions)?,
@@ -114,6 +120,7 @@ fn parts_of(replayed: Replayed) -> (Schedule, Ending)
 /// The bars of a schedule in which each line has its reply and only regions below `regions` are granted.
 fn bars_of(alloc: Global, schedule: &Schedule, regions: u32) -> Result<Vec<Bar>, AllocError>
     requires replies { HasAllReplies schedule.now }
+    requires few { length schedule.now.lines < 2 ^ 63 }
     requires below { AreGrantedBelow regions (log_of schedule.now) }
     ensures { IfOk result (λ bars. bars.items ≡ bars_of (log_of schedule.now)) }
 {
@@ -137,6 +144,7 @@ fn bars_of(alloc: Global, schedule: &Schedule, regions: u32) -> Result<Vec<Bar>,
 /// The marks of a schedule in which each line has its reply and only regions below `regions` are granted.
 fn freeings_of(alloc: Global, schedule: &Schedule, regions: u32) -> Result<Vec<Freeing>, AllocError>
     requires replies { HasAllReplies schedule.now }
+    requires few { length schedule.now.lines < 2 ^ 63 }
     requires below { AreGrantedBelow regions (log_of schedule.now) }
     ensures { IfOk result (λ freeings. freeings.items ≡ freeings_of (log_of schedule.now)) }
 {

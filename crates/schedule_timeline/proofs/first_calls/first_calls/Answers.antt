@@ -21,7 +21,7 @@ pub loop-i-preserved : goal.loop-i-preserved
 loop-i-preserved c =
     let log = log_of c.args.schedule.now in
     let i = c.loop-i.i in
-    let inside : i < length log = omega (arith, a_call_for_each_line c.args.schedule.now c.requires, c.loop-i-test.true, c.len-i-end.ensures) in
+    let inside : i < length log = omega (arith, a_call_for_each_line c.args.schedule.now c.requires.replies, c.loop-i-test.true, c.len-i-end.ensures) in
     let here = call_there log i c.entry_at-entry.result other inside c.entry_at-entry.ensures in
     elim c.match-region.branch [
       | in-Some w ↦
@@ -43,4 +43,4 @@ loop-i-preserved c =
 pub returns : goal.returns
 returns c =
     subst (λ (log : List Entry). AreFirst c.args.deed c.args.regions log c.loop-i.calls.items)
-    (all_calls c.args.schedule.now c.loop-i.i c.requires (omega (arith, c.loop-i-test.false, c.len-i-end.ensures))) c.loop-i.invariant
+    (all_calls c.args.schedule.now c.loop-i.i c.requires.replies (omega (arith, c.loop-i-test.false, c.len-i-end.ensures))) c.loop-i.invariant
