@@ -45,8 +45,8 @@ pub fn live_words_of_cells_add_up()
     cells_lie_in_a_row();
 }
 
-/// Which words are live after the collection: below the prefix end those that were live before, from there up to the new top
-/// all, and above it none.
+/// Which words are live after the collection: below the prefix end those that were live before, from there up to the
+/// new top all, and above it none.
 pub fn live_word_after()
     ensures below { (image : HeapImage) → IsValid image → (p : ℕ) → p < prefix_end image
         → is_live_word (compact image) p ≡ is_live_word image p }

@@ -1,4 +1,5 @@
-//! How areas and shades are drawn: hatching shows the area and darkness the shade, so a drawing can be read without colours.
+//! How areas and shades are drawn: hatching shows the area and darkness the shade, so a drawing can be read without
+//! colours.
 use crate::area::Area;
 use crate::shade::Shade;
 

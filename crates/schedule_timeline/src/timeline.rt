@@ -28,8 +28,8 @@ use summary::{Plan, Survey};
 /// The largest number of lines. No memory holds more.
 const MAX_LINES: usize = 0x7fff_ffff_ffff_ffff;
 
-/// A schedule that the word machine of an image accepts, with the bars of granted regions and the marks of drains that free a
-/// region. The lines of the schedule's text are the time.
+/// A schedule that the word machine of an image accepts, with the bars of granted regions and the marks of drains that
+/// free a region. The lines of the schedule's text are the time.
 #[derive(Drop)]
 pub struct Timeline {
     /// The schedule. Each line has its reply.
@@ -79,8 +79,8 @@ impl Timeline {
         Ok(text)
     }
 
-    /// The timeline as text: the line of figures, two rows for each worker, the legend and a list of freed regions. A row has
-    /// one cell per line of the schedule, but no more than `width`.
+    /// The timeline as text: the line of figures, two rows for each worker, the legend and a list of freed regions. A
+    /// row has one cell per line of the schedule, but no more than `width`.
     pub fn text(&self, alloc: Global, style: Style, width: u32) -> Result<String, AllocError>
         ensures { IfOk result (λ text. BeginsWithFigures self.now (string_bytes text)) }
     {
@@ -96,8 +96,8 @@ impl Timeline {
         draw(alloc, self)
     }
 
-    /// The timeline as an HTML page, for the plan of its image. The page contains the schedule's text and a script that steps
-    /// through its lines.
+    /// The timeline as an HTML page, for the plan of its image. The page contains the schedule's text and a script that
+    /// steps through its lines.
     pub fn page(&self, alloc: Global, plan: &Plan) -> Result<Vec<u8>, AllocError>
         ensures { IfOk result (λ page. Has (schedule_text self.now.schedule) page.items) }
     {

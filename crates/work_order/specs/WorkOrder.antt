@@ -2,8 +2,8 @@
 use Rattle.std.specs.Prelude.{◌≡◌, ℕ, ◌+◌, ◌*◌, ◌/◌, ◌%◌, ◌≤◌, ◌==◌, max, if◌then◌else◌, List, ◌++◌, codes, decimal}
 use Rattle.std.specs.Int.{div_ceil}
 
--- the largest speed-up of many workers over one, in hundredths: all words divided by those of the longest chain, rounded down,
--- and 1 if there is no word
+-- the largest speed-up of many workers over one, in hundredths: all words divided by those of the longest chain,
+-- rounded down, and 1 if there is no word
 abbrev pub speedup_of : ℕ → ℕ → ℕ
 speedup_of words chain = if chain == 0 then 100 else words * 100 / chain
 

@@ -25,8 +25,8 @@ pub(crate) fn longest_chains(alloc: Global, plan: &Plan) -> Result<Vec<u64>, All
     Ok(chains)
 }
 
-/// The words of the longest chain that begins with a region that `region` waits for, or 0 if it waits for none. `chains` has
-/// the longest chains of all lower regions.
+/// The words of the longest chain that begins with a region that `region` waits for, or 0 if it waits for none.
+/// `chains` has the longest chains of all lower regions.
 fn longest_after(plan: &Plan, chains: &[u64], region: u32) -> u64
     requires here { region < region_count plan.now }
     requires below { AreLongest plan.now chains.now }
