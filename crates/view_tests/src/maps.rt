@@ -1,4 +1,4 @@
-//! Shades of cells. `tests/map_rows.py` compares whole pictures.
+//! Shades of cells. The tests of the command `map` compare whole pictures.
 use crate::checks::equal;
 use heap_map::{Area, Cell, Shade};
 use std::test::Fail;

@@ -1,4 +1,5 @@
-//! The order of work of a heap without regions to fill. `tests/commands` compares other heaps.
+//! The order of work of a heap without regions to fill. The tests of the
+//! command `order` compare other heaps.
 use crate::checks::equal;
 use heap_image::{Fault, Image};
 use heap_samples::base_image;

@@ -1,5 +1,5 @@
-//! The bars and marks of a timeline, with the worker and the line of each call. `tests/timeline` compares what is
-//! printed and drawn.
+//! The bars and marks of a timeline, with the worker and the line of each call. The tests of the command
+//! `timeline` compare what is printed and drawn.
 ghost use Rattle.std.specs.Prelude.{◌≡◌};
 
 use crate::checks::{equal, equal_items};
