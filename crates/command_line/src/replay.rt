@@ -19,7 +19,7 @@ pub fn words<'a>(alloc: Global) -> Result<Command<'a>, AllocError>
     Command::new(alloc, "replay")
         .about("Replay a schedule word by word and print it with all replies")
         .arg(arguments::image(alloc))?
-        .arg(arguments::file(alloc, "SCHEDULE", "A schedule of the image's collection"))?
+        .arg(arguments::file(alloc, "SCHEDULE", "A schedule for the image"))?
         .arg(arguments::verbose(alloc))
 }
 

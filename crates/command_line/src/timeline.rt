@@ -39,7 +39,7 @@ fn with_inputs<'a>(alloc: Global) -> Result<Command<'a>, AllocError>
         .about("Draw which worker has which region along the lines of a schedule")
         .after_help(EXAMPLE)
         .arg(arguments::image(alloc))?
-        .arg(arguments::file(alloc, "SCHEDULE", "A schedule of the image's collection"))
+        .arg(arguments::file(alloc, "SCHEDULE", "A schedule for the image"))
 }
 
 /// Adds the options for the width of the picture and for its files.
