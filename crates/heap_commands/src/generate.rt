@@ -29,6 +29,7 @@ where
     let writing = Writing {
         atomic: asked.atomic,
         is_private: false,
+        read: None,
     };
     let found = FileTarget::find(rt, image, writing)?;
     let mut written = ToWrite::new(Late::new(rt, found));
