@@ -6,6 +6,8 @@ ghost use Rattle.history.specs.History.{IsLegal, IsOrderly, IsReached, TellsOwn,
 ghost use Rattle.history.specs.WordMachine.{IsAllowed, IsDrainedBeforeWritten};
 ghost use Rattle.history.specs.declared.entry.Entry.{Entry};
 
+use crate::moves::Moves;
+
 /// Whatever the workers call, in any order and however many they are: a region is granted at most
 /// once, when nobody has to read it any more nor ever will, it is completed by its claimant alone
 /// and after all its reads are drained, and exactly the last settling answers `All`.
@@ -44,3 +46,10 @@ pub fn pairs_slide_down()
 pub fn drained_before_written()
     ensures { (image : HeapImage) → IsValid image → (workers : ℕ) (log : List Entry) → IsAllowed image workers log → IsDrainedBeforeWritten image log }
 {}
+
+/// Moves keep the laws of a table.
+pub fn moves_are_lawful<M: Moves>(moves: &M)
+    ensures { IsMoveTable (M.table moves.now) }
+{
+    moves.regions();
+}

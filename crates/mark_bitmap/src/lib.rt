@@ -24,6 +24,7 @@
 //! That memory that is refused ends `of` and `by_workers` with an error, and how many threads the latter starts. How fast the queries are is neither proved nor tested.
 #![tactic(auto)]
 
+pub mod laws;
 mod mark_builder;
 mod marks;
 mod objects;
