@@ -11,6 +11,7 @@ use claim_board::{
     swept_tickets_have_none_left,
 };
 use history::Moves;
+use history::laws::moves_are_lawful;
 use std::alloc::{AllocError, Global};
 
 /// A worker after its sweep.
@@ -78,11 +79,11 @@ fn fill<M: Moves>(board: &Board, moves: &M, pass: &mut Pass, mut ticket: Ticket)
     ensures worker { worker pass.new ≡ worker pass.old }
     ensures tally { Adds ticket.region (record { claims = 0; completions = 1 }) (mine pass.old) (mine pass.new) }
 {
-    // Laws, and a call whose clause says that the moves are lawful: they do nothing.
+    // These laws do nothing.
     swept_tickets_have_none_left();
     appended_calls_are_gained();
     one_more_source_is_drained();
-    let _regions = moves.regions();
+    moves_are_lawful(moves);
     while let Some(opening) = ticket.open(moves) {
         board.drain(pass, &mut ticket, opening.close());
     }

@@ -4,7 +4,7 @@ ghost use Rattle.summary.specs.NewAddresses.{new_address};
 ghost use Rattle.summary.specs.Compaction.{redirected, compact};
 ghost use Rattle.fill.specs.FillFaults.{IsOverwritten};
 
-use crate::valid::planned_image_is_valid;
+use summary::laws::plans::planned_image_is_valid;
 use fill::{clear_above, update_deferred_by_workers};
 use heap_image::{Fault, Image, ImageParts, roots_are_null_or_live};
 use region_cells::Cells;

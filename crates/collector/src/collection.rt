@@ -14,7 +14,7 @@ ghost use Rattle.collector.specs.declared.outcome.Refusal.TheVariants.{Kept, Los
 use crate::gate::Gate;
 use crate::outcome::{Outcome, Refusal};
 use crate::prepared::Prepared;
-use crate::valid::moves_are_lawful;
+use history::laws::moves_are_lawful;
 use claim_board::{Board, Finished, Pass};
 use heap_image::{Fault, Image};
 use history::settled_histories_have_each_once;

@@ -9,7 +9,7 @@ ghost use Rattle.collector.specs.Compared.{AreCompacted, IsFirstOther, IsPlaced,
 ghost use Rattle.collector.specs.Verdict.{IsVerdict, HaveSameShape, root_count, root_at};
 
 use crate::difference::{first_nonzero, first_unlike};
-use crate::valid::image_is_valid;
+use heap_image::laws::image_is_valid;
 use crate::verdict::Verdict;
 use heap_image::{Image, header};
 use summary::Survey;

@@ -9,7 +9,7 @@ ghost use Rattle.collector.specs.declared.worker.Halt.TheVariants.{Stopped};
 
 use crate::gate::Gate;
 use crate::ready::Thief;
-use crate::valid::planned_image_is_valid;
+use summary::laws::plans::planned_image_is_valid;
 use crate::worker::{Halt, Worker};
 use claim_board::{Desk, Done, Ticket};
 use crossbeam_utils::Backoff;

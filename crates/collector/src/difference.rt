@@ -3,7 +3,7 @@ ghost use Rattle.std.specs.Prelude.{◌≡◌, ◌+◌, ◌≤◌, MatchOption};
 ghost use Rattle.heap_image.specs.HeapImage.{heap_words, word_at};
 ghost use Rattle.collector.specs.Difference.{AreAlike, IsLeastDifference};
 
-use crate::valid::image_is_valid;
+use heap_image::laws::image_is_valid;
 use heap_image::Image;
 
 /// The index of the first of the `n` words from address `at` on that is not 0.

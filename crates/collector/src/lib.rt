@@ -53,7 +53,6 @@ mod record_streaming;
 mod recording;
 mod staff;
 mod streaming;
-mod valid;
 mod verdict;
 mod verification;
 mod worker;

@@ -11,7 +11,7 @@ ghost use Rattle.collector.specs.declared.outcome.Refusal.TheVariants.{Kept, Los
 use crate::gate::Gate;
 use crate::outcome::{Outcome, Refusal};
 use crate::prepared::Prepared;
-use crate::valid::planned_image_is_valid;
+use summary::laws::plans::planned_image_is_valid;
 use claim_board::Recorder;
 use heap_image::{Fault, Image};
 use history::{Schedule, check, checked_histories_are_records};

@@ -2,7 +2,7 @@ ghost use Rattle.std.specs.Prelude.{◌≡◌, ◌<◌, ◌≤◌, [], map, vec_
 ghost use Rattle.std.specs.Vec.{vec_capacity};
 
 use crate::ready::{Ready, Thief};
-use crate::valid::planned_image_is_valid;
+use summary::laws::plans::planned_image_is_valid;
 use crate::worker::{Halt, Worker};
 use std::alloc::{AllocError, Global};
 use summary::Plan;

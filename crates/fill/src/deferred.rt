@@ -9,7 +9,7 @@ ghost use Rattle.fill.specs.MovedHeap.{moved_regions, cleared, words_from, updat
 
 use crate::deferred_parts::DeferredParts;
 use crate::heap::{set_word, word};
-use crate::valid::planned_image_is_valid;
+use summary::laws::plans::planned_image_is_valid;
 use heap_image::header::references;
 use raw_region::Region;
 use std::thread::Threads;

@@ -4,7 +4,7 @@ ghost use Rattle.fill.specs.MovedHeap.{IsCut, IsMovedPart, IsUpdatedPart};
 
 use crate::deferred::{late_references, part_start, update_regions};
 use crate::heap::word;
-use crate::valid::planned_image_is_valid;
+use summary::laws::plans::planned_image_is_valid;
 use heap_image::header::references;
 use raw_region::Region;
 use std::thread::{Threads, join_mut};

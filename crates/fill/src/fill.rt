@@ -8,7 +8,7 @@ ghost use Rattle.fill.specs.FillFaults.{IsFaultOf};
 use crate::filling::Filling;
 use crate::guide::Guide;
 use crate::site::Site;
-use crate::valid::planned_image_is_valid;
+use summary::laws::plans::planned_image_is_valid;
 use claim_board::{Desk, Done, Ticket};
 use heap_image::Fault;
 use history::moves_of_images;

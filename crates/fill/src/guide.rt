@@ -9,7 +9,7 @@ ghost use Rattle.fill.specs.Objects.{IsObject, IsNextObject, HasNoObject};
 
 use crate::runs::Run;
 use crate::span::Span;
-use crate::valid::planned_image_is_valid;
+use summary::laws::plans::planned_image_is_valid;
 use mark_bitmap::Marks;
 use std::marker::Model;
 use summary::laws::new_addresses::objects_keep_their_order;

@@ -30,7 +30,6 @@ mod in_prefix;
 mod runs;
 mod site;
 mod span;
-mod valid;
 
 pub use clear::clear_above;
 pub use deferred::{update_deferred, update_deferred_by_workers};

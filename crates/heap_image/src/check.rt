@@ -8,7 +8,7 @@ ghost use Rattle.heap_image.specs.Bits.{MarkBegins};
 ghost use Rattle.heap_image.specs.Soundness.{AreWellFormed};
 
 use crate::bits::Bits;
-use crate::heap::Heap;
+use crate::heap::{Heap, is_small};
 use crate::{Fault, header};
 
 /// The first index of an address that is outside the heap or not above the one before it.
@@ -102,7 +102,7 @@ fn check_overlaps(heap: &Heap<'_>, live: &[u64]) -> Result<(), Fault>
     ensures ok { OnOk result (first_object_fault (with_live heap.now live.now) ≡ None) }
     ensures fault { IfErr result (λ fault. first_object_fault (with_live heap.now live.now) ≡ Some fault) }
 {
-    let _words = heap.len();
+    is_small(heap);
     let mut end = 0;
     let mut overlap = None;
     for a in live {

@@ -74,7 +74,7 @@ impl<'a> Heap<'a> {
         requires { a + 1 + f < heap_words self.now }
         ensures { result ≡ reference_at self.now a f }
     {
-        let _words = self.len();
+        is_small(self);
         self.word(a + 1 + u64::from(f))
     }
 
@@ -92,4 +92,12 @@ impl<'a> Heap<'a> {
         let (_, behind) = words.split_at(place);
         &behind[..behind.len().min((to - from) as usize)]
     }
+}
+
+/// A heap has at most 4,194,304 words.
+#[inline]
+pub(crate) fn is_small(heap: &Heap<'_>)
+    ensures { heap_words heap.now ≤ 4194304 }
+{
+    heap.len();
 }

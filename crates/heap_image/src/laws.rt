@@ -6,6 +6,15 @@ ghost use Rattle.heap_image.specs.ImageText.{text, from_tail, first_some, live_l
 ghost use Rattle.heap_image.specs.Reading.{HasFittingNumbers};
 ghost use Rattle.heap_image.specs.Reachable.{is_listed, beyond, IsClosed};
 
+use crate::image::Image;
+
+/// Every image is valid.
+pub fn image_is_valid(image: &Image)
+    ensures { IsValid image.now }
+{
+    image.len();
+}
+
 /// Bytes without a fault are the text of the valid image that they tell.
 pub fn faultless_is_text()
     ensures { FaultlessIsText }

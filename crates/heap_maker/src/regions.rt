@@ -48,5 +48,5 @@ fn region_of(
 pub(crate) fn all_fit(words: &[u64])
     ensures { All (λ w. w < 2 ^ 64) words.now }
 {
-    let _count = words.len();
+    words.len();
 }

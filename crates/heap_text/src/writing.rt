@@ -3,6 +3,7 @@ ghost use Rattle.std.specs.Prelude.{◌≡◌, ◌++◌, ◌+◌, ◌-◌, ◌�
 ghost use Rattle.heap_image.specs.HeapImage.{HasSoundHeader, end_of, heap_words};
 ghost use Rattle.heap_text.specs.Text.{are_equal, dead_text, dead_words_text, front_text, number_line, lines_from, number_text, numbers_text, object_text, reference_text, references_text, roots_line, roots_text, text_of};
 
+use heap_image::laws::image_is_valid;
 use heap_image::{Image, header};
 use std::alloc::{AllocError, Global};
 
@@ -86,7 +87,7 @@ fn write_object(text: &mut String, image: &Image, place: u64) -> Result<u64, All
     ensures text { OnOk result (string_bytes text.new ≡ string_bytes text.old ++ object_text image.now place) }
     ensures end { IfOk result (λ end. end ≡ end_of image.now place) }
 {
-    let _words = image.len();
+    image_is_valid(image);
     let word = image.word(place);
     let behind = place + 1 + u64::from(header::references(word));
     let end = place + u64::from(header::size(word));

@@ -5,6 +5,7 @@ ghost use Rattle.history.specs.Schedule.{schedule_of};
 
 use crate::call_fault::CallFault;
 use crate::event::Event;
+use crate::laws::moves_are_lawful;
 use crate::line::Line;
 use crate::moves::Moves;
 use crate::packed_line::PackedLine;
@@ -40,8 +41,7 @@ impl Book {
         requires { (1 ≤ workers) × (workers ≤ 64) }
         ensures { IfOk result (λ book. book ≡ record { workers = workers; moves = M.table moves.now; log = [] }) }
     {
-        // Its clause is that these moves keep the laws of a table.
-        let _regions = moves.regions();
+        moves_are_lawful(moves);
         let scheduler = Scheduler::new(alloc, moves, workers)?;
         let lines = Vec::new(alloc);
         Ok(Book { scheduler, lines })

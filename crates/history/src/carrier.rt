@@ -17,6 +17,7 @@ use mark_bitmap::Marks;
 use raw_region::Region;
 use std::alloc::{AllocError, Global};
 use summary::Plan;
+use summary::laws::plans::planned_image_is_valid;
 
 /// For each new address, the word that goes there, and when it is redirected.
 #[derive(Drop)]
@@ -43,8 +44,7 @@ impl<'a> Carrier<'a> {
         ensures kept { IfOk result IsCarrier }
         ensures plan { IfOk result (λ carrier. carrier.plan.now ≡ image.now) }
     {
-        // Its clause is that the image is valid.
-        let _regions = plan.regions();
+        planned_image_is_valid(plan);
         let origins = origins_of(alloc, plan, marks)?;
         let early = early_references(alloc, image, plan, marks)?;
         let late = late_references(alloc, image, plan, marks)?;

@@ -6,6 +6,8 @@ ghost use Rattle.history.specs.History.{IsLegal, IsOrderly, IsReached, TellsOwn,
 ghost use Rattle.history.specs.WordMachine.{IsAllowed, IsDrainedBeforeWritten};
 ghost use Rattle.history.specs.declared.entry.Entry.{Entry};
 
+use crate::moves::Moves;
+
 /// For any number of workers and any order of calls: a region is granted at most once, when it has no
 /// pending readers and will have none; only its claimant completes it, after all its reads are drained;
 /// and exactly the last settling returns `All`.
@@ -44,3 +46,10 @@ pub fn pairs_slide_down()
 pub fn drained_before_written()
     ensures { (image : HeapImage) → IsValid image → (workers : ℕ) (log : List Entry) → IsAllowed image workers log → IsDrainedBeforeWritten image log }
 {}
+
+/// Moves keep the laws of a table.
+pub fn moves_are_lawful<M: Moves>(moves: &M)
+    ensures { IsMoveTable (M.table moves.now) }
+{
+    moves.regions();
+}

@@ -20,6 +20,7 @@ use crate::reply::Reply;
 use crate::scheduler::Scheduler;
 use std::alloc::{AllocError, Global};
 use summary::Plan;
+use summary::laws::plans::planned_image_is_valid;
 
 /// The scheduler and the number of words written in each region: the word machine without its heap.
 #[derive(Drop)]
@@ -100,8 +101,7 @@ impl Ledger {
         if !self.scheduler.allows(worker, event) || !self.allows_words(plan, event) {
             return Err(Illegal);
         }
-        // Its clause is that the image of the plan is valid.
-        let _regions = Plan::regions(plan);
+        planned_image_is_valid(plan);
         let reply = self.scheduler.step(worker, event)?;
         note(&mut self.written, event);
         Ok(reply)
@@ -127,8 +127,7 @@ impl Ledger {
         requires { IsTrue (reads (image_table plan.now) destination source) }
         ensures { (w : Machine) → Tells self.now w → IsTrue result ↔ IsCopiedOut (image_slide plan.now) w destination source }
     {
-        // Its clause is that the image of the plan is valid.
-        let _regions = Plan::regions(plan);
+        planned_image_is_valid(plan);
         u64::from(self.written(destination)) >= taken_up_to(plan, destination, source)
     }
 }

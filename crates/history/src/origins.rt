@@ -8,6 +8,7 @@ ghost use Rattle.history.specs.Carrier.{AreOrigins};
 
 use heap_image::header;
 use mark_bitmap::Marks;
+use mark_bitmap::laws::marked_image_is_valid;
 use std::alloc::{AllocError, Global};
 use summary::Plan;
 
@@ -30,8 +31,7 @@ pub(crate) fn is_live(marks: &Marks, a: u64) -> bool
     requires { a < heap_words marks.now }
     ensures { result ≡ is_live_word marks.now a }
 {
-    // Its clause is that the image is valid.
-    let _block_words = marks.block_words();
+    marked_image_is_valid(marks);
     marks.live_words(a, a + 1) == 1
 }
 

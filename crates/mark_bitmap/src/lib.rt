@@ -12,6 +12,7 @@
 //! memory runs out, and the number of threads of the latter. How fast the queries are is neither proved nor tested.
 #![tactic(auto)]
 
+pub mod laws;
 mod mark_builder;
 mod marks;
 mod objects;

@@ -3,6 +3,7 @@ ghost use Rattle.std.specs.Prelude.{◌≡◌, ◌+◌, ◌<◌, length};
 ghost use Rattle.mark_bitmap.specs.Marks.{AreBegins, IsBlankPart, IsMarkedPart};
 
 use crate::objects::mark_part;
+use heap_image::laws::image_is_valid;
 use heap_image::{Bits, Image};
 use std::thread::{Threads, join_mut};
 
@@ -62,8 +63,7 @@ impl<T: Threads + Sync> MarkBuilder<'_, T> {
         ensures low { IsMarkedPart self.now.image.now start low_ends.new low_live.new }
         ensures high { IsMarkedPart self.now.image.now (start + length low_ends.old) high_ends.new high_live.new }
     {
-        // The image is valid by its type.
-        let _len = self.image.len();
+        image_is_valid(self.image);
         let middle = start + low_ends.len();
         let mut low = ||
             requires { (0 < self.now.share) × AreBegins self.now.image.now self.now.begins.now

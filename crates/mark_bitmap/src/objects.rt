@@ -7,6 +7,7 @@ ghost use Rattle.heap_image.specs.Sizes.{AreSizesOf};
 ghost use Rattle.mark_bitmap.specs.Marks.{AreBegins, AreBitsFrom, IsBlankPart, IsFirstObject, IsMarkedPart, bit_words, continues_at, is_end};
 
 use crate::part_bits::insert_within;
+use heap_image::laws::image_is_valid;
 use heap_image::{Bits, Image, PIECE};
 use std::alloc::{AllocError, Global};
 
@@ -43,7 +44,7 @@ pub(crate) fn mark_part(
     ensures live_room { length live.new ≡ length live.old }
     ensures marked { IsMarkedPart image.now start ends.new live.new }
 {
-    let _valid = image.len();
+    image_is_valid(image);
     mark_ends(image, start, ends);
     mark_words(image, begins, start, ends, live);
 }
@@ -143,7 +144,7 @@ fn last_words_by_sizes(image: &Image, objects: &[u64], sizes: &[u32; PIECE]) -> 
     requires sizes { AreSizesOf image.now objects.now sizes.now }
     ensures { take (length objects.now) result ≡ map (λ a. end_of image.now a - 1) objects.now }
 {
-    let _valid = image.len();
+    image_is_valid(image);
     let mut lasts = [0; PIECE];
     for (i, &begin) in objects.iter().enumerate() {
         lasts[i] = begin + u64::from(sizes[i]) - 1;

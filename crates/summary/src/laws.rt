@@ -8,6 +8,7 @@ pub mod deferred_objects;
 pub mod dense_prefix;
 pub mod live_words;
 pub mod new_addresses;
+pub mod plans;
 pub mod readers;
 pub mod region_data;
 pub mod word_moves;

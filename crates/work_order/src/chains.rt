@@ -6,6 +6,7 @@ ghost use Rattle.work_order.specs.Chains.{AreLongest, IsLongestAfter, fill_words
 
 use std::alloc::{AllocError, Global};
 use summary::Plan;
+use summary::laws::plans::planned_image_is_valid;
 use summary::laws::readers::{reads_by_destination, reads_by_words};
 use summary::laws::region_data::regions_to_fill;
 
@@ -16,7 +17,7 @@ pub(crate) fn longest_chains(alloc: Global, plan: &Plan) -> Result<Vec<u64>, All
     ensures valid { IsValid plan.now }
 {
     regions_to_fill();
-    let _regions = plan.regions();
+    planned_image_is_valid(plan);
     let mut chains = Vec::new(alloc);
     for region in 0..plan.fill_regions() {
         let after = longest_after(plan, chains.as_slice(), region);
