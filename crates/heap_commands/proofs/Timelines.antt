@@ -4,13 +4,13 @@ use Rattle.heap_commands.specs.Timeline.{HasLanes, HasPicture, IsTimeline}
 use Rattle.heap_commands.specs.declared.timeline.Form.{Form}
 
 pub lanes_are_a_timeline : (left left' schedule : Option (List ℕ)) → (shown : List ℕ) → HasLanes left left' schedule shown → IsTimeline shown
-lanes_are_a_timeline left left' schedule shown (timeline, followed, tells) = record {
+lanes_are_a_timeline left left' schedule shown (timeline, followed, begins) = record {
   image = followed.image;
   valid = followed.valid;
   schedule = followed.lines;
   timeline = timeline;
   follows = followed.follows;
-  tells = inl tells;
+  printed = inl begins;
 }
 
 pub figures_are_a_timeline : (form : Form) (left left' schedule : Option (List ℕ)) → (shown picture : List ℕ)
@@ -21,5 +21,5 @@ figures_are_a_timeline form left left' schedule shown picture (timeline, followe
   schedule = followed.lines;
   timeline = timeline;
   follows = followed.follows;
-  tells = inr is.figures;
+  printed = inr is.figures;
 }

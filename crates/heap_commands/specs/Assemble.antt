@@ -17,7 +17,7 @@ pub record IsAssembly (lines took took' : Option (List ℕ)) (shown : List ℕ) 
   pub valid : IsValid image
   pub read : IfSome lines (λ bytes. bytes ≡ text_of image)
   pub written : Appends took took' (text image)
-  pub tells : shown ≡ count_line image
+  pub printed : shown ≡ count_line image
 
 -- the line of counts of some valid image
 abbrev pub IsCountLine : List ℕ → Type 0

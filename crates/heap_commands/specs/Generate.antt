@@ -25,7 +25,7 @@ wanted_of request = record {
 pub record IsFiguresLine (image : HeapImage) (shown : List ℕ) : Type 0 where
   pub figures : GenerationFigures
   pub counted : AreFiguresOf image figures
-  pub tells : shown ≡ figures_text figures ++ codes "\n"
+  pub printed : shown ≡ figures_text figures ++ codes "\n"
 
 -- the text of an image as requested was written, and its figures are printed
 abbrev pub IsGeneration : Wanted → Option (List ℕ) → Option (List ℕ) → List ℕ → Type 0

@@ -23,13 +23,13 @@ after_shown image cut = if cut.after then Some (cells_after image (cells_shown c
 pub record IsPicture (style : Style) (cut : Cut) (image : HeapImage) (shown : List ℕ) : Type 0 where
   pub figures : MapFigures
   pub counted : AreFiguresOf image figures
-  pub tells : shown ≡ picture_text style figures (cells_before image (cells_shown cut.cells)) (after_shown image cut)
+  pub printed : shown ≡ picture_text style figures (cells_before image (cells_shown cut.cells)) (after_shown image cut)
 
 -- the line with the figures of an image
 pub record IsMapLine (image : HeapImage) (shown : List ℕ) : Type 0 where
   pub figures : MapFigures
   pub counted : AreFiguresOf image figures
-  pub tells : shown ≡ figures_text figures ++ codes "\n"
+  pub printed : shown ≡ figures_text figures ++ codes "\n"
 
 -- the bytes read are the text of some valid image, and this is its picture
 abbrev pub IsPrinted : Style → Cut → Option (List ℕ) → Option (List ℕ) → List ℕ → Type 0

@@ -25,7 +25,7 @@ pub record IsReplayOf (left left' source : Option (List ℕ)) (shown : List ℕ)
   pub whole : IfSome source (λ bytes. bytes ≡ schedule_text schedule)
   pub replayed : Replayed
   pub follows : IsReplayed image schedule replayed
-  pub tells : shown ≡ schedule_text replayed.lines ++ end_line replayed.ended
+  pub printed : shown ≡ schedule_text replayed.lines ++ end_line replayed.ended
 
 -- the replay of some schedule on some valid image
 pub record IsReplayText (shown : List ℕ) : Type 0 where
@@ -34,7 +34,7 @@ pub record IsReplayText (shown : List ℕ) : Type 0 where
   pub schedule : ScheduleView
   pub replayed : Replayed
   pub follows : IsReplayed image schedule replayed
-  pub tells : shown ≡ schedule_text replayed.lines ++ end_line replayed.ended
+  pub printed : shown ≡ schedule_text replayed.lines ++ end_line replayed.ended
 
 abbrev pub replay_command : Command
 replay_command = record { name = codes "replay"; prints = IsReplayText }

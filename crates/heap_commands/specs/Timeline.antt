@@ -43,7 +43,7 @@ pub record IsTimeline (shown : List ℕ) : Type 0 where
   pub schedule : ScheduleView
   pub timeline : Timeline
   pub follows : IsTimelineOf image schedule timeline
-  pub tells : BeginsWithFigures timeline shown ⊎ IsFiguresLine timeline shown
+  pub printed : BeginsWithFigures timeline shown ⊎ IsFiguresLine timeline shown
 
 abbrev pub timeline_command : Command
 timeline_command = record { name = codes "timeline"; prints = IsTimeline }
