@@ -55,12 +55,12 @@ fn open<'a, H: Files + AllocGlobal>(
     Ok((text, target))
 }
 
-/// Reads the text of a heap line by line, and writes its image. Returns the line for standard output, with the numbers of
-/// words, roots and live objects.
+/// Reads the text of a heap line by line, and writes its image. Returns the line for standard output, with the
+/// numbers of words, roots and live objects.
 ///
-/// Nothing is written before the whole text is parsed, and nothing is allocated once a byte is written. Fault 13 says that
-/// a device failed, fault 11 that memory ran out, and any other failure names the first wrong line of the text; at most
-/// one more piece of the text was then read.
+/// Nothing is written before the whole text is parsed, and nothing is allocated once a byte is written. Fault 13 says
+/// that a device failed, fault 11 that memory ran out, and any other failure names the first wrong line of the text;
+/// at most one more piece of the text was then read.
 pub fn assemble_into<R: Intake, O: Outlet>(
     alloc: Global,
     text: &mut R,

@@ -89,8 +89,8 @@ fn open_dump<'a, H: Files + AllocGlobal>(
 /// Makes an image of the dump that both devices give, and writes it. Returns the line for standard output, with the
 /// figures of the image.
 ///
-/// Both devices are read to their ends before a byte is written, and nothing is allocated once one is. Fault 13 says that
-/// a device failed, fault 11 that memory ran out, and any other failure is that of `heap_dump::import`.
+/// Both devices are read to their ends before a byte is written, and nothing is allocated once one is. Fault 13 says
+/// that a device failed, fault 11 that memory ran out, and any other failure is that of `heap_dump::import`.
 pub fn import_into<R: Intake, O: Outlet>(
     alloc: Global,
     first: &mut R,

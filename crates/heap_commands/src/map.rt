@@ -166,8 +166,8 @@ fn text_of_image(
     Ok(picture.text(alloc, style)?)
 }
 
-/// Reads an image and draws its picture to a device. Returns the drawing, whose bytes were written, with the line of its
-/// figures.
+/// Reads an image and draws its picture to a device. Returns the drawing, whose bytes were written, with the line of
+/// its figures.
 ///
 /// Nothing is written before the drawing is made, and nothing is allocated once a byte is written.
 pub fn draw_into<R: Intake, O: Outlet, T: Threads + Sync>(

@@ -63,8 +63,8 @@ impl From<AllocError> for Unreplayed {
     }
 }
 
-/// Replays a schedule on a copy of the image that is read from `input`. Returns the lines of the schedule, each with its
-/// reply, and whether the collection is finished.
+/// Replays a schedule on a copy of the image that is read from `input`. Returns the lines of the schedule, each with
+/// its reply, and whether the collection is finished.
 pub fn replay_text<R: Intake, S: Intake, T: Threads + Sync>(
     alloc: Global,
     input: &mut R,

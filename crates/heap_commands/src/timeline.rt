@@ -25,8 +25,8 @@ use std::rt::Files;
 use std::thread::Threads;
 use summary::Survey;
 
-/// Follows the schedule of one file on the image of another, and returns what `timeline` prints. A drawing or a page goes
-/// to a third file where the request names one.
+/// Follows the schedule of one file on the image of another, and returns what `timeline` prints. A drawing or a page
+/// goes to a third file where the request names one.
 pub fn answer<'a, R: Files + AllocGlobal + Threads + Sync>(
     rt: &R,
     screen: Screen,
@@ -212,8 +212,8 @@ pub fn lanes_text<R: Intake, S: Intake, T: AllocGlobal + Threads + Sync>(
     Ok(followed.timeline.text(rt.alloc(), style, width)?)
 }
 
-/// Reads an image from `input` and a schedule from `source`, and writes a drawing or a page of the schedule. Returns the
-/// picture, whose bytes were written, with the line of its figures.
+/// Reads an image from `input` and a schedule from `source`, and writes a drawing or a page of the schedule. Returns
+/// the picture, whose bytes were written, with the line of its figures.
 ///
 /// Nothing is written before the whole picture is made, and nothing is allocated once a byte is written.
 pub fn write_into<R: Intake, S: Intake, O: Outlet, T: AllocGlobal + Threads + Sync>(

@@ -22,8 +22,8 @@ pub struct Ahead {
 }
 
 impl Ahead {
-    /// Reads the body of a file of `len` bytes by at most `workers` threads. None for fewer than two workers, if the file
-    /// doesn't begin as that of a large image, or if a thread can't read its part.
+    /// Reads the body of a file of `len` bytes by at most `workers` threads. None for fewer than two workers, if the
+    /// file doesn't begin as that of a large image, or if a thread can't read its part.
     pub fn read<F: FileExt + Sync>(
         alloc: Global,
         file: &F,
@@ -48,8 +48,8 @@ impl Ahead {
     }
 }
 
-/// The extent of the body behind this front, if it may be the front of a large image. Whether it is a valid one is decided
-/// when the image is read.
+/// The extent of the body behind this front, if it may be the front of a large image. Whether it is a valid one is
+/// decided when the image is read.
 fn extent_of(front: &[u8; FRONT_BYTES]) -> Option<Extent>
     ensures log { IfSome result (λ extent. extent.size.region_log ≤ 16) }
     ensures few { IfSome result (λ extent. body_words extent.size ≤ 8388608) }

@@ -15,8 +15,9 @@ use std::time::{Clock, Duration};
 /// The path of standard output's file.
 const STANDARD_OUTPUT: &str = "/proc/self/fd/1";
 
-/// The system that commands run on. A file that is opened for writing and is standard output is written through standard
-/// output itself: a second opening would have a file position of its own, and each would overwrite what the other wrote.
+/// The system that commands run on. A file that is opened for writing and is standard output is written through
+/// standard output itself: a second opening would have a file position of its own, and each would overwrite what the
+/// other wrote.
 ///
 /// The methods of `Files` that no command calls are left out.
 #[derive(Drop)]

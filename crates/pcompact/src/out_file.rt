@@ -8,8 +8,8 @@ use std::io::{Seek, Write};
 
 /// The file that a collected image is written to. Its bytes are unknown to contracts.
 ///
-/// In a regular file zeros are left out as holes, which take no room on the disk and read as zeros. To any other file, such
-/// as a pipe, each zero is written.
+/// In a regular file zeros are left out as holes, which take no room on the disk and read as zeros. To any other
+/// file, such as a pipe, each zero is written.
 #[derive(Drop)]
 pub struct OutFile<'a, 'f, F: Drop> {
     watched: &'f mut Watched<'a, F>,
@@ -51,8 +51,8 @@ impl<'a, 'f, F: OpenFile + Write + Seek + Drop> OutFile<'a, 'f, F> {
         self.watched.write(bytes).ok()
     }
 
-    /// Skips the zeros that were left out but for the last, which is written, so that the file has its length even if no
-    /// more follows. None if the file fails or takes no byte.
+    /// Skips the zeros that were left out but for the last, which is written, so that the file has its length even if
+    /// no more follows. None if the file fails or takes no byte.
     fn write_hole(&mut self) -> Option<()>
         ensures { self.new.failed ≡ self.old.failed }
     {

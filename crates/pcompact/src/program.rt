@@ -24,10 +24,10 @@ use std::time::Clock;
 
 /// Runs the program on its arguments, without the program's name, and returns the exit status.
 ///
-/// `out` and `err` are standard output and standard error, and `screen` says what the first can show. What a command prints
-/// is written to `out` whole, once its work is done, and flushed; if that fails, the command fails with fault 13. Files
-/// written with `--atomic` are renamed into place after that. A failed write to `err` changes nothing. With `--verbose`,
-/// details follow the error line on `err`; with `--stats`, timings are printed there at the end.
+/// `out` and `err` are standard output and standard error, and `screen` says what the first can show. What a command
+/// prints is written to `out` whole, once its work is done, and flushed; if that fails, the command fails with fault
+/// 13. Files written with `--atomic` are renamed into place after that. A failed write to `err` changes nothing. With
+/// `--verbose`, details follow the error line on `err`; with `--stats`, timings are printed there at the end.
 ///
 /// `rt` opens files, allocates, starts threads, waits for them and reads the clock.
 pub fn run<R: Files + AllocGlobal + Threads + Wait + Clock + Sync, A: Write, B: Write>(
@@ -83,8 +83,8 @@ fn unread_failure(alloc: Global, words: &[String], unread: Unread) -> Failure
     }
 }
 
-/// The usage failure with this text, which quotes the arguments. They must not break its lines: if one has characters that
-/// aren't printable, the text is made again of the arguments as they are shown.
+/// The usage failure with this text, which quotes the arguments. They must not break its lines: if one has characters
+/// that aren't printable, the text is made again of the arguments as they are shown.
 fn usage_failure(alloc: Global, words: &[String], text: String) -> Failure {
     if words.iter().all(is_plain) {
         return Failure::Usage(text);
@@ -159,8 +159,8 @@ fn show<A: Write>(text: &[u8], out: &mut A) -> io::Result<()>
     out.flush()
 }
 
-/// Prints to `err` why the program fails, with details if `verbose`, and returns the exit status: 2 for wrong usage, else 1.
-/// The status doesn't depend on whether the writes succeed.
+/// Prints to `err` why the program fails, with details if `verbose`, and returns the exit status: 2 for wrong usage,
+/// else 1. The status doesn't depend on whether the writes succeed.
 pub fn report<B: Write>(trouble: &Trouble<'_>, verbose: bool, err: &mut B) -> u8
     ensures { result ≡ status_of trouble.now.failure }
 {

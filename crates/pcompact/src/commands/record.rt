@@ -85,8 +85,8 @@ fn failed_between_three<'a, H: Files>(
 /// The file to read, and the two to write.
 type ImageOutAndSchedule<'a, F> = (Watched<'a, F>, Output<'a, F>, Output<'a, F>);
 
-/// Opens the image, then creates or empties OUT and the schedule's file. No two may be one file, but for the first two with
-/// `--atomic`.
+/// Opens the image, then creates or empties OUT and the schedule's file. No two may be one file, but for the first
+/// two with `--atomic`.
 fn image_out_and_schedule<'a, H: Files + AllocGlobal>(
     host: &H,
     request: &Record<'a>,

@@ -95,8 +95,8 @@ pub enum Unverified {
     Neither(Fault),
 }
 
-/// Reads two images, and compares the second with the compaction of the first. The verdict is that they are equal, or the
-/// first difference.
+/// Reads two images, and compares the second with the compaction of the first. The verdict is that they are equal, or
+/// the first difference.
 ///
 /// A fault is the first of `before`, else the first of `after`, or that memory ran out.
 pub fn verify_images<R: Intake, S: Intake, T: Threads + Sync>(
