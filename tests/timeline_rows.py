@@ -41,7 +41,7 @@ def try_words(tried: Tried) -> None:
     tried.run("timeline image", usage("error: the following required arguments were not provided:\n  <SCHEDULE>\n"))
     tried.run("timeline image schedule --html", usage("error: a value is required for '--html <FILE>' but none was supplied\n"))
     tried.run("timeline image schedule --svg one --html other", dataclasses.replace(
-        Answer(2, err="pcompact: --svg and --html are not taken together\n"), made={"one": None, "other": None}))
+        Answer(2, err="pcompact: --svg and --html cannot be used together\n"), made={"one": None, "other": None}))
 
 
 def try_looks(tried: Tried) -> None:

@@ -12,9 +12,9 @@ pub record IsLineOf (image : HeapImage) (shown : List ℕ) : Type 0 where
   pub rooted : version_of image ≡ 2
   pub figures : ImportFigures
   pub counted : AreFiguresOf image figures
-  pub tells : shown ≡ figures_text figures ++ codes "\n"
+  pub printed : shown ≡ figures_text figures ++ codes "\n"
 
--- the text of a valid image of version 2 with this allowance was written, and its figures are shown
+-- the text of a valid image of version 2 with this allowance was written, and its figures are printed
 abbrev pub IsImport : ℕ → Option (List ℕ) → Option (List ℕ) → List ℕ → Type 0
 IsImport allowance took took' shown = (image : HeapImage) × IsLineOf image shown
     × (image.allowance ≡ allowance) × Appends took took' (text image)
