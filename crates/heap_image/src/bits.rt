@@ -255,7 +255,7 @@ fn first_nonzero(words: &[u64]) -> Option<usize>
     words.iter().position(|word| *word != 0)
 }
 
-/// The bits that a word lacks.
+/// The bits that are not set in a word.
 #[inline]
 fn complement(word: u64) -> u64
     ensures bits { (j : ℕ) → j < 64 → bit_at result j ≡ 1 - bit_at word j }
@@ -264,7 +264,7 @@ fn complement(word: u64) -> u64
     !word
 }
 
-/// The index of the first word that lacks a bit.
+/// The index of the first word with a bit that is not set.
 fn first_not_full(words: &[u64]) -> Option<usize>
     ensures { result ≡ position (λ word. not (word == 2 ^ 64 - 1)) words.now }
 {

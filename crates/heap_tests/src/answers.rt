@@ -10,8 +10,8 @@ use std::process::Abort;
 use std::thread::Threads;
 
 /// The fault of a result, which must be one.
-pub fn expect_fault(rt: &impl Abort, result: Result<Image, Fault>) -> Fault {
-    match result {
+pub fn expect_fault(rt: &impl Abort, outcome: Result<Image, Fault>) -> Fault {
+    match outcome {
         Ok(_) => panic!(rt; "an image"),
         Err(fault) => fault,
     }
@@ -85,7 +85,6 @@ fn is_read(alloc: Global, text: &[u8]) -> Result<bool, Fault> {
 /// Whether each result is true or fault 11, and at least one is true.
 pub fn are_right(results: &[Result<bool, Fault>]) -> bool {
     let mut all = results.iter();
-    let is_right = |result: &Result<bool, Fault>| *result == Ok(true)
-        || *result == Err(Fault::Memory);
+    let is_right = |it: &Result<bool, Fault>| *it == Ok(true) || *it == Err(Fault::Memory);
     all.all(is_right) && results.contains(&Ok(true))
 }
