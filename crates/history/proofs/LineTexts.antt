@@ -1,5 +1,5 @@
 -- The parts of a line's text.
-use Rattle.std.proofs.Common.{◌≡◌, ℕ, ◌-◌, ◌<◌, ◌≤◌, ◌^◌, true, take, drop, take_all, length-drop, List, [], ◌∷◌, ◌++◌, length, Option, Some, None, refl, sym, ap, ◌∙◌, arith, append_assoc}
+use Rattle.std.proofs.Common.{◌≡◌, ℕ, ◌<◌, ◌≤◌, ◌^◌, true, drop, List, [], ◌∷◌, ◌++◌, Option, Some, None, refl, sym, ap, ◌∙◌, arith, append_assoc}
 use Rattle.std.specs.Prelude.{decimal, nat_lt, ◌&&◌}
 use Rattle.std.proofs.lemmas.Bool.{and_parts, ltb-true, leb-true, false≢true}
 use Rattle.std.proofs.lemmas.Fmt.{decimal_injective}
@@ -90,7 +90,6 @@ header_number told workers bytes after rest few most is same =
     decimal_injective told workers (omega arith) (omega arith) words
 
 -- the number after the first 11 bytes of a header
-pub header_told : (told workers : ℕ) (bytes after rest : List ℕ) → told < 2 ^ 32 → workers ≤ 64 → take (length bytes - 11) (drop 11 bytes) ≡ decimal told ++ 10 ∷ after → bytes ≡ header_text workers ++ rest → told ≡ workers
-header_told told workers bytes after rest few most is same =
-    let all : take (length bytes - 11) (drop 11 bytes) ≡ drop 11 bytes = take_all (length bytes - 11) (drop 11 bytes) (omega (arith, length-drop 11 bytes)) in
-    header_number told workers (drop 11 bytes) after rest few most (sym all ∙ is) (ap (drop 11) same)
+pub header_told : (told workers : ℕ) (bytes left after rest : List ℕ) → told < 2 ^ 32 → workers ≤ 64 → left ≡ drop 11 bytes → left ≡ decimal told ++ 10 ∷ after → bytes ≡ header_text workers ++ rest → told ≡ workers
+header_told told workers bytes left after rest few most cut is same =
+    header_number told workers left after rest few most is (cut ∙ ap (drop 11) same)

@@ -52,23 +52,7 @@ pub(crate) fn header(bytes: &[u8]) -> Option<(u32, &[u8])>
         ((workers : ℕ) (rest : List ℕ) → 1 ≤ workers → workers ≤ 64 → bytes.now ≢ header_text workers ++ rest)
         (λ parts. (1 ≤ parts.0) × (parts.0 ≤ 64) × (bytes.now ≡ header_text parts.0 ++ parts.1.now)) }
 {
-    let bytes = match bytes {
-        [
-            b's',
-            b'c',
-            b'h',
-            b'e',
-            b'd',
-            b'u',
-            b'l',
-            b'e',
-            b' ',
-            b'1',
-            b' ',
-            rest @ ..,
-        ] => rest,
-        _ => return None,
-    };
+    let bytes = bytes.strip_prefix(b"schedule 1 ")?;
     let (workers, rest) = number_to(bytes, b'\n')?;
     if workers >= 1 && workers <= MAX_WORKERS {
         Some((workers, rest))
