@@ -48,9 +48,7 @@ fn a_refused_region_loses_the_image(rt: HostRuntime) -> Result<(), Fail> {
 
 /// A body that doesn't check the stop flag after the gate meets the contract, and fails here.
 #[test]
-fn a_worker_that_the_gate_held_stops_if_another_was_refused(
-    rt: HostRuntime,
-) -> Result<(), Fail> {
+fn a_worker_that_the_gate_held_stops_if_another_was_refused(rt: HostRuntime) -> Result<(), Fail> {
     let gate = RefusesTheFirst::new();
     let fault = loss_fault(rt.alloc(), 2, &gate, &rt)?;
     equal(&rt, fault, Fault::Gate);

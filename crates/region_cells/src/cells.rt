@@ -124,12 +124,7 @@ impl Cells {
             return Err(Fault::Overwritten(region));
         }
         let kept = hand.put(Kept::Spoiled, WRITING);
-        Target::new(
-            lock_for_write(wait, slot),
-            Snapshot::of(self),
-            kept,
-            right,
-        )
+        Target::new(lock_for_write(wait, slot), Snapshot::of(self), kept, right)
     }
 
     /// Takes the cells apart once all regions to fill have moved. The regions have their moved words; the live list is

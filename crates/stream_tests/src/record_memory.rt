@@ -12,11 +12,7 @@ use std::thread::Threads;
 
 /// Whether a recorded collection of the base heap by two workers gives the right image and schedule, or keeps the
 /// unchanged image.
-fn records<R: Threads + Wait + Sync>(
-    alloc: Global,
-    rt: &R,
-    base: Base,
-) -> Result<bool, Fault> {
+fn records<R: Threads + Wait + Sync>(alloc: Global, rt: &R, base: Base) -> Result<bool, Fault> {
     match record(alloc, image(alloc, base, rt)?, 2, &OpenGate, rt, rt) {
         Ok((outcome, schedule)) => is_right(alloc, rt, base, (&outcome, &schedule)),
         Err(Refusal::Kept(image, fault)) => fault_with_base(alloc, base, &image, fault),
