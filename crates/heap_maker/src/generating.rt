@@ -84,7 +84,12 @@ struct UnmarkedHeap {
 
 impl UnmarkedHeap {
     /// Fills regions with the objects of a layout.
-    fn of(alloc: Global, limits: Limits, layout: &Layout, dice: Dice) -> Result<UnmarkedHeap, AllocError>
+    fn of(
+        alloc: Global,
+        limits: Limits,
+        layout: &Layout,
+        dice: Dice,
+    ) -> Result<UnmarkedHeap, AllocError>
         requires few { length layout.now.live.items ≤ limits.words }
         ensures limits { IfOk result (λ heap. heap.limits ≡ limits) }
     {

@@ -48,7 +48,11 @@ impl Layout {
     /// `is_referenced` says for each live object whether one does.
     ///
     /// All live objects are reachable from these: each of the others is referenced by one before it.
-    pub(crate) fn roots(&self, alloc: Global, is_referenced: &[bool]) -> Result<Vec<u64>, AllocError>
+    pub(crate) fn roots(
+        &self,
+        alloc: Global,
+        is_referenced: &[bool],
+    ) -> Result<Vec<u64>, AllocError>
         ensures few { IfOk result (λ roots. length roots.items ≤ length self.now.live.items) }
     {
         let mut roots = Vec::new(alloc);

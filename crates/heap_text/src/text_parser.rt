@@ -74,7 +74,8 @@ impl TextParser {
         ensures { IfErr result (λ error. IsWithin text.now error) }
     {
         let len = text.len() - self.begin;
-        if len as u64 > self.parser.longest_line() || len > LONG_LINE && !is_of_line(&text[seen..])
+        if len as u64 > self.parser.longest_line()
+            || len > LONG_LINE && !is_of_line(&text[seen..])
         {
             return Err(TextError::Line(self.line, Expected::Newline));
         }
@@ -103,7 +104,5 @@ impl TextParser {
 
 /// Whether a line of a text may have all of these bytes.
 fn is_of_line(bytes: &[u8]) -> bool {
-    bytes
-        .iter()
-        .all(|byte| matches!(*byte, b' ' | b'-' | b'@' | b'0'..=b'9' | b'a'..=b'z'))
+    bytes.iter().all(|byte| matches!(*byte, b' ' | b'-' | b'@' | b'0'..=b'9' | b'a'..=b'z'))
 }

@@ -92,7 +92,10 @@ fn refused_memory_has_its_text(rt: HostRuntime) -> Result<(), Fail> {
 
 #[test]
 fn errors_of_devices_have_their_texts(rt: HostRuntime) -> Result<(), Fail> {
-    let (device, text) = (AssembleError::Device, AssembleError::Text(TextError::Memory));
+    let (device, text) = (
+        AssembleError::Device,
+        AssembleError::Text(TextError::Memory),
+    );
     let said = format!(in rt.alloc(); "{device}, {text}")?;
     equal(&rt, said.as_str(), "the device failed, memory was refused");
     Ok(())
