@@ -38,7 +38,8 @@ fn write_back(page: &mut String) -> Result<(), AllocError>
 {
     page.push_str(AFTER_SCHEDULE)?;
     page.push_str(SCRIPT)?;
-    page.push_str(TAIL)
+    page.push_str(TAIL)?;
+    Ok(())
 }
 
 /// Writes a line with the numbers of regions and of regions to fill, and a line for each pair of destination and source.

@@ -12,4 +12,4 @@ pub returns : goal.returns
 returns c =
     let text = schedule_text c.args.schedule.now in
     let back = c.in_ok-write_back.ensures in
-    between (string_bytes c.in_ok-page.page) text _ back.0 _ c.in_ok-append_schedule.ensures (c.into_bytes.ensures.value ∙ back.1)
+    between (string_bytes c.in_ok-page.page) text _ back.0 _ c.in_ok-append_schedule.ensures (ap (λ v. v.items) c.into_bytes.ensures.value ∙ back.1)
