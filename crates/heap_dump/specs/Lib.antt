@@ -1,3 +1,3 @@
 pub mod Window
 pub mod ImportFigures
-pub mod Asked
+pub mod Requested

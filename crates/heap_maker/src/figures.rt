@@ -1,16 +1,16 @@
-//! `GenerationFigures`: what a heap has that was made.
+//! The figures of a generation.
 use std::fmt;
 
-/// What a heap has that was made.
+/// The counts that [`generate`](crate::generate) returns with an image.
 #[derive(Debug, Clone, Copy, PartialEq, Eq)]
 pub struct GenerationFigures {
-    /// The words of the image.
+    /// Words.
     pub words: u64,
-    /// The objects in it, live and dead.
+    /// Objects, live and dead.
     pub objects: u64,
-    /// Its roots: none in version 1.
+    /// Roots: none in version 1.
     pub roots: u64,
-    /// The live objects.
+    /// Live objects.
     pub live: u64,
 }
 

@@ -8,7 +8,7 @@ use crate::limits::Limits;
 use raw_region::Region;
 use std::alloc::{AllocError, Global};
 
-/// Regions of these sizes with the words that come next.
+/// Fills all regions with the next words.
 pub(crate) fn regions_of(
     alloc: Global,
     limits: Limits,
@@ -26,7 +26,7 @@ pub(crate) fn regions_of(
     Ok(regions)
 }
 
-/// A region with the words that come next.
+/// Fills a region with the next words.
 fn region_of(
     alloc: Global,
     region_log: u32,

@@ -2,7 +2,7 @@ use Rattle.std.proofs.Common.{◌≡◌, ◌<◌, ◌^◌, All, List, ℕ, None,
 use Rattle.heap_image.specs.HeapImage.{image_of, reachable}
 use Rattle.heap_image.specs.ImageText.{from_tail, first_some, live_list_faults}
 use Rattle.heap_maker.proofs.Valid.{fitting, listed-valid}
-use Rattle.heap_maker.proofs.generating.Parts.into_image.Goals as goal
+use Rattle.heap_maker.proofs.generating.UnmarkedHeap.into_image.Goals as goal
 
 pub of_rooted_parts-requires-clause-valid : goal.of_rooted_parts-requires-clause-valid
 of_rooted_parts-requires-clause-valid c =

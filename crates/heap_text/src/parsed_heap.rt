@@ -1,13 +1,13 @@
-//! `Parts`: what a text says, before it is known to be a heap.
+//! The contents of a text before it is known to describe a valid heap.
 use heap_image::FRONT_BYTES;
 use std::alloc::{AllocError, Global};
 
-/// What a text says, before it is known to be a heap.
+/// The contents of a text before it is known to describe a valid heap.
 #[derive(Drop)]
-pub(crate) struct Parts {
-    /// Whether it is of version 2, with roots.
+pub(crate) struct ParsedHeap {
+    /// Whether the text is of version 2, with roots.
     pub(crate) is_rooted: bool,
-    /// The logarithm, to base 2, of the number of words of a region.
+    /// The base-2 logarithm of the number of words of a region.
     pub(crate) region_log: u32,
     /// How many dead words the dense prefix may keep.
     pub(crate) allowance: u64,
@@ -19,10 +19,10 @@ pub(crate) struct Parts {
     pub(crate) roots: Vec<u64>,
 }
 
-impl Parts {
-    /// Those of a text of which no line was read.
-    pub(crate) fn new(alloc: Global) -> Parts {
-        Parts {
+impl ParsedHeap {
+    /// Before the first line.
+    pub(crate) fn new(alloc: Global) -> ParsedHeap {
+        ParsedHeap {
             is_rooted: false,
             region_log: 0,
             allowance: 0,
@@ -32,8 +32,14 @@ impl Parts {
         }
     }
 
-    /// The bytes of an image with these parts.
-    pub(crate) fn bytes(&self, alloc: Global) -> Result<Vec<u8>, AllocError> {
+    /// Returns the bytes of an image with these contents, and frees the words.
+    pub(crate) fn take_image_bytes(&mut self, alloc: Global) -> Result<Vec<u8>, AllocError> {
+        let bytes = self.image_bytes(alloc)?;
+        self.words = Vec::new(alloc);
+        Ok(bytes)
+    }
+
+    fn image_bytes(&self, alloc: Global) -> Result<Vec<u8>, AllocError> {
         let tail = if self.is_rooted {
             self.roots.as_slice()
         } else {
@@ -42,14 +48,14 @@ impl Parts {
         let numbers = self.words.len().saturating_add(tail.len());
         let room = numbers.saturating_mul(8).saturating_add(FRONT_BYTES);
         let mut bytes = Vec::with_capacity(alloc, room)?;
-        self.put_front(&mut bytes, tail.len())?;
-        put_numbers(&mut bytes, self.words.as_slice())?;
-        put_numbers(&mut bytes, tail)?;
+        self.push_front(&mut bytes, tail.len())?;
+        push_numbers(&mut bytes, self.words.as_slice())?;
+        push_numbers(&mut bytes, tail)?;
         Ok(bytes)
     }
 
-    /// Adds the first bytes. A count that no image has becomes one that is too large.
-    fn put_front(&self, bytes: &mut Vec<u8>, count: usize) -> Result<(), AllocError> {
+    /// Pushes the front of the image. A `count` over 32 bits becomes `u32::MAX`, which no image allows either.
+    fn push_front(&self, bytes: &mut Vec<u8>, count: usize) -> Result<(), AllocError> {
         let magic = if self.is_rooted {
             b"PCHEAP02"
         } else {
@@ -65,8 +71,8 @@ impl Parts {
     }
 }
 
-/// Adds these numbers, little endian.
-fn put_numbers(bytes: &mut Vec<u8>, numbers: &[u64]) -> Result<(), AllocError> {
+/// Pushes each number as 8 bytes, little endian.
+fn push_numbers(bytes: &mut Vec<u8>, numbers: &[u64]) -> Result<(), AllocError> {
     for number in numbers {
         bytes.extend_from_slice(&number.to_le_bytes())?;
     }

@@ -1,5 +1,5 @@
 use Rattle.std.proofs.Common.{◌≡◌, ◌-◌}
-use Rattle.heap_dump.proofs.window.Window.hold.Given as goal
+use Rattle.heap_dump.proofs.window.Window.buffer.Given as goal
 
 abbrev pub invariant-loop-self : goal.invariant-loop-self
 invariant-loop-self g l = record {
