@@ -1,4 +1,4 @@
--- What a map tells of a heap in numbers, and how it is printed.
+-- The figures of a heap, and how they are printed.
 use Rattle.std.specs.Prelude.{◌≡◌, ℕ, List, ◌++◌, codes, decimal, count_by}
 use Rattle.std.specs.List.{range_with_len}
 use Rattle.heap_image.specs.HeapImage.{HeapImage, heap_words, is_dead_word, live_words}
@@ -6,7 +6,7 @@ use Rattle.summary.specs.NewAddresses.{prefix_end, new_top}
 use Rattle.summary.specs.RegionData.{fill_count}
 use Rattle.heap_map.specs.declared.figures.MapFigures.{MapFigures}
 
--- they are those of this heap
+-- the figures are those of this heap
 pub record AreFiguresOf (image : HeapImage) (figures : MapFigures) : Type 0 where
   pub words : figures.words ≡ heap_words image
   pub live : figures.live ≡ live_words image 0 (heap_words image)
@@ -15,7 +15,7 @@ pub record AreFiguresOf (image : HeapImage) (figures : MapFigures) : Type 0 wher
   pub new_top : figures.new_top ≡ new_top image
   pub filled : figures.filled ≡ fill_count image
 
--- the line that tells them, without its end
+-- the line with the figures, without its line feed
 abbrev pub figures_text : MapFigures → List ℕ
 figures_text figures =
     codes "words " ++ (decimal figures.words ++ (codes " live " ++ (decimal figures.live

@@ -1,4 +1,3 @@
-//! `MapFigures`: what a map tells in numbers.
 ghost use Rattle.std.specs.Prelude.{◌≡◌};
 ghost use Rattle.heap_map.specs.MapFigures.{AreFiguresOf};
 
@@ -6,25 +5,25 @@ use std::fmt;
 use summary::Survey;
 use summary::laws::dense_prefix::dead_words_by_region;
 
-/// A heap and its collection in numbers.
+/// The figures of a heap and its collection, which a map prints in its first line. Counts and addresses are in words.
 #[derive(Debug, Clone, Copy, PartialEq, Eq)]
 pub struct MapFigures {
-    /// The words of the heap.
+    /// The size of the heap.
     pub words: u64,
-    /// Those that belong to live objects.
+    /// The words of live objects.
     pub live: u64,
-    /// The others.
+    /// All other words.
     pub dead: u64,
-    /// Where the dense prefix ends.
+    /// The end of the dense prefix.
     pub prefix_end: u64,
     /// The first free address after the collection.
     pub new_top: u64,
-    /// How many regions are to be filled.
+    /// The number of regions to fill.
     pub filled: u32,
 }
 
 impl MapFigures {
-    /// Those of this heap.
+    /// Counts them from the marks and the plan of a survey. It allocates nothing.
     pub fn of(survey: &Survey) -> MapFigures
         ensures { AreFiguresOf survey.now result }
     {

@@ -1,4 +1,4 @@
--- What a timeline tells in numbers, and how it is printed.
+-- The figures of a timeline, and how they are printed.
 use Rattle.std.specs.Prelude.{◌≡◌, ℕ, List, ◌++◌, codes, decimal, length, count_by, is_some}
 use Rattle.schedule_timeline.specs.declared.bar.Bar.{Bar}
 use Rattle.schedule_timeline.specs.declared.ending.Ending.{Ending}
@@ -22,7 +22,7 @@ abbrev pub ending_text : Ending → List ℕ
 ending_text Finished = codes "finished"
 ending_text Open = codes "open"
 
--- the line that tells them, without its end
+-- the line with the figures, without its line feed
 abbrev pub figures_text : TimelineFigures → List ℕ
 figures_text figures =
     codes "workers " ++ (decimal figures.workers ++ (codes " lines " ++ (decimal figures.lines
@@ -30,15 +30,15 @@ figures_text figures =
     ++ (codes " settled " ++ (decimal figures.settled ++ (codes " freed " ++ (decimal figures.freed
     ++ (codes " taken " ++ (decimal figures.taken ++ (codes " " ++ ending_text figures.ending))))))))))))))
 
--- the line with the figures of a timeline
+-- the text is the line with the figures of a timeline
 pub record IsFiguresLine (timeline : Timeline) (shown : List ℕ) : Type 0 where
   pub figures : TimelineFigures
   pub counted : AreFiguresOf timeline figures
-  pub tells : shown ≡ figures_text figures ++ codes "\n"
+  pub text : shown ≡ figures_text figures ++ codes "\n"
 
--- a text whose first line has the figures of a timeline
+-- the text begins with the line with the figures of a timeline
 pub record BeginsWithFigures (timeline : Timeline) (shown : List ℕ) : Type 0 where
   pub line : List ℕ
   pub figures : IsFiguresLine timeline line
   pub lanes : List ℕ
-  pub tells : shown ≡ line ++ lanes
+  pub text : shown ≡ line ++ lanes

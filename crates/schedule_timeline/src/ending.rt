@@ -1,12 +1,11 @@
-//! `Ending`: how a schedule ends.
 use std::fmt;
 
-/// How a schedule ends.
+/// Whether a schedule finishes its collection.
 #[derive(Debug, Clone, Copy, PartialEq, Eq)]
 pub enum Ending {
-    /// All regions to be filled are settled.
+    /// All regions to fill are settled.
     Finished,
-    /// Some region to be filled isn't settled.
+    /// Some region to fill isn't settled.
     Open,
 }
 

@@ -1,4 +1,3 @@
-//! `TimelineFigures`: what a timeline tells in numbers.
 ghost use Rattle.std.specs.Prelude.{◌≡◌};
 ghost use Rattle.schedule_timeline.specs.TimelineFigures.{AreFiguresOf};
 
@@ -6,29 +5,27 @@ use crate::ending::Ending;
 use crate::timeline::Timeline;
 use std::fmt;
 
-/// A timeline in numbers.
+/// The figures of a timeline, which it prints in its first line.
 #[derive(Debug, Clone, Copy, PartialEq, Eq)]
 pub struct TimelineFigures {
-    /// How many workers there are.
     pub workers: u32,
-    /// How many calls they made, a line each.
+    /// The number of calls: the lines after the header.
     pub lines: usize,
-    /// How many regions were granted.
+    /// The number of granted regions.
     pub granted: usize,
-    /// How many of them were completed.
+    /// How many granted regions are completed.
     pub completed: usize,
-    /// How many of them were settled.
+    /// How many granted regions are settled.
     pub settled: usize,
-    /// How many drains freed a region.
+    /// The number of drains that free their source.
     pub freed: usize,
-    /// How many of the freed regions were granted.
+    /// How many of these sources are granted to a worker.
     pub taken: usize,
-    /// How the schedule ends.
     pub ending: Ending,
 }
 
 impl TimelineFigures {
-    /// Those of this timeline.
+    /// Counts the bars and marks of a timeline. It allocates nothing.
     pub fn of(timeline: &Timeline) -> TimelineFigures
         ensures { AreFiguresOf timeline.now result }
     {

@@ -3,9 +3,9 @@ use Rattle.std.proofs.lemmas.Bool.{and_parts}
 use Rattle.heap_image.specs.HeapImage.{HeapImage, HasLiveList}
 use Rattle.summary.specs.RegionData.{data_words, first_target, last_target}
 use Rattle.summary.specs.WordMoves.{reads}
-use Rattle.work_order.specs.Chains.{IsLongestBehind}
-use Rattle.work_order.proofs.Steps.{behind-both, behind-none, one-of-two, via}
-use Rattle.work_order.proofs.chains.longest_behind.Goals as goal
+use Rattle.work_order.specs.Chains.{IsLongestAfter}
+use Rattle.work_order.proofs.Steps.{after-both, after-none, one-of-two, via}
+use Rattle.work_order.proofs.chains.longest_after.Goals as goal
 
 pub returns-in_default-clause-longest : goal.returns-in_default-clause-longest
 returns-in_default-clause-longest c =
@@ -13,7 +13,7 @@ returns-in_default-clause-longest c =
     let s = c.args.region in
     let list : HasLiveList image = c.targets_of.ensures.valid.live_list in
     let none : data_words image s ≡ 0 = c.in_default.ensures.some in
-    behind-none image s (λ d waits.
+    after-none image s (λ d waits.
     let both = and_parts (reads image d s) (not (d == s)) waits in
     let some = (c.reads_by_destination.ensures.targets image list d s both.0).0 in
     omega arith)
@@ -37,8 +37,8 @@ returns-clause-longest c =
     let last_is = c.in-Some.ensures.last in
     let is : c.max.result ≡ max (slice_index_or chains first 0) (slice_index_or chains last 0) =
     c.max.ensures ∙ ap₂ max (c.chain_from.ensures ∙ ap (λ n. slice_index_or chains n 0) first_is) (c.chain_from-2.ensures ∙ ap (λ n. slice_index_or chains n 0) last_is) in
-    let whole = behind-both image s first last _ _ one other (λ d waits.
+    let whole = after-both image s first last _ _ one other (λ d waits.
     let both = and_parts (reads image d s) (not (d == s)) waits in
     let at = law.targets image list d s both.0 in
     one-of-two image d first last at.1 at.2 ordered.1) in
-    subst (λ n. IsLongestBehind image s n) (sym is) whole
+    subst (λ n. IsLongestAfter image s n) (sym is) whole
