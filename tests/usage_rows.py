@@ -2,25 +2,25 @@
 from program import Answer, Tried, usage
 
 HELP = """\
-Full collection of a heap image by parallel sliding compaction
+Parallel mark-compact collection of heap images
 
 Usage: pcompact <COMMAND>
 
 Commands:
-  board     Schedules two workers over three regions, and counts their claims and completions
-  summary   Prints what a collection of a heap image will do, region by region
-  collect   Collects a heap image, and writes the compacted one
-  verify    Says whether a heap image is the compaction of another, or where they differ
-  record    Collects a heap image, and writes down what each worker did
-  replay    Follows a schedule word by word, and prints it with each reply
-  upgrade   Writes a heap image as one with roots
-  import    Writes the heap dump of a Java virtual machine as a heap image
-  generate  Writes a heap image that follows from a seed, for benchmarks and experiments
-  order     Prints what parallelism the order of work of a collection allows
-  text      Prints a heap image as lines that a person reads
-  assemble  Writes the heap image of a text
-  map       Prints a picture of a heap image, and of what its collection leaves
-  timeline  Shows which worker had which region in hand, line by line of a schedule
+  board     Schedule three regions among two workers, and count claims and completions
+  summary   Print the plan of a collection, region by region
+  collect   Collect a heap image and write the compacted one
+  verify    Compare a heap image with the compaction of another
+  record    Collect a heap image and record what each worker does
+  replay    Replay a schedule word by word and print it with all replies
+  upgrade   Convert a heap image to version 2, which has roots
+  import    Convert the heap dump of a Java virtual machine to a heap image
+  generate  Generate a heap image from a seed, for benchmarks and experiments
+  order     Print how many workers a collection can keep busy
+  text      Print a heap image as text
+  assemble  Convert a heap text to a heap image
+  map       Draw a heap image, also as its collection leaves it
+  timeline  Draw which worker has which region along the lines of a schedule
   help      Print this message or the help of the given subcommand(s)
 
 Options:
@@ -28,13 +28,13 @@ Options:
   -V, --version  Print version
 
 Exit status:
-  0  the command did its work, or showed help or the version
-  1  a fault, images that differ, or a dump that gives no image: standard error says which
-  2  the words are no command: standard error says why
+  0  success, also of help and version
+  1  a fault, images that differ, a bad dump or a bad text; standard error says which
+  2  invalid usage; standard error says why
 """
 
 BOARD_HELP = """\
-Schedules two workers over three regions, and counts their claims and completions
+Schedule three regions among two workers, and count claims and completions
 
 Usage: pcompact board
 
@@ -43,146 +43,146 @@ Options:
 """
 
 SUMMARY_HELP = """\
-Prints what a collection of a heap image will do, region by region
+Print the plan of a collection, region by region
 
 Usage: pcompact summary [OPTIONS] <IMAGE>
 
 Arguments:
-  <IMAGE>  A file with a heap image
+  <IMAGE>  A heap image
 
 Options:
-      --verbose  Says more of what goes wrong
+      --verbose  Print more details about errors
   -h, --help     Print help
 """
 
 COLLECT_HELP = """\
-Collects a heap image, and writes the compacted one
+Collect a heap image and write the compacted one
 
 Usage: pcompact collect [OPTIONS] --workers <n> <IMAGE> <OUT>
 
 Arguments:
-  <IMAGE>  A file with a heap image
-  <OUT>    The file for the compacted image
+  <IMAGE>  A heap image
+  <OUT>    Where to write the compacted image
 
 Options:
-      --workers <n>  How many workers share the work, from 1 to 64; each is a thread
-      --atomic       Replaces files only once the command has ended well
-      --stats        Tells on standard error what the work took
-      --verbose      Says more of what goes wrong
+      --workers <n>  Number of worker threads, from 1 to 64
+      --atomic       Replace files only once the command has succeeded
+      --stats        Print timings and peak memory to stderr
+      --verbose      Print more details about errors
   -h, --help         Print help
 """
 
 RECORD_HELP = """\
-Collects a heap image, and writes down what each worker did
+Collect a heap image and record what each worker does
 
 Usage: pcompact record [OPTIONS] --workers <n> <IMAGE> <OUT> <SCHEDULE>
 
 Arguments:
-  <IMAGE>     A file with a heap image
-  <OUT>       The file for the compacted image
-  <SCHEDULE>  The file for the schedule of the workers
+  <IMAGE>     A heap image
+  <OUT>       Where to write the compacted image
+  <SCHEDULE>  Where to write the schedule of the workers
 
 Options:
-      --workers <n>  How many workers share the work, from 1 to 64; each is a thread
-      --atomic       Replaces files only once the command has ended well
-      --stats        Tells on standard error what the work took
-      --verbose      Says more of what goes wrong
+      --workers <n>  Number of worker threads, from 1 to 64
+      --atomic       Replace files only once the command has succeeded
+      --stats        Print timings and peak memory to stderr
+      --verbose      Print more details about errors
   -h, --help         Print help
 """
 
 REPLAY_HELP = """\
-Follows a schedule word by word, and prints it with each reply
+Replay a schedule word by word and print it with all replies
 
 Usage: pcompact replay [OPTIONS] <IMAGE> <SCHEDULE>
 
 Arguments:
-  <IMAGE>     A file with a heap image
-  <SCHEDULE>  A file with a schedule
+  <IMAGE>     A heap image
+  <SCHEDULE>  A schedule for the image
 
 Options:
-      --verbose  Says more of what goes wrong
+      --verbose  Print more details about errors
   -h, --help     Print help
 """
 
 ORDER_HELP = """\
-Prints what parallelism the order of work of a collection allows
+Print how many workers a collection can keep busy
 
 Usage: pcompact order [OPTIONS] <IMAGE>
 
 Arguments:
-  <IMAGE>  A file with a heap image
+  <IMAGE>  A heap image
 
 Options:
-      --verbose  Says more of what goes wrong
+      --verbose  Print more details about errors
   -h, --help     Print help
 """
 
 TEXT_HELP = """\
-Prints a heap image as lines that a person reads
+Print a heap image as text
 
 Usage: pcompact text [OPTIONS] <IMAGE>
 
 Arguments:
-  <IMAGE>  A file with a heap image
+  <IMAGE>  A heap image
 
 Options:
-      --verbose  Says more of what goes wrong
+      --verbose  Print more details about errors
   -h, --help     Print help
 """
 
 ASSEMBLE_HELP = """\
-Writes the heap image of a text
+Convert a heap text to a heap image
 
 Usage: pcompact assemble [OPTIONS] <TEXT> <IMAGE>
 
 Arguments:
-  <TEXT>   A file with the text of a heap
-  <IMAGE>  The file for the image
+  <TEXT>   A heap text
+  <IMAGE>  Where to write the image
 
 Options:
-      --atomic   Replaces files only once the command has ended well
-      --verbose  Says more of what goes wrong
+      --atomic   Replace files only once the command has succeeded
+      --verbose  Print more details about errors
   -h, --help     Print help
 """
 
 MAP_HELP = """\
-Prints a picture of a heap image, and of what its collection leaves
+Draw a heap image, also as its collection leaves it
 
 Usage: pcompact map [OPTIONS] <IMAGE>
 
 Arguments:
-  <IMAGE>  A file with a heap image
+  <IMAGE>  A heap image
 
 Options:
-      --after       Shows the heap after its collection too
-      --width <n>   Cuts the heap into n cells, 1 to 1000; 64 if not given
-      --svg <FILE>  Writes the picture into this file as SVG, and prints the figures alone
-      --letters     Draws with letters where the locale has blocks too
-      --color       Colours the picture also where standard output is no terminal
-      --no-color    Doesn't colour it on a terminal either
-      --atomic      Replaces files only once the command has ended well
-      --verbose     Says more of what goes wrong
+      --after       Also draw the heap after its collection
+      --width <n>   Number of cells, from 1 to 1000 (default 64)
+      --svg <FILE>  Write the picture to this file as SVG, and print only the figures
+      --letters     Draw with letters even if the locale has block characters
+      --color       Use colours even if standard output is no terminal
+      --no-color    Never use colours
+      --atomic      Replace files only once the command has succeeded
+      --verbose     Print more details about errors
   -h, --help        Print help
 """
 
 TIMELINE_HELP = """\
-Shows which worker had which region in hand, line by line of a schedule
+Draw which worker has which region along the lines of a schedule
 
 Usage: pcompact timeline [OPTIONS] <IMAGE> <SCHEDULE>
 
 Arguments:
-  <IMAGE>     A file with a heap image
-  <SCHEDULE>  A file with a schedule
+  <IMAGE>     A heap image
+  <SCHEDULE>  A schedule for the image
 
 Options:
-      --width <n>    Cuts the lines into n cells, 1 to 1000; 64 if not given
-      --svg <FILE>   Writes the lanes into this file as SVG, and prints the figures alone
-      --html <FILE>  Writes a page into this file that goes through the lines, and prints the figures alone
-      --letters      Draws with letters where the locale has blocks too
-      --color        Colours the lanes also where standard output is no terminal
-      --no-color     Doesn't colour them on a terminal either
-      --atomic       Replaces files only once the command has ended well
-      --verbose      Says more of what goes wrong
+      --width <n>    Number of cells of a lane, from 1 to 1000 (default 64)
+      --svg <FILE>   Write the lanes to this file as SVG, and print only the figures
+      --html <FILE>  Write a page to this file that steps through the schedule, and print only the figures
+      --letters      Draw with letters even if the locale has block characters
+      --color        Use colours even if standard output is no terminal
+      --no-color     Never use colours
+      --atomic       Replace files only once the command has succeeded
+      --verbose      Print more details about errors
   -h, --help         Print help
 
 Example:
@@ -191,71 +191,71 @@ Example:
 """
 
 VERIFY_HELP = """\
-Says whether a heap image is the compaction of another, or where they differ
+Compare a heap image with the compaction of another
 
 Usage: pcompact verify [OPTIONS] <BEFORE> <AFTER>
 
 Arguments:
-  <BEFORE>  A file with a heap image
-  <AFTER>   A file with the image that should be its compaction
+  <BEFORE>  The image before its collection
+  <AFTER>   The image to compare with its compaction
 
 Options:
-      --stats    Tells on standard error what the work took
-      --verbose  Says more of what goes wrong
+      --stats    Print timings and peak memory to stderr
+      --verbose  Print more details about errors
   -h, --help     Print help
 """
 
 UPGRADE_HELP = """\
-Writes a heap image as one with roots
+Convert a heap image to version 2, which has roots
 
 Usage: pcompact upgrade [OPTIONS] <IMAGE> <OUT>
 
 Arguments:
-  <IMAGE>  A file with a heap image
-  <OUT>    The file for the upgraded image
+  <IMAGE>  A heap image
+  <OUT>    Where to write the upgraded image
 
 Options:
-      --atomic   Replaces files only once the command has ended well
-      --verbose  Says more of what goes wrong
+      --atomic   Replace files only once the command has succeeded
+      --verbose  Print more details about errors
   -h, --help     Print help
 """
 
 IMPORT_HELP = """\
-Writes the heap dump of a Java virtual machine as a heap image
+Convert the heap dump of a Java virtual machine to a heap image
 
 Usage: pcompact import [OPTIONS] <DUMP> <IMAGE>
 
 Arguments:
-  <DUMP>   A file with a heap dump
-  <IMAGE>  The file for the image
+  <DUMP>   A heap dump
+  <IMAGE>  Where to write the image
 
 Options:
-      --region-log <k>  The image has regions of 2^k words, k from 3 to 16; 9 if not given
-      --allowance <m>   How many dead words the dense prefix may keep; 0 if not given
-      --live-only       Keeps the objects alone that are reached from the roots
-      --atomic          Replaces files only once the command has ended well
-      --verbose         Says more of what goes wrong
+      --region-log <k>  Regions have 2^k words, k from 3 to 16 (default 9)
+      --allowance <m>   Number of dead words that the dense prefix may keep (default 0)
+      --live-only       Keep only objects that are reachable from the roots
+      --atomic          Replace files only once the command has succeeded
+      --verbose         Print more details about errors
   -h, --help            Print help
 """
 
 GENERATE_HELP = """\
-Writes a heap image that follows from a seed, for benchmarks and experiments
+Generate a heap image from a seed, for benchmarks and experiments
 
 Usage: pcompact generate [OPTIONS] --words <n> --live <share> --region-log <k> --seed <s> <IMAGE>
 
 Arguments:
-  <IMAGE>  The file for the image
+  <IMAGE>  Where to write the image
 
 Options:
-      --words <n>       How many words the heap has, a multiple of 2^k and at most 4194304
-      --live <share>    How many of a hundred of these words belong to live objects, 0 to 100
-      --region-log <k>  The image has regions of 2^k words, k from 3 to 16
-      --seed <s>        The same seed gives the same bytes everywhere, a number of 64 bits
-      --refs <share>    How many of a hundred words behind the headers are references, 0 to 100; 25 if not given
-      --version <v>     The version of the image: 1 lists its live objects, 2 has roots; 2 if not given
-      --allowance <m>   How many dead words the dense prefix may keep; 0 if not given
-      --atomic          Replaces files only once the command has ended well
-      --verbose         Says more of what goes wrong
+      --words <n>       Number of words of the heap, a multiple of 2^k and at most 4194304
+      --live <share>    Percentage of the words that belongs to live objects, 0 to 100
+      --region-log <k>  Regions have 2^k words, k from 3 to 16
+      --seed <s>        A number of 64 bits; the same seed gives the same bytes everywhere
+      --refs <share>    Percentage of the words after the headers that are references, 0 to 100 (default 25)
+      --version <v>     Version of the image: 1 lists the live objects, 2 has roots (default 2)
+      --allowance <m>   Number of dead words that the dense prefix may keep (default 0)
+      --atomic          Replace files only once the command has succeeded
+      --verbose         Print more details about errors
   -h, --help            Print help
 """
 

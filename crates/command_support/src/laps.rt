@@ -1,4 +1,4 @@
-//! `Laps`.
+//! The durations of a command's phases.
 use crate::phase::Phase;
 use crate::tenths::Tenths;
 use std::io;
@@ -8,16 +8,16 @@ use std::time::Duration;
 /// How many phases a command has at most.
 const MAX_LAPS: usize = 7;
 
-/// How long the phases of a command took, one behind the other from its beginning on.
+/// The durations of a command's phases, in order.
 #[derive(Clone, Copy)]
 pub struct Laps {
     laps: [Option<Lap>; MAX_LAPS],
     count: usize,
-    /// When the last of them ended, since the beginning.
+    /// The end of the last phase, since the command began.
     end: Duration,
 }
 
-/// How long a phase took.
+/// The duration of a phase.
 #[derive(Clone, Copy)]
 struct Lap {
     phase: Phase,

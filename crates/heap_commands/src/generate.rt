@@ -28,6 +28,7 @@ where
     let writing = Writing {
         atomic: request.atomic,
         is_private: false,
+        read: None,
     };
     let target = FileTarget::find(rt, image, writing)?;
     let mut output = ToWrite::new(Late::new(rt, target));

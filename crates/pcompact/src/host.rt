@@ -1,5 +1,5 @@
 //! The system that commands run on, with standard output among its files.
-use command_support::{FileId, SystemFile};
+use command_support::{FileId, FileLock, SystemFile};
 use std::alloc::Allocator;
 use std::fs::{FileTimes, Metadata, OpenFile, OpenOptions, Permissions};
 use std::io;
@@ -207,6 +207,10 @@ impl<F: FileExt + Drop> FileExt for HostFile<F> {
 impl<F: SystemFile + Drop> SystemFile for HostFile<F> {
     fn set_owner(&self, owner: Option<u32>, group: Option<u32>) -> io::Result<()> {
         self.file.set_owner(owner, group)
+    }
+
+    fn acquire_lock(&self) -> io::Result<FileLock> {
+        self.file.acquire_lock()
     }
 
     fn is_standard_output(&self) -> bool {

@@ -23,10 +23,10 @@ returns-in-Ok-clause-board c = λ words_are.
 pub returns-in-Err-clause-calls : goal.returns-in-Err-clause-calls
 returns-in-Err-clause-calls c = λ name call.
     subst (λ (r : Result Request Unread). MatchResult r (IsFor name) IsNoUsage)
-    (sym (c.answered.ensures (c.in-Err.ensures.passes (ap (λ a. takes a (map string_bytes c.args.words.now)) c.in_ok-words.ensures ∙ call.0)))) tt
+    (sym (c.interpret_error.ensures (c.in-Err.ensures.passes (ap (λ a. takes a (map string_bytes c.args.words.now)) c.in_ok-words.ensures ∙ call.0)))) tt
 
 pub returns-in-Err-clause-board : goal.returns-in-Err-clause-board
 returns-in-Err-clause-board c = λ words_are.
     subst (λ (r : Result Request Unread). MatchResult r (IsFor (codes "board")) (λ unread. unread ≡ Memory))
-    (sym (c.answered.ensures (c.in-Err.ensures.passes (ap (λ a. takes a (map string_bytes c.args.words.now)) c.in_ok-words.ensures
+    (sym (c.interpret_error.ensures (c.in-Err.ensures.passes (ap (λ a. takes a (map string_bytes c.args.words.now)) c.in_ok-words.ensures
     ∙ (calls_board (map string_bytes c.args.words.now) words_are).0)))) refl
