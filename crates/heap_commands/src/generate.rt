@@ -8,7 +8,7 @@ use command_support::{
     Failure, FileTarget, FileWord, Late, Role, SystemFile, Trouble, WorkDone, Writing, ended,
 };
 use heap_image::{Outlet, ToWrite, write_image_buffered};
-use heap_maker::{GenerationFigures, Generated, Wanted, generate};
+use heap_maker::{Generated, GenerationFigures, Wanted, generate};
 use std::alloc::{AllocError, Global};
 use std::rt::Files;
 

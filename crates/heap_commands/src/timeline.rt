@@ -266,11 +266,7 @@ fn make_picture<R: Intake, S: Intake, T: AllocGlobal + Threads + Sync>(
 }
 
 /// Makes the picture of a schedule on its image.
-fn picture_of(
-    alloc: Global,
-    followed: &Followed,
-    form: Form,
-) -> Result<TimelinePicture, AllocError>
+fn picture_of(alloc: Global, followed: &Followed, form: Form) -> Result<TimelinePicture, AllocError>
     ensures { IfOk result (λ picture. IsPictureOf form followed.now.timeline (string_bytes picture.line) picture.bytes.items) }
 {
     let line = followed.timeline.line(alloc)?;
