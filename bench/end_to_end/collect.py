@@ -42,7 +42,9 @@ import subprocess
 import sys
 import tempfile
 
+here = pathlib.Path(__file__).resolve().parent
 sys.dont_write_bytecode = True
+sys.path.insert(0, str(here.parent))
 from building import TUNABLES, plain_program, proved
 
 WORKERS = (1, 2, 4)
@@ -51,8 +53,6 @@ REFERENCES = {"few": 5, "many": 70}
 # How often a process collects a fresh copy of an image in memory.
 COPIES = 5
 PHASES = ("read", "check", "marks", "plan", "cells", "fills", "clean-up", "write")
-
-here = pathlib.Path(__file__).resolve().parent
 
 
 @dataclasses.dataclass(frozen=True)
@@ -170,7 +170,7 @@ def measure(programs: Programs, case: Case, commands: dict[str, list], count: in
 
 def built() -> pathlib.Path:
     """The program that fits the sources, which the script at the top of the repository builds where there is none."""
-    top = here.parent
+    top = here.parents[1]
     subprocess.run([top / "pcompact", "--version"], check=True, stdout=subprocess.DEVNULL)
     words = ["sh", "-c", 'top=$1; . "$top/sources.sh"; program_path', "sh", top]
     return pathlib.Path(subprocess.run(words, check=True, capture_output=True, text=True).stdout.removesuffix("\n"))

@@ -6,7 +6,7 @@ import subprocess
 import tempfile
 from collections.abc import Callable
 
-from program import TOP
+from tests.support.program import TOP
 
 SHARE = TOP / "share"
 MADE = ("pcompact.1", "pcompact.bash", "_pcompact", "pcompact.fish")

@@ -1,13 +1,13 @@
 #!/usr/bin/env python3
 """Shows what the prover's time goes into.
 
-With a command, as `tests/dearest -- rt ci`: runs it, and then prints the ten checks that took the most processor time.
+With a command, as `tests/build/proof_costs.py -- rt ci`: runs it, and then prints the ten checks that took the most processor time.
 The kit reports no times of single functions there.
 With crates: prints the ten functions of these whose proofs are the largest, by what their last check has kept in out/.
 A megabyte takes one to four seconds. Most of a dear function are its lifetimes (Lts): CONTRIBUTING.md says how to write it.
 
-usage: tests/dearest -- COMMAND ..
-       tests/dearest CRATE ..
+usage: tests/build/proof_costs.py -- COMMAND ..
+       tests/build/proof_costs.py CRATE ..
 """
 import collections
 import os
@@ -18,7 +18,7 @@ import sys
 import threading
 import time
 
-TOP = pathlib.Path(__file__).resolve().parent.parent
+TOP = pathlib.Path(__file__).resolve().parents[2]
 # The parts of a function's proof, as the kept files name them.
 PARTS = ("Lts", "Proof", "Tie", "Answers")
 TICKS = os.sysconf("SC_CLK_TCK")

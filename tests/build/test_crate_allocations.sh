@@ -1,16 +1,16 @@
 #!/bin/sh
 # Runs tests of some crates with each of their allocations refused in turn. A test must pass, or end with
 # want of memory: a failed assertion, another error, a signal or no end is wrong. Where a crate has a test
-# refused_memory_is_told, which looks at the answers itself, that one alone is run, and it must always pass, but for one
+# refused_memory_is_reported, which looks at the answers itself, that one alone is run, and it must always pass, but for one
 # refusal that ends a recorded collection before its gate was asked. The last line counts the runs.
 #
-# usage: tests/crate-allocations CRATE..      (after `rt test` in each; needs a C compiler)
+# usage: tests/build/test_crate_allocations.sh CRATE..      (after `rt test` in each; needs a C compiler)
 set -u
 
-top=$(dirname -- "$(dirname -- "$(readlink -f -- "$0")")")
+top=$(dirname -- "$(dirname -- "$(dirname -- "$(readlink -f -- "$0")")")")
 room=$(mktemp -d)
 trap 'rm -rf "$room"; printf "%s passed, %s failed\n" "$((runs - failed))" "$failed"' EXIT
-cc -shared -fPIC -O2 -o "$room/refuse.so" "$top/tests/refuse_allocation.c" || exit 2
+cc -shared -fPIC -O2 -o "$room/refuse.so" "$top/tests/faults/preload/refuse_allocation.c" || exit 2
 runs=0
 failed=0
 
@@ -23,7 +23,7 @@ refusing() {
 
 # Whether the test ended with want of memory, and may.
 is_memory() {
-    case $1 in *refused_memory_is_told) return 1 ;; esac
+    case $1 in *refused_memory_is_*) return 1 ;; esac
     [ "$status" = 101 ] && grep -qx 'error: \(AllocError\|AllocFailed { .. }\|Memory\)' "$room/out"
 }
 
@@ -55,7 +55,7 @@ each() {
         number=$((number + 1))
     done
     case $1 in
-    *refused_memory_is_told) printf '%s %s: %s allocations, each refused in turn\n' "$crate" "$1" "$count" ;;
+    *refused_memory_is_*) printf '%s %s: %s allocations, each refused in turn\n' "$crate" "$1" "$count" ;;
     *) printf '%s %s: %s allocations, %s of their refusals are told, the others change nothing\n' "$crate" "$1" "$count" "$told" ;;
     esac
 }
@@ -64,7 +64,7 @@ for crate in "$@"; do
     tests=$top/crates/$crate/out/${crate}_tests
     names=$("$tests" --list | sed -n 's/: test$//p')
     [ -n "$names" ] || { echo "$crate: no tests; run rt test there"; exit 2; }
-    alone=$(printf '%s\n' "$names" | grep 'refused_memory_is_told$')
+    alone=$(printf '%s\n' "$names" | grep 'refused_memory_is_[a-z]*$')
     for name in ${alone:-$names}; do
         each "$name"
     done

@@ -6,7 +6,7 @@ is installed below folders of all kinds of names, called there, also by links an
 uninstalled. Then installing fails at each step, and must leave all as it was. What the program prints as help must make
 just the man page and the completions of share/, which are tried by the shells and readers that there are.
 
-usage: tests/installed [PROGRAM]      (needs bash; groff, mandoc, zsh and fish are of use)
+usage: tests/build/test_install.py [PROGRAM]      (needs bash; groff, mandoc, zsh and fish are of use)
 """
 import hashlib
 import os
@@ -19,8 +19,9 @@ import tempfile
 
 # Nothing is written beside the modules that these tests share.
 sys.dont_write_bytecode = True
-import manual_rows
-from program import TOP, built
+sys.path.insert(0, str(pathlib.Path(__file__).resolve().parents[2]))
+from tests.build import manual_rows
+from tests.support.program import TOP, built
 
 SECONDS = 60
 PLAIN = "/usr/bin:/bin"

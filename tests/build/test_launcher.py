@@ -2,7 +2,7 @@
 """Tests the scripts pcompact, prove and sources.sh, in copies of them and with a stand-in for the kit's rt, which proves
 nothing and "builds" a small program of C that shows its words and its folder.
 
-usage: tests/launcher      (needs a C compiler)
+usage: tests/build/test_launcher.py      (needs a C compiler)
 """
 import os
 import pathlib
@@ -14,7 +14,7 @@ import sys
 import tempfile
 import time
 
-TOP = pathlib.Path(__file__).resolve().parent.parent
+TOP = pathlib.Path(__file__).resolve().parents[2]
 PLAIN = "/usr/bin:/bin"
 TUNABLES = "glibc.malloc.hugetlb=1:glibc.malloc.mmap_max=0:glibc.malloc.arena_max=64:glibc.malloc.top_pad=67108864"
 NOTE = "pcompact: this program was proved and built elsewhere, from exactly these sources; ./prove proves it here\n"

@@ -8,7 +8,7 @@
 - No line and no cell of a table is too long, no page has more words than its budget, and no page counts by hand what grows:
   crates, commands, wrong bodies.
 
-usage: tests/pages [PROGRAM] [--write] [PAGE..]      (--write puts what the commands print into the pages)
+usage: tests/build/test_pages.py [PROGRAM] [--write] [PAGE..]      (--write puts what the commands print into the pages)
 """
 import argparse
 import pathlib
@@ -20,7 +20,8 @@ import tempfile
 
 # Nothing is written beside the modules that these tests share.
 sys.dont_write_bytecode = True
-from program import TOP, built
+sys.path.insert(0, str(pathlib.Path(__file__).resolve().parents[2]))
+from tests.support.program import TOP, built
 
 # The most words of a page, and of all pages and all pages of crates together.
 BUDGETS = {

@@ -1,13 +1,13 @@
 #!/usr/bin/env python3
 """Looks whether each block of a page that is marked `rust` stands word for word in a file of crates/ that is proved.
 
-usage: tests/quotes
+usage: tests/build/test_quotes.py
 """
 import pathlib
 import re
 import sys
 
-TOP = pathlib.Path(__file__).resolve().parent.parent
+TOP = pathlib.Path(__file__).resolve().parents[2]
 
 pages = [*TOP.glob("*.md"), *TOP.glob("docs/*.md"), *TOP.glob("*/README.md"), *TOP.glob("crates/*/README.md")]
 sources = [path.read_text() for path in TOP.glob("crates/*/src/**/*.rt")]

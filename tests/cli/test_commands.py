@@ -5,27 +5,21 @@ Each case gives the words and what the program must answer: its status, standard
 stands in the files that it makes. The forms are those of docs/FORMATS.md and docs/COMMANDS.md. A text of usage that is given
 without its end must begin so; every other one is compared whole. Ends with status 1 where an answer is another one.
 
-usage: tests/commands [PROGRAM]
+usage: tests/cli/test_commands.py [PROGRAM]
 """
 import dataclasses
 import os
 import pathlib
 import sys
-import tempfile
 
 # Nothing is written beside the modules that these tests share.
 sys.dont_write_bytecode = True
-import generate_rows
-import import_rows
-import map_rows
-import rooted_rows
-import text_rows
-import timeline_rows
-import usage_rows
-from cases import (BASE, COLLECTED, COMPACTED, LIVE, MOVED, MOVED_LIVE, ONE_WORKER, REPORT, SMALL, TWO_WORKERS, WORDS,
-                   head, image, rooted, try_collected, try_refused, try_upgraded, upgraded, with_word)
-from model import FILLER, header
-from program import Answer, Tried, built, differs, fault, usage
+sys.path.insert(0, str(pathlib.Path(__file__).resolve().parents[2]))
+from tests.models.image import FILLER, header
+from tests.support.cases import (BASE, COLLECTED, COMPACTED, LIVE, MOVED, MOVED_LIVE, ONE_WORKER, REPORT, SMALL,
+                                 TWO_WORKERS, WORDS, head, image, rooted, try_collected, try_groups, try_refused, try_upgraded,
+                                 upgraded, with_word)
+from tests.support.program import Answer, Tried, differs, fault, usage
 
 FULL = pathlib.Path("/dev/full")
 FAULT_13 = "13 input or output"
@@ -503,18 +497,7 @@ def try_devices(tried: Tried) -> None:
 
 GROUPS = (try_words, try_flags, try_help, try_workers, try_images, try_malicious_images, try_beginnings, try_which_fault,
           try_collections, try_upgrades, try_verdicts, try_malformed_schedules, try_refused_schedules,
-          try_edited_schedules, try_open_replies, try_files, try_names, try_unreadable, try_devices, *rooted_rows.GROUPS,
-          *import_rows.GROUPS, *generate_rows.GROUPS, *text_rows.GROUPS, *map_rows.GROUPS, *timeline_rows.GROUPS, *usage_rows.GROUPS)
+          try_edited_schedules, try_open_replies, try_files, try_names, try_unreadable, try_devices)
 
-
-def main() -> int:
-    with tempfile.TemporaryDirectory() as folder:
-        tried = Tried(pathlib.Path(sys.argv[1]) if len(sys.argv) > 1 else built(), pathlib.Path(folder))
-        tried.write("base", BASE)
-        for group in GROUPS:
-            group(tried)
-        print(f"{tried.count - tried.wrong} passed, {tried.wrong} failed")
-        return 1 if tried.wrong else 0
-
-
-sys.exit(main())
+if __name__ == "__main__":
+    sys.exit(try_groups(GROUPS))

@@ -1,12 +1,21 @@
-"""What `tests/commands` runs of `generate`: each image beside a slow plain model of docs/GENERATE.md, and its rows."""
+#!/usr/bin/env python3
+"""Runs `generate`: each image beside a slow plain model of docs/GENERATE.md, and its rows.
+
+usage: tests/cli/test_generate.py [PROGRAM]
+"""
 import dataclasses
 import hashlib
 import pathlib
 import re
+import sys
 
-import model
-from heap_model import Wanted, generated
-from program import TOP, Answer, Tried, fault, usage
+# Nothing is written beside the modules that these tests share.
+sys.dont_write_bytecode = True
+sys.path.insert(0, str(pathlib.Path(__file__).resolve().parents[2]))
+from tests.models import image as model
+from tests.models.generated_heap import Wanted, generated
+from tests.support.cases import try_groups
+from tests.support.program import TOP, Answer, Tried, fault, usage
 
 FULL = pathlib.Path("/dev/full")
 FAULT_13 = "13 input or output"
@@ -120,3 +129,6 @@ def try_rows(tried: Tried) -> None:
 
 
 GROUPS = (try_wishes, try_shares, try_words, try_no_heaps, try_files, try_rows)
+
+if __name__ == "__main__":
+    sys.exit(try_groups(GROUPS))

@@ -169,7 +169,7 @@ def row(image: pathlib.Path, runs: list[Collected], alike: bool, sums: dict[str,
 def main() -> int:
     parser = argparse.ArgumentParser(description=__doc__, formatter_class=argparse.RawDescriptionHelpFormatter)
     parser.add_argument("folder", type=pathlib.Path, help="where the images are")
-    parser.add_argument("--pcompact", type=pathlib.Path, default=here.parent / "pcompact",
+    parser.add_argument("--pcompact", type=pathlib.Path, default=here.parents[1] / "pcompact",
                         help="the program (the script pcompact at the top of the repository)")
     parser.add_argument("--rounds", type=int, default=1, help="how often each collection is made (1)")
     parser.add_argument("--sums", type=pathlib.Path, help="a file of lines `SHA256 NAME`: what outputs must be")
@@ -185,7 +185,8 @@ def main() -> int:
     pcompact = asked.pcompact.resolve()
     # The script of that name proves and builds the program at its first call.
     subprocess.run([pcompact, "--version"], check=True, stdout=subprocess.DEVNULL)
-    fine = True
+    # Of each image, and of each heap in both versions, whether all is right.
+    fine = []
     print("| Image | Version | Region log | Words | Regions | Live objects | Live words | Roots | Allowance | Printed "
           f"| Seconds, workers {' / '.join(map(str, WORKERS))} | Outputs | Sum | Verified | Upgraded |")
     print("|" + "---|" * 15)
@@ -195,17 +196,18 @@ def main() -> int:
         for image in images:
             runs = [collect(pcompact, image, workers, asked.rounds, room / "out.pcheap") for workers in WORKERS]
             alike = is_upgraded_alike(pcompact, image, runs[0].printed, room)
-            fine = fine and alike and is_fine(runs) and compared(image, runs, sums) != "another"
+            fine.append(alike and is_fine(runs) and compared(image, runs, sums) != "another")
             versions[heap_of(image)].append(image)
             print(row(image, runs, alike, sums), flush=True)
         print()
         for heap, both in versions.items():
             if len(both) > 1:
                 alike = are_alike(pcompact, both, room)
-                fine = fine and alike
+                fine.append(alike)
                 print(f"{heap}, {len(both)} versions: {'the same' if alike else 'other'} words, live list and line")
-    print("all equal and verified" if fine else "something differs")
-    return 0 if fine else 1
+    print("all equal and verified" if all(fine) else "something differs")
+    print(f"{fine.count(True)} passed, {fine.count(False)} failed")
+    return 0 if all(fine) else 1
 
 
 sys.exit(main())

@@ -1,13 +1,22 @@
-"""What `tests/commands` runs over heap dumps. `tests/imports` compares what comes of many more."""
+#!/usr/bin/env python3
+"""Runs `import` over heap dumps. test_imported_heaps.py compares what comes of many more.
+
+usage: tests/cli/test_import.py [PROGRAM]
+"""
 import dataclasses
 import os
 import pathlib
 import re
+import sys
 
-import dump_model
-import dump_writer
-import model
-from program import TOP, Answer, Tried, fault, usage
+# Nothing is written beside the modules that these tests share.
+sys.dont_write_bytecode = True
+sys.path.insert(0, str(pathlib.Path(__file__).resolve().parents[2]))
+from tests.models import dump as dump_model
+from tests.models import image as model
+from tests.support import dump_writer
+from tests.support.cases import try_groups
+from tests.support.program import TOP, Answer, Tried, fault, usage
 
 DUMP = dump_writer.small().text()
 FULL = pathlib.Path("/dev/full")
@@ -238,3 +247,6 @@ def try_import_files(tried: Tried) -> None:
 
 
 GROUPS = (try_imports, try_sample, try_malformed_dumps, try_most_words, try_refused_dumps, try_import_words, try_import_files)
+
+if __name__ == "__main__":
+    sys.exit(try_groups(GROUPS))

@@ -4,11 +4,11 @@
 The dumps: those of examples/dumps; written ones, with each kind of record, ids of 4 and 8 bytes, both versions, classes
 behind their instances, gaps and references that lead nowhere; random ones; ones in which objects have one id; heaps in
 records of each kind and order; each beginning of one; ones with changed bytes; and where there is a Java machine, its own, by
-each of the ways in which it writes one. Of these the machine also says what must come out: tests/Graph.java. A dump that the
+each of the ways in which it writes one. Of these the machine also says what must come out: tests/support/Graph.java. A dump that the
 model refuses must be refused, with the text and the offset of docs/DUMPS.md, and nothing written. Dumps that were made to be
 dear may take so much processor time and so much memory. Ends with status 1 where an answer is another one.
 
-usage: tests/imports [PROGRAM] [--count N]      (PROGRAM import DUMP IMAGE ..; N random dumps and N changed ones)
+usage: tests/cli/test_imported_heaps.py [PROGRAM] [--count N]      (PROGRAM import DUMP IMAGE ..; N random dumps and N changed ones)
 """
 import argparse
 import collections.abc
@@ -24,9 +24,10 @@ import tempfile
 
 # Nothing is written beside the modules that these tests share.
 sys.dont_write_bytecode = True
-import dump_model
-import dump_writer
-from program import TOP, built
+sys.path.insert(0, str(pathlib.Path(__file__).resolve().parents[2]))
+from tests.models import dump as dump_model
+from tests.support import dump_writer
+from tests.support.program import TOP, built
 
 KEPT = TOP / "examples" / "dumps"
 SECONDS = 120
@@ -325,7 +326,7 @@ def try_machine(tried: Imports) -> None:
         print("no Java machine here: its own dumps are left out")
         return
     classes = tried.folder / "classes"
-    subprocess.run(["javac", "-d", classes, TOP / "tests" / "Graph.java"], check=True)
+    subprocess.run(["javac", "-d", classes, TOP / "tests" / "support" / "Graph.java"], check=True)
     for name, how in {"live, serial": ("live", "-XX:+UseSerialGC"), "all, serial": ("all", "-XX:+UseSerialGC"),
                       "live, G1": ("live", "-XX:+UseG1GC"), "all, parallel, wide": ("all", "-XX:+UseParallelGC", "-XX:-UseCompressedOops")}.items():
         dump = tried.folder / "machine.hprof"

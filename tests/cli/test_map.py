@@ -1,16 +1,24 @@
-"""What `tests/commands` runs of `map`: its rows, worked by hand, its drawings, and how it looks on what it is printed to."""
+#!/usr/bin/env python3
+"""Runs `map`: its rows, worked by hand, its drawings, and how it looks on what it is printed to.
+
+usage: tests/cli/test_map.py [PROGRAM]
+"""
 import dataclasses
 import os
 import pathlib
 import pty
 import re
 import subprocess
+import sys
 import xml.etree.ElementTree
 
-import model
-from cases import BASE, LIVE, WORDS, image, rooted
-from heap_model import Wanted, generated
-from program import Answer, Tried, fault, usage
+# Nothing is written beside the modules that these tests share.
+sys.dont_write_bytecode = True
+sys.path.insert(0, str(pathlib.Path(__file__).resolve().parents[2]))
+from tests.models import image as model
+from tests.models.generated_heap import Wanted, generated
+from tests.support.cases import BASE, LIVE, WORDS, image, rooted, try_groups
+from tests.support.program import Answer, Tried, fault, usage
 
 FULL = pathlib.Path("/dev/full")
 FAULT_13 = "13 input or output"
@@ -250,3 +258,6 @@ def try_files(tried: Tried) -> None:
 
 
 GROUPS = (try_rows, try_words, try_looks, try_terminal, try_drawings, try_large_drawings, try_most_regions, try_files)
+
+if __name__ == "__main__":
+    sys.exit(try_groups(GROUPS))

@@ -1,11 +1,20 @@
-"""What `tests/commands` runs over images with roots, and over both versions of one heap."""
-import array
-import random
+#!/usr/bin/env python3
+"""Runs commands over images with roots, and over both versions of one heap.
 
-from cases import (COLLECTED, COMPACTED, LIVE, MOVED, ONE_WORKER, REPORT, SMALL, TWO_WORKERS, WORDS, head, image, rooted,
-                   try_collected, try_refused, with_word)
-from model import FRONT, header
-from program import Answer, Tried, differs, fault
+usage: tests/cli/test_roots.py [PROGRAM]
+"""
+import array
+import pathlib
+import random
+import sys
+
+# Nothing is written beside the modules that these tests share.
+sys.dont_write_bytecode = True
+sys.path.insert(0, str(pathlib.Path(__file__).resolve().parents[2]))
+from tests.models.image import FRONT, header
+from tests.support.cases import (COLLECTED, COMPACTED, LIVE, MOVED, ONE_WORKER, REPORT, SMALL, TWO_WORKERS, WORDS, head,
+                                 image, rooted, try_collected, try_groups, try_refused, with_word)
+from tests.support.program import Answer, Tried, differs, fault
 
 ROOTED_BASE = rooted(WORDS, [21, 0])
 ROOTED_COMPACTED = rooted(MOVED, [10, 0])
@@ -207,3 +216,6 @@ def try_many(tried: Tried) -> None:
 
 
 GROUPS = (try_roots, try_refused_roots, try_rooted_verdicts, try_rooted_schedules, try_many)
+
+if __name__ == "__main__":
+    sys.exit(try_groups(GROUPS))

@@ -95,7 +95,7 @@ def row(image: pathlib.Path, workers: int, run: Recorded) -> str:
 def main() -> int:
     parser = argparse.ArgumentParser(description=__doc__, formatter_class=argparse.RawDescriptionHelpFormatter)
     parser.add_argument("folder", type=pathlib.Path, help="where the images are")
-    parser.add_argument("--pcompact", type=pathlib.Path, default=here.parent / "pcompact",
+    parser.add_argument("--pcompact", type=pathlib.Path, default=here.parents[1] / "pcompact",
                         help="the program (the script pcompact at the top of the repository)")
     parser.add_argument("--rounds", type=int, default=1, help="how often each command is run (1)")
     asked = parser.parse_args()
@@ -106,7 +106,8 @@ def main() -> int:
     pcompact = asked.pcompact.resolve()
     # The script of that name proves and builds the program at its first call.
     subprocess.run([pcompact, "--version"], check=True, stdout=subprocess.DEVNULL)
-    fine = True
+    # Of each image and number of workers, and of each heap in both versions, whether all is right.
+    fine = []
     alone = collections.defaultdict(list)
     print("| Image | Workers | Lines | Bytes | Workers named | collect s | record s | replay s | Replay | OUT |")
     print("|---|---|---|---|---|---|---|---|---|---|")
@@ -114,7 +115,7 @@ def main() -> int:
         for image in images:
             for workers in WORKERS:
                 run = record(pcompact, image, workers, asked.rounds, pathlib.Path(scratch))
-                fine = fine and run.is_fine()
+                fine.append(run.is_fine())
                 if workers == 1:
                     alone[heap_of(image)].append(run.schedule)
                 print(row(image, workers, run), flush=True)
@@ -122,10 +123,11 @@ def main() -> int:
     print()
     for heap, schedules in twins.items():
         same = len(set(schedules)) == 1
-        fine = fine and same
+        fine.append(same)
         print(f"{heap}, {len(schedules)} versions, one worker: {'one schedule' if same else 'schedules differ'}")
-    print("all replays finished, all outputs equal" if fine else "something differs")
-    return 0 if fine else 1
+    print("all replays finished, all outputs equal" if all(fine) else "something differs")
+    print(f"{fine.count(True)} passed, {fine.count(False)} failed")
+    return 0 if all(fine) else 1
 
 
 sys.exit(main())

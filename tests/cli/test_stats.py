@@ -5,7 +5,7 @@ All else must be as without it: status, standard output and files, also where so
 The clock, the system's file of the process, standard error, each call on files and each allocation fail in turn. And a clock
 that goes on by 1000 seconds, at each of its readings in turn, shows which phase is told to take the time before that reading.
 
-usage: tests/stats [PROGRAM]      (needs a C compiler)
+usage: tests/cli/test_stats.py [PROGRAM]      (needs a C compiler)
 """
 import itertools
 import os
@@ -18,8 +18,9 @@ import time
 
 # Nothing is written beside the modules that these tests share.
 sys.dont_write_bytecode = True
-from cases import BASE, COLLECTED, COMPACTED, ONE_WORKER, WORDS, image, rooted
-from program import TOP, Answer, Tried, built
+sys.path.insert(0, str(pathlib.Path(__file__).resolve().parents[2]))
+from tests.support.cases import BASE, COLLECTED, COMPACTED, ONE_WORKER, WORDS, image, rooted
+from tests.support.program import PRELOAD, Answer, Tried, built
 
 COLLECT = ["read", "check", "prepare", "fills", "clean-up", "write"]
 RECORD = [*COLLECT, "schedule"]
@@ -172,7 +173,7 @@ def try_full_error(tried: Tried) -> None:
 
 def shim(tried: Tried, source: str) -> pathlib.Path:
     built = tried.folder / source.replace(".c", ".so")
-    subprocess.run(["cc", "-shared", "-fPIC", "-O2", "-o", built, TOP / "tests" / source], check=True)
+    subprocess.run(["cc", "-shared", "-fPIC", "-O2", "-o", built, PRELOAD / source], check=True)
     return built
 
 

@@ -1,12 +1,20 @@
-"""What `tests/commands` runs of `text` and `assemble`: the rows of docs/FORMATS.md, "Heap text"."""
+#!/usr/bin/env python3
+"""Runs `text` and `assemble`: the rows of docs/FORMATS.md, "Heap text".
+
+usage: tests/cli/test_text.py [PROGRAM]
+"""
 import dataclasses
 import pathlib
+import sys
 
-from cases import BASE
-from heap_model import Wanted, generated
-from model import MAX_REGIONS, MAX_WORDS, Image, decode, encode, header
-from program import TOP, Answer, Tried, fault, usage
-from text_model import text_of
+# Nothing is written beside the modules that these tests share.
+sys.dont_write_bytecode = True
+sys.path.insert(0, str(pathlib.Path(__file__).resolve().parents[2]))
+from tests.models.generated_heap import Wanted, generated
+from tests.models.heap_text import text_of
+from tests.models.image import MAX_REGIONS, MAX_WORDS, Image, decode, encode, header
+from tests.support.cases import BASE, try_groups
+from tests.support.program import TOP, Answer, Tried, fault, usage
 
 FULL = pathlib.Path("/dev/full")
 FAULT_13 = "13 input or output"
@@ -214,3 +222,6 @@ def try_limits(tried: Tried) -> None:
 
 
 GROUPS = (try_both_ways, try_mistakes, try_files, try_words, try_largest, try_limits)
+
+if __name__ == "__main__":
+    sys.exit(try_groups(GROUPS))

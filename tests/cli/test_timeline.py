@@ -1,13 +1,21 @@
-"""What `tests/commands` runs of `timeline`: its words, its looks and its files. `tests/timeline` runs what it shows."""
+#!/usr/bin/env python3
+"""Runs `timeline`: its words, its looks and its files. test_timeline_views.py compares what it shows.
+
+usage: tests/cli/test_timeline.py [PROGRAM]
+"""
 import dataclasses
 import os
 import pathlib
 import pty
 import subprocess
+import sys
 
-from cases import BASE, ONE_WORKER
-from map_rows import environment
-from program import Answer, Tried, fault, usage
+# Nothing is written beside the modules that these tests share.
+sys.dont_write_bytecode = True
+sys.path.insert(0, str(pathlib.Path(__file__).resolve().parents[2]))
+from tests.cli.test_map import environment
+from tests.support.cases import BASE, ONE_WORKER, try_groups
+from tests.support.program import Answer, Tried, fault, usage
 
 FULL = pathlib.Path("/dev/full")
 FAULT_13 = "13 input or output"
@@ -115,3 +123,6 @@ def try_files(tried: Tried) -> None:
 
 
 GROUPS = (try_words, try_looks, try_files)
+
+if __name__ == "__main__":
+    sys.exit(try_groups(GROUPS))

@@ -2,7 +2,7 @@
 """Tries `pcompact timeline`: what it prints and draws of schedules, beside a plain model, and its pages in a headless
 browser: what they show of given lines, not only that they open.
 
-usage: tests/timeline [PROGRAM] [--write]      (--write puts what is drawn into tests/rows/timeline.svg)
+usage: tests/cli/test_timeline_views.py [PROGRAM] [--write]      (--write puts what is drawn into tests/rows/timeline.svg)
 
 Without a browser the script of the pages is run by Node.js over a document that is none, and without that not at all; the
 last line but one says which.
@@ -17,15 +17,18 @@ import tempfile
 import time
 import xml.etree.ElementTree
 
-import model
-from cases import LIVE, WORDS, image
-from heap_model import Wanted, generated
-from map_rows import environment
-from program import TOP, Answer, Tried, built
-from schedule_model import Line, Machine, Schedule, fill, read
-from timeline_model import LEGEND, Timeline, stages_at
-from timeline_page import part, run_page, runner
-from timeline_rows import BLOCK_HANDS, MARKS
+# Nothing is written beside the modules that these tests share.
+sys.dont_write_bytecode = True
+sys.path.insert(0, str(pathlib.Path(__file__).resolve().parents[2]))
+from tests.cli.test_map import environment
+from tests.cli.test_timeline import BLOCK_HANDS, MARKS
+from tests.models import image as model
+from tests.models.generated_heap import Wanted, generated
+from tests.models.schedule import Line, Machine, Schedule, fill, read
+from tests.models.timeline import LEGEND, Timeline, stages_at
+from tests.support.browser import part, run_page, runner
+from tests.support.cases import LIVE, WORDS, image
+from tests.support.program import TOP, Answer, Tried, built
 
 SVG = "{http://www.w3.org/2000/svg}"
 MAX_BYTES = 300_000

@@ -1,7 +1,7 @@
 #!/usr/bin/env python3
 """Runs the commands of docs/TOUR.md in order, as a reader would, and compares what each prints with what the page says.
 
-usage: tests/tour [PROGRAM] [--write]      (--write puts what they print into the page)
+usage: tests/cli/test_tutorial.py [PROGRAM] [--write]      (--write puts what they print into the page)
 
 A command is a line of a code block that begins with `$ `, and what it prints are the lines behind it.
 """
@@ -15,7 +15,8 @@ import tempfile
 
 # Nothing is written beside the modules that these tests share.
 sys.dont_write_bytecode = True
-from program import TOP, built
+sys.path.insert(0, str(pathlib.Path(__file__).resolve().parents[2]))
+from tests.support.program import TOP, built
 
 PAGE = TOP / "docs" / "TOUR.md"
 STEP = re.compile(r"(?m)^\$ (.*)\n((?:(?!\$ |```).*\n)*)")

@@ -1,5 +1,16 @@
-"""The whole texts of help, and of what the program says of words that are no command."""
-from program import Answer, Tried, usage
+#!/usr/bin/env python3
+"""The whole texts of help, and of what the program says of words that are no command.
+
+usage: tests/cli/test_usage.py [PROGRAM]
+"""
+import pathlib
+import sys
+
+# Nothing is written beside the modules that these tests share.
+sys.dont_write_bytecode = True
+sys.path.insert(0, str(pathlib.Path(__file__).resolve().parents[2]))
+from tests.support.cases import try_groups
+from tests.support.program import Answer, Tried, usage
 
 HELP = """\
 Full collection of a heap image by parallel sliding compaction
@@ -404,3 +415,6 @@ def try_refused_words(tried: Tried) -> None:
 
 
 GROUPS = (try_helps, try_refused_words)
+
+if __name__ == "__main__":
+    sys.exit(try_groups(GROUPS))

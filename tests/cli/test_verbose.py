@@ -4,7 +4,7 @@ is owed, and the lines that say more. Each form of such a line in docs/COMMANDS.
 
 In the end each allocation of some runs is refused in turn: the line that is owed must come, with its status.
 
-usage: tests/verbose [PROGRAM]      (needs a C compiler)
+usage: tests/cli/test_verbose.py [PROGRAM]      (needs a C compiler)
 """
 import os
 import pathlib
@@ -14,10 +14,11 @@ import tempfile
 
 # Nothing is written beside the modules that these tests share.
 sys.dont_write_bytecode = True
-from cases import BASE, COMPACTED, MOVED, MOVED_LIVE, ONE_WORKER, WORDS, head, image, with_word
-from import_rows import CUT, DUMP, NAME
-from model import header
-from program import TOP, Answer, Tried, built
+sys.path.insert(0, str(pathlib.Path(__file__).resolve().parents[2]))
+from tests.cli.test_import import CUT, DUMP, NAME
+from tests.models.image import header
+from tests.support.cases import BASE, COMPACTED, MOVED, MOVED_LIVE, ONE_WORKER, WORDS, head, image, with_word
+from tests.support.program import PRELOAD, Answer, Tried, built
 
 ROOTED = b"PCHEAP02"
 
@@ -240,7 +241,7 @@ def try_calls(tried: Tried) -> None:
                 "generate kept --words 64 --live 50 --region-log 3 --seed 1": "IMAGE"}
     tried.write("dump", DUMP)
     tried.write("text", subprocess.run([tried.program, "text", "base"], cwd=tried.folder, capture_output=True).stdout)
-    subprocess.run(["cc", "-shared", "-fPIC", "-O2", "-o", tried.folder / "stranger.so", TOP / "tests" / "stranger.c"],
+    subprocess.run(["cc", "-shared", "-fPIC", "-O2", "-o", tried.folder / "stranger.so", PRELOAD / "stranger.c"],
                    check=True)
     before = {path.name for path in tried.folder.iterdir()} | {"made", "kept"}
     rows = [(words + (" --atomic" if call != "empty" else ""), call, io(f"{role} kept", *told))
@@ -260,7 +261,7 @@ def try_calls(tried: Tried) -> None:
 def try_refused_memory(tried: Tried, words: str) -> None:
     """Refuses each allocation in turn. The owed line must come, or fault 11 in its place."""
     shim = tried.folder / "refuse.so"
-    subprocess.run(["cc", "-shared", "-fPIC", "-O2", "-o", shim, TOP / "tests" / "refuse_allocation.c"], check=True)
+    subprocess.run(["cc", "-shared", "-fPIC", "-O2", "-o", shim, PRELOAD / "refuse_allocation.c"], check=True)
     owed = None
     number, asked = 0, 0
     while number <= asked:

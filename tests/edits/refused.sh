@@ -3,10 +3,10 @@
 # crates/NAME/refused/WHAT.edit, on a copy of the repository. Its lines `file:`, `old:` and `new:` are
 # those of a must-fail edit; `error:` is what the compiler must then say. One a processor is tried at a time.
 #
-# usage: tests/refused
+# usage: tests/edits/refused.sh
 set -uo pipefail
 
-top=$(dirname -- "$(dirname -- "$(readlink -f -- "$0")")")
+top=$(dirname -- "$(dirname -- "$(dirname -- "$(readlink -f -- "$0")")")")
 room=$(mktemp -d)
 trap 'rm -rf "$room"' EXIT
 

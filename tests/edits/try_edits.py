@@ -9,7 +9,7 @@ into two checks. What a check with others doesn't settle, or lies outside of any
 
 With --fits it proves nothing, and only looks whether the text of each edit still stands once in its file.
 
-usage: tests/try-edits [--fits] [--jobs N] [--lanes N] [CRATE..]
+usage: tests/edits/try_edits.py [--fits] [--jobs N] [--lanes N] [CRATE..]
 """
 import argparse
 import concurrent.futures
@@ -21,7 +21,7 @@ import subprocess
 import sys
 import tempfile
 
-TOP = pathlib.Path(__file__).resolve().parent.parent
+TOP = pathlib.Path(__file__).resolve().parents[2]
 # A proof file that names what an edit took away: such a line says nothing of the contract.
 NAMES_WHAT_IS_GONE = re.compile(r"has no field|is not in scope|has no `|was not admitted")
 

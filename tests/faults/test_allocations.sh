@@ -8,17 +8,17 @@
 # number is tried three times there, numbers go up until no run comes that far, and a schedule is
 # right where its replay ends in `finished`.
 #
-# usage: tests/refuse-allocations [PROGRAM]      (needs a C compiler)
+# usage: tests/faults/test_allocations.sh [PROGRAM]      (needs a C compiler)
 set -u
 
-top=$(dirname -- "$(dirname -- "$(readlink -f -- "$0")")")
+top=$(dirname -- "$(dirname -- "$(dirname -- "$(readlink -f -- "$0")")")")
 . "$top/sources.sh"
 program=${1:-$(program_path)}
 room=$(mktemp -d)
 tries=0
 failed=0
 trap 'rm -rf "$room"; printf "%s passed, %s failed\n" "$((tries - failed))" "$failed"' EXIT
-cc -shared -fPIC -O2 -o "$room/refuse.so" "$top/tests/refuse_allocation.c" || exit 2
+cc -shared -fPIC -O2 -o "$room/refuse.so" "$top/tests/faults/preload/refuse_allocation.c" || exit 2
 printf 'pcompact: fault 11 memory\n' >"$room/memory"
 mkdir "$room/made" "$room/right"
 wrong=0
@@ -153,11 +153,11 @@ each generate "$room/made/out" --words 64 --live 50 --region-log 3 --seed 1 --at
 each generate "$room/made/out" --words 65 --live 50 --region-log 3 --seed 1
 allowing_two "$top/examples/base.pcheap" >"$room/base"
 over "$room/base"
-"$top/tests/rooted_base" >"$room/rooted"
+"$top/tests/support/rooted_base.sh" >"$room/rooted"
 allowing_two "$room/rooted" >"$room/rooted_base"
 over "$room/rooted_base"
 for root in 4 33; do
-    "$top/tests/rooted_base" "$root" >"$room/refused"
+    "$top/tests/support/rooted_base.sh" "$root" >"$room/refused"
     each summary "$room/refused"
     each collect "$room/refused" "$room/made/out" --workers 1
 done

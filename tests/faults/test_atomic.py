@@ -7,7 +7,7 @@ workers, files that can't be opened, a full device, a limit on the size of files
 each allocation refused in turn. Further: collections in place, what stands at OUT and is no regular file, links,
 permissions, names that are taken. Ends with status 1 where something is another way.
 
-usage: tests/atomic [PROGRAM]      (needs a C compiler)
+usage: tests/faults/test_atomic.py [PROGRAM]      (needs a C compiler)
 """
 import os
 import pathlib
@@ -20,12 +20,13 @@ import tempfile
 
 # Nothing is written beside the modules that these tests share.
 sys.dont_write_bytecode = True
-import dump_model
-import heap_model
-import model
-from cases import BASE, COLLECTED, COMPACTED, MOVED, ONE_WORKER, WORDS, image, rooted, upgraded, with_word
-from import_rows import CUT, DUMP, refused
-from program import TOP, Answer, Tried, built, fault, launcher, usage
+sys.path.insert(0, str(pathlib.Path(__file__).resolve().parents[2]))
+from tests.cli.test_import import CUT, DUMP, refused
+from tests.models import dump as dump_model
+from tests.models import generated_heap as heap_model
+from tests.models import image as model
+from tests.support.cases import BASE, COLLECTED, COMPACTED, MOVED, ONE_WORKER, WORDS, image, rooted, upgraded, with_word
+from tests.support.program import PRELOAD, Answer, Tried, built, fault, launcher, usage
 
 FULL = pathlib.Path("/dev/full")
 FAULT_13 = "13 input or output"
@@ -336,7 +337,7 @@ def try_each(folder: Folder) -> None:
     with tempfile.TemporaryDirectory() as room:
         for source, name, said in (("fail_device", "FAILED", FAULT_13), ("refuse_allocation", "REFUSED", "11 memory")):
             library = pathlib.Path(room) / f"{source}.so"
-            subprocess.run(["cc", "-shared", "-fPIC", "-O2", "-o", library, TOP / "tests" / f"{source}.c"], check=True)
+            subprocess.run(["cc", "-shared", "-fPIC", "-O2", "-o", library, PRELOAD / f"{source}.c"], check=True)
             library.chmod(0o755)
             for words in (*COMMANDS, *MADE):
                 each(folder, library, name, said, words)

@@ -6,17 +6,17 @@
 # standard error, the status must stay, and a beginning of the right text stand there. And with each
 # read and write moving one byte, all must be right.
 #
-# usage: tests/fail-devices [PROGRAM]      (needs a C compiler)
+# usage: tests/faults/test_devices.sh [PROGRAM]      (needs a C compiler)
 set -u
 
-top=$(dirname -- "$(dirname -- "$(readlink -f -- "$0")")")
+top=$(dirname -- "$(dirname -- "$(dirname -- "$(readlink -f -- "$0")")")")
 . "$top/sources.sh"
 program=${1:-$(program_path)}
 room=$(mktemp -d)
 tries=0
 failed=0
 trap 'rm -rf "$room"; printf "%s passed, %s failed\n" "$((tries - failed))" "$failed"' EXIT
-cc -shared -fPIC -O2 -o "$room/fail.so" "$top/tests/fail_device.c" || exit 2
+cc -shared -fPIC -O2 -o "$room/fail.so" "$top/tests/faults/preload/fail_device.c" || exit 2
 printf 'pcompact: fault 13 input or output\n' >"$room/fault"
 base=$top/examples/base.pcheap
 mkdir "$room/made" "$room/right"
@@ -132,8 +132,8 @@ each generate "$room/made/out" --words 64 --live 50 --region-log 3 --seed 1
 each generate "$room/made/out" --words 64 --live 50 --region-log 4 --seed 1 --version 1
 each generate "$room/made/out" --words 65 --live 50 --region-log 3 --seed 1
 over "$base"
-"$top/tests/rooted_base" >"$room/rooted"
+"$top/tests/support/rooted_base.sh" >"$room/rooted"
 over "$room/rooted"
-"$top/tests/rooted_base" 4 >"$room/unsound"
+"$top/tests/support/rooted_base.sh" 4 >"$room/unsound"
 each collect "$room/unsound" "$room/made/out" --workers 1
 exit "$wrong"

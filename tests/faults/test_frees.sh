@@ -4,16 +4,16 @@
 # its number among those asked for, its bytes and the place in the program. Then it leaves frees out, each
 # in turn, which it must notice.
 #
-# usage: tests/frees [PROGRAM]      (needs a C compiler)
+# usage: tests/faults/test_frees.sh [PROGRAM]      (needs a C compiler)
 set -u
 
-top=$(dirname -- "$(dirname -- "$(readlink -f -- "$0")")")
+top=$(dirname -- "$(dirname -- "$(dirname -- "$(readlink -f -- "$0")")")")
 . "$top/sources.sh"
 program=${1:-$(program_path)}
 room=$(mktemp -d)
 trap 'rm -rf "$room"' EXIT
-cc -shared -fPIC -O2 -o "$room/count.so" "$top/tests/count_frees.c" || exit 2
-cc -shared -fPIC -O2 -o "$room/refuse.so" "$top/tests/refuse_allocation.c" || exit 2
+cc -shared -fPIC -O2 -o "$room/count.so" "$top/tests/faults/preload/count_frees.c" || exit 2
+cc -shared -fPIC -O2 -o "$room/refuse.so" "$top/tests/faults/preload/refuse_allocation.c" || exit 2
 base=$top/examples/base.pcheap
 passed=0
 failed=0

@@ -6,7 +6,7 @@ pipe and a file at whose end is written; the size of files is limited; names bre
 new files; another process writes OUT meanwhile; two files of two devices have one number. What the program does with new
 files is told by a library that is loaded before the C library's. Ends with status 1 where something is another way.
 
-usage: tests/hostile [PROGRAM]      (needs a C compiler; a part needs root and unshare)
+usage: tests/faults/test_hostile.py [PROGRAM]      (needs a C compiler; a part needs root and unshare)
 """
 import contextlib
 import os
@@ -19,11 +19,12 @@ import tempfile
 
 # Nothing is written beside the modules that these tests share.
 sys.dont_write_bytecode = True
-from cases import BASE, COLLECTED, COMPACTED, ONE_WORKER, WORDS, image, upgraded, with_word
-from dump_model import make
-from import_rows import DUMP
-from model import FRONT, header
-from program import TOP, Answer, Tried, built, fault, launcher, usage
+sys.path.insert(0, str(pathlib.Path(__file__).resolve().parents[2]))
+from tests.cli.test_import import DUMP
+from tests.models.dump import make
+from tests.models.image import FRONT, header
+from tests.support.cases import BASE, COLLECTED, COMPACTED, ONE_WORKER, WORDS, image, upgraded, with_word
+from tests.support.program import PRELOAD, Answer, Tried, built, fault, launcher, usage
 
 FAULT_13 = fault("13 input or output")
 OLD = b"what stood there before" * 40
@@ -307,7 +308,7 @@ def main() -> int:
     with tempfile.TemporaryDirectory() as room, tempfile.TemporaryDirectory() as aside:
         tried = Tried(pathlib.Path(sys.argv[1]) if len(sys.argv) > 1 else built(), pathlib.Path(room))
         library = pathlib.Path(aside) / "stranger.so"
-        subprocess.run(["cc", "-shared", "-fPIC", "-O2", "-o", library, TOP / "tests" / "stranger.c"], check=True)
+        subprocess.run(["cc", "-shared", "-fPIC", "-O2", "-o", library, PRELOAD / "stranger.c"], check=True)
         it = Hostile(tried, library)
         for group in (try_steps, try_swapped, try_private, try_standard_output, try_limited, try_names, try_own_names,
                       try_meanwhile, try_devices):

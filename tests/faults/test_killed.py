@@ -5,7 +5,7 @@ The image is unchanged, and OUT holds all of what it held before or all of the r
 image is collected in place. A new file may be left beside OUT, under a name of the form in docs/COMMANDS.md. The moments
 are drawn from a seed. Ends with status 1 where something else is left.
 
-usage: tests/killed [SEED [COUNT]] [--program PROGRAM]
+usage: tests/faults/test_killed.py [SEED [COUNT]] [--program PROGRAM]
 """
 import argparse
 import array
@@ -20,8 +20,9 @@ import time
 
 # Nothing is written beside the modules that these tests share.
 sys.dont_write_bytecode = True
-from model import FRONT, header
-from program import Tried, built
+sys.path.insert(0, str(pathlib.Path(__file__).resolve().parents[2]))
+from tests.models.image import FRONT, header
+from tests.support.program import Tried, built
 
 OBJECTS = 2 ** 17
 OLD = b"what stood there before" * 1000

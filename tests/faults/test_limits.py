@@ -10,7 +10,7 @@ of fewer than STACK bytes the system may end the program, but before it has open
 Where a file grows too long the system sends SIGXFSZ, which the program ignores only where its caller does, as here. Ends
 with status 1 where something is another way.
 
-usage: tests/limits [PROGRAM] [--steps N]
+usage: tests/faults/test_limits.py [PROGRAM] [--steps N]
 """
 import argparse
 import collections
@@ -24,9 +24,10 @@ import tempfile
 
 # Nothing is written beside the modules that these tests share.
 sys.dont_write_bytecode = True
-from cases import BASE, COMPACTED, ONE_WORKER
-from import_rows import DUMP
-from program import SECONDS, Tried, built
+sys.path.insert(0, str(pathlib.Path(__file__).resolve().parents[2]))
+from tests.cli.test_import import DUMP
+from tests.support.cases import BASE, COMPACTED, ONE_WORKER
+from tests.support.program import SECONDS, Tried, built
 
 OLD = b"what stood there before" * 40
 KIB = 1024

@@ -7,7 +7,7 @@ call on files failing it may also be fault 13, and then nothing or a beginning i
 call, the answer must be a fault of what is left or as of the whole, and of one that is cut and grows again while it is
 read, a fault of its bytes or the compaction of the whole.
 
-usage: tests/parts [PROGRAM]      (needs a C compiler)
+usage: tests/faults/test_parallel_reads.py [PROGRAM]      (needs a C compiler)
 """
 import os
 import pathlib
@@ -17,7 +17,11 @@ import sys
 import tempfile
 import threading
 
-HERE = pathlib.Path(__file__).resolve().parent
+# Nothing is written beside the modules that these tests share.
+sys.dont_write_bytecode = True
+sys.path.insert(0, str(pathlib.Path(__file__).resolve().parents[2]))
+from tests.support.program import PRELOAD, built
+
 WORKERS = [1, 2, 3, 4, 8, 64]
 # What each command writes and how it is called over a large image, beside `made`, which it makes.
 COMMANDS = ["collect image made --workers 1", "collect image made --workers 4", "record image made schedule --workers 4",
@@ -86,7 +90,7 @@ class Called:
         self.program = program
         self.room = room
         self.library = room / f"{source}.so"
-        subprocess.run(["cc", "-shared", "-fPIC", "-O2", "-o", self.library, HERE / source], check=True)
+        subprocess.run(["cc", "-shared", "-fPIC", "-O2", "-o", self.library, PRELOAD / source], check=True)
 
     def answer(self, words: str, **names: object) -> tuple:
         """Status, standard output, standard error, and what is in the files that such a command makes."""
@@ -165,13 +169,12 @@ def change_while_read(program: str, text: bytes, room: pathlib.Path) -> None:
 
 
 def main() -> None:
-    program = sys.argv[1] if len(sys.argv) > 1 else str(HERE.parent / "out" / "pcompact" / "pcompact")
-    program = str(pathlib.Path(program).resolve())
+    program = str((pathlib.Path(sys.argv[1]) if len(sys.argv) > 1 else built()).resolve())
     random.seed(1)
     with tempfile.TemporaryDirectory() as folder:
         room = pathlib.Path(folder)
         shim = room / "fail.so"
-        subprocess.run(["cc", "-shared", "-fPIC", "-O2", "-o", shim, HERE / "fail_device.c"], check=True)
+        subprocess.run(["cc", "-shared", "-fPIC", "-O2", "-o", shim, PRELOAD / "fail_device.c"], check=True)
         for version in ("1", "2"):
             for log in ("3", "9", "16"):
                 image = room / "generated"

@@ -8,7 +8,7 @@ enough to do for several threads, beside the fills, which have each worker at wo
 What is told apart from outside: the words of a large file are read by several threads before it is read in order, live
 objects are checked before the end of the file is asked for, and what comes then is counted as one.
 
-usage: tests/threads [PROGRAM]      (needs a C compiler)
+usage: tests/faults/test_threads.py [PROGRAM]      (needs a C compiler)
 """
 import array
 import dataclasses
@@ -18,8 +18,11 @@ import subprocess
 import sys
 import tempfile
 
-from model import FRONT, header
-from program import TOP, built
+# Nothing is written beside the modules that these tests share.
+sys.dont_write_bytecode = True
+sys.path.insert(0, str(pathlib.Path(__file__).resolve().parents[2]))
+from tests.models.image import FRONT, header
+from tests.support.program import PRELOAD, built
 
 WORKERS = (1, 2, 3, 4, 64)
 
@@ -135,7 +138,7 @@ class Counted:
         self.notes = room / "notes.so"
         self.count = 0
         self.wrong = 0
-        subprocess.run(["cc", "-shared", "-fPIC", "-O2", "-o", self.notes, TOP / "tests/count_threads.c", "-ldl"], check=True)
+        subprocess.run(["cc", "-shared", "-fPIC", "-O2", "-o", self.notes, PRELOAD / "count_threads.c", "-ldl"], check=True)
 
     def run(self, heap: Heap, words: str, right: Started, **how) -> None:
         self.count += 1

@@ -1,6 +1,6 @@
 #!/usr/bin/env python3
 """Seeded heaps of both versions and schedules through each command of the built program, beside a slow plain model of
-the pages: `model.py` for images, `schedule_model.py` for schedules, `text_model.py` for heaps as texts.
+the pages, in tests/models: image.py for images, schedule.py for schedules, heap_text.py for heaps as texts.
 
 Each case is an image, valid or slightly wrong: a header, a reference, a live address or a root is another one, roots
 stand for live addresses, an object lies in another one, the text is cut or goes on, or its head tells something else,
@@ -11,14 +11,14 @@ with lines exchanged, left out or doubled, other numbers, replies, spaces and wo
 `assemble` must make the same image of; that text is then changed, and `assemble` must take it just where the model does.
 One case in 200 is at a limit of regions or words.
 
-Beside that a heap dump, drawn and mostly changed, is imported as `dump_model.py` does, and some commands run on the case's
+Beside that a heap dump, drawn and mostly changed, is imported as tests/models/dump.py does, and some commands run on the case's
 files under limits of memory, stack, files and descriptors: they answer as without, or by fault 11 or 13.
 
 A case depends on the seed and its number alone, but for what `record` writes with several workers. Cases run by several
 processes. Ends with status 1 where something differs, a signal ends the program, or a call takes more than 10 seconds; all
 files of such a case are then kept, with what was told.
 
-usage: tests/fuzz [SEED [COUNT]] [--case NUMBER] [--program PROGRAM] [--seconds SECONDS] [--keep FOLDER] [--processes N]
+usage: tests/fuzz/fuzz.py [SEED [COUNT]] [--case NUMBER] [--program PROGRAM] [--seconds SECONDS] [--keep FOLDER] [--processes N]
 """
 import argparse
 import collections
@@ -37,12 +37,13 @@ import traceback
 
 # Nothing is written beside the modules that these tests share.
 sys.dont_write_bytecode = True
-import program
-from cases import BASE
-from fuzz_cases import try_case
-from fuzz_dumps import try_dump
-from fuzz_limits import SECONDS, Limited
-from program import Tried, built
+sys.path.insert(0, str(pathlib.Path(__file__).resolve().parents[2]))
+from tests.fuzz.fuzz_cases import try_case
+from tests.fuzz.fuzz_dumps import try_dump
+from tests.fuzz.fuzz_limits import SECONDS, Limited
+from tests.support import program
+from tests.support.cases import BASE
+from tests.support.program import Tried, built
 
 LONGEST_TEXT = 2_000
 # How long cases begin where neither their number nor a time is given.

@@ -1,15 +1,15 @@
-"""One case of `tests/fuzz`: an image and schedules through each command, and what the model says of them."""
+"""One case of fuzz.py: an image and schedules through each command, and what the model says of them."""
 import dataclasses
 import random
 import re
 
-from makers import ImageMaker, LimitMaker, ScheduleMaker, as_version_1, chance_of
-from model import Collection, Fault, Image, decode, encode, upgraded, verdict
-from mutations import ImageSpoiler, ScheduleSpoiler, TextSpoiler
-from program import Answer, Tried, differs, fault
-from schedule_model import ANY, MAX_WORKERS, Schedule, is_recorded, read, recorded_by_one, replayed
-from text_model import assembled, text_of
-from timeline_model import Timeline
+from tests.fuzz.generators import ImageMaker, LimitMaker, ScheduleMaker, as_version_1, chance_of
+from tests.fuzz.mutations import ImageSpoiler, ScheduleSpoiler, TextSpoiler
+from tests.models.heap_text import assembled, text_of
+from tests.models.image import Collection, Fault, Image, decode, encode, upgraded, verdict
+from tests.models.schedule import ANY, MAX_WORKERS, Schedule, is_recorded, read, recorded_by_one, replayed
+from tests.models.timeline import Timeline
+from tests.support.program import Answer, Tried, differs, fault
 
 # Words of an image for which the model takes long.
 MANY_WORDS = 1 << 14

@@ -1,10 +1,10 @@
-"""One heap dump of `tests/fuzz`, drawn and often changed, through `import`, and what the model says of it."""
+"""One heap dump of fuzz.py, drawn and often changed, through `import`, and what the model says of it."""
 import random
 import re
 
-import dump_model
-import dump_writer
-from program import Answer, Tried
+from tests.models import dump as dump_model
+from tests.support import dump_writer
+from tests.support.program import Answer, Tried
 
 
 def drawn(chance: random.Random) -> bytes:

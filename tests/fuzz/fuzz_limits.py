@@ -1,4 +1,4 @@
-"""Calls of `tests/fuzz` under limits of memory, stack, files and descriptors, as `ulimit` sets them.
+"""Calls of fuzz.py under limits of memory, stack, files and descriptors, as `ulimit` sets them.
 
 Each such call must answer as without limits, or by fault 11 or 13, whatever it can't get. No signal ends it, and with
 `--atomic` what stood in OUT then stays."""
@@ -8,7 +8,7 @@ import random
 import resource
 import subprocess
 
-from program import Tried
+from tests.support.program import Tried
 
 SECONDS = 10
 KIB, MIB = 1 << 10, 1 << 20

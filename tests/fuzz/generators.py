@@ -3,8 +3,8 @@ that the word machine allows."""
 import dataclasses
 import random
 
-from model import FILLER, MAX_REGIONS, MAX_WORDS, Collection, Image, header, references_of
-from schedule_model import ANY, LARGEST_NUMBER, MAX_WORKERS, Line, Machine, Schedule
+from tests.models.image import FILLER, MAX_REGIONS, MAX_WORDS, Collection, Image, header, references_of
+from tests.models.schedule import ANY, LARGEST_NUMBER, MAX_WORKERS, Line, Machine, Schedule
 
 LARGEST = 2 ** 64 - 1
 SHAPES = ("any", "any", "any", "list", "cycle", "array", "none")

@@ -2,9 +2,9 @@
 import dataclasses
 import random
 
-from makers import LARGEST
-from model import FRONT, MAX_REGIONS, MAX_WORDS, Image, encode, header, is_sound, references_of, size_of
-from schedule_model import ANY, FORMS, LARGEST_NUMBER, MAX_WORKERS, Schedule
+from tests.fuzz.generators import LARGEST
+from tests.models.image import FRONT, MAX_REGIONS, MAX_WORDS, Image, encode, header, is_sound, references_of, size_of
+from tests.models.schedule import ANY, FORMS, LARGEST_NUMBER, MAX_WORKERS, Schedule
 
 
 class ImageSpoiler:

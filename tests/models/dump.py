@@ -7,7 +7,7 @@ import dataclasses
 import itertools
 import struct
 
-from model import MAX_REGIONS, MAX_WORDS
+from tests.models.image import MAX_REGIONS, MAX_WORDS
 
 NAMES = (b"JAVA PROFILE 1.0.1\0", b"JAVA PROFILE 1.0.2\0")
 # The records that hold a heap or a part of one, and the one that ends the parts.

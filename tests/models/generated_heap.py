@@ -1,7 +1,7 @@
 """A slow plain model of the heaps that `pcompact generate` makes, made from docs/GENERATE.md alone."""
 import dataclasses
 
-from model import Image, header, reached
+from tests.models.image import Image, header, reached
 
 MASK = (1 << 64) - 1
 

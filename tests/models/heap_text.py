@@ -6,7 +6,7 @@ read off it, with no look at how it is spelled, has that very text.
 import itertools
 import struct
 
-from model import MAX_WORDS, Fault, Image, decode, encode, header
+from tests.models.image import MAX_WORDS, Fault, Image, decode, encode, header
 
 
 def reference_text(word: int) -> str:

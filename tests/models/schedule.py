@@ -8,7 +8,7 @@ import collections
 import dataclasses
 import re
 
-from model import Collection, Fault, references_of, size_of
+from tests.models.image import Collection, Fault, references_of, size_of
 
 NUMBER = re.compile("0|[1-9][0-9]{0,9}")
 LARGEST_NUMBER = 2 ** 32 - 1

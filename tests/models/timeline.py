@@ -2,7 +2,7 @@
 the crates."""
 import dataclasses
 
-from schedule_model import Line, Machine, Schedule
+from tests.models.schedule import Line, Machine, Schedule
 
 LETTERS = "_.:+#"
 LEGEND = """\

@@ -1,9 +1,13 @@
 """Images whose collection is known, and what each command must answer of an image."""
+import pathlib
 import struct
+import sys
+import tempfile
+from collections.abc import Callable, Iterable
 
-import model
-from model import header
-from program import TOP, Answer, Tried, fault
+from tests.models import image as model
+from tests.models.image import header
+from tests.support.program import TOP, Answer, Tried, built, fault
 
 BASE = (TOP / "examples" / "base.pcheap").read_bytes()
 
@@ -123,3 +127,15 @@ def try_upgraded(tried: Tried, text: bytes) -> None:
     tried.write("image", text)
     tried.run("upgrade image rooted", Answer(0, roots, made={"rooted": right}))
     tried.run("upgrade rooted again", Answer(0, roots, made={"again": right}))
+
+
+def try_groups(groups: Iterable[Callable[[Tried], None]]) -> int:
+    """Runs groups of cases, in a new folder with the base heap, on the program that the words name or the one that fits the
+    sources. Prints how many passed. The status to end with."""
+    with tempfile.TemporaryDirectory() as folder:
+        tried = Tried(pathlib.Path(sys.argv[1]) if len(sys.argv) > 1 else built(), pathlib.Path(folder))
+        tried.write("base", BASE)
+        for group in groups:
+            group(tried)
+    print(f"{tried.count - tried.wrong} passed, {tried.wrong} failed")
+    return 1 if tried.wrong else 0

@@ -7,7 +7,9 @@ import subprocess
 import sys
 from collections.abc import Callable
 
-TOP = pathlib.Path(__file__).resolve().parent.parent
+TOP = pathlib.Path(__file__).resolve().parents[2]
+# What is loaded before the program makes its calls fail, or counts them.
+PRELOAD = TOP / "tests" / "faults" / "preload"
 SECONDS = 60
 
 

@@ -1,12 +1,12 @@
 #!/usr/bin/env python3
 """How long one worker takes to fill all regions of the largest image, beside one move of the live words.
 
-Builds `passes.rt.txt` (proved, by `rt`, with the crates below it) and the plain Rust program in `../plain` (by `rustc`)
-in the scratch folder. That generates two images of 4,194,304 words in regions of 512, half of them live: in `few` one
-of twenty words behind the headers is a reference, in `many` seven of ten. Then both programs run in turn, each time in
-a process of its own. For each image it prints the median time of a pass of claims, fills and settlings from region 0
-up, and its ratio to one memmove of as many words as are live. Ends with status 1 where a ratio is above the goal, or
-where a region could not be filled. A second run with the same scratch folder builds only what has changed.
+Builds `passes.rt.txt` (proved, by `rt`, with the crates below it) and the plain Rust program of `bench/end_to_end/plain`
+(by `rustc`) in the scratch folder. That generates two images of 4,194,304 words in regions of 512, half of them live:
+in `few` one of twenty words behind the headers is a reference, in `many` seven of ten. Then both programs run in turn,
+each time in a process of its own. For each image it prints the median time of a pass of claims, fills and settlings
+from region 0 up, and its ratio to one memmove of as many words as are live. Ends with status 1 where a ratio is above
+the goal, or where a region could not be filled. A second run with the same scratch folder builds only what has changed.
 """
 import argparse
 import os
@@ -18,7 +18,7 @@ import tempfile
 
 here = pathlib.Path(__file__).resolve().parent
 sys.dont_write_bytecode = True
-sys.path.insert(0, str(here.parent))
+sys.path.insert(0, str(here.parents[1]))
 from building import TUNABLES, plain_program, proved
 
 GOALS = {"few": 15, "many": 45}

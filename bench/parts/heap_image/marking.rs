@@ -2,15 +2,15 @@
 //! blocks of their own; an explicit stack, from which 64 headers are fetched in a row; the live list by words of 64
 //! bits; then the check of the objects that were reached.
 #![allow(dead_code)]
-#[path = "../plain/header.rs"]
+#[path = "../../end_to_end/plain/header.rs"]
 mod header;
-#[path = "../plain/image.rs"]
+#[path = "../../end_to_end/plain/image.rs"]
 mod image;
-#[path = "../plain/laps.rs"]
+#[path = "../../end_to_end/plain/laps.rs"]
 mod laps;
-#[path = "../plain/marking.rs"]
+#[path = "../../end_to_end/plain/marking.rs"]
 mod marking;
-#[path = "../plain/marks.rs"]
+#[path = "../../end_to_end/plain/marks.rs"]
 mod marks;
 
 use image::{mark_from_roots, Fault};

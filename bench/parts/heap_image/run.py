@@ -20,7 +20,7 @@ import tempfile
 
 here = pathlib.Path(__file__).resolve().parent
 sys.dont_write_bytecode = True
-sys.path.insert(0, str(here.parent))
+sys.path.insert(0, str(here.parents[1]))
 from building import compiled, proved
 
 # Of each call the goal for its ratio to plain Rust.
@@ -37,7 +37,7 @@ def build(scratch: pathlib.Path) -> tuple[pathlib.Path, list[list]]:
     folder.mkdir(parents=True, exist_ok=True)
     plain = compiled(here / "plain.rs", scratch / "plain")
     marking = compiled(here / "marking.rs", scratch / "marking")
-    generator = compiled(here.parent / "plain" / "main.rs", scratch / "generator")
+    generator = compiled(here.parents[1] / "end_to_end" / "plain" / "main.rs", scratch / "generator")
     subprocess.run([plain, "generate"], cwd=folder, check=True)
     for name, words in HEAPS.items():
         command = [generator, "generate", name, "--mib", "32", "--live", "50", "--log", "9", "--version", "2", *words]

@@ -14,7 +14,7 @@ import tempfile
 
 here = pathlib.Path(__file__).resolve().parent
 sys.dont_write_bytecode = True
-sys.path.insert(0, str(here.parent))
+sys.path.insert(0, str(here.parents[1]))
 from building import compiled, proved
 
 GOAL = 0.8

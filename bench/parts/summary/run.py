@@ -1,14 +1,14 @@
 #!/usr/bin/env python3
 """How long the marks and the plan of the largest image take, beside one copy of its words.
 
-Builds `plans.rt.txt` (proved, by `rt`, with the crates below it) and the plain Rust program in `../plain` (by `rustc`)
-in the scratch folder. That generates an image of 4,194,304 words in regions of 512, half of them live. Then both
+Builds `plans.rt.txt` (proved, by `rt`, with the crates below it) and the plain Rust program of `bench/end_to_end/plain`
+(by `rustc`) in the scratch folder. That generates an image of 4,194,304 words in regions of 512, half of them live. Then both
 programs run in turn, each time in a process of its own: `plans` on 1, 2 and 4 processors, as many of them as there are,
 since regions are counted by a thread for each. Prints for each number of processors the median times of `Marks::of`
 and `Plan::of`, the medians of their ratios to one memmove of all words in the same round, and the ratios of the least
 times. Ends with status 1 where two plans have different new tops. A second run with the same scratch folder builds only
-what has changed. Where other processes keep the processors busy, `chrt -f 1 bench/summary/run`, as root, goes before
-them.
+what has changed. Where other processes keep the processors busy, `chrt -f 1 bench/parts/summary/run.py`, as root, goes
+before them.
 """
 import argparse
 import os
@@ -20,7 +20,7 @@ import tempfile
 
 here = pathlib.Path(__file__).resolve().parent
 sys.dont_write_bytecode = True
-sys.path.insert(0, str(here.parent))
+sys.path.insert(0, str(here.parents[1]))
 from building import TUNABLES, plain_program, proved
 
 PROCESSORS = (1, 2, 4)
