@@ -18,7 +18,7 @@ import subprocess
 import sys
 import tempfile
 
-# Nothing is written beside the modules that these tests share.
+# Finds the package `tests` from any folder, and writes nothing beside its modules.
 sys.dont_write_bytecode = True
 sys.path.insert(0, str(pathlib.Path(__file__).resolve().parents[2]))
 from tests.support.program import TOP, built
@@ -174,4 +174,5 @@ def main() -> None:
     sys.exit(failed > 0 and not asked.write)
 
 
-main()
+if __name__ == "__main__":
+    main()

@@ -22,7 +22,7 @@ import subprocess
 import sys
 import tempfile
 
-# Nothing is written beside the modules that these tests share.
+# Finds the package `tests` from any folder, and writes nothing beside its modules.
 sys.dont_write_bytecode = True
 sys.path.insert(0, str(pathlib.Path(__file__).resolve().parents[2]))
 from tests.models import dump as dump_model

@@ -130,4 +130,5 @@ def main() -> int:
     return 0 if all(fine) else 1
 
 
-sys.exit(main())
+if __name__ == "__main__":
+    sys.exit(main())

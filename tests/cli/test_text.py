@@ -7,7 +7,7 @@ import dataclasses
 import pathlib
 import sys
 
-# Nothing is written beside the modules that these tests share.
+# Finds the package `tests` from any folder, and writes nothing beside its modules.
 sys.dont_write_bytecode = True
 sys.path.insert(0, str(pathlib.Path(__file__).resolve().parents[2]))
 from tests.models.generated_heap import Wanted, generated

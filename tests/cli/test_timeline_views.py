@@ -17,7 +17,7 @@ import tempfile
 import time
 import xml.etree.ElementTree
 
-# Nothing is written beside the modules that these tests share.
+# Finds the package `tests` from any folder, and writes nothing beside its modules.
 sys.dont_write_bytecode = True
 sys.path.insert(0, str(pathlib.Path(__file__).resolve().parents[2]))
 from tests.cli.test_map import environment
@@ -373,4 +373,5 @@ def main() -> None:
     sys.exit(tried.wrong > 0)
 
 
-main()
+if __name__ == "__main__":
+    main()

@@ -18,7 +18,7 @@ import sys
 import tempfile
 import time
 
-# Nothing is written beside the modules that these tests share.
+# Finds the package `tests` from any folder, and writes nothing beside its modules.
 sys.dont_write_bytecode = True
 sys.path.insert(0, str(pathlib.Path(__file__).resolve().parents[2]))
 from tests.models.image import FRONT, header
@@ -108,4 +108,5 @@ def main() -> int:
     return 1 if tried.wrong else 0
 
 
-sys.exit(main())
+if __name__ == "__main__":
+    sys.exit(main())

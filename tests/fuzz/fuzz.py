@@ -35,7 +35,7 @@ import tempfile
 import time
 import traceback
 
-# Nothing is written beside the modules that these tests share.
+# Finds the package `tests` from any folder, and writes nothing beside its modules.
 sys.dont_write_bytecode = True
 sys.path.insert(0, str(pathlib.Path(__file__).resolve().parents[2]))
 from tests.fuzz.fuzz_cases import try_case
@@ -153,4 +153,5 @@ def main() -> int:
     return 1 if total.different else 0
 
 
-sys.exit(main())
+if __name__ == "__main__":
+    sys.exit(main())
