@@ -217,6 +217,7 @@ def try_import_words(tried: Tried) -> None:
 def try_import_files(tried: Tried) -> None:
     """Files that aren't there, can't be read or written, are named twice, or can't be read twice."""
     tried.write("dump", DUMP)
+    (tried.folder / "folder").mkdir()
     (tried.folder / "hard dump").hardlink_to(tried.folder / "dump")
     for name in ("nothing", "nothing/dump", "dump/image", "/proc/self/mem"):
         tried.run(f"import {name} out", fault(FAULT_13, {"out": None}))
