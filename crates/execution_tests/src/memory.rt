@@ -47,7 +47,7 @@ fn check_image_back(alloc: Global, back: &Image, text: &[u8]) -> Result<bool, Fa
     }
 }
 
-/// The script tests/crate-allocations runs this with each allocation refused in turn.
+/// The script tests/build/test_crate_allocations.sh runs this with each allocation refused in turn.
 #[test]
 fn refused_memory_is_reported(rt: HostRuntime) {
     let answers = [

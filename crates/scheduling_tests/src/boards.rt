@@ -260,7 +260,7 @@ fn comes_through(alloc: Global) -> Result<bool, CallFault> {
     Ok(makes_recorder(alloc, &moves)? && is_board)
 }
 
-/// The script tests/crate-allocations runs this with each allocation refused in turn.
+/// The script tests/build/test_crate_allocations.sh runs this with each allocation refused in turn.
 #[test]
 fn refused_memory_is_reported(rt: HostRuntime) {
     let first = comes_through(rt.alloc());

@@ -244,7 +244,7 @@ fn comes_through<W: Wait>(alloc: Global, wait: &W) -> Result<bool, Fault> {
     Ok(is_answered && text.as_slice() == RECORDED.as_bytes())
 }
 
-/// The script tests/crate-allocations runs this with each allocation refused in turn.
+/// The script tests/build/test_crate_allocations.sh runs this with each allocation refused in turn.
 #[test]
 fn refused_memory_is_reported(rt: HostRuntime) {
     let first = comes_through(rt.alloc(), &rt);

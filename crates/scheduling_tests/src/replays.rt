@@ -348,7 +348,7 @@ fn a_prefix_gets_its_fillers(rt: HostRuntime) -> Result<(), Fail> {
     Ok(())
 }
 
-/// The script tests/crate-allocations runs this with each allocation refused in turn.
+/// The script tests/build/test_crate_allocations.sh runs this with each allocation refused in turn.
 #[test]
 fn refused_memory_is_reported(rt: HostRuntime) {
     let first = comes_through(rt.alloc(), &rt);

@@ -60,7 +60,7 @@ fn comes_through(alloc: Global, threads: &(impl Threads + Sync)) -> Result<bool,
     slides(alloc, threads, (BY_TWO, 2), old, new)
 }
 
-/// The script tests/crate-allocations runs this with each allocation refused in turn.
+/// The script tests/build/test_crate_allocations.sh runs this with each allocation refused in turn.
 #[test]
 fn refused_memory_is_reported(rt: HostRuntime) {
     let first = comes_through(rt.alloc(), &rt);

@@ -190,7 +190,7 @@ fn comes_through(alloc: Global, wait: &impl Wait) -> Result<bool, CallFault> {
     Ok(replies == (Reply::Outside(2), Reply::Outside(2)) && is_kept)
 }
 
-/// The script tests/crate-allocations runs this with each allocation refused in turn.
+/// The script tests/build/test_crate_allocations.sh runs this with each allocation refused in turn.
 #[test]
 fn refused_memory_is_reported(rt: HostRuntime) {
     let first = comes_through(rt.alloc(), &rt);

@@ -55,7 +55,7 @@ fn reports_memory(alloc: Global, refusal: Refusal, has_begun: bool) -> Result<bo
     }
 }
 
-/// The script tests/crate-allocations runs this with each allocation refused in turn. Only one refusal may fail the
+/// The script tests/build/test_crate_allocations.sh runs this with each allocation refused in turn. Only one refusal may fail the
 /// test: that of the line for the first claim, which is recorded before the gate is called.
 #[test]
 fn image_is_kept_where_refused_memory_is_reported(rt: HostRuntime) -> Result<(), Fail> {

@@ -1,4 +1,4 @@
-//! The results of calls when memory runs out. The script tests/crate-allocations runs each of these tests with each
+//! The results of calls when memory runs out. The script tests/build/test_crate_allocations.sh runs each of these tests with each
 //! allocation refused in turn.
 use crate::checks::holds;
 use crate::devices::Checked;

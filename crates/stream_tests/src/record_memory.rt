@@ -32,7 +32,7 @@ fn is_right(
     Ok(is_compacted && replays(alloc, threads, &before, schedule)?)
 }
 
-/// The script tests/crate-allocations runs this with each allocation refused in turn.
+/// The script tests/build/test_crate_allocations.sh runs this with each allocation refused in turn.
 #[test]
 fn refused_memory_is_reported(rt: HostRuntime) {
     let base = Base::WithLiveList;

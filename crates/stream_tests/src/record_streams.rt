@@ -114,7 +114,7 @@ fn records<R: Threads + Wait + Sync>(alloc: Global, rt: &R) -> Result<bool, Faul
     }
 }
 
-/// The script tests/crate-allocations runs this with each allocation refused in turn.
+/// The script tests/build/test_crate_allocations.sh runs this with each allocation refused in turn.
 #[test]
 fn record_stream_where_refused_memory_is_reported(rt: HostRuntime) {
     let answers = [records(rt.alloc(), &rt), records(rt.alloc(), &rt)];

@@ -1,5 +1,5 @@
 //! Dumps from slow and failing devices, dumps that change between the two readings, and a region size that no command
-//! line can give. `tests/import_rows.py` has the words, figures and errors of other dumps.
+//! line can give. `tests/cli/test_import.py` has the words, figures and errors of other dumps.
 use crate::checks::equal;
 use crate::dump_writer::Writer;
 use heap_dump::{ImportError, Imported, Options, Problem, import};

@@ -1,5 +1,5 @@
 //! Invalid descriptions of heaps that no command line can give, because the program rejects such arguments earlier.
-//! `tests/generate_rows.py` has the others, and the words of seeds.
+//! `tests/cli/test_generate.py` has the others, and the words of seeds.
 use crate::checks::equal;
 use heap_maker::{GenerationError, Wanted, generate};
 use std::alloc::Global;

@@ -1,4 +1,4 @@
-//! Texts from devices, and messages of `heap_text` that the program doesn't print. `tests/text_rows.py` has the other
+//! Texts from devices, and messages of `heap_text` that the program doesn't print. `tests/cli/test_text.py` has the other
 //! errors.
 use crate::checks::equal;
 use heap_image::FromRead;
