@@ -4,12 +4,12 @@ ghost use Rattle.summary.specs.NewAddresses.{new_address};
 ghost use Rattle.summary.specs.Compaction.{redirected, compact};
 ghost use Rattle.fill.specs.FillFaults.{IsOverwritten};
 
-use summary::laws::plans::planned_image_is_valid;
 use fill::{clear_above, update_deferred_by_workers};
 use heap_image::{Fault, Image, ImageParts, roots_are_null_or_live};
 use region_cells::Cells;
 use std::thread::Threads;
 use summary::laws::compaction::compaction_is_valid;
+use summary::laws::plans::planned_image_is_valid;
 use summary::{Plan, Survey};
 use thread_row::for_each_mut;
 

@@ -14,9 +14,9 @@ ghost use Rattle.collector.specs.declared.outcome.Refusal.TheVariants.{Kept, Los
 use crate::gate::Gate;
 use crate::outcome::{Outcome, Refusal};
 use crate::prepared::Prepared;
-use history::laws::moves_are_lawful;
 use claim_board::{Board, Finished, Pass};
 use heap_image::{Fault, Image};
+use history::laws::moves_are_lawful;
 use history::settled_histories_have_each_once;
 use std::alloc::Global;
 use std::sync::Wait;

@@ -9,8 +9,8 @@ ghost use Rattle.collector.specs.Compared.{AreCompacted, IsFirstOther, IsPlaced,
 ghost use Rattle.collector.specs.Verdict.{IsVerdict, HaveSameShape, root_count, root_at};
 
 use crate::difference::{first_nonzero, first_unlike};
-use heap_image::laws::image_is_valid;
 use crate::verdict::Verdict;
+use heap_image::laws::image_is_valid;
 use heap_image::{Image, header};
 use summary::Survey;
 use summary::laws::compaction::{blocks_of_regions, compaction_by_objects};

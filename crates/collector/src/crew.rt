@@ -9,7 +9,6 @@ ghost use Rattle.collector.specs.declared.worker.Halt.TheVariants.{Stopped};
 
 use crate::gate::Gate;
 use crate::ready::Thief;
-use summary::laws::plans::planned_image_is_valid;
 use crate::worker::{Halt, Worker};
 use claim_board::{Desk, Done, Ticket};
 use crossbeam_utils::Backoff;
@@ -21,6 +20,7 @@ use std::sync::Wait;
 use std::sync::atomic::{AtomicBool, Ordering};
 use std::thread::Threads;
 use summary::Survey;
+use summary::laws::plans::planned_image_is_valid;
 use summary::laws::region_data::regions_to_fill;
 use thread_row::for_each_mut;
 

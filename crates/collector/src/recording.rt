@@ -11,7 +11,6 @@ ghost use Rattle.collector.specs.declared.outcome.Refusal.TheVariants.{Kept, Los
 use crate::gate::Gate;
 use crate::outcome::{Outcome, Refusal};
 use crate::prepared::Prepared;
-use summary::laws::plans::planned_image_is_valid;
 use claim_board::Recorder;
 use heap_image::{Fault, Image};
 use history::{Schedule, check, checked_histories_are_records};
@@ -19,6 +18,7 @@ use std::alloc::Global;
 use std::sync::Wait;
 use std::thread::Threads;
 use summary::Plan;
+use summary::laws::plans::planned_image_is_valid;
 
 /// Compacts an image as [`collect`](crate::collect) does, but under one lock, and returns the schedule of all the
 /// workers' calls and copies. Each call and copy allocates its line.

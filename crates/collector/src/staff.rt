@@ -2,10 +2,10 @@ ghost use Rattle.std.specs.Prelude.{◌≡◌, ◌<◌, ◌≤◌, [], map, vec_
 ghost use Rattle.std.specs.Vec.{vec_capacity};
 
 use crate::ready::{Ready, Thief};
-use summary::laws::plans::planned_image_is_valid;
 use crate::worker::{Halt, Worker};
 use std::alloc::{AllocError, Global};
 use summary::Plan;
+use summary::laws::plans::planned_image_is_valid;
 use summary::laws::region_data::regions_to_fill;
 
 /// The workers of a collection before they begin, and a handle to the queue of each.

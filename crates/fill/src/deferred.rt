@@ -9,13 +9,13 @@ ghost use Rattle.fill.specs.MovedHeap.{moved_regions, cleared, words_from, updat
 
 use crate::deferred_parts::DeferredParts;
 use crate::heap::{set_word, word};
-use summary::laws::plans::planned_image_is_valid;
 use heap_image::header::references;
 use raw_region::Region;
 use std::thread::Threads;
 use summary::laws::compaction::blocks_of_regions;
 use summary::laws::deferred_objects::{moved_objects, one_deferred_object, update_then_clear};
 use summary::laws::new_addresses::objects_keep_their_order;
+use summary::laws::plans::planned_image_is_valid;
 use summary::laws::region_data::regions_to_fill;
 use summary::{Plan, Survey};
 

@@ -4,11 +4,11 @@ ghost use Rattle.fill.specs.MovedHeap.{IsCut, IsMovedPart, IsUpdatedPart};
 
 use crate::deferred::{late_references, part_start, update_regions};
 use crate::heap::word;
-use summary::laws::plans::planned_image_is_valid;
 use heap_image::header::references;
 use raw_region::Region;
 use std::thread::{Threads, join_mut};
 use summary::Plan;
+use summary::laws::plans::planned_image_is_valid;
 
 /// The least number of regions to fill that is worth a thread.
 const LEAST_REGIONS: usize = 512;

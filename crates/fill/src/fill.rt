@@ -8,13 +8,13 @@ ghost use Rattle.fill.specs.FillFaults.{IsFaultOf};
 use crate::filling::Filling;
 use crate::guide::Guide;
 use crate::site::Site;
-use summary::laws::plans::planned_image_is_valid;
 use claim_board::{Desk, Done, Ticket};
 use heap_image::Fault;
 use history::moves_of_images;
 use region_cells::{Cells, Placed};
 use std::sync::Wait;
 use summary::Survey;
+use summary::laws::plans::planned_image_is_valid;
 use summary::laws::region_data::regions_to_fill;
 
 /// Fills the region of a ticket: puts its moved words back into its cell, and completes it.

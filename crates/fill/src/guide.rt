@@ -9,10 +9,10 @@ ghost use Rattle.fill.specs.Objects.{IsObject, IsNextObject, HasNoObject};
 
 use crate::runs::Run;
 use crate::span::Span;
-use summary::laws::plans::planned_image_is_valid;
 use mark_bitmap::Marks;
 use std::marker::Model;
 use summary::laws::new_addresses::objects_keep_their_order;
+use summary::laws::plans::planned_image_is_valid;
 use summary::laws::readers::sources_in_a_row;
 use summary::laws::region_data::region_data_by_words;
 use summary::{Plan, Survey};
