@@ -15,7 +15,7 @@ pub fn image_is_valid(image: &Image)
     image.len();
 }
 
-/// Bytes without a fault are the text of the valid image that they tell.
+/// Bytes without a fault are the text of the valid image that they encode.
 pub fn faultless_is_text()
     ensures { FaultlessIsText }
 {}

@@ -6,6 +6,7 @@ ghost use Rattle.heap_image.specs.Extents.{IsBodyOf, AreTwoParts, IsExtent, exte
 use crate::body::Body;
 use crate::body_size::BodySize;
 use crate::cursor::Cursor;
+use crate::front::{FRONT_BYTES, Front};
 use crate::incoming::Incoming;
 use crate::store::Store;
 use std::alloc::Global;
@@ -25,6 +26,18 @@ pub struct Extent {
 }
 
 impl Extent {
+    /// The extent of the body that follows this front of a file, if the front is valid.
+    pub fn after_front(front: &[u8; FRONT_BYTES]) -> Option<Extent>
+        ensures log { IfSome result (λ extent. extent.size.region_log ≤ 16) }
+        ensures few { IfSome result (λ extent. body_words extent.size ≤ 8388608) }
+    {
+        let front = Front::parse(front).ok()?;
+        Some(Extent {
+            at: FRONT_BYTES as u64,
+            size: front.body_size(),
+        })
+    }
+
     /// The offset after the last byte, if it fits in 64 bits.
     pub fn end(self) -> Option<u64>
         requires log { self.size.region_log ≤ 16 }

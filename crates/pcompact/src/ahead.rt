@@ -3,8 +3,7 @@ ghost use Rattle.std.specs.Prelude.{◌≤◌, ◌<◌, None, IfSome};
 ghost use Rattle.heap_image.specs.Body.{body_words};
 ghost use Rattle.heap_image.specs.Extents.{IsBodyOf};
 
-use heap_image::limits::{MAX_HEAP_WORDS, MAX_REGION_LOG};
-use heap_image::{Body, BodySize, Extent, FRONT_BYTES, FileStore, body_at};
+use heap_image::{Body, Extent, FRONT_BYTES, FileStore, body_at};
 use std::alloc::Global;
 use std::os::unix::fs::FileExt;
 use std::thread::Threads;
@@ -48,29 +47,15 @@ impl Ahead {
     }
 }
 
-/// The extent of the body behind this front, if it may be the front of a large image. Whether it is a valid one is
-/// decided when the image is read.
+/// The extent of the body after this front, if it is the front of a large image.
 fn extent_of(front: &[u8; FRONT_BYTES]) -> Option<Extent>
     ensures log { IfSome result (λ extent. extent.size.region_log ≤ 16) }
     ensures few { IfSome result (λ extent. body_words extent.size ≤ 8388608) }
 {
-    let region_log = u32::from_le_bytes([front[8], front[9], front[10], front[11]]);
-    let numbers = u32::from_le_bytes([front[12], front[13], front[14], front[15]]);
-    let words = u64::from_le_bytes([
-        front[16], front[17], front[18], front[19], front[20], front[21], front[22], front[23],
-    ]);
-    if region_log > MAX_REGION_LOG || words < LEAST_WORDS || words > MAX_HEAP_WORDS {
+    let extent = Extent::after_front(front)?;
+    let words = (extent.size.regions as u64) << extent.size.region_log;
+    if words < LEAST_WORDS {
         return None;
     }
-    if u64::from(numbers) > words {
-        return None;
-    }
-    Some(Extent {
-        at: FRONT_BYTES as u64,
-        size: BodySize {
-            region_log,
-            regions: (words >> region_log) as usize,
-            numbers: numbers as usize,
-        },
-    })
+    Some(extent)
 }

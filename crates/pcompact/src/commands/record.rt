@@ -249,7 +249,12 @@ pub fn record_into<
 {
     let alloc = rt.alloc();
     let line = String::with_capacity(alloc, LINE_ROOM)?;
-    let Workers { count, gate } = workers;
-    let figures = record_stream(alloc, input, output, lines, count, gate, rt, rt)?;
+    let running = collector::Workers {
+        count: workers.count,
+        gate: workers.gate,
+        threads: rt,
+        wait: rt,
+    };
+    let figures = record_stream(alloc, input, output, lines, running)?;
     Ok(with_line(figures, line))
 }
