@@ -10,8 +10,7 @@ use claim_board::{
     Board, Pass, Ticket, appended_calls_are_gained, one_more_source_is_drained,
     swept_tickets_have_none_left,
 };
-use history::Moves;
-use history::laws::moves_are_lawful;
+use history::{Moves, moves_are_lawful};
 use std::alloc::{AllocError, Global};
 
 /// A worker after its sweep.

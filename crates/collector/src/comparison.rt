@@ -10,8 +10,7 @@ ghost use Rattle.collector.specs.Verdict.{IsVerdict, HaveSameShape, root_count, 
 
 use crate::difference::{first_nonzero, first_unlike};
 use crate::verdict::Verdict;
-use heap_image::laws::image_is_valid;
-use heap_image::{Image, header};
+use heap_image::{Image, header, image_is_valid};
 use summary::Survey;
 use summary::laws::compaction::{blocks_of_regions, compaction_by_objects};
 use summary::laws::dense_prefix::{fillers_by_runs, prefix_end_is_greatest};

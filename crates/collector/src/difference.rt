@@ -3,8 +3,7 @@ ghost use Rattle.std.specs.Prelude.{◌≡◌, ◌+◌, ◌≤◌, MatchOption};
 ghost use Rattle.heap_image.specs.HeapImage.{heap_words, word_at};
 ghost use Rattle.collector.specs.Difference.{AreAlike, IsLeastDifference};
 
-use heap_image::Image;
-use heap_image::laws::image_is_valid;
+use heap_image::{Image, image_is_valid};
 
 /// The index of the first of the `n` words from address `at` on that is not 0.
 pub(crate) fn first_nonzero(image: &Image, at: u64, n: u64) -> Option<u64>

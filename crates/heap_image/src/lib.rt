@@ -65,8 +65,9 @@ pub use heap::Heap;
 pub use image::{Image, ImageParts};
 pub use intake::{Failed, FromRead, Intake};
 pub use laws::{
-    faultless_is_text, faults_of_roots, live_objects_are_reached, marked_parts_are_valid, one_text,
-    reachable_is_the_least_closed, roots_are_null_or_live, text_is_faultless,
+    faultless_is_text, faults_of_roots, image_is_valid, live_objects_are_reached,
+    marked_parts_are_valid, one_text, reachable_is_the_least_closed, roots_are_null_or_live,
+    text_is_faultless,
 };
 pub use length_cause::LengthCause;
 pub use outlet::{Outlet, ToWrite, give_all};

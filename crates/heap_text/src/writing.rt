@@ -3,8 +3,7 @@ ghost use Rattle.std.specs.Prelude.{◌≡◌, ◌++◌, ◌+◌, ◌-◌, ◌�
 ghost use Rattle.heap_image.specs.HeapImage.{HasSoundHeader, end_of, heap_words};
 ghost use Rattle.heap_text.specs.Text.{are_equal, dead_text, dead_words_text, front_text, number_line, lines_from, number_text, numbers_text, object_text, reference_text, references_text, roots_line, roots_text, text_of};
 
-use heap_image::laws::image_is_valid;
-use heap_image::{Image, header};
+use heap_image::{Image, header, image_is_valid};
 use std::alloc::{AllocError, Global};
 
 /// Returns the text of an image.

@@ -84,8 +84,8 @@ pub use given_moves::GivenMoves;
 pub use image_laws::moves_of_images;
 pub use indexed_moves::IndexedMoves;
 pub use laws::{
-    drained_before_written, how_counts_go_down, legal_histories_are_orderly, pairs_slide_down,
-    what_legal_histories_keep, what_own_calls_tell,
+    drained_before_written, how_counts_go_down, legal_histories_are_orderly, moves_are_lawful,
+    pairs_slide_down, what_legal_histories_keep, what_own_calls_tell,
 };
 pub use line::Line;
 pub use line_cause::LineCause;

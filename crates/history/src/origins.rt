@@ -7,8 +7,7 @@ ghost use Rattle.summary.specs.Fillers.{filler_word};
 ghost use Rattle.history.specs.Carrier.{AreOrigins};
 
 use heap_image::header;
-use mark_bitmap::Marks;
-use mark_bitmap::laws::marked_image_is_valid;
+use mark_bitmap::{Marks, marked_image_is_valid};
 use std::alloc::{AllocError, Global};
 use summary::Plan;
 

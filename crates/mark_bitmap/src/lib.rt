@@ -12,10 +12,11 @@
 //! memory runs out, and the number of threads of the latter. How fast the queries are is neither proved nor tested.
 #![tactic(auto)]
 
-pub mod laws;
+mod laws;
 mod mark_builder;
 mod marks;
 mod objects;
 mod part_bits;
 
+pub use laws::marked_image_is_valid;
 pub use marks::Marks;

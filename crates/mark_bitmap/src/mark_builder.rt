@@ -3,8 +3,7 @@ ghost use Rattle.std.specs.Prelude.{◌≡◌, ◌+◌, ◌<◌, length};
 ghost use Rattle.mark_bitmap.specs.Marks.{AreBegins, IsBlankPart, IsMarkedPart};
 
 use crate::objects::mark_part;
-use heap_image::laws::image_is_valid;
-use heap_image::{Bits, Image};
+use heap_image::{Bits, Image, image_is_valid};
 use std::thread::{Threads, join_mut};
 
 /// What the threads share.

@@ -7,8 +7,7 @@ ghost use Rattle.heap_image.specs.Sizes.{AreSizesOf};
 ghost use Rattle.mark_bitmap.specs.Marks.{AreBegins, AreBitsFrom, IsBlankPart, IsFirstObject, IsMarkedPart, bit_words, continues_at, is_end};
 
 use crate::part_bits::insert_within;
-use heap_image::laws::image_is_valid;
-use heap_image::{Bits, Image, PIECE};
+use heap_image::{Bits, Image, PIECE, image_is_valid};
 use std::alloc::{AllocError, Global};
 
 /// The begin bits of the live objects. If reading the image has kept them, they are copied.
