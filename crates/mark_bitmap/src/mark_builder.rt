@@ -18,8 +18,8 @@ pub(crate) struct MarkBuilder<'a, T: Threads + Sync> {
 }
 
 impl<T: Threads + Sync> MarkBuilder<'_, T> {
-    /// Sets the end bits and the live bits of the addresses from `64 * start` on. Each share of words but the last gets
-    /// a thread, which this one starts.
+    /// Sets the end bits and the live bits of the addresses from `64 * start` on. Each share of words but the last gets a
+    /// thread, which this one starts.
     #[cycle(parts)]
     pub(crate) fn mark(&self, start: usize, ends: &mut [u64], live: &mut [u64])
         requires share { 0 < self.now.share }
@@ -33,36 +33,9 @@ impl<T: Threads + Sync> MarkBuilder<'_, T> {
             mark_part(self.image, self.begins, start, ends, live);
             return;
         }
+        image_is_valid(self.image);
         let (low_ends, high_ends) = ends.split_at_mut(self.share);
         let (low_live, high_live) = live.split_at_mut(self.share);
-        self.mark_both(start, low_ends, low_live, high_ends, high_live);
-    }
-
-    /// Sets the end bits and the live bits of two adjacent parts in two threads. The first part begins with the
-    /// addresses from `64 * start` on.
-    #[cycle(parts)]
-    fn mark_both(
-        &self,
-        start: usize,
-        low_ends: &mut [u64],
-        low_live: &mut [u64],
-        high_ends: &mut [u64],
-        high_live: &mut [u64],
-    )
-        requires share { 0 < self.now.share }
-        requires begins { AreBegins self.now.image.now self.now.begins.now }
-        requires some_low { 0 < length low_ends.old }
-        requires some_high { 0 < length high_ends.old }
-        requires low { IsBlankPart self.now.image.now start low_ends.old low_live.old }
-        requires high { IsBlankPart self.now.image.now (start + length low_ends.old) high_ends.old high_live.old }
-        ensures low_ends_room { length low_ends.new ≡ length low_ends.old }
-        ensures low_live_room { length low_live.new ≡ length low_live.old }
-        ensures high_ends_room { length high_ends.new ≡ length high_ends.old }
-        ensures high_live_room { length high_live.new ≡ length high_live.old }
-        ensures low { IsMarkedPart self.now.image.now start low_ends.new low_live.new }
-        ensures high { IsMarkedPart self.now.image.now (start + length low_ends.old) high_ends.new high_live.new }
-    {
-        image_is_valid(self.image);
         let middle = start + low_ends.len();
         let mut low = ||
             requires { (0 < self.now.share) × AreBegins self.now.image.now self.now.begins.now
