@@ -26,7 +26,8 @@ from tests.support.cases import BASE, ONE_WORKER
 from tests.support.program import Answer, Tried, built, fault
 
 COMMANDS = ["replay heap", "timeline heap"]
-LINES = 3_000_000
+# Enough that the memory allowed besides doesn't hide one more copy of the schedule.
+LINES = 10_000_000
 MEMORY_BESIDES = 64 * 2 ** 20
 # The program reads this number of bytes at a time.
 PIECE = 8192
@@ -49,7 +50,7 @@ def peak_of(tried: Tried, words: str) -> tuple[int, int]:
 def try_memory(tried: Tried) -> None:
     """Long schedules, of the shortest lines and of longer ones."""
     tried.write("heap", BASE)
-    for line in ("0 poll ?\n", "0 poll more\n", "1 look 3 ?\n", "1 look 3 out2\n"):
+    for line in ("0 poll ?\n", "1 look 3 out2\n"):
         text = "schedule 1 2\n" + line * LINES
         tried.write("schedule", text)
         for words in ("replay heap schedule", "timeline heap schedule", "timeline heap schedule --svg drawn",
