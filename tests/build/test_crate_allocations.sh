@@ -1,6 +1,6 @@
 #!/bin/sh
 # Runs tests of some crates with each of their allocations refused in turn. A test must pass, or end with
-# want of memory: a failed assertion, another error, a signal or no end is wrong. Where a crate has a test
+# out of memory: a failed assertion, another error, a signal or no end is wrong. Where a crate has a test
 # refused_memory_is_reported, which looks at the answers itself, that one alone is run, and it must always pass, but for one
 # refusal that ends a recorded collection before its gate was asked. The last line counts the runs.
 #
@@ -21,9 +21,9 @@ refusing() {
     runs=$((runs + 1))
 }
 
-# Whether the test ended with want of memory, and may.
+# Whether the test ended because memory ran out, and may.
 is_memory() {
-    case $1 in *refused_memory_is_*) return 1 ;; esac
+    case $1 in *refused_memory_is_reported) return 1 ;; esac
     [ "$status" = 101 ] && grep -qx 'error: \(AllocError\|AllocFailed { .. }\|Memory\)' "$room/out"
 }
 
@@ -42,12 +42,12 @@ each() {
         return
     fi
     count=$(cat "$room/asked")
-    told=0
+    reported=0
     number=1
     while [ "$number" -le "$count" ]; do
         refusing "$1" "$number"
         if is_memory "$1"; then
-            told=$((told + 1))
+            reported=$((reported + 1))
         elif [ "$status" != 0 ] && ! is_first_line; then
             failed=$((failed + 1))
             printf '%s %s: refusal of allocation %s: status %s: %s\n' "$crate" "$1" "$number" "$status" "$(cat "$room/out")"
@@ -55,8 +55,8 @@ each() {
         number=$((number + 1))
     done
     case $1 in
-    *refused_memory_is_*) printf '%s %s: %s allocations, each refused in turn\n' "$crate" "$1" "$count" ;;
-    *) printf '%s %s: %s allocations, %s of their refusals are told, the others change nothing\n' "$crate" "$1" "$count" "$told" ;;
+    *refused_memory_is_reported) printf '%s %s: %s allocations, each refused in turn\n' "$crate" "$1" "$count" ;;
+    *) printf '%s %s: %s allocations, %s of their refusals are reported, the others change nothing\n' "$crate" "$1" "$count" "$reported" ;;
     esac
 }
 
@@ -64,7 +64,7 @@ for crate in "$@"; do
     tests=$top/crates/$crate/out/${crate}_tests
     names=$("$tests" --list | sed -n 's/: test$//p')
     [ -n "$names" ] || { echo "$crate: no tests; run rt test there"; exit 2; }
-    alone=$(printf '%s\n' "$names" | grep 'refused_memory_is_[a-z]*$')
+    alone=$(printf '%s\n' "$names" | grep 'refused_memory_is_reported$')
     for name in ${alone:-$names}; do
         each "$name"
     done
