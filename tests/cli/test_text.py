@@ -4,7 +4,10 @@
 usage: tests/cli/test_text.py [PROGRAM]
 """
 import dataclasses
+import functools
 import pathlib
+import resource
+import subprocess
 import sys
 
 # Finds the package `tests` from any folder, and writes nothing beside its modules.
@@ -208,7 +211,9 @@ def try_image(tried: Tried, image: Image) -> int:
         tried.is_wrong(f"the text of {len(image.words)} words isn't that of the model")
     tried.write("lines", text)
     counts = f"words {len(image.words)} roots {len(image.roots())} live {len(image.live())}\n"
-    tried.run("assemble lines made", Answer(0, counts, made={"made": content}))
+    # The image, three times the text, and a little more.
+    bound = functools.partial(limit_memory, len(content) + 3 * len(text) + (64 << 20))
+    tried.run("assemble lines made", Answer(0, counts, made={"made": content}), preexec_fn=bound)
     return len(text)
 
 
@@ -221,7 +226,21 @@ def try_limits(tried: Tried) -> None:
         tried.is_wrong("the longest text isn't long")
 
 
-GROUPS = (try_both_ways, try_mistakes, try_files, try_words, try_largest, try_limits)
+def limit_memory(most: int) -> None:
+    """Limits the address space of the process that is about to begin, in bytes."""
+    resource.setrlimit(resource.RLIMIT_AS, (most, most))
+
+
+def try_endless(tried: Tried) -> None:
+    """A text without an end is refused at its first wrong line, in little memory."""
+    bound = functools.partial(limit_memory, 448 << 20)
+    with subprocess.Popen(["yes"], stdout=subprocess.PIPE) as lines:
+        tried.run("assemble /dev/stdin made", mistake(1, VERSION), stdin=lines.stdout, preexec_fn=bound)
+        lines.kill()
+    tried.run("assemble /dev/zero made", mistake(1, "a newline at the end of the line"), preexec_fn=bound)
+
+
+GROUPS = (try_both_ways, try_mistakes, try_files, try_words, try_largest, try_limits, try_endless)
 
 if __name__ == "__main__":
     sys.exit(try_groups(GROUPS))
