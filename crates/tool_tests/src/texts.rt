@@ -59,7 +59,7 @@ fn a_failing_device_is_reported(rt: HostRuntime) -> Result<(), Fail> {
 }
 
 /// The error for an endless text of this byte, and how many bytes were read.
-fn endless(alloc: Global, byte: u8) -> (Option<AssembleError>, usize) {
+fn assemble_endless(alloc: Global, byte: u8) -> (Option<AssembleError>, usize) {
     let mut device = FromRead::new(Endless { byte, given: 0 });
     let error = match assemble_from(alloc, &mut device) {
         Ok(_) => None,
@@ -75,9 +75,9 @@ fn first_line_error(expected: Expected) -> Option<AssembleError> {
 
 #[test]
 fn an_endless_text_is_rejected_in_its_first_piece(rt: HostRuntime) -> Result<(), Fail> {
-    let zeros = endless(rt.alloc(), 0);
+    let zeros = assemble_endless(rt.alloc(), 0);
     equal(&rt, zeros, (first_line_error(Expected::Newline), 65_536));
-    let newlines = endless(rt.alloc(), b'\n');
+    let newlines = assemble_endless(rt.alloc(), b'\n');
     equal(&rt, newlines, (first_line_error(Expected::Version), 65_536));
     Ok(())
 }
