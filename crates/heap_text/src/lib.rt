@@ -16,6 +16,7 @@ mod assembling;
 mod dead_line;
 mod error;
 mod expected;
+mod image_bytes;
 mod laws;
 mod line_error;
 mod line_parser;
@@ -26,6 +27,7 @@ mod parsed_heap;
 mod reading;
 mod text_parser;
 mod tokens;
+mod word_list;
 mod writing;
 
 pub use assembling::{assemble, assemble_from};

@@ -11,6 +11,10 @@ use std::test::Fail;
 /// A heap of one region, all of whose words are dead.
 const DEAD: &str = "heap version 1\nregion-log 3\nwords 8\nallowance 0\n@0 dead 8 of 7\n";
 
+/// Two regions of the largest size, with an object across their border.
+const TWO_REGIONS: &str = "heap version 1\nregion-log 16\nwords 131072\nallowance 0\n\
+@0 dead 65535 of 7\n@65535 object 2 data 5\n@65537 dead 65535 of 0\n";
+
 /// A reader without an end, of one byte over and over, which counts the bytes that it has given.
 #[derive(Drop)]
 struct Endless {
@@ -48,6 +52,8 @@ fn assembled_words<R: Read + Drop>(alloc: Global, text: R) -> Result<u64, Assemb
 fn a_text_is_assembled_from_a_device(rt: HostRuntime) -> Result<(), Fail> {
     let words = assembled_words(rt.alloc(), DEAD.as_bytes());
     equal(&rt, words, Ok(8));
+    let words = assembled_words(rt.alloc(), TWO_REGIONS.as_bytes());
+    equal(&rt, words, Ok(131_072));
     Ok(())
 }
 
