@@ -20,10 +20,7 @@ pub fn words<'a>(alloc: Global) -> Result<Command<'a>, AllocError>
         .about("Convert the heap dump of a Java virtual machine to a heap image")
         .arg(arguments::file(alloc, "DUMP", "A heap dump"))?
         .arg(arguments::file(alloc, "IMAGE", "Where to write the image"))?
-        .arg(arguments::region_log(
-            alloc,
-            "Regions have 2^k words, k from 3 to 16 (default 9)",
-        ))?
+        .arg(arguments::region_log(alloc, "Regions have 2^k words, k from 3 to 16 (default 9)"))?
         .arg(arguments::allowance(alloc))?
         .arg(arguments::flag(
             alloc,

@@ -32,10 +32,7 @@ fn with_cells<'a>(alloc: Global) -> Result<Command<'a>, AllocError>
         .about("Draw a heap image, also as its collection leaves it")
         .arg(arguments::image(alloc))?
         .arg(arguments::flag(alloc, "after", "Also draw the heap after its collection"))?
-        .arg(arguments::width(
-            alloc,
-            "Number of cells, from 1 to 1000 (default 64)",
-        ))?
+        .arg(arguments::width(alloc, "Number of cells, from 1 to 1000 (default 64)"))?
         .arg(arguments::svg(
             alloc,
             "Write the picture to this file as SVG, and print only the figures",

@@ -19,11 +19,7 @@ pub fn words<'a>(alloc: Global) -> Result<Command<'a>, AllocError>
     Command::new(alloc, "verify")
         .about("Compare a heap image with the compaction of another")
         .arg(arguments::file(alloc, "BEFORE", "The image before its collection"))?
-        .arg(arguments::file(
-            alloc,
-            "AFTER",
-            "The image to compare with its compaction",
-        ))?
+        .arg(arguments::file(alloc, "AFTER", "The image to compare with its compaction"))?
         .arg(arguments::stats(alloc))?
         .arg(arguments::verbose(alloc))
 }

@@ -60,8 +60,8 @@ pub use file_id::FileId;
 pub use file_target::{FileTarget, Writing};
 pub use file_word::{FileWord, Role};
 pub use files::{
-    reject_same_file, ended, failed, failed_between, image_and_out, must_differ, not_regular, same_file,
-    target_beside, two_different_inputs, two_inputs,
+    ended, failed, failed_between, image_and_out, must_differ, not_regular, reject_same_file,
+    same_file, target_beside, two_different_inputs, two_inputs,
 };
 pub use laps::Laps;
 pub use late::Late;

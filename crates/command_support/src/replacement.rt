@@ -74,7 +74,10 @@ impl<'a> Replacement<'a> {
         let new = make_beside(host, word, &place, making)?;
         remove_leftovers(host, &place, making, &new);
         let New {
-            path, file, lock, ..
+            path,
+            file,
+            lock,
+            ..
         } = new;
         let replacement = Replacement {
             word,
