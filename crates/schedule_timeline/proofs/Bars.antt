@@ -1,6 +1,6 @@
 -- Bars and marks, after one call more.
-use Rattle.std.proofs.Common.{◌≡◌, ◌∙◌, ◌<◌, ◌≤◌, ◌+◌, ◌++◌, ◌∷◌, [], ℕ, List, Bool, true, false, Option, Some, None, take, length, get_or, append-nil, inl, inr, refl, ap, ap₂, sym, subst, arith}
-use Rattle.std.specs.Prelude.{All, option_map, slice_get, slice_index_or}
+use Rattle.std.proofs.Common.{◌≡◌, ◌∙◌, ◌<◌, ◌≤◌, ◌+◌, ◌++◌, ◌∷◌, [], ℕ, List, Bool, false, Option, Some, None, take, length, get_or, append-nil, inl, inr, refl, ap, sym, subst, arith}
+use Rattle.std.specs.Prelude.{All, slice_get, slice_index_or}
 use Rattle.std.specs.List.{cons_option, enumerate_from, filter_map}
 use Rattle.std.proofs.lemmas.Bool.{cases_Bool}
 use Rattle.std.proofs.lemmas.Bool.Decides.{leb_tells}
@@ -8,13 +8,10 @@ use Rattle.std.proofs.lemmas.List.{get_or_past}
 use Rattle.std.proofs.lemmas.List.Elements.{All-head, All-tail}
 use Rattle.history.specs.History.{is_grant}
 use Rattle.history.specs.declared.entry.Entry.{Entry}
-use Rattle.schedule_timeline.specs.declared.bar.Bar.{Bar}
 use Rattle.schedule_timeline.specs.declared.call.Call.{Call}
-use Rattle.schedule_timeline.specs.declared.deed.Deed.{Deed}
 use Rattle.schedule_timeline.specs.declared.deed.Deed.TheVariants.{Completion, Grant, Settling}
-use Rattle.schedule_timeline.specs.declared.freeing.Freeing.{Freeing}
 use Rattle.schedule_timeline.specs.FirstCalls.{AreFirst, AreGrantedBelow}
-use Rattle.schedule_timeline.specs.Timeline.{bar_if, bar_of, call_at, call_if, calls_that, does, first_call, freed_pair, freeing_if, freeing_of, granted_region}
+use Rattle.schedule_timeline.specs.Timeline.{bar_of, call_if, does, first_call, freeing_of}
 use Rattle.schedule_timeline.proofs.Calls.{filter_map_more}
 
 -- filter_map by places, if the next element gives nothing

@@ -1,11 +1,10 @@
 -- Schedules with the replies of all calls.
-use Rattle.std.proofs.Common.{◌≡◌, ◌∙◌, ◌<◌, ◌≤◌, ℕ, List, [], ◌∷◌, Option, Some, None, length, take, take_all, get_or, ap, sym, refl, arith}
+use Rattle.std.proofs.Common.{◌≡◌, ◌∙◌, ◌<◌, ◌≤◌, ℕ, List, [], ◌∷◌, Some, length, take, take_all, get_or, ap, sym, refl, arith}
 use Rattle.std.specs.Prelude.{map, slice_get, unwrap_or}
 use Rattle.std.proofs.lemmas.List.{length-map}
 use Rattle.std.proofs.lemmas.Option.{slice_get-get_or}
-use Rattle.history.specs.Schedule.{ScheduleView, entries_of, line_of, schedule_of, with_entry}
+use Rattle.history.specs.Schedule.{ScheduleView, entries_of, line_of, schedule_of}
 use Rattle.history.specs.declared.entry.Entry.{Entry}
-use Rattle.history.specs.declared.line.Line.{Line}
 use Rattle.schedule_timeline.specs.Log.{HasAllReplies, log_of}
 
 -- the entries of the lines of a history are the history

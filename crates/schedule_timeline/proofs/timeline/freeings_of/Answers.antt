@@ -1,11 +1,10 @@
-use Rattle.std.proofs.Common.{◌≡◌, ◌∙◌, ◌<◌, ℕ, List, Option, Some, None, length, get_or, ap, sym, arith}
+use Rattle.std.proofs.Common.{◌≡◌, ◌∙◌, ◌<◌, List, Option, Some, None, length, get_or, ap, sym, arith}
 use Rattle.std.specs.Prelude.{option_map, slice_index_or}
 use Rattle.std.specs.List.{enumerate_from, filter_map}
 use Rattle.history.specs.declared.entry.Entry.{Entry}
 use Rattle.history.specs.declared.event.Event.TheVariants.{Claim}
 use Rattle.history.specs.declared.reply.Reply.TheVariants.{Yes}
 use Rattle.schedule_timeline.specs.declared.call.Call.{Call}
-use Rattle.schedule_timeline.specs.declared.freeing.Freeing.{Freeing}
 use Rattle.schedule_timeline.specs.Log.{log_of}
 use Rattle.schedule_timeline.specs.Timeline.{call_at, freed_pair, freeing_if, freeing_of}
 use Rattle.schedule_timeline.proofs.Bars.{freeing_same, none_more, one_more, taken}
