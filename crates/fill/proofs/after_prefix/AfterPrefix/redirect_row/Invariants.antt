@@ -4,7 +4,7 @@ use Rattle.fill.specs.WordBlocks.{IsSplitAt}
 use Rattle.fill.specs.CopiedWords.{copied_word}
 use Rattle.fill.specs.Objects.{IsBetween}
 use Rattle.fill.specs.Targets.{SameTarget}
-use Rattle.fill.proofs.behind_prefix.BehindPrefix.redirect_row.Given as goal
+use Rattle.fill.proofs.after_prefix.AfterPrefix.redirect_row.Given as goal
 
 abbrev pub invariant-loop-at : goal.invariant-loop-at
 invariant-loop-at l = record {

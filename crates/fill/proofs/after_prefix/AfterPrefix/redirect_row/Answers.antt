@@ -10,8 +10,8 @@ use Rattle.fill.proofs.Targets.{same_target, target_over, still_block}
 use Rattle.fill.proofs.Writing.{split_skip, split_all}
 use Rattle.fill.proofs.Redirects.{object_size, object-at, between-end, moved-top, deferred-not, deferred-over}
 use Rattle.fill.proofs.Steps.{header-size, object-late}
-use Rattle.fill.proofs.behind_prefix.BehindPrefix.redirect_row.Goals as goal
-use Rattle.fill.proofs.behind_prefix.BehindPrefix.redirect_row.Goals.{After-from}
+use Rattle.fill.proofs.after_prefix.AfterPrefix.redirect_row.Goals as goal
+use Rattle.fill.proofs.after_prefix.AfterPrefix.redirect_row.Goals.{After-from}
 
 -- the object at `at`, once its size is read
 module _ (c : After-from) where
@@ -47,7 +47,7 @@ module _ (c : After-from) where
   whole = omega (arith, block.long, c.args.self.now.site.start, c.args.self.now.site.end)
 
   found : (a : ℕ) × IsMovedTo image at a
-  found = object-at image sound at (omega (arith, low, c.args.self.now.site.start, c.args.self.now.behind_prefix)) below.0 c.loop-at.invariant.between
+  found = object-at image sound at (omega (arith, low, c.args.self.now.site.start, c.args.self.now.after_prefix)) below.0 c.loop-at.invariant.between
 
   size_is : (a : ℕ) → IsMovedTo image at a → c.from.result ≡ size_at image a
   size_is a on = header-size image sound a start at c.get-header.result c.from.result c.loop-at.target.words on low (omega (arith, whole, below.1)) c.loop-at.invariant.split c.get-header.ensures (c.from.ensures ∙ c.size.ensures)

@@ -1,4 +1,3 @@
-//! `BehindPrefix`: a region behind the dense prefix.
 ghost use Rattle.std.specs.Prelude.{◌≡◌, ℕ, ◌+◌, ◌<◌, ◌≤◌, false};
 ghost use Rattle.heap_image.specs.HeapImage.{region_count, start_of};
 ghost use Rattle.summary.specs.NewAddresses.{prefix_end};
@@ -14,33 +13,33 @@ use crate::site::Site;
 use heap_image::header::size;
 use region_cells::{Source, Target};
 
-/// Whether words go from the one region to the other, by where the source's first word goes and what is behind it.
-fn reaches(start: u64, limit: u64, first: u64, behind: u64) -> bool
-    ensures { result ≡ reaches start limit first behind }
+/// Whether a source has words for the target region at `start..limit`: its live words go to `first..after`.
+fn reaches(start: u64, limit: u64, first: u64, after: u64) -> bool
+    ensures { result ≡ reaches start limit first after }
 {
-    first < limit && (start < behind && first < behind)
+    first < limit && (start < after && first < after)
 }
 
-/// A region behind the dense prefix, to which words of its own and of regions above it move.
+/// A region after the dense prefix, which is filled with its own words and those of regions above it.
 #[derive(Drop)]
-pub(crate) struct BehindPrefix<'a> {
+pub(crate) struct AfterPrefix<'a> {
     pub(crate) site: Site<'a>,
-    pub(crate) ghost behind_prefix: { prefix_end site.guide.now ≤ start_of site.guide.now site.region },
+    pub(crate) ghost after_prefix: { prefix_end site.guide.now ≤ start_of site.guide.now site.region },
 }
 
-impl BehindPrefix<'_> {
-    /// Whether the region takes words from itself.
+impl AfterPrefix<'_> {
+    /// Whether the region has words for itself.
     fn reads_itself(&self) -> bool
         ensures { result ≡ reads self.now.site.guide.now self.now.site.region self.now.site.region }
     {
         let guide = self.site.guide;
         guide.image_is_valid();
         let first = guide.destination(self.site.region);
-        let behind = guide.behind(self.site.region);
-        reaches(self.site.span.start, self.site.span.end, first, behind)
+        let after = guide.destination_after(self.site.region);
+        reaches(self.site.span.start, self.site.span.end, first, after)
     }
 
-    /// Slides the own words of the region down, and answers how far it is written.
+    /// Slides the region's own words down. Returns the address up to which the region is written.
     pub(crate) fn slide_own(&self, target: &mut Target<'_>) -> u64
         requires { IsUnwritten self.now.site.guide.now self.now.site.region target.old }
         ensures { Becomes (IsCopied self.now.site.guide.now self.now.site.region (self.now.site.region + 1) result) target.old target.new }
@@ -64,8 +63,8 @@ impl BehindPrefix<'_> {
         to
     }
 
-    /// Copies what comes from the source `s`, where what comes from the regions below `from` is copied and nothing comes
-    /// from those between, so that the region is written up to `to`. Answers how far it is written then.
+    /// Copies the words that come from source `s`. On entry the words from all regions below `s` are copied, and the
+    /// region is written up to `to`. Returns the address up to which it is written afterwards.
     pub(crate) fn copy_source(
         &self,
         source: &Source<'_>,
@@ -93,8 +92,8 @@ impl BehindPrefix<'_> {
         to
     }
 
-    /// Redirects the references of the live objects that lie wholly in the region. What comes from the regions below
-    /// `from` is copied, so that the region is written up to `to`, and nothing comes from the others.
+    /// Redirects the references of the live objects that lie wholly in the region. The words from all regions below
+    /// `from` are copied, the region is written up to `to`, and the other regions have no words for it.
     pub(crate) fn redirect_objects(&self, target: &mut Target<'_>, from: u32, to: u64)
         requires own { self.now.site.region < from }
         requires within { from ≤ region_count self.now.site.guide.now }
@@ -112,8 +111,8 @@ impl BehindPrefix<'_> {
         }
     }
 
-    /// Redirects the references of the live objects that lie wholly in the region, where they stand side by side from
-    /// the address `at` on.
+    /// Redirects the references of the live objects that lie wholly in the region. They are adjacent, and the first
+    /// begins at `at`.
     fn redirect_row(&self, target: &mut Target<'_>, at: u64)
         requires low { self.now.site.span.start ≤ at }
         requires between { IsBetween self.now.site.guide.now at }

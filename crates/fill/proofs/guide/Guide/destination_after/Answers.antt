@@ -5,8 +5,8 @@ use Rattle.summary.specs.RegionData.{region_data, partial_words, own_words}
 use Rattle.summary.proofs.Words.{slid-le, live_words-le}
 use Rattle.fill.proofs.Slides.{slid-from}
 use Rattle.fill.proofs.WrittenTo.{region_fits}
-use Rattle.fill.proofs.guide.Guide.behind.Goals as goal
-use Rattle.fill.proofs.guide.Guide.behind.Goals.{After-from-2}
+use Rattle.fill.proofs.guide.Guide.destination_after.Goals as goal
+use Rattle.fill.proofs.guide.Guide.destination_after.Goals.{After-from-2}
 
 sum_is : (c : After-from-2) → c.destination.result + c.from.result + c.from-2.result ≡ slid c.args.self.now (start_of c.args.self.now c.args.r + region_words c.args.self.now)
 sum_is c =
@@ -18,7 +18,7 @@ sum_is c =
     let own : c.from-2.result ≡ own_words image r = c.from-2.ensures ∙ ap (λ d. d.live) told in
     let counted = c.region_data_by_words.ensures.counted image valid.live_list r in
     let goes : c.destination.result ≡ slid image (start_of image r) = c.destination.ensures in
-    let all = slid-from image (start_of image r) (start_of image r + region_words image) c.requires.behind_prefix (omega arith) in
+    let all = slid-from image (start_of image r) (start_of image r + region_words image) c.requires.after_prefix (omega arith) in
     omega arith
 
 pub overflow_add-result : goal.overflow_add-result

@@ -9,8 +9,8 @@ use Rattle.fill.proofs.Targets.{same_target, still_block, unwritten_block, writt
 use Rattle.fill.proofs.Slides.{slid-past, split_slide}
 use Rattle.fill.proofs.WrittenTo.{region_fits, shows_start, written_to-own, written_to-read, written_to-skip}
 use Rattle.fill.proofs.Writing.{split_none}
-use Rattle.fill.proofs.behind_prefix.BehindPrefix.slide_own.Goals as goal
-use Rattle.fill.proofs.behind_prefix.BehindPrefix.slide_own.Goals.{After-image_is_valid}
+use Rattle.fill.proofs.after_prefix.AfterPrefix.slide_own.Goals as goal
+use Rattle.fill.proofs.after_prefix.AfterPrefix.slide_own.Goals.{After-image_is_valid}
 
 -- the region, as it was at the start
 module _ (c : After-image_is_valid) where
@@ -44,13 +44,13 @@ returns-then-not-reads_itself c =
     let valid = c.image_is_valid.ensures in
     let sound : HasLiveList image = valid.live_list in
     let d : ℕ = site.region in
-    let behind = c.args.self.now.behind_prefix in
+    let behind = c.args.self.now.after_prefix in
     let unread : reads image d d ≡ false = sym c.reads_itself.ensures ∙ c.if-not-reads_itself.true in
     copied_from image d d site.span.start site.span.start c.args.target.now c.args.target.now site.start (block at) (same_target c.args.target.now) (split at)
     (site.start ∙ sym (written_to-own image sound d) ∙ written_to-skip image sound d d behind behind (region_fits image valid d site.inside) unread)
 
 pub first_from-from-requires-clause-region : goal.first_from-from-requires-clause-region
-first_from-from-requires-clause-region c = record { inside = c.args.self.now.site.inside; behind_prefix = c.args.self.now.behind_prefix }
+first_from-from-requires-clause-region c = record { inside = c.args.self.now.site.inside; after_prefix = c.args.self.now.after_prefix }
 
 pub first_from-from-requires-clause-low : goal.first_from-from-requires-clause-low
 first_from-from-requires-clause-low c =
@@ -65,7 +65,7 @@ first_from-from-requires-clause-high c =
     let sound : HasLiveList image = c.image_is_valid.ensures.live_list in
     let d : ℕ = site.region in
     let read : reads image d d ≡ true = sym c.reads_itself.ensures ∙ c.if-not-reads_itself.false in
-    let on = written_to-read image sound d d c.args.self.now.behind_prefix read in
+    let on = written_to-read image sound d d c.args.self.now.after_prefix read in
     let own = written_to-own image sound d in
     let high : written_to image (start_of image d) (start_of image d) ≤ slid image (start_of image d + region_words image) = on.1 in
     omega (arith, site.start)
@@ -75,11 +75,11 @@ loop-from-init c =
     let at = (goal.at.loop-from-init c).After-image_is_valid in
     let site = c.args.self.now.site in
     let from = c.first_from-from.ensures in
-    let behind = c.args.self.now.behind_prefix in
+    let behind = c.args.self.now.after_prefix in
     record {
       after = omega (arith, from.after, site.start);
       inside = omega (arith, from.inside, site.end);
-      behind_prefix = omega (arith, from.after);
+      after_prefix = omega (arith, from.after);
       place = sym from.place;
       low = omega arith;
       split = split at;
@@ -120,7 +120,7 @@ loop-from-preserved c =
     let far : c.loop-from.from ≤ a = r.after in
     let live = λ (q : ℕ) (l : a ≤ q) (m : q < a + n). (let below : q < c.next_run-run.result.end = omega arith in r.live q l below) in
     let whole : a + n ≡ c.next_run-run.result.end = omega arith in
-    let past = slid-past image c.loop-from.from a n c.loop-from.to h.behind_prefix far h.place r.dead live in
+    let past = slid-past image c.loop-from.from a n c.loop-from.to h.after_prefix far h.place r.dead live in
     let down = slid-le image a in
     let now = still_block image c.args.target.now c.loop-from.target (block at) h.same in
     let written = written_on image (copied_word image) (word_at image) site.span.start (c.loop-from.to + n) c.args.target.now c.loop-from.target c.slide.new.self _ (block at) h.same
@@ -129,7 +129,7 @@ loop-from-preserved c =
     record {
       after = omega arith;
       inside = omega arith;
-      behind_prefix = omega arith;
+      after_prefix = omega arith;
       place = past.1 ∙ ap (slid image) whole;
       low = omega arith;
       split = written.1;
@@ -145,7 +145,7 @@ returns c =
     let d : ℕ = site.region in
     let h = c.loop-from.invariant in
     let read : reads image d d ≡ true = sym c.reads_itself.ensures ∙ c.if-not-reads_itself.false in
-    let on = written_to-read image sound d d c.args.self.now.behind_prefix read in
+    let on = written_to-read image sound d d c.args.self.now.after_prefix read in
     let new : written_to image (start_of image d) (start_of image d + region_words image) ≡ min (start_of image d + region_words image) (slid image (start_of image d + region_words image)) = on.2 in
     let down = slid-le image (start_of image d + region_words image) in
     let past : site.span.end ≤ c.loop-from.from = c.loop-from-test.false in

@@ -10,8 +10,8 @@ use Rattle.fill.proofs.Targets.{same_target, still_block}
 use Rattle.fill.proofs.WrittenTo.{source_place, source_behind, shows_moved, written_to-last, next_start, reached-last}
 use Rattle.fill.proofs.Redirects.{between-object}
 use Rattle.fill.proofs.Steps.{next-place, region-first, region-none}
-use Rattle.fill.proofs.behind_prefix.BehindPrefix.redirect_objects.Goals as goal
-use Rattle.fill.proofs.behind_prefix.BehindPrefix.redirect_objects.Goals.{After-source-s}
+use Rattle.fill.proofs.after_prefix.AfterPrefix.redirect_objects.Goals as goal
+use Rattle.fill.proofs.after_prefix.AfterPrefix.redirect_objects.Goals.{After-source-s}
 
 module _ (c : After-source-s) where
   abbrev image : HeapImage
@@ -25,19 +25,19 @@ module _ (c : After-source-s) where
 
   -- the source of the region's first word
   on : (reads image d s ≡ true) × (d ≤ s) × (s < region_count image) × (slid image (start_of image s) ≤ start_of image d) × (start_of image d ≤ slid image (start_of image s + region_words image))
-  on = source_place image c.image_is_valid.ensures d s c.args.self.now.behind_prefix c.args.self.now.site.to_fill c.source-s.ensures
+  on = source_place image c.image_is_valid.ensures d s c.args.self.now.after_prefix c.args.self.now.site.to_fill c.source-s.ensures
 
   behind : prefix_end image ≤ start_of image s
-  behind = source_behind image c.image_is_valid.ensures d s ((on).1) c.args.self.now.behind_prefix
+  behind = source_behind image c.image_is_valid.ensures d s ((on).1) c.args.self.now.after_prefix
 
-  -- all that comes to the region is copied
+  -- all words for the region are copied
   shows : Shows (copied_word image) (start_of image d) c.args.target.now.words
   shows =
       let r = c.requires in
-      written_to-last image c.image_is_valid.ensures d c.args.from c.args.to c.args.target.now.words c.args.self.now.behind_prefix r.own r.within r.last r.copied.place r.copied.block.long r.copied.split
+      written_to-last image c.image_is_valid.ensures d c.args.from c.args.to c.args.target.now.words c.args.self.now.after_prefix r.own r.within r.last r.copied.place r.copied.block.long r.copied.split
 
 pub source-s-requires-clause-region : goal.source-s-requires-clause-region
-source-s-requires-clause-region c = record { inside = c.args.self.now.site.inside; behind_prefix = c.args.self.now.behind_prefix }
+source-s-requires-clause-region c = record { inside = c.args.self.now.site.inside; after_prefix = c.args.self.now.after_prefix }
 
 pub source-s-requires-clause-to_fill : goal.source-s-requires-clause-to_fill
 source-s-requires-clause-to_fill c = c.args.self.now.site.to_fill
@@ -45,7 +45,7 @@ source-s-requires-clause-to_fill c = c.args.self.now.site.to_fill
 pub first_from-first-requires-clause-region : goal.first_from-first-requires-clause-region
 first_from-first-requires-clause-region c =
     let at = (goal.at.first_from-first-requires-clause-region c).After-source-s in
-    record { inside = (on at).2; behind_prefix = behind at }
+    record { inside = (on at).2; after_prefix = behind at }
 
 pub first_from-first-requires-clause-low : goal.first_from-first-requires-clause-low
 first_from-first-requires-clause-low c =
@@ -109,7 +109,7 @@ returns-in_default c =
     let one : c.args.from ≡ c.args.from - 1 + 1 = omega arith in
     let end : start_of image c.args.from ≡ c.span-last.result.end = sym (c.span-last.ensures.end ∙ next_start image (c.args.from - 1) c.args.from one) in
     let reached = λ (p : ℕ) (l : start_of image d ≤ p) (m : p < start_of image d + length c.args.target.now.words) (n : p < new_top image).
-    subst (λ (to : ℕ). p < slid image to) end (reached-last image valid d c.args.from p c.args.self.now.behind_prefix r.own r.within r.last l (omega (arith, m, long)) n) in
+    subst (λ (to : ℕ). p < slid image to) end (reached-last image valid d c.args.from p c.args.self.now.after_prefix r.own r.within r.last l (omega (arith, m, long)) n) in
     record {
       same = same_target c.args.target.now;
       now = shows_moved image valid d c.args.target.now.words long

@@ -10,8 +10,8 @@ use Rattle.fill.specs.SourceRegions.{IsNextOtherSource}
 use Rattle.fill.proofs.Targets.{same_target, still_block, written_on, copied_from}
 use Rattle.fill.proofs.Slides.{slid-past, slid-monotone, split_copy}
 use Rattle.fill.proofs.WrittenTo.{source_behind, written_to-read, written_to-between, shows_start, length_start}
-use Rattle.fill.proofs.behind_prefix.BehindPrefix.copy_source.Goals as goal
-use Rattle.fill.proofs.behind_prefix.BehindPrefix.copy_source.Goals.{After-span-read}
+use Rattle.fill.proofs.after_prefix.AfterPrefix.copy_source.Goals as goal
+use Rattle.fill.proofs.after_prefix.AfterPrefix.copy_source.Goals.{After-span-read}
 
 -- the source, and how far the region is written before it
 module _ (c : After-span-read) where
@@ -40,10 +40,10 @@ module _ (c : After-span-read) where
   ordered = next.ordered
 
   behind : prefix_end image ≤ start_of image s
-  behind = source_behind image c.span-read.ensures.valid d s (omega (arith, own, ordered)) c.args.self.now.behind_prefix
+  behind = source_behind image c.span-read.ensures.valid d s (omega (arith, own, ordered)) c.args.self.now.after_prefix
 
   place : c.args.to ≡ written_to image (start_of image d) (start_of image s)
-  place = before.place ∙ written_to-between image c.span-read.ensures.valid d c.requires.next.0 s c.args.self.now.behind_prefix (omega (arith, own)) ordered (omega (arith, next.inside)) next.between
+  place = before.place ∙ written_to-between image c.span-read.ensures.valid d c.requires.next.0 s c.args.self.now.after_prefix (omega (arith, own)) ordered (omega (arith, next.inside)) next.between
 
   on : (slid image (start_of image s) ≤ written_to image (start_of image d) (start_of image s)) × (written_to image (start_of image d) (start_of image s) ≤ slid image (start_of image s + R))
       × (written_to image (start_of image d) (start_of image s + R) ≡ min (start_of image d + R) (slid image (start_of image s + R)))
@@ -72,7 +72,7 @@ span-read-requires c = c.requires.next.1.inside
 pub first_from-from-requires-clause-region : goal.first_from-from-requires-clause-region
 first_from-from-requires-clause-region c =
     let at = (goal.at.first_from-from-requires-clause-region c).After-span-read in
-    record { inside = (next at).inside; behind_prefix = behind at }
+    record { inside = (next at).inside; after_prefix = behind at }
 
 pub first_from-from-requires-clause-low : goal.first_from-from-requires-clause-low
 first_from-from-requires-clause-low c =
@@ -98,7 +98,7 @@ loop-from-init c =
     record {
       after = omega (arith, from.after, read.start);
       inside = omega (arith, from.inside, read.end);
-      behind_prefix = omega (arith, from.after, behind at);
+      after_prefix = omega (arith, from.after, behind at);
       place = sym from.place;
       low = omega (arith, place at, site.start);
       high = omega (arith, place at, site.start, site.end);
@@ -141,7 +141,7 @@ loop-from-preserved c =
     let on : a ≤ c.next_run-run.result.end = r.ordered in
     let far : c.loop-from.from ≤ a = r.after in
     let live = λ (q : ℕ) (l : a ≤ q) (m : q < a + n). (let below : q < c.next_run-run.result.end = omega arith in r.live q l below) in
-    let past = slid-past image c.loop-from.from a n c.loop-from.to h.behind_prefix far h.place r.dead live in
+    let past = slid-past image c.loop-from.from a n c.loop-from.to h.after_prefix far h.place r.dead live in
     let now = still_block image c.args.target.now c.loop-from.target (before at).block h.same in
     let written = written_on image (copied_word image) (word_at image) site.span.start (c.loop-from.to + n) c.args.target.now c.loop-from.target c.copy_into.new.target _ (before at).block h.same
     c.copy_into.ensures.value c.copy_into.ensures.length
@@ -150,7 +150,7 @@ loop-from-preserved c =
     record {
       after = omega arith;
       inside = omega arith;
-      behind_prefix = omega arith;
+      after_prefix = omega arith;
       place = past.1;
       low = omega arith;
       high = omega arith;
@@ -169,5 +169,5 @@ returns-after-loop-from c =
 pub returns-else-to-write : goal.returns-else-to-write
 returns-else-to-write c =
     let h = c.loop-from.invariant in
-    let up = slid-monotone c.args.self.now.site.guide.now c.loop-from.from c.span-read.result.end h.behind_prefix h.inside in
+    let up = slid-monotone c.args.self.now.site.guide.now c.loop-from.from c.span-read.result.end h.after_prefix h.inside in
     reached (goal.at.returns-else-to-write c).After-span-read c.loop-from.to c.loop-from.target h.same h.split (omega (arith, h.place, h.high))
