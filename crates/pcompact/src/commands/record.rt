@@ -250,6 +250,12 @@ pub fn record_into<
     let alloc = rt.alloc();
     let line = String::with_capacity(alloc, LINE_ROOM)?;
     let Workers { count, gate } = workers;
-    let figures = record_stream(alloc, input, output, lines, count, gate, rt, rt)?;
+    let crew = collector::Workers {
+        count,
+        gate,
+        threads: rt,
+        wait: rt,
+    };
+    let figures = record_stream(alloc, input, output, lines, crew)?;
     Ok(with_line(figures, line))
 }
