@@ -249,12 +249,13 @@ pub fn record_into<
 {
     let alloc = rt.alloc();
     let line = String::with_capacity(alloc, LINE_ROOM)?;
-    let running = collector::Workers {
-        count: workers.count,
-        gate: workers.gate,
+    let Workers { count, gate } = workers;
+    let crew = collector::Workers {
+        count,
+        gate,
         threads: rt,
         wait: rt,
     };
-    let figures = record_stream(alloc, input, output, lines, running)?;
+    let figures = record_stream(alloc, input, output, lines, crew)?;
     Ok(with_line(figures, line))
 }
