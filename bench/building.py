@@ -74,9 +74,9 @@ def compiled(source: pathlib.Path, program: pathlib.Path) -> pathlib.Path:
 
 
 def plain_program(scratch: pathlib.Path) -> pathlib.Path:
-    """The program in the folder `plain`, as fast as `rustc` makes it for this processor."""
+    """The program in the folder `end_to_end/plain`, as fast as `rustc` makes it for this processor."""
     scratch.mkdir(parents=True, exist_ok=True)
     program = scratch / "plain"
     flags = ["--edition", "2021", "-C", "opt-level=3", "-C", "target-cpu=native", "-C", "panic=abort"]
-    subprocess.run(["rustc", *flags, "-o", program, bench / "plain" / "main.rs"], check=True)
+    subprocess.run(["rustc", *flags, "-o", program, bench / "end_to_end" / "plain" / "main.rs"], check=True)
     return program

@@ -10,39 +10,38 @@ WIDTH = 78
 ESCAPES = {"\\": r"\e", "^": r"\(ha", "~": r"\(ti", "`": r"\(ga"}
 
 DESCRIPTION = """\
-*pcompact* compacts the heap of a garbage-collected program, as it stands in a file: a heap image. The live objects slide to
-the low end of the heap, in place and in order, by up to 64 workers that share the regions of the heap, each a thread, and
-every reference is redirected. It is the full collection of OpenJDK's Parallel Compact collector, and it is proved that what
-it writes is the heap that the definitions say.
+*pcompact* compacts heap images: files with the heap of a garbage-collected program. It is a parallel mark-compact collector,
+modelled on the full collection of OpenJDK's Parallel Compact collector. Up to 64 worker threads share the regions of the heap;
+live objects slide to its low end, in place and in order, and every reference is redirected. It is proved that the image that is
+written is the compaction of the one that was read.
 
-*import*, *generate*, *assemble* and *upgrade* make images. *summary*, *order*, *text* and *map* show what stands in one, and
-what a collection will do. *collect* and *record* collect one, *verify* checks a collection, and *replay* and *timeline*
-follow what *record* has written down of the workers.
+*import*, *generate*, *assemble* and *upgrade* make images. *summary*, *order*, *text* and *map* show an image, and what a
+collection will do. *collect* and *record* collect one, and *verify* checks a collection. *replay* and *timeline* follow the
+schedule that *record* writes.
 
-Options may stand before and behind the arguments of a command. Behind *--* every word is an argument.
+Options may come before or after the arguments of a command. After *--* every word is an argument.
 """
 
 FILES = """\
-A fault may leave the files to write empty, or with a beginning of what they should have. With *--atomic* a new file
-_.pcompact-N.tmp_ is made beside each, which takes its place only once the command has ended well. Where the command is killed
-the new file may stay, and it can be removed.
+A fault may leave the files to write empty or incomplete. With *--atomic* new files _.pcompact-N.tmp_ are made beside them, and
+are renamed only once the command has succeeded. If the command is killed a new file may stay; the next command with *--atomic*
+that writes in the folder removes it, if only its user can rename files there.
 """
 
 ENVIRONMENT = [
-    ("GLIBC_TUNABLES", "What the C library is told of memory. The script that starts the program asks for huge pages by it, "
-                       "where it isn't set."),
-    ("LC_ALL, LC_CTYPE, LANG", "*map* and *timeline* draw with blocks where the first of these that is set and not empty names "
+    ("GLIBC_TUNABLES", "Settings of the C library. If it isn't set, the script that starts the program requests huge pages by it."),
+    ("LC_ALL, LC_CTYPE, LANG", "*map* and *timeline* draw with blocks if the first of these that is set and not empty names "
                                "UTF-8, and else with letters."),
 ]
 
-LAUNCHER_STATUS = ("70", "the script that starts the program in the repository has found none that fits the sources")
+LAUNCHER_STATUS = ("70", "the script that starts the program in the repository can't build it")
 
 EXAMPLES = [
-    ("An image of the heap dump of a Java virtual machine, and what its collection would leave:",
+    ("Convert the heap dump of a Java virtual machine, and draw the image and its compaction:",
      ["pcompact import heap.hprof heap.pcheap", "pcompact map heap.pcheap --after"]),
-    ("A collection by four workers, and whether it was right:",
+    ("Collect by four workers, and check the result:",
      ["pcompact collect heap.pcheap after.pcheap --workers 4 --atomic", "pcompact verify heap.pcheap after.pcheap"]),
-    ("A collection in place, which tells how long each phase took:",
+    ("Collect in place, and print the time of each phase:",
      ["pcompact collect heap.pcheap heap.pcheap --workers 4 --atomic --stats"]),
 ]
 

@@ -44,7 +44,7 @@ one-column column p k calls calls' items t each told ahead adds r lt = go (below
         let here : column (slice_index_or (items ++ t ∷ []) r none) ≡ column t = ap (λ (i : ℕ). column (slice_index_or (items ++ t ∷ []) i none)) (e ∙ sym each) ∙ ap column (get_or-append_seam items t [] none) in
         omega arith
 
--- and nothing is done in the regions behind
+-- and nothing is done in the regions after
 nothing-behind : (p : ℕ → Entry → Bool) (k n : ℕ) (calls calls' : List Entry)
     → ((r : ℕ) → k ≤ r → count_by (p r) calls ≡ 0)
     → ((r : ℕ) → count_by (p r) calls' ≡ count_by (p r) calls + cond {A = ℕ} (r == k) n 0)

@@ -6,18 +6,18 @@ use Rattle.history.specs.State.{unsettled}
 use Rattle.history.specs.History.{IsLegal, is_grant, state_of}
 use Rattle.board_sweep.specs.Tallies.{completes}
 
--- the line of a region that was claimed and completed so often
+-- the line of a region with its numbers of claims and completions
 abbrev pub sweep_line : ℕ → ℕ → ℕ → List ℕ
 sweep_line region claims completions =
     codes "region " ++ (decimal region ++ (codes " claims " ++ (decimal claims
     ++ (codes " completions " ++ (decimal completions ++ codes "\n")))))
 
--- the lines of the first regions, by how often each was claimed and completed
+-- the lines of the first regions, with the numbers of claims and completions of each
 abbrev pub lines_of : ℕ → (ℕ → ℕ) → (ℕ → ℕ) → List ℕ
 lines_of zero claims completions = []
 lines_of (suc r) claims completions = lines_of r claims completions ++ sweep_line r (claims r) (completions r)
 
--- a line for each region, and whether all regions to be filled are settled
+-- a line for each region, and `all settled` if all regions to be filled are settled
 abbrev pub report_of : MoveTable → List Entry → List ℕ
 report_of m calls =
     lines_of (region_count m) (λ r. count_by (is_grant r) calls) (λ r. count_by (completes r) calls)

@@ -1,4 +1,4 @@
--- What a worker is after its sweep.
+-- A worker after its sweep.
 use Rattle.std.specs.Prelude.{◌≡◌, ℕ, Bool, ◌==◌, List}
 use Rattle.history.specs.MoveTable.{MoveTable, region_count}
 use Rattle.history.specs.State.{unsettled}
@@ -9,13 +9,14 @@ use Rattle.claim_board.specs.Boards.{moves, identity, board_of, worker, mine}
 use Rattle.board_sweep.specs.declared.sweeper.Swept.{Swept}
 use Rattle.board_sweep.specs.Tallies.{AreTallies}
 
--- this worker of the board has swept, and its tallies count its own calls
+-- the worker with this number has swept, and its tallies count its own calls
 pub record IsSweptBy (of : Board) (number : ℕ) (swept : Swept) : Type 0 where
   pub board : board_of swept.pass ≡ identity of
   pub worker : Rattle.claim_board.specs.Boards.worker swept.pass ≡ number
   pub tallies : AreTallies (region_count (moves of)) (mine swept.pass) swept.tallies.items
 
--- There is a legal history of two workers, made of these calls of the one and these of the other, and this is whether it leaves nothing unsettled.
+-- There is a legal history of two workers that consists of these calls of the first and these of the second, and the
+-- flag says whether all regions to be filled are settled after it.
 pub record IsOutcome (m : MoveTable) (first second : List Entry) (settled : Bool) : Type 0 where
   pub history : List Entry
   pub legal : IsLegal m 2 history

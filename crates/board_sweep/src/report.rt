@@ -6,7 +6,7 @@ ghost use Rattle.board_sweep.specs.Tallies.{claims_in, completions_in};
 use crate::tally::Tally;
 use std::alloc::{AllocError, Global};
 
-/// A line for each of so many regions, with the claims and completions of both workers.
+/// A line for each of the first `regions` regions, with the sums of both workers' claims and completions.
 pub fn lines(
     alloc: Global,
     regions: u32,

@@ -1,4 +1,4 @@
-//! A worker's way over the regions.
+//! The sweep of one worker over the regions.
 ghost use Rattle.std.specs.Prelude.{◌≡◌, ◌<◌, [], IfOk};
 ghost use Rattle.history.specs.MoveTable.{region_count};
 ghost use Rattle.claim_board.specs.Boards.{moves as moves_of, identity, board_of, worker, mine, caller};
@@ -10,19 +10,18 @@ use claim_board::{
     Board, Pass, Ticket, appended_calls_are_gained, one_more_source_is_drained,
     swept_tickets_have_none_left,
 };
-use history::Moves;
+use history::{Moves, moves_are_lawful};
 use std::alloc::{AllocError, Global};
 
 /// A worker after its sweep.
 #[derive(Drop)]
 pub struct Swept {
-    /// Its hold on the board.
     pub pass: Pass,
-    /// What it did, region by region.
+    /// The worker's claims and completions of each region.
     pub tallies: Vec<Tally>,
 }
 
-/// One sweep of a worker over all regions: it claims each, and fills each that it is granted.
+/// Claims each region once, in turn, and fills those that are granted.
 pub fn sweep<M: Moves>(
     alloc: Global,
     board: &Board,
@@ -45,7 +44,7 @@ pub fn sweep<M: Moves>(
     Ok(Swept { pass, tallies })
 }
 
-/// The worker claims the region, and fills it if it is granted.
+/// Claims a region, and fills it if it is granted.
 fn visit<M: Moves>(board: &Board, moves: &M, pass: &mut Pass, region: u32) -> Tally
     requires board { board_of pass.old ≡ identity board.now }
     requires moves { M.table moves.now ≡ moves_of board.now }
@@ -69,8 +68,7 @@ fn visit<M: Moves>(board: &Board, moves: &M, pass: &mut Pass, region: u32) -> Ta
     }
 }
 
-/// The calls of a region's fill, after its claim: it drains each other source, completes the
-/// region and settles it.
+/// Makes the calls of a fill after the claim: drains each source, completes the region and settles it.
 fn fill<M: Moves>(board: &Board, moves: &M, pass: &mut Pass, mut ticket: Ticket)
     requires board { board_of pass.old ≡ identity board.now }
     requires moves { M.table moves.now ≡ moves_of board.now }
@@ -80,11 +78,11 @@ fn fill<M: Moves>(board: &Board, moves: &M, pass: &mut Pass, mut ticket: Ticket)
     ensures worker { worker pass.new ≡ worker pass.old }
     ensures tally { Adds ticket.region (record { claims = 0; completions = 1 }) (mine pass.old) (mine pass.new) }
 {
-    // Laws, and a call whose clause says that the moves are lawful: they do nothing.
+    // These laws do nothing.
     swept_tickets_have_none_left();
     appended_calls_are_gained();
     one_more_source_is_drained();
-    let _regions = moves.regions();
+    moves_are_lawful(moves);
     while let Some(opening) = ticket.open(moves) {
         board.drain(pass, &mut ticket, opening.close());
     }

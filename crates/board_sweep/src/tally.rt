@@ -1,10 +1,7 @@
-//! `Tally`.
-
-/// How often one worker claimed and completed a region.
+/// The numbers of one worker's claims and completions of a region.
 #[derive(Clone, Copy)]
 pub struct Tally {
-    /// Its claims that were granted.
+    /// Granted claims.
     pub claims: u32,
-    /// Its completions.
     pub completions: u32,
 }

@@ -1,4 +1,4 @@
-//! The sweep of two workers by one board, and its report.
+//! The sweep of two workers with one board, and its report.
 ghost use Rattle.std.specs.Prelude.{◌≡◌, IfOk, string_bytes, vec_len};
 ghost use Rattle.history.specs.MoveTable.{region_count};
 ghost use Rattle.claim_board.specs.Boards.{moves as moves_of, worker_count, identity, board_of, worker, mine, ArePasses, IsNew};
@@ -13,8 +13,8 @@ use std::alloc::{AllocError, Global};
 use std::thread;
 use std::thread::Threads;
 
-/// Two workers, each in a thread where one can be started, sweep once over three regions by one
-/// board. The text counts the claims and completions of both, and says whether the board finished.
+/// Lets two workers sweep once over three regions with one board, each in its own thread if one can be
+/// started. The text counts the claims and completions of both, and says whether the board finished.
 pub fn sweep_with_two_workers<R: AllocGlobal + Threads>(rt: &R) -> Result<String, AllocError>
     ensures { IfOk result (λ text. IsBoardText (string_bytes text)) }
 {
@@ -38,7 +38,7 @@ fn two(board: &Board, mut passes: Vec<Pass>) -> (Pass, Pass)
     (first, second)
 }
 
-/// Both workers sweep, each in a thread of its own where one can be started.
+/// Lets both workers sweep, each in its own thread if one can be started.
 fn sweep_both<R: AllocGlobal + Threads>(
     rt: &R,
     board: &Board,
@@ -66,7 +66,7 @@ fn sweep_both<R: AllocGlobal + Threads>(
     )
 }
 
-/// What both workers did, and whether the board finished.
+/// The report of both workers and of whether the board finished.
 fn text_of(
     alloc: Global,
     regions: u32,
@@ -92,7 +92,7 @@ fn text_of(
     Ok(text)
 }
 
-/// Ends the board. Whether all regions to be filled are settled.
+/// Finishes the board and returns whether all regions to be filled are settled.
 fn is_settled(alloc: Global, board: Board, first: Pass, second: Pass) -> Result<bool, AllocError>
     requires workers { worker_count board ≡ 2 }
     requires first { (board_of first ≡ identity board) × (worker first ≡ 0) }

@@ -1,4 +1,4 @@
--- Tickets of two workers whose calls stand in one history.
+-- Tickets of two workers whose calls are in one history.
 use Rattle.std.proofs.Common.{◌≡◌, ℕ, false, List, Some, sym, ◌∙◌}
 use Rattle.history.specs.declared.entry.Entry.{Entry}
 use Rattle.history.specs.MoveTable.{MoveTable}
@@ -10,7 +10,7 @@ use Rattle.claim_board.specs.Tickets.{IsTicketOf}
 use Rattle.claim_board.proofs.Premises.{Reached, Own}
 use Rattle.claim_board.proofs.Effects.{own_of, agree, pending_as}
 
--- of the ticket's region, what the caller's own calls tell is what the history says
+-- for the ticket's region, the caller's own calls and the history agree
 told_of : Own → (m : MoveTable) (n : ℕ) (log : List Entry) (c : Caller) (t : Ticket) → IsLegal m n log → calls_by c.worker log ≡ c.mine → IsTicketOf m c t → AgreeOn t.region (own c) (state_of log)
 told_of law m n log c t legal calls is = agree m c.worker t.region (own c) (state_of log) (own_of law m n c.worker c.mine log legal calls) is.filling.0
 

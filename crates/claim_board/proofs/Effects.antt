@@ -24,7 +24,7 @@ use Rattle.claim_board.proofs.Premises.{Reached, Own, Counts}
 use Rattle.claim_board.proofs.Words.{words_at, at_word, at_region, at_rest, free_word, claim_others, claim_here, drain_others, drain_last, drain_here, complete_others, complete_here, settle_others, settle_here, one_left}
 use Rattle.claim_board.proofs.Appends.{appends}
 
--- What a step has to show: of any legal history in which the worker's own calls are these, whatever the word is
+-- What a step must show, for any legal history with exactly these own calls of the worker, whatever the word is
 abbrev pub Effect : MoveTable → ℕ → ℕ → List Entry → Event → (ℕ → Reply) → (ℕ → ℕ) → ℕ → Type 0
 Effect m n w mine event reply f i =
     (log : List Entry) → IsLegal m n log → IsMoveTable m → calls_by w log ≡ mine → (found : ℕ) → found < 18446744073709551616 → found ≡ at_word m (state_of log) i
@@ -103,7 +103,7 @@ allowed k slots id i me event reply f s0 below is effect s h homes at small = (
         (λ r low. words' r (omega arith) ∙ at_region m st' r low)
         (words' (region_count m) (omega arith) ∙ at_rest m st')
 
--- what the worker's own calls tell, in any history in which they are these
+-- what the worker's own calls say, in any history with exactly these
 pub own_of : Own → (m : MoveTable) (n w : ℕ) (mine log : List Entry) → IsLegal m n log → calls_by w log ≡ mine → TellsOwn w (state_of mine) (state_of log)
 own_of law m n w mine log legal calls = subst (λ c. TellsOwn w (state_of c) (state_of log)) calls (law m n w log legal)
 
@@ -115,7 +115,7 @@ claimed_or_not (Some x) w = go (cases_eq x w)
     go (inl e) = inl (ap Some e)
     go (inr n) = inr (λ e. n (let f : Some x ≡ Some w = e in cc))
 
--- of a region that they claimed they tell all
+-- they determine the state of a region that they claimed
 pub agree : (m : MoveTable) (w d : ℕ) (own st : State) → TellsOwn w own st → own.claimed d ≡ Some w → AgreeOn d own st
 agree m w d own st tells claimed = go (claimed_or_not (st.claimed d) w)
   where

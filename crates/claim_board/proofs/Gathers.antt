@@ -20,7 +20,7 @@ fit_parts n log (x ∷ xs) ys fits = let r = fit_parts n log xs ys fits.1 in ((f
 stands : (n : ℕ) (log : List Entry) (v : View) → IsPassView v → AllFit n log v.holds → BeginsWith log (seen_of v) × (calls_by (worker_of v) log ≡ mine_of v)
 stands n log v is fits = let f = subst (λ (u : View). AllFit n log u.holds) is fits in (f.0.begins, f.0.calls)
 
--- what the seat's workers say of the passes that were gathered
+-- what the seat's workers say about the gathered passes
 abbrev pub Covers : ℕ → List Hold → List Pass → Type 0
 Covers n hs ps = (log : List Entry) → AllFit n log hs → AllStand log ps
 

@@ -1,4 +1,4 @@
--- A granted region is read by nobody any more.
+-- A granted region has no pending readers.
 use Rattle.std.proofs.Common.{◌≡◌, ℕ, Bool, true, false, List, [], ◌∷◌, ◌++◌, refl, sym, ap, ◌∙◌, eq-eqb, append_assoc}
 use Rattle.std.proofs.lemmas.List.{append-nil}
 use Rattle.std.specs.Prelude.{◌&&◌}
@@ -15,7 +15,7 @@ use Rattle.claim_board.specs.Grants.{IsGranted}
 abbrev pub Orderly : Type 0
 Orderly = (m : MoveTable) (workers : ℕ) (log : List Entry) → IsLegal m workers log → IsOrderly m log
 
--- in any legal history that goes on from the grant
+-- in any legal history that continues after the grant
 read_later : Orderly → (m : MoveTable) (n w r : ℕ) (before later log : List Entry) → IsLegal m n log → log ≡ (before ++ entry w (Claim r) Yes ∷ []) ++ later
     → (d : ℕ) → is_pending m (state_of log) d r ≡ false
 read_later law m n w r before later log legal is d =

@@ -1,3 +1,4 @@
+mod Rows
 pub mod Premises
 pub mod Logs
 pub mod Totals

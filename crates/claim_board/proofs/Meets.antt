@@ -107,7 +107,7 @@ reviewed k s h id i v new inside at fits times long = subst (λ ws. Kept k.moves
   counted = total_same (λ u. length u.holds) s.views id v new at long ∙ h.counted;
 })
 
--- a pass that was told
+-- a pass to which a history was passed
 pub told_view : (v w : View) → IsPassView v → IsToldView (informed v w)
 told_view v w is = λ i. record { told = w.told; holds = ap (λ (u : View). u.holds) is i }
 

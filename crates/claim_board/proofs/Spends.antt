@@ -1,4 +1,4 @@
--- What a worker's own calls tell of its tickets, after a call.
+-- What a worker's own calls say about its tickets, after a call.
 use Rattle.std.proofs.Common.{◌≡◌, ℕ, ◌-◌, ◌<◌, ◌≤◌, Bool, true, false, cond, List, Some, None, refl, sym, ap, ◌∙◌, subst, eq-eqb, ne_eqb, arith}
 use Rattle.std.proofs.Math.Path.{fun_ext}
 use Rattle.std.specs.Prelude.{◌&&◌, ◌||◌, ◌==◌, not, count_by, IsTrue}
@@ -57,7 +57,7 @@ all_left m r st none = ap (λ (f : ℕ × ℕ → Bool). count_by f m.pairs) (fu
     go pair true e = e ∙ sym (ap (λ (c : Bool). c && not (st.drained pair.0 pair.1)) e ∙ ap not (ap (λ (d : ℕ). st.drained d pair.1) (sym (eqb-true r pair.0 e)) ∙ none pair.1))
     go pair false e = e ∙ sym (ap (λ (c : Bool). c && not (st.drained pair.0 pair.1)) e)
 
--- What a ticket says of its region: its worker fills it, and so many of its sources are left.
+-- What a ticket says about its region: its worker fills it, and this number of its sources are left.
 pub record Fills (m : MoveTable) (w r next left : ℕ) (own : State) : Type 0 where
   pub filling : IsFilling own w r
   pub unsettled : own.settled r ≡ false

@@ -18,7 +18,7 @@ use Rattle.claim_board.specs.Tickets.{IsTicketOf, IsSwept, Spares}
 use Rattle.claim_board.proofs.Premises.{Counts}
 use Rattle.claim_board.proofs.Logs.{state_snoc, tested}
 
--- what the caller's own calls tell after one more
+-- the state after one more of the caller's own calls
 pub gained : (old new : Caller) (event : Event) (reply : Reply) → Gains old new event reply → own new ≡ state_after (own old) old.worker event reply
 gained old new event reply g = ap state_of g.mine ∙ state_snoc opening old.mine (entry old.worker event reply)
 
@@ -63,7 +63,7 @@ leaves_tickets m old new t event reply is g apart =
     a : AgreeOn t.region (own new) (own old)
     a = subst (λ (st : State). AgreeOn t.region st (own old)) (sym (gained old new event reply g)) (spared t.region old.worker (own old) event reply is.filling.0 apart)
 
--- a ticket of which only what was opened changed
+-- a ticket in which only what is opened has changed
 pub opened_more : (m : MoveTable) (c : Caller) (t t' : Ticket) → t'.region ≡ t.region → t'.left ≡ t.left → t'.from ≡ t.from → t.next ≤ t'.next → IsTicketOf m c t → IsTicketOf m c t'
 opened_more m c t t' region left from next is =
     record {

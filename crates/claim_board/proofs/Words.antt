@@ -65,7 +65,7 @@ claim_here m st w r reached false can = refl
 pub word_open : (m : MoveTable) (st : State) (r : ℕ) → st.claimed r ≡ None → word_of m st r ≡ readers_left m st r + cond {A = ℕ} (to_fill m r) 0 16
 word_open m st r none = ap (λ (o : Option ℕ). cond {A = ℕ} (is_some o) (cond {A = ℕ} (st.filled r) 12 8) (readers_left m st r + cond {A = ℕ} (to_fill m r) 0 16)) none
 
--- a region that has still to be read has no claimant
+-- a region with pending readers has no claimant
 pub pending_unclaimed : (m : MoveTable) (st : State) (d s : ℕ) → IsReached m st → IsTrue (is_pending m st d s) → st.claimed s ≡ None
 pending_unclaimed m st d s reached p = go (st.claimed s) refl
   where
@@ -82,7 +82,7 @@ last_if n zero false small e = rw (ne_eqb n 1 (λ z. omega arith), eq-eqb n 17 (
 last_if n (suc p) true small e = rw (ne_eqb n 1 (λ z. omega arith), ne_eqb n 17 (λ z. omega arith)) (sym (ne_eqb (suc p) 0 (λ z. omega arith)))
 last_if n (suc p) false small e = rw (ne_eqb n 1 (λ z. omega arith), ne_eqb n 17 (λ z. omega arith)) (sym (ne_eqb (suc p) 0 (λ z. omega arith)))
 
--- the word found tells whether the drain was the last one
+-- the value found says whether the drain was the last one
 pub drain_last : (m : MoveTable) (st : State) (w d s found : ℕ) → CountsDown m st → IsReached m st → IsTrue (is_pending m st d s) → found ≡ word_of m st s → drain_reply found ≡ cond (readers_left m (state_after st w (Drain d s) Last) s == 0) Last NotLast
 drain_last m st w d s found counts reached p is =
     let less = counts.readers w d s Last p in

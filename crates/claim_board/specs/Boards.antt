@@ -20,7 +20,7 @@ moves b = b.table.shared.key.moves
 abbrev pub worker_count : Board → ℕ
 worker_count b = b.table.shared.key.workers
 
--- which board it is
+-- the identity of the board
 abbrev pub identity : Board → TableId
 identity b = b.table.shared.table_id
 
@@ -38,14 +38,15 @@ seen p = seen_of p.place.me.0
 abbrev pub mine : Pass → List Entry
 mine p = mine_of p.place.me.0
 
--- the atomic steps that it has taken
+-- the atomic steps that it has made
 abbrev pub steps : Pass → List Touch
 steps p = steps_of p.place.me.0
 
 abbrev pub caller : Pass → Caller
 caller p = record { board = board_of p; worker = worker p; seen = seen p; mine = mine p }
 
--- It is the same worker of the same board. To a legal history that begins with all that it had seen, and of whose calls its own are those that it had made, this call was added. The pass has taken one step, of the kind of this call.
+-- The pass is of the same worker of the same board. This call was added to a legal history that begins with what the
+-- pass had seen and has exactly the worker's own calls. The pass has made one step, of the kind of this call.
 pub record Appends (b : Board) (old new : Pass) (event : Event) (reply : Reply) : Type 0 where
   pub board : board_of new ≡ board_of old
   pub worker : Rattle.claim_board.specs.Boards.worker new ≡ Rattle.claim_board.specs.Boards.worker old
@@ -56,7 +57,7 @@ pub record Appends (b : Board) (old new : Pass) (event : Event) (reply : Reply) 
 abbrev pub Stays : Pass → Pass → Type 0
 Stays old new = (board_of new ≡ board_of old) × (worker new ≡ worker old) × (mine new ≡ mine old)
 
--- the pass of a worker that has done nothing
+-- the pass of a worker that has made no call
 abbrev pub IsNew : TableId → ℕ → Pass → Type 0
 IsNew board k p = (board_of p ≡ board) × (worker p ≡ k) × (seen p ≡ []) × (mine p ≡ [])
 
@@ -65,7 +66,7 @@ abbrev pub ArePassesFrom : TableId → ℕ → List Pass → Type 0
 ArePassesFrom board k [] = Unit {0}
 ArePassesFrom board k (p ∷ ps) = IsNew board k p × ArePassesFrom board (suc k) ps
 
--- one pass for each worker, that has done nothing
+-- one pass for each worker, none of which has made a call
 abbrev pub ArePasses : TableId → List Pass → Type 0
 ArePasses board ps = ArePassesFrom board 0 ps
 
@@ -74,7 +75,7 @@ abbrev pub AllOf : TableId → List Pass → Type 0
 AllOf board [] = Unit {0}
 AllOf board (p ∷ ps) = (board_of p ≡ board) × AllOf board ps
 
--- the history begins with what each pass has seen, and its calls of that worker are the pass's own
+-- the history begins with what each pass has seen, and the calls of each worker in it are those of its pass
 abbrev pub AllStand : List Entry → List Pass → Type 0
 AllStand log [] = Unit {0}
 AllStand log (p ∷ ps) = (BeginsWith log (seen p) × (calls_by (worker p) log ≡ mine p)) × AllStand log ps

@@ -1,4 +1,4 @@
--- What a drain answers, as a reply.
+-- The result of a drain as a reply.
 use Rattle.history.specs.declared.reply.Reply.{Reply}
 use Rattle.history.specs.declared.reply.Reply.TheVariants.{Last as LastReply, NotLast as NotLastReply}
 use Rattle.claim_board.specs.declared.drained.Drained.{Drained}

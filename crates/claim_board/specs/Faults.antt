@@ -1,8 +1,8 @@
--- Which region a fault of a desk names.
+-- The region that a fault of a desk names.
 use Rattle.std.specs.Prelude.{◌≡◌, ℕ}
 use Rattle.heap_image.specs.declared.fault.Fault.{Fault}
 use Rattle.heap_image.specs.declared.fault.Fault.TheVariants.{Overwritten}
 
--- if it says that a region was overwritten, it is this region
+-- if the fault says that a region was overwritten, it is this region
 abbrev pub NamesNoOther : ℕ → Fault → Type 0
 NamesNoOther region fault = (q : ℕ) → fault ≡ Overwritten q → q ≡ region

@@ -1,4 +1,4 @@
--- What a finished board shows.
+-- What contracts see of a finished board.
 use Rattle.std.specs.Prelude.{List}
 use Rattle.history.specs.declared.entry.Entry.{Entry}
 use Rattle.claim_board.specs.declared.finished.Finished.{Finished}

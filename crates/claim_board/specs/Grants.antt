@@ -1,11 +1,11 @@
--- What the grant of a region says, then and later.
+-- What the grant of a region says, at that moment and later.
 use Rattle.std.specs.Prelude.{◌≡◌, ℕ, false, List}
 use Rattle.history.specs.declared.entry.Entry.{Entry}
 use Rattle.history.specs.MoveTable.{MoveTable}
 use Rattle.history.specs.State.{is_pending}
 use Rattle.history.specs.History.{BeginsWith, IsLegal, state_of}
 
--- Nobody has to read the region where this history ends, nor where any legal history ends that begins with it.
+-- The region has no pending readers after this history, nor after any legal history that begins with it.
 pub record IsGranted (m : MoveTable) (workers region : ℕ) (seen : List Entry) : Type 0 where
   pub now : (d : ℕ) → is_pending m (state_of seen) d region ≡ false
   pub later : (log : List Entry) → IsLegal m workers log → BeginsWith log seen → (d : ℕ) → is_pending m (state_of log) d region ≡ false

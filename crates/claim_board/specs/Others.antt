@@ -1,4 +1,4 @@
--- What a caller's calls for one region leave of what it holds for others.
+-- What a caller's calls for one region leave of its values for others.
 use Rattle.std.specs.Prelude.{◌≢◌, ℕ}
 use Rattle.history.specs.MoveTable.{MoveTable}
 use Rattle.claim_board.specs.declared.done.Done.{Done}
@@ -6,7 +6,7 @@ use Rattle.claim_board.specs.declared.ticket.Ticket.{Ticket}
 use Rattle.claim_board.specs.Callers.{Caller}
 use Rattle.claim_board.specs.Tickets.{IsTicketOf, IsDoneOf}
 
--- Its tickets for other regions, and its completions of them, stay what they are.
+-- Its tickets for other regions, and its completions of them, stay valid.
 pub record LeavesOthers (m : MoveTable) (r : ℕ) (old new : Caller) : Type 0 where
   pub tickets : (t : Ticket) → t.region ≢ r → IsTicketOf m old t → IsTicketOf m new t
   pub dones : (d : Done) → d.region ≢ r → IsDoneOf old d → IsDoneOf new d

@@ -1,4 +1,4 @@
--- What a recorder shows.
+-- What contracts see of a recorder.
 use Rattle.std.specs.Prelude.{◌≡◌, ◌⊎◌, ℕ, []}
 use Rattle.heap_image.specs.declared.fault.Fault.{Fault}
 use Rattle.heap_image.specs.declared.fault.Fault.TheVariants.{Memory, Overwritten}
@@ -12,14 +12,15 @@ moves r = r.key.value.moves
 abbrev pub worker_count : Recorder → ℕ
 worker_count r = r.key.value.workers
 
--- A worker of a recorder tells none of its calls: they stand under the lock, where no contract sees them. So nothing is said of this caller.
+-- Contracts see no call of a recorder's worker, because the calls are under the lock. So nothing is said about this
+-- caller.
 abbrev pub anybody : ℕ → Caller
 anybody worker = record { board = record { words = 0; slots = 0; views_name = 0; atom = 0; block = 0; offset = 0; slot_names = [] }; worker = worker; seen = []; mine = [] }
 
--- a call for this region was not taken
+-- a call for this region was rejected
 abbrev pub IsRefusal : ℕ → Fault → Type 0
 IsRefusal region fault = (fault ≡ Memory) ⊎ (fault ≡ Overwritten region)
 
--- a call for some region was not taken
+-- a call for some region was rejected
 abbrev pub IsSomeRefusal : Fault → Type 0
 IsSomeRefusal fault = (fault ≡ Memory) ⊎ ((region : ℕ) × (fault ≡ Overwritten region))

@@ -1,4 +1,4 @@
--- The rule of the board's table, and what a step tells.
+-- The rule of the board's table, and what each kind of step adds or shows.
 use Rattle.std.specs.Prelude.{◌≡◌, ℕ, suc, ◌+◌, ◌%◌, ◌<◌, cond, ◌||◌, ◌==◌, List, [], ◌∷◌, ◌++◌, length, slice_index, is_some, nat_lt}
 use mathlib.Core.Option.{some}
 use lib.ListN.{get_elem?}
@@ -19,7 +19,7 @@ use Rattle.claim_board.specs.Steps.{touch_of}
 abbrev pub word_of : MoveTable → State → ℕ → ℕ
 word_of m now r = cond (is_some (now.claimed r)) (cond (now.filled r) 12 8) (readers_left m now r + cond (to_fill m r) 0 16)
 
--- There is one legal history. The words are what it says, and each seat has seen a beginning of it.
+-- There is one legal history. It determines the words, and each seat has seen a beginning of it.
 pub record Kept (m : MoveTable) (workers : ℕ) (words : List ℕ) (views : List View) : Type 0 where
   pub table : IsMoveTable m
   pub log : List Entry
@@ -29,7 +29,7 @@ pub record Kept (m : MoveTable) (workers : ℕ) (words : List ℕ) (views : List
   -- the last word is the remaining one
   pub remaining : slice_index words (region_count m) ≡ unsettled m (state_of log)
   pub each_view : (by : ℕ) (v : View) → get_elem? views by ≡ some v → ViewFits workers log v
-  -- each worker stands in one seat
+  -- each worker has one seat
   pub once : (x : ℕ) → total (λ v. times_held x v.holds) views ≡ cond (nat_lt x workers) 1 0
   pub counted : total (λ v. length v.holds) views ≡ workers
 
@@ -45,7 +45,8 @@ others_of v = record { told = v.told; holds = rest_of v.holds }
 abbrev pub first_of : View → View
 first_of v = record { told = v.told; holds = head_of v.holds }
 
--- There is a legal history that begins with all that was seen, and of whose calls this worker's are those that it made. To that history the call was added.
+-- There is a legal history that begins with all that was seen and has exactly this worker's own calls. The call was
+-- added to that history.
 pub record Extends (m : MoveTable) (workers worker : ℕ) (seen mine : List Entry) (event : Event) (reply : Reply) (seen' mine' : List Entry) : Type 0 where
   pub before : List Entry
   pub begins : BeginsWith before seen
@@ -56,14 +57,14 @@ pub record Extends (m : MoveTable) (workers worker : ℕ) (seen mine : List Entr
   pub legal : IsLegal m workers seen'
   pub seen_calls : calls_by worker seen' ≡ mine'
 
--- of one pass: what a step that adds an entry tells
+-- what a pass sees after a step that adds an entry
 abbrev pub added : MoveTable → ℕ → Event → (ℕ → Reply) → Step ℕ → Me ℕ View → ℕ → Me ℕ View → Type 0
 added m workers event reply s v found after =
     IsPassView after.0 × (worker_of after.0 ≡ worker_of v.0) × (after.1 ≡ v.1)
     × Extends m workers (worker_of v.0) (seen_of v.0) (mine_of v.0) event (reply found) (seen_of after.0) (mine_of after.0)
     × (steps_of after.0 ≡ steps_of v.0 ++ touch_of s ∷ [])
 
--- what each step answers, by the word that it found
+-- the reply of each kind of step, from the value that it found
 abbrev pub claim_reply : ℕ → Reply
 claim_reply found = cond (found == 0) Yes No
 
@@ -86,11 +87,11 @@ look_reply found = cond (found == 12) Filled (cond (found == 8) Claimed (cond (n
 abbrev pub nobody : View
 nobody = record { told = []; holds = [] }
 
--- what the seat has seen, for another
+-- what the seat has seen, to pass to another
 abbrev pub note_of : View → View
 note_of v = record { told = seen_of v; holds = [] }
 
--- the seat, once it was told
+-- the seat after another has passed a history to it
 abbrev pub informed : View → View → View
 informed v w = record { told = w.told; holds = v.holds }
 
@@ -98,7 +99,7 @@ informed v w = record { told = w.told; holds = v.holds }
 abbrev pub gathered : View → View → View
 gathered v w = record { told = v.told; holds = v.holds ++ w.holds }
 
--- The pass has seen all of a legal history, which begins with what it had seen and was told of.
+-- The pass has seen all of a legal history, which begins with what it had seen and with what was passed to it.
 pub record Sees (m : MoveTable) (workers worker : ℕ) (told seen mine seen' mine' : List Entry) : Type 0 where
   pub begins : BeginsWith seen' seen
   pub heard : BeginsWith seen' told
@@ -112,12 +113,13 @@ sees m workers s v found after =
     × Sees m workers (worker_of v.0) v.0.told (seen_of v.0) (mine_of v.0) (seen_of after.0) (mine_of after.0)
     × (steps_of after.0 ≡ steps_of v.0 ++ touch_of s ∷ [])
 
--- the pass has seen what it was told of
+-- the pass has seen what was passed to it
 abbrev pub takes_told : Step ℕ → Me ℕ View → ℕ → Me ℕ View → Type 0
 takes_told s v found after =
     IsPassView after.0 × (worker_of after.0 ≡ worker_of v.0) × (after.1 ≡ v.1) × (seen_of after.0 ≡ v.0.told) × (mine_of after.0 ≡ mine_of v.0) × (calls_by (worker_of v.0) v.0.told ≡ mine_of v.0)
     × (steps_of after.0 ≡ steps_of v.0 ++ touch_of s ∷ [])
 
--- The seat has seen all of a legal history, in which all its workers' calls stand. The number found is that of the regions that aren't settled.
+-- The seat has seen all of a legal history, which has all its workers' calls. The value found is the number of regions
+-- that aren't settled.
 abbrev pub surveys : MoveTable → ℕ → Step ℕ → Me ℕ View → ℕ → Me ℕ View → Type 0
 surveys m workers s v found after = IsLegal m workers after.0.told × AllFit workers after.0.told v.0.holds × (found ≡ unsettled m (state_of after.0.told))

@@ -1,4 +1,4 @@
--- The six kinds of atomic step, by the word on which they are taken and their operands.
+-- The six kinds of atomic step, by their words and operands.
 use Rattle.std.specs.Prelude.{ℕ}
 use Rattle.atomic_table.specs.Table.{Step}
 use Rattle.history.specs.declared.event.Event.{Event}
@@ -9,13 +9,13 @@ use Rattle.claim_board.specs.declared.view.Touch.{Touch}
 abbrev pub touch : ℕ → ℕ → ℕ → Touch
 touch word first second = record { word = word; first = first; second = second }
 
--- the step that the table took
+-- the step that the table made
 abbrev pub touch_of : Step ℕ → Touch
 touch_of s = touch s.word s.first s.second
 
 -- the step by which a call is made: word i is that of region i, and the last word is the remaining one
 abbrev pub step_of : MoveTable → Event → Touch
--- a compare-exchange of 0 by 8
+-- a compare-exchange from 0 to 8
 step_of m (Claim r) = touch r 0 8
 -- a load
 step_of m (Look r) = touch r 0 0

@@ -1,4 +1,4 @@
--- What a ticket, and what came from it, say of the caller that claimed it.
+-- What a ticket, and the values made from it, say about the caller that claimed it.
 use Rattle.std.specs.Prelude.{◌≡◌, ◌≢◌, ℕ, ◌<◌, ◌≤◌, false, IsTrue, Option, Some, option_map}
 use Rattle.atomic_table.specs.Seated.{TableId}
 use Rattle.history.specs.declared.event.Event.{Event}
@@ -13,18 +13,19 @@ use Rattle.claim_board.specs.declared.done.Done.{Done}
 use Rattle.claim_board.specs.Views.{worker_of}
 use Rattle.claim_board.specs.Callers.{Caller, own}
 
--- the board that granted the ticket, and the worker that claimed it. A recorder's ticket tells neither
+-- the board that granted the ticket, and the worker that claimed it; none for a recorder's ticket
 abbrev pub ticket_board : Ticket → Option TableId
 ticket_board t = option_map (λ place. place.value.table_id) t.from
 
 abbrev pub ticket_claimant : Ticket → Option ℕ
 ticket_claimant t = option_map (λ place. worker_of place.value.me.0) t.from
 
--- nothing was opened from it, and its right isn't out
+-- no source is opened, and the right isn't out
 abbrev pub IsUnused : Ticket → Type 0
 IsUnused t = (t.next ≡ 0) × (t.right_is_out ≡ false)
 
--- The caller claimed the ticket's region, and hasn't completed it. No source from `next` on is drained for it, and `left` counts the sources that aren't.
+-- The caller claimed the ticket's region and hasn't completed it. No source from `next` on is drained for it, and `left`
+-- counts the sources that aren't drained.
 pub record IsTicketOf (m : MoveTable) (c : Caller) (t : Ticket) : Type 0 where
   pub board : ticket_board t ≡ Some c.board
   pub worker : ticket_claimant t ≡ Some c.worker
@@ -34,7 +35,7 @@ pub record IsTicketOf (m : MoveTable) (c : Caller) (t : Ticket) : Type 0 where
   pub ahead : (s : ℕ) → t.next ≤ s → (own c).drained t.region s ≡ false
   pub left : t.left ≡ sources_left m (own c) t.region
 
--- The reading came from the ticket, which counts its pair as undrained.
+-- The opening came from the ticket, which counts its pair as undrained.
 pub record IsClosedOf (m : MoveTable) (c : Caller) (t : Ticket) (x : Closed) : Type 0 where
   pub board : ticket_board x.ticket.value ≡ ticket_board t
   pub worker : ticket_claimant x.ticket.value ≡ ticket_claimant t
@@ -48,7 +49,7 @@ pub record IsWrittenOf (t : Ticket) (x : Written) : Type 0 where
   pub worker : ticket_claimant x.ticket.value ≡ ticket_claimant t
   pub region : x.region ≡ t.region
 
--- The caller has completed the region, and not settled it.
+-- The caller has completed the region and not settled it.
 pub record IsDoneOf (c : Caller) (d : Done) : Type 0 where
   pub board : option_map (λ place. place.value.table_id) d.from ≡ Some c.board
   pub claimed : (own c).claimed d.region ≡ Some c.worker
@@ -59,7 +60,7 @@ pub record IsDoneOf (c : Caller) (d : Done) : Type 0 where
 abbrev pub IsSwept : MoveTable → Caller → Ticket → Type 0
 IsSwept m c t = (s : ℕ) → s < t.next → IsTrue (reads m t.region s) → IsTrue ((own c).drained t.region s)
 
--- The event changes nothing of a region that its worker has claimed.
+-- The event doesn't change the state of this region if the event's worker has claimed it.
 abbrev pub Spares : ℕ → Event → Type 0
 Spares r (Claim q) = Unit {0}
 Spares r (Look q) = Unit {0}

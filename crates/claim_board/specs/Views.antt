@@ -1,4 +1,4 @@
--- What seats know.
+-- What the seats of the table know.
 use Rattle.std.specs.Prelude.{◌≡◌, ℕ, zero, suc, ◌+◌, ◌<◌, cond, ◌==◌, List, [], ◌∷◌}
 use Rattle.history.specs.declared.entry.Entry.{Entry}
 use Rattle.history.specs.History.{calls_by, BeginsWith}
@@ -13,7 +13,7 @@ hold w seen mine steps = record { worker = w; seen = seen; mine = mine; steps = 
 abbrev pub pass_view : ℕ → List Entry → List Entry → List Touch → View
 pass_view w seen mine steps = record { told = []; holds = hold w seen mine steps ∷ [] }
 
--- the workers from k on, n of them
+-- n workers from k on
 abbrev pub fresh : ℕ → ℕ → List Hold
 fresh k zero = []
 fresh k (suc n) = hold k [] [] [] ∷ fresh (suc k) n
@@ -26,17 +26,17 @@ abbrev pub head_of : List Hold → List Hold
 head_of [] = []
 head_of (h ∷ hs) = h ∷ []
 
--- how often the seat stands for the worker x
+-- how often the worker x is in the seat
 abbrev pub times_held : ℕ → List Hold → ℕ
 times_held x [] = 0
 times_held x (h ∷ hs) = cond (h.worker == x) 1 0 + times_held x hs
 
--- f of each view, added up
+-- the sum of f over the views
 abbrev pub total : (View → ℕ) → List View → ℕ
 total f [] = 0
 total f (v ∷ vs) = f v + total f vs
 
--- The log begins with what was seen, and its calls of this worker are those that it made
+-- The log begins with what was seen, and its calls of this worker are the worker's own.
 pub record HoldFits (n : ℕ) (log : List Entry) (h : Hold) : Type 0 where
   pub below : h.worker < n
   pub begins : BeginsWith log h.seen
@@ -50,7 +50,7 @@ AllFit n log (h ∷ hs) = HoldFits n log h × AllFit n log hs
 abbrev pub ViewFits : ℕ → List Entry → View → Type 0
 ViewFits n log v = BeginsWith log v.told × AllFit n log v.holds
 
--- of the first worker that the seat stands for
+-- the first worker of the seat
 abbrev pub worker_in : List Hold → ℕ
 worker_in [] = 0
 worker_in (h ∷ hs) = h.worker
@@ -79,6 +79,6 @@ mine_of v = mine_in v.holds
 abbrev pub steps_of : View → List Touch
 steps_of v = steps_in v.holds
 
--- the seat stands for one worker
+-- the seat has one worker
 abbrev pub IsPassView : View → Type 0
 IsPassView v = v ≡ pass_view (worker_of v) (seen_of v) (mine_of v) (steps_of v)

@@ -9,14 +9,14 @@ use atomic_table::Table;
 use history::IndexedMoves;
 use std::alloc::Global;
 
-/// A word for each region, by which workers claim it, and one that counts the regions to be filled
-/// that aren't settled. Threads share it by `&Board`; each calls it with a pass of its own.
+/// An atomic word for each region, by which workers claim it, and one that counts the regions to be
+/// filled that aren't settled. Threads share the board by `&Board`; each calls it with its own pass.
 #[derive(Drop)]
 pub struct Board {
     pub(crate) table: Table<u8, View, Key, Law, Global>,
-    /// The moves with an index, by which its tickets find their sources.
+    /// The moves with an index, by which tickets find their sources.
     pub(crate) moves: IndexedMoves,
-    /// Of each region, how many others it reads.
+    /// For each region, the number of other regions that it reads.
     pub(crate) sources: Vec<usize>,
     pub(crate) workers: u32,
     ghost manned: { (0 < workers) × (workers ≡ table.shared.key.workers) },

@@ -1,4 +1,4 @@
-//! The six calls of a board. Each is one atomic step on one word, taken once.
+//! The six calls of a board. Each makes one atomic step on one word, and never repeats it.
 ghost use Rattle.std.specs.Prelude.{◌≡◌, ◌==◌, ◌-◌, ℕ, ◌<◌, count_by, true, IfSome, is_some, if◌then◌else◌};
 ghost use Rattle.history.specs.declared.event.Event.TheVariants.{Claim, Look, Drain, Complete, Settle, Poll};
 ghost use Rattle.history.specs.declared.reply.Reply.TheVariants.{Yes, No, All, More, Done as Completed};
@@ -25,11 +25,11 @@ use std::snapshot::Snapshot;
 
 /// The word of a completed region.
 const COMPLETED: u64 = 12;
-/// What the word of a region that isn't to be filled has more than its readers.
+/// Added to the number of readers in the word of a region that isn't to be filled.
 const OUTSIDE: u64 = 16;
 
-/// How a region stands, by its word.
-fn standing(found: u64) -> Reply
+/// The status of a region whose word has this value.
+fn status_of_word(found: u64) -> Reply
     ensures { result ≡ look_reply found }
 {
     if found == COMPLETED {
@@ -43,8 +43,8 @@ fn standing(found: u64) -> Reply
     }
 }
 
-/// Whether a drain was the last one of its source, by the word that it found.
-fn drained(found: u64) -> Drained
+/// The reply to a drain that found this value in the source's word.
+fn drain_reply(found: u64) -> Drained
     ensures { reply_of result ≡ drain_reply found }
 {
     if found == 1 || found == OUTSIDE + 1 {
@@ -55,8 +55,8 @@ fn drained(found: u64) -> Drained
 }
 
 impl Board {
-    /// Claims a region. The answer is Some exactly if it is to be filled, nobody claimed it, and
-    /// nobody has still to read it; nobody will have to read it later either. None changes nothing.
+    /// Claims a region. Returns a ticket if and only if the region is to be filled, unclaimed and without
+    /// pending readers. A claimed region never has pending readers. `None` changes nothing.
     pub fn claim(&self, pass: &mut Pass, region: u32) -> Option<Ticket>
         requires board { board_of pass.old ≡ identity self.now }
         requires region { region < region_count (moves self.now) }
@@ -81,17 +81,17 @@ impl Board {
         }
     }
 
-    /// How a region stands at this moment: claimed, filled, or how many others have still to read it.
+    /// The status of a region at this moment: claimed, filled, or its number of pending readers.
     pub fn look(&self, pass: &mut Pass, region: u32) -> Reply
         requires board { board_of pass.old ≡ identity self.now }
         requires region { region < region_count (moves self.now) }
         ensures { Appends self.now pass.old pass.new (Look region) result }
     {
-        standing(steps::look::<Brand>(&self.table.shared, &mut pass.place, region as usize))
+        status_of_word(steps::look::<Brand>(&self.table.shared, &mut pass.place, region as usize))
     }
 
-    /// Tells that all words that the ticket's region takes from a source are copied. The answer is
-    /// `Last` if nobody has to read the source any more.
+    /// Reports that all words that the ticket's region takes from a source are copied. Returns `Last` if
+    /// the source has no pending readers left.
     pub fn drain(&self, pass: &mut Pass, ticket: &mut Ticket, closed: Closed) -> Drained
         requires board { board_of pass.old ≡ identity self.now }
         requires ticket { IsTicketOf (moves self.now) (caller pass.old) ticket.old }
@@ -109,7 +109,7 @@ impl Board {
             ticket: _,
         } = closed;
         ticket.left -= 1;
-        drained(steps::drain::<Brand>(
+        drain_reply(steps::drain::<Brand>(
             &self.table.shared,
             &mut pass.place,
             destination as usize,
@@ -117,7 +117,7 @@ impl Board {
         ))
     }
 
-    /// Tells that all words of the ticket's region are written.
+    /// Reports that all words of the ticket's region are written.
     pub fn complete(&self, pass: &mut Pass, ticket: Ticket, written: Written) -> Done
         requires board { board_of pass.old ≡ identity self.now }
         requires ticket { IsTicketOf (moves self.now) (caller pass.old) ticket }
@@ -142,8 +142,8 @@ impl Board {
         Done { region, from }
     }
 
-    /// Tells that the worker is done with the region. The answer is true if now all regions to be
-    /// filled are settled.
+    /// Reports that the worker is done with the region. Returns whether all regions to be filled are
+    /// settled now.
     pub fn settle(&self, pass: &mut Pass, done: Done) -> bool
         requires board { board_of pass.old ≡ identity self.now }
         requires done { IsDoneOf (caller pass.old) done }

@@ -15,8 +15,8 @@ use heap_image::Fault;
 use history::Reply;
 use std::sync::Wait;
 
-/// Its seats are its passes, and each call is the board's call of that name. It never answers Err,
-/// and never waits.
+/// The seats are the passes, and each call is the board's call of the same name. None of them fails or
+/// waits.
 impl Desk for Board {
     ghost use Rattle.std.specs.Prelude.{◌≡◌};
     ghost use Rattle.claim_board.specs.Boards.{moves as moves_of, identity, board_of, caller as caller_of};

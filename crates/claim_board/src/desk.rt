@@ -17,25 +17,25 @@ use heap_image::Fault;
 use history::Reply;
 use std::sync::Wait;
 
-/// What a fill asks of the scheduler: the six event calls, and a note of the words that it copied.
-/// A `Board` is one, and a recorder of calls under a lock can be.
+/// The calls that a fill makes on a scheduler: the six events, and a note of the words that it copied.
+/// `Board` and `Recorder` implement it.
 pub trait Desk {
-    /// What a worker calls with.
+    /// The value with which a worker calls.
     type Seat;
 
     /// The moves by which the desk grants regions.
     ghost moves: { Self → MoveTable };
 
-    /// The seat is one of this desk.
+    /// The seat belongs to this desk.
     ghost serves: { Self → Self.Seat → Type 0 };
 
-    /// Whether a seat tells its own calls. Where the list of calls stands under a lock, it can't.
+    /// Whether contracts see the calls of a seat. They can't if the list of calls is under a lock.
     ghost tells: { Type 0 };
 
-    /// Which worker calls from the seat, all that it has seen, and its own calls so far.
+    /// The worker that calls from the seat, the history that it has seen, and its own calls so far.
     ghost caller: { Self.Seat → Caller };
 
-    /// The faults that a call may answer.
+    /// The faults with which a call may fail.
     ghost may_fail: { Fault → Type 0 };
 
     /// As `Board::claim`.
@@ -123,7 +123,7 @@ pub trait Desk {
         ensures answers { IsOk result }
         ensures fault { IfErr result may_fail };
 
-    /// Notes that so many words of the ticket's region are written. It is no call of the seat's.
+    /// Notes that this many more words of the ticket's region are written. Not a call of the seat.
     fn copied<W: Wait>(
         &self,
         seat: &mut Self::Seat,

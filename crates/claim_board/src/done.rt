@@ -3,10 +3,10 @@ ghost use Rattle.std.specs.Prelude.{◌≡◌};
 use crate::steps::Place;
 use std::snapshot::Snapshot;
 
-/// A completed region that isn't settled. It must be spent: by `Board::settle`, or given up.
+/// A completed region that isn't settled. Must be spent by `Board::settle` or given up.
 pub struct Done {
     pub(crate) region: u32,
-    /// The pass that claimed it, for proofs alone. What a recorder completed has none.
+    /// The pass that claimed the region, for proofs only. `None` for a recorder.
     pub(crate) from: Option<Snapshot<Place>>,
 }
 
@@ -18,7 +18,7 @@ impl Done {
         self.region
     }
 
-    /// Ends it with no event. The region is never settled.
+    /// Spends the value without an event. The region can then never be settled.
     pub fn give_up(self) {
         let Done { region: _, from: _ } = self;
     }

@@ -1,8 +1,8 @@
-/// What a drain answers: whether another region has still to read the source.
+/// The reply to a drain: whether the source has pending readers left.
 #[derive(Clone, Copy, Debug, PartialEq, Eq)]
 pub enum Drained {
-    /// Nobody has to read the source any more.
+    /// The source has no pending readers left.
     Last,
-    /// Another region has still to read it.
+    /// The source has another pending reader.
     NotLast,
 }

@@ -1,4 +1,4 @@
-//! How a board is finished.
+//! `Board::finish`.
 ghost use Rattle.std.specs.Prelude.{◌≡◌, suc, List, vec_len, IsSome, IfSome, ◌↔◌};
 ghost use Rattle.history.specs.declared.entry.Entry.{Entry};
 ghost use Rattle.history.specs.MoveTable.{region_count};
@@ -18,7 +18,7 @@ use crate::steps::{Place, Words};
 use std::marker::Brand;
 use std::snapshot::Snapshot;
 
-/// How many regions to be filled aren't settled. The seat sees all that has happened.
+/// Loads the number of regions to be filled that aren't settled. The seat then sees the whole history.
 fn survey<E: About>(words: &Words, seat: &mut Place, remaining: usize) -> u64
     requires seat { seat.old.table_id ≡ words.now.table_id }
     requires size { words.now.table_id.words ≡ suc (region_count words.now.key.moves) }
@@ -30,9 +30,9 @@ fn survey<E: About>(words: &Words, seat: &mut Place, remaining: usize) -> u64
 }
 
 impl Board {
-    /// Ends the board and its passes. The answer is Some exactly if no pass of the board is missing
-    /// and all regions to be filled are settled. All that the passes did stands in one legal
-    /// history, which begins with what each had seen, and which `Finished` keeps.
+    /// Ends the board and its passes. Returns `Some` if and only if no pass of the board is missing and
+    /// all regions to be filled are settled. All calls of the passes form one legal history, which
+    /// begins with what each pass had seen; `Finished` keeps it.
     pub fn finish(self, mut passes: Vec<Pass>) -> Option<Finished>
         requires { AllOf (identity self) passes.items }
         ensures { (h : List Entry) × IsLegal (moves self) (worker_count self) h × AllStand h passes.items

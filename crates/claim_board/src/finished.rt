@@ -1,8 +1,8 @@
 use crate::steps::Place;
 use std::snapshot::Snapshot;
 
-/// A board that is finished: all its regions to be filled are settled. Contracts see its whole
-/// history. It has no bytes.
+/// A finished board: all its regions to be filled are settled. Contracts see its whole history. The
+/// value takes no memory.
 #[derive(Drop)]
 pub struct Finished {
     pub(crate) last: Snapshot<Place>,

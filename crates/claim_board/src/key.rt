@@ -1,6 +1,7 @@
 use history::GivenMoves;
 
-/// What the rule of a board's words speaks of. Only proofs read it, once the board is made.
+/// The moves and the number of workers to which the rule of a board's words refers. After the board is
+/// made, only proofs read it.
 #[derive(Drop)]
 pub struct Key {
     pub(crate) moves: GivenMoves,

@@ -1,5 +1,5 @@
-//! What calls leave of a ticket and of a completion, and what two tickets say of each other. These functions do nothing;
-//! call one where its clause is needed.
+//! Theorems about tickets and completions over several calls, and about two tickets. The functions do nothing; call one
+//! where a proof needs its contract.
 ghost use Rattle.std.specs.Prelude.{◌≡◌, ℕ, ◌+◌, ◌<◌, ◌≤◌, List, false};
 ghost use Rattle.history.specs.declared.event.Event.{Event};
 ghost use Rattle.history.specs.declared.event.Event.TheVariants.{Drain};
@@ -18,23 +18,23 @@ ghost use Rattle.claim_board.specs.Tickets.{IsTicketOf, IsDoneOf, IsSwept, Spare
 
 use history::{how_counts_go_down, what_legal_histories_keep, what_own_calls_tell};
 
-/// What a call appends to a pass, the caller that the pass shows gains.
+/// The caller that a pass shows gains each call that is appended to the pass.
 pub fn appended_calls_are_gained()
     ensures { (board : Board) (old new : Pass) (event : Event) (reply : Reply) → Appends board old new event reply → Gains (caller old) (caller new) event reply }
 {}
 
-/// Calls for other regions, and claims, looks and polls, leave a ticket as it is.
+/// Calls for other regions, and claims, looks and polls, leave a ticket valid.
 pub fn other_calls_leave_tickets()
     ensures { (m : MoveTable) (old new : Caller) (t : Ticket) (event : Event) (reply : Reply) → IsTicketOf m old t → Gains old new event reply → Spares t.region event → IsTicketOf m new t }
 {}
 
-/// Calls for other regions, and claims, looks and polls, leave a completion as it is: it can still be settled.
+/// Calls for other regions, and claims, looks and polls, leave a completion valid: it can still be settled.
 pub fn other_calls_leave_completions()
     ensures { (old new : Caller) (d : Done) (event : Event) (reply : Reply) → IsDoneOf old d → Gains old new event reply → Spares d.region event → IsDoneOf new d }
 {}
 
-/// Where the calls of two workers stand in one legal history, as once their passes have met, and each has a ticket:
-/// nothing is left to be copied from the region of the one ticket to that of the other.
+/// If the calls of two workers are in one legal history, as after their passes have met, and each worker has a ticket,
+/// then nothing is left to be copied from the region of one ticket to that of the other.
 pub fn nothing_is_read_from_a_ticket()
     ensures { (m : MoveTable) (workers : ℕ) (log : List Entry) (one other : Caller) (t u : Ticket) → IsLegal m workers log → calls_by one.worker log ≡ one.mine → calls_by other.worker log ≡ other.mine
         → IsTicketOf m one t → IsTicketOf m other u → is_pending m (own other) u.region t.region ≡ false }
@@ -43,14 +43,14 @@ pub fn nothing_is_read_from_a_ticket()
     what_own_calls_tell();
 }
 
-/// Where all sources below the next one were drained, and then that one is opened and drained too,
-/// all below the one after it are drained.
+/// If all sources below the next one are drained, and that one is then opened and drained, all sources
+/// below the one after it are drained.
 pub fn one_more_source_is_drained()
     ensures { (m : MoveTable) (old new : Caller) (t t' : Ticket) (s : ℕ) (reply : Reply) → IsSwept m old t → t'.region ≡ t.region → t'.next ≡ s + 1
         → ((q : ℕ) → t.next ≤ q → q < s → reads m t.region q ≡ false) → Gains old new (Drain t.region s) reply → IsSwept m new t' }
 {}
 
-/// Where all sources below the next one are drained, and there is no next one, none is left.
+/// If all sources below the next one are drained and there is no next one, no source is left.
 pub fn swept_tickets_have_none_left()
     ensures { (m : MoveTable) (c : Caller) (t : Ticket) → IsMoveTable m → IsTicketOf m c t → IsSwept m c t → ((s : ℕ) → t.next ≤ s → reads m t.region s ≡ false) → t.left ≡ 0 }
 {

@@ -1,4 +1,4 @@
-//! How a board is made, and its moves.
+//! `Board::new`, and the board's moves.
 ghost use Rattle.std.specs.Prelude.{◌≡◌, ℕ, ◌+◌, ◌<◌, ◌≤◌, suc, [], vec_len, IfOk, slice_index, cond};
 ghost use Rattle.history.specs.MoveTable.{IsMoveTable, region_count};
 ghost use Rattle.history.specs.State.{opening, unsettled};
@@ -15,7 +15,7 @@ use atomic_table::Table;
 use history::{GivenMoves, IndexedMoves, Moves, count_readers, count_sources, how_counts_go_down};
 use std::alloc::{AllocError, Global};
 
-/// The word of a region at the opening, by its readers.
+/// The first value of the word of a region with this number of readers.
 fn opening_word(readers: usize, fill: bool) -> u64
     requires { readers ≤ 2 }
     ensures { result ≡ readers + cond fill 0 16 }
@@ -27,7 +27,7 @@ fn opening_word(readers: usize, fill: bool) -> u64
     }
 }
 
-/// The words at the opening, one a region, and last the number of regions to be filled.
+/// The first values of the words: one for each region, and then the number of regions to be filled.
 fn opening_words(alloc: Global, moves: &GivenMoves) -> Result<Vec<u64>, AllocError>
     ensures lawful { IfOk result (λ _. IsMoveTable moves.now) }
     ensures size { IfOk result (λ v. vec_len v ≡ suc (region_count moves.now)) }
@@ -45,7 +45,7 @@ fn opening_words(alloc: Global, moves: &GivenMoves) -> Result<Vec<u64>, AllocErr
     Ok(words)
 }
 
-/// A pass for each worker.
+/// Makes a pass for each worker.
 fn deal(
     alloc: Global,
     words: &Words,
@@ -65,8 +65,8 @@ fn deal(
 }
 
 impl Board {
-    /// A board of these moves, and a pass for each of 1 to 64 workers, which has seen nothing.
-    /// `AllocError` if there is no memory for its words.
+    /// Makes a board of these moves, and a pass for each of 1 to 64 workers, which has seen no calls.
+    /// Fails only if memory runs out.
     pub fn new<M: Moves>(
         alloc: Global,
         moves: &M,
@@ -93,7 +93,7 @@ impl Board {
         Ok((board, passes))
     }
 
-    /// The board's own moves, by which its tickets are opened.
+    /// The board's moves, for `Ticket::open`.
     pub fn moves(&self) -> &IndexedMoves
         ensures { result.now ≡ moves_of self.now }
     {

@@ -1,4 +1,4 @@
-//! How two passes meet.
+//! `Board::meet`.
 ghost use Rattle.std.specs.Prelude.{◌≡◌, suc};
 ghost use Rattle.history.specs.MoveTable.{region_count};
 ghost use Rattle.history.specs.History.{IsLegal, BeginsWith, calls_by};
@@ -15,7 +15,7 @@ use crate::rule::{About, Note, Sees, Takes};
 use crate::steps::{Place, Words};
 use std::marker::Brand;
 
-/// The seat sees all that has happened.
+/// Lets the seat see the whole history.
 fn see<E: About>(words: &Words, seat: &mut Place)
     requires seat { seat.old.table_id ≡ words.now.table_id }
     requires size { words.now.table_id.words ≡ suc (region_count words.now.key.moves) }
@@ -26,8 +26,8 @@ fn see<E: About>(words: &Words, seat: &mut Place)
     words.load::<Sees<E>>(seat, 0);
 }
 
-/// The seat sees what it was told of.
-fn take_told(words: &Words, seat: &mut Place)
+/// Lets the seat see the history that another seat has passed to it.
+fn adopt_history(words: &Words, seat: &mut Place)
     requires seat { seat.old.table_id ≡ words.now.table_id }
     requires size { words.now.table_id.words ≡ suc (region_count words.now.key.moves) }
     requires told { IsToldView seat.old.me.0 }
@@ -38,8 +38,8 @@ fn take_told(words: &Words, seat: &mut Place)
 }
 
 impl Board {
-    /// Two workers tell each other what they have seen. It is no event. Afterwards both have seen
-    /// one legal history, which begins with what each had seen.
+    /// Exchanges what two workers have seen. Afterwards both have seen the same legal history, which
+    /// begins with what each had seen. Not an event. For library users; the collector doesn't need it.
     pub fn meet(&self, a: &mut Pass, b: &mut Pass)
         requires boards { (board_of a.old ≡ identity self.now) × (board_of b.old ≡ identity self.now) }
         ensures stay { Stays a.old a.new × Stays b.old b.new }
@@ -54,6 +54,6 @@ impl Board {
         see::<Brand>(words, &mut b.place);
         let from_b = words.split_seat::<Note>(&mut b.place);
         words.join_seat::<Note>(&mut a.place, from_b);
-        take_told(words, &mut a.place);
+        adopt_history(words, &mut a.place);
     }
 }

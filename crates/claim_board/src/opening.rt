@@ -4,12 +4,12 @@ use crate::closed::Closed;
 use crate::ticket::Ticket;
 use std::snapshot::Snapshot;
 
-/// The leave to read a region for the one that a ticket is for. While it lives the pair can't be
-/// drained, since a drain takes the `Closed` that it leaves. It must be spent.
+/// The permission to read a source for the region of a ticket. While it lives, the pair can't be
+/// drained, since a drain takes the `Closed` that `close` returns. Must be closed or given up.
 pub struct Opening {
     pub(crate) destination: u32,
     pub(crate) source: u32,
-    /// The ticket that it came from, for proofs alone.
+    /// The ticket that made it, for proofs only.
     pub(crate) ticket: Snapshot<Ticket>,
 }
 
@@ -28,7 +28,7 @@ impl Opening {
         self.source
     }
 
-    /// Ends the reading: all that the destination takes from the source is copied.
+    /// Ends the reading, when all words that the destination takes from the source are copied.
     pub fn close(self) -> Closed
         ensures pair { (result.destination ≡ self.destination) × (result.source ≡ self.source) }
         ensures from { result.ticket ≡ self.ticket }
@@ -45,7 +45,7 @@ impl Opening {
         }
     }
 
-    /// Ends it with no event. The region of its ticket is never settled.
+    /// Spends the value without an event. The region of its ticket can then never be settled.
     pub fn give_up(self) {
         let Opening {
             destination: _,

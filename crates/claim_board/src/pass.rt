@@ -3,8 +3,8 @@ ghost use Rattle.claim_board.specs.Views.{IsPassView};
 
 use crate::steps::Place;
 
-/// One worker's hold on a board. Contracts see two lists of calls, `seen`, a legal history that is
-/// known to this pass, and `mine`, its own calls in it. It has no bytes.
+/// One worker's access to a board. Contracts see two lists of calls: `seen`, a legal history known to
+/// this pass, and `mine`, its own calls in it. The value takes no memory.
 #[derive(Drop)]
 pub struct Pass {
     pub(crate) place: Place,

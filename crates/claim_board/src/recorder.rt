@@ -1,4 +1,4 @@
-//! A board under a lock that keeps its calls.
+//! `Recorder`: a board under a lock that keeps its calls.
 ghost use Rattle.history.specs.Schedule.{IsHistory};
 ghost use Rattle.history.specs.Scheduler.{ArePairCounts};
 
@@ -6,14 +6,14 @@ use crate::key::Key;
 use history::{LockedBoard, Schedule};
 use std::snapshot::Snapshot;
 
-/// A board under a lock that keeps each call with its reply, for a schedule that can be written
-/// down. Threads share it by `&Recorder`; each calls it with the number of a worker.
+/// A board under a lock that keeps each call with its reply, for a schedule. Threads share it by
+/// `&Recorder`; each calls it with the number of a worker.
 #[derive(Drop)]
 pub struct Recorder {
     pub(crate) board: LockedBoard,
-    /// Of each region, how many others it reads.
+    /// For each region, the number of other regions that it reads.
     pub(crate) sources: Vec<usize>,
-    /// The moves and the number of workers, for proofs alone.
+    /// The moves and the number of workers, for proofs only.
     pub(crate) key: Snapshot<Key>,
     ghost counted: { ArePairCounts key.value.moves (λ pair. pair.0) key.value.moves.pairs sources.items },
 }

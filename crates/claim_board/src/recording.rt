@@ -1,4 +1,4 @@
-//! How a recorder is made, and a recorder as a desk.
+//! `Recorder::new`, and `Desk` for `Recorder`.
 ghost use Rattle.std.specs.Prelude.{◌≡◌, ◌==◌, ◌-◌, count_by, ℕ, ◌<◌, ◌≤◌, IsOk, IfOk, IfErr, IfSome, OnOk, is_some, if◌then◌else◌};
 ghost use Rattle.claim_board.specs.Recorders.{moves as moves_of, worker_count, anybody, IsRefusal, IsSomeRefusal};
 ghost use Rattle.claim_board.specs.Faults.{NamesNoOther};
@@ -17,7 +17,7 @@ use std::alloc::{AllocError, Global};
 use std::snapshot::Snapshot;
 use std::sync::Wait;
 
-/// What a worker meets where its call for this region was not taken.
+/// The fault of a worker whose call for this region was rejected.
 fn fault_of(refused: CallFault, region: u32) -> Fault
     ensures { IsRefusal region result }
 {
@@ -28,7 +28,7 @@ fn fault_of(refused: CallFault, region: u32) -> Fault
 }
 
 impl Recorder {
-    /// A recorder of these moves and 1 to 64 workers, to which nothing has happened yet.
+    /// Makes a recorder of these moves and 1 to 64 workers, with no calls. Fails only if memory runs out.
     pub fn new<M: Moves>(alloc: Global, moves: &M, workers: u32) -> Result<Recorder, AllocError>
         requires { (1 ≤ workers) × (workers ≤ 64) }
         ensures moves { IfOk result (λ recorder. moves_of recorder ≡ M.table moves.now) }
@@ -45,7 +45,7 @@ impl Recorder {
         })
     }
 
-    /// One call for a region, by a worker, under the lock.
+    /// Makes one call for a region under the lock.
     fn call<W: Wait>(
         &self,
         worker: u32,
@@ -62,10 +62,10 @@ impl Recorder {
     }
 }
 
-/// Its seats are the workers' numbers. Each event is one call under the lock, which is recorded, and
-/// so is what was copied; `poll` records nothing. It answers `Memory` where the list of calls could
-/// not grow, and `Overwritten` with the region where the call isn't allowed. Either leaves the list
-/// as it was, and gives up what was handed in.
+/// The seats are the workers' numbers. Each event is one call under the lock, which is recorded, and so
+/// are the copied words; `poll` records nothing. A call fails with `Memory` if the list of calls can't
+/// grow, and with `Overwritten` and the region if the event isn't allowed. An error leaves the list
+/// unchanged and gives up the values that were passed.
 impl Desk for Recorder {
     ghost use Rattle.std.specs.Prelude.{◌≡◌, ◌<◌};
     ghost use Rattle.claim_board.specs.Recorders.{moves as moves_of, worker_count, anybody, IsSomeRefusal};
@@ -140,7 +140,7 @@ impl Desk for Recorder {
             from,
         } = ticket;
         written.give_up();
-        let _done = self.call(*seat, Event::Complete(region), region, wait)?;
+        self.call(*seat, Event::Complete(region), region, wait)?;
         Ok(Done { region, from })
     }
 
@@ -163,7 +163,7 @@ impl Desk for Recorder {
     ) -> Result<(), Fault> {
         if words > 0 {
             let event = Event::Copy(ticket.region, words);
-            let _done = self.call(*seat, event, ticket.region, wait)?;
+            self.call(*seat, event, ticket.region, wait)?;
         }
         Ok(())
     }

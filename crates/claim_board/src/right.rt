@@ -4,10 +4,10 @@ use crate::ticket::Ticket;
 use crate::written::Written;
 use std::snapshot::Snapshot;
 
-/// The right to write a region, of which its ticket has one. It must be spent.
+/// The right to write a region; each ticket has one. Must be spent by `written` or given up.
 pub struct Right {
     pub(crate) region: u32,
-    /// The ticket that it came from, for proofs alone.
+    /// The ticket that made it, for proofs only.
     pub(crate) ticket: Snapshot<Ticket>,
 }
 
@@ -19,7 +19,7 @@ impl Right {
         self.region
     }
 
-    /// Ends the writing: all words of the region are written.
+    /// Ends the writing, when all words of the region are written.
     pub fn written(self) -> Written
         ensures region { result.region ≡ self.region }
         ensures from { result.ticket ≡ self.ticket }
@@ -28,7 +28,7 @@ impl Right {
         Written { region, ticket }
     }
 
-    /// Ends it with no event. The region is never settled.
+    /// Spends the value without an event. The region can then never be settled.
     pub fn give_up(self) {
         let Right {
             region: _,

@@ -1,10 +1,10 @@
-//! The rule of the table, and what each step tells.
+//! The rule of the board's table, and what each kind of step adds to a history or shows of it.
 use crate::key::Key;
 use crate::view::View;
 use atomic_table::{Join, Play, Split, TableRule};
 use std::marker::{Brand, PhantomData};
 
-/// The words are what one legal history says.
+/// The words have the values that one legal history determines.
 pub struct Law;
 
 impl TableRule<u8, View, Key> for Law {
@@ -28,7 +28,7 @@ pub trait About {
 
     ghost event: { Event };
 
-    /// Of the word that the step finds.
+    /// The reply, from the value that the step finds.
     ghost reply: { ℕ → Reply };
 }
 
@@ -57,7 +57,7 @@ impl<E: About> Play<u8, View> for Adds<E> {
     ghost then = { added E.moves E.workers E.event E.reply };
 }
 
-/// The first of the workers goes to a seat of its own.
+/// The first of the seat's workers gets its own seat.
 pub struct Deal;
 
 impl Split<View> for Deal {
@@ -68,7 +68,7 @@ impl Split<View> for Deal {
     ghost right = { first_of };
 }
 
-/// What a seat has seen goes to another seat.
+/// One seat passes what it has seen to another.
 pub struct Note;
 
 impl Split<View> for Note {
@@ -87,7 +87,7 @@ impl Join<View> for Note {
     ghost spent = { nobody };
 }
 
-/// The workers of two seats go to one.
+/// One seat takes over the workers of another.
 pub struct Gather;
 
 impl Join<View> for Gather {
@@ -98,7 +98,7 @@ impl Join<View> for Gather {
     ghost spent = { nobody };
 }
 
-/// All of the history is seen.
+/// The seat sees the whole history.
 pub struct Sees<E> {
     about: PhantomData<E>,
 }
@@ -109,7 +109,7 @@ impl<E: About> Play<u8, View> for Sees<E> {
     ghost then = { sees E.moves E.workers };
 }
 
-/// What the seat was told of is seen.
+/// The seat sees the history that was passed to it.
 pub struct Takes;
 
 impl Play<u8, View> for Takes {
@@ -118,7 +118,7 @@ impl Play<u8, View> for Takes {
     ghost then = { takes_told };
 }
 
-/// All of the history is seen, with the number of regions that aren't settled.
+/// The seat sees the whole history, with the number of regions that aren't settled.
 pub struct Surveys<E> {
     about: PhantomData<E>,
 }

@@ -1,4 +1,4 @@
-//! The six kinds of step, each on one word. A caller's proof says which entry the step adds.
+//! The six kinds of atomic step, each on one word. The caller's proof says, through `E`, which entry the step adds.
 ghost use Rattle.std.specs.Prelude.{◌≡◌, ℕ, ◌<◌, suc, false, IsTrue, Some};
 ghost use Rattle.history.specs.declared.event.Event.TheVariants.{Claim, Look, Drain, Complete, Settle, Poll};
 ghost use Rattle.history.specs.MoveTable.{region_count};
@@ -23,10 +23,10 @@ pub(crate) type Place = Seat<u8, View>;
 const FREE: u64 = 0;
 /// The word of a region that is claimed and not completed.
 pub(crate) const CLAIMED: u64 = 8;
-/// What a completion adds to it.
+/// The bit that a completion sets in it.
 const COMPLETES: u64 = 4;
 
-/// Compare-exchange of 0 by 8 on the word of the region.
+/// Compare-exchange from 0 to 8 on the word of the region.
 pub(crate) fn claim<E: About>(words: &Words, seat: &mut Place, region: usize) -> u64
     requires seat { seat.old.table_id ≡ words.now.table_id }
     requires size { words.now.table_id.words ≡ suc (region_count words.now.key.moves) }

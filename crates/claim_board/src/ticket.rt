@@ -3,15 +3,15 @@ ghost use Rattle.std.specs.Prelude.{◌≡◌};
 use crate::steps::Place;
 use std::snapshot::Snapshot;
 
-/// A claimed region, to be filled by the worker that claimed it. It must be spent: by
-/// `Board::complete`, or given up.
+/// A claimed region, to be filled by the worker that claimed it. Must be spent by `Board::complete` or
+/// given up.
 pub struct Ticket {
     pub(crate) region: u32,
-    /// All its sources below this region were opened.
+    /// All sources below this region are opened.
     pub(crate) next: u32,
     pub(crate) left: usize,
     pub(crate) right_is_out: bool,
-    /// The pass that claimed it, for proofs alone. A recorder's ticket has none.
+    /// The pass that claimed the region, for proofs only. `None` for a recorder.
     pub(crate) from: Option<Snapshot<Place>>,
 }
 
@@ -23,14 +23,14 @@ impl Ticket {
         self.region
     }
 
-    /// How many other regions it has still to read. At 0 it may be completed.
+    /// The number of other regions that the region has still to read. At 0 it may be completed.
     pub fn left(&self) -> usize
         ensures { result ≡ self.now.left }
     {
         self.left
     }
 
-    /// Ends it with no event. The region is never settled.
+    /// Spends the value without an event. The region can then never be settled.
     pub fn give_up(self) {
         let Ticket {
             region: _,

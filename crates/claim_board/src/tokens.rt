@@ -1,4 +1,5 @@
-//! What a ticket gives out. These methods stand apart from the type, since their clauses speak of it.
+//! The openings and the right that a ticket gives out. The methods are in a module of their own because their contracts
+//! use the type `Ticket`.
 ghost use Rattle.std.specs.Prelude.{◌≡◌, ℕ, ◌+◌, ◌<◌, ◌≤◌, ◌↔◌, true, false, IfSome, IfNone, IsSome, IsTrue};
 ghost use Rattle.history.specs.MoveTable.{MoveTable, region_count, reads};
 ghost use Rattle.claim_board.specs.Callers.{Caller};
@@ -11,8 +12,8 @@ use history::Moves;
 use std::snapshot::Snapshot;
 
 impl Ticket {
-    /// The next other region that this one reads, ascending, each once; None after the last. The
-    /// moves are the board's own.
+    /// Opens the next other region that this one reads. Goes over them once, ascending, and returns `None`
+    /// after the last. `moves` must be the board's.
     pub fn open<M: Moves>(&mut self, moves: &M) -> Option<Opening>
         requires { self.old.region < region_count (M.table moves.now) }
         ensures same { (self.new.region ≡ self.old.region) × (self.new.left ≡ self.old.left) × (self.new.right_is_out ≡ self.old.right_is_out) × (self.new.from ≡ self.old.from) }
@@ -36,7 +37,7 @@ impl Ticket {
         })
     }
 
-    /// The right to write the region: Some once, and None afterwards.
+    /// The right to write the region; `None` from the second call on.
     pub fn right(&mut self) -> Option<Right>
         ensures once { IsSome result ↔ (self.old.right_is_out ≡ false) }
         ensures out { self.new.right_is_out ≡ true }

@@ -1,15 +1,15 @@
 use crate::ticket::Ticket;
 use std::snapshot::Snapshot;
 
-/// A right whose region is written. It must be spent: by `Board::complete`, or given up.
+/// A right whose region is written. Must be spent by `Board::complete` or given up.
 pub struct Written {
     pub(crate) region: u32,
-    /// The ticket that its right came from, for proofs alone.
+    /// The ticket of its right, for proofs only.
     pub(crate) ticket: Snapshot<Ticket>,
 }
 
 impl Written {
-    /// Ends it with no event. The region is never settled.
+    /// Spends the value without an event. The region can then never be settled.
     pub fn give_up(self) {
         let Written {
             region: _,

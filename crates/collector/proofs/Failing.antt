@@ -1,4 +1,4 @@
--- What the fault of a collection says.
+-- The causes of a collection's fault.
 use Rattle.std.proofs.Common.{◌≡◌, ℕ, ◌<◌, List, ◌++◌, length, take, get_or, sym, ap, ◌∙◌, subst, inl, inr, ◌⊎◌, Err}
 use Rattle.std.specs.Prelude.{All, IfErr}
 use Rattle.std.proofs.Math.Seq.{take-append_seam}
@@ -18,14 +18,14 @@ HasFailed {S = S} workers fault = (k : ℕ) × (w : Worker S) × (k < length wor
 pub front_of : {X : Type 0} (n : ℕ) (xs rest : List X) → n ≡ length xs → take n (xs ++ rest) ≡ xs
 front_of n xs rest whole = ap (λ (k : ℕ). take k (xs ++ rest)) whole ∙ take-append_seam xs rest
 
--- a fault that a worker met has the cause that ends workers have
+-- a fault that a worker met has one of the causes of a halt
 pub cause_of : {S : Type 0} (may_fail : Fault → Type 0) (may_refuse : ℕ → Type 0) (regions : ℕ) (workers : List (Worker S)) (fault : Fault)
     → All (λ w. IfErr w.end (MayHalt may_fail may_refuse regions)) workers → HasFailed workers fault → MayHalt may_fail may_refuse regions (Failed fault)
 cause_of {S = S} may_fail may_refuse regions workers fault causes failed =
     subst (λ e. IfErr e (MayHalt may_fail may_refuse regions)) failed.4
     (subst (λ (w : Worker S). IfErr w.end (MayHalt may_fail may_refuse regions)) failed.3 (causes failed.0 failed.1 failed.2))
 
--- where it is the gate's, the gate may refuse
+-- if it is the gate's, the gate may refuse
 pub refused_by : (may_refuse : ℕ → ℕ → Type 0) (workers : ℕ) (image : HeapImage) (fault : Fault) → fault ≡ Gate
     → IsOverwritten fault ⊎ ((fault ≡ Gate) × MayRefuse may_refuse workers image) → MayRefuse may_refuse workers image
 refused_by may_refuse workers image fault gate (inl old) = absurd (let f : Gate ≡ Overwritten old.0 = sym gate ∙ old.1 in cc)

@@ -1,4 +1,4 @@
--- Objects in a row, which are placed one after the other: what lies between two of them.
+-- Objects in order, which move to addresses in the same order: what lies between two of them.
 use Rattle.std.proofs.Common.{◌≡◌, ℕ, zero, suc, ◌+◌, ◌-◌, ◌≤◌, ◌<◌, inl, inr, refl, sym, ◌∙◌, ap, subst, arith}
 use Rattle.std.proofs.lemmas.Bool.{cases_lt}
 use Rattle.collector.specs.Compared.{behind}
@@ -15,8 +15,8 @@ pub behind-next : (end : ℕ → ℕ) (i j : ℕ) → j ≡ i + 1 → behind end
 behind-next end i zero e = let no : ⊥ = omega (arith, e) in absurd no
 behind-next end i (suc j) e = let same : j ≡ i = omega (arith, e) in behind-suc end j ∙ ap end same
 
--- Of n objects the i-th begins at `at i`, has `size i` words and goes to `place i`. Those that begin below b stay, the
--- others go to b or above, and leave no place up to the top without a word.
+-- Of n objects the i-th begins at `at i`, has `size i` words and goes to `place i`. Those that begin below b stay; the
+-- others go to b or above, and leave no gap below the top.
 pub record ArePlaced (n b top : ℕ) (at size place : ℕ → ℕ) : Type 0 where
   pub some : (i : ℕ) → i < n → 0 < size i
   pub stays : (i : ℕ) → i < n → at i < b → place i ≡ at i
@@ -57,7 +57,7 @@ module _ (n b top : ℕ) (at size place : ℕ → ℕ) (objects : ArePlaced n b 
   abbrev Owner : ℕ → Type 0
   Owner p = (i : ℕ) × (i < n) × (place i ≤ p) × (p < end i)
 
-  -- no word goes to a place between two objects
+  -- no word goes to an address between two moved objects
   unowned : (i : ℕ) → i < n → (p : ℕ) → behind end i ≤ p → p < place i → Owner p → ⊥
   unowned i l p low high (k, m, from, to) = elim (cases_lt k i) [
     | inl lower ↦ let ends = first_ends i k lower (omega (arith, l)) in omega (arith, ends, low, to)
@@ -124,7 +124,7 @@ module _ (n b top : ℕ) (at size place : ℕ → ℕ) (objects : ArePlaced n b 
       let stays = low_stays i m (let w : place i < b = omega (arith, is, some, small) in w) in
       (i, m, omega (arith, is, stays, size_i), omega (arith, is, stays, size_i))
 
-  -- all places up to the top are behind the last object
+  -- all addresses up to the top are below the end of the last object
   pub top_low : top ≤ behind end n
   top_low = elim (cases_lt (behind end n) top) [
     | inl high ↦

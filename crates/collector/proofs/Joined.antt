@@ -7,7 +7,7 @@ use Rattle.summary.specs.Compaction.{compact}
 use Rattle.collector.specs.Difference.{AreAlike, IsLeastDifference}
 use Rattle.collector.specs.Compared.{AreCompacted, IsFirstOther}
 
--- the words that are wanted in the compaction from one address on, as a table
+-- the words of the compaction from one address on, as a table
 pub record AreWanted (before : HeapImage) (wanted : ℕ → ℕ) (at n : ℕ) : Type 0 where
   pub word : (j : ℕ) → j < n → word_at (compact before) (at + j) ≡ wanted j
 

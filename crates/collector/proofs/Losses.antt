@@ -6,12 +6,12 @@ use Rattle.heap_image.specs.declared.fault.Fault.{Fault}
 use Rattle.heap_image.specs.declared.fault.Fault.TheVariants.{Memory, Schedule, Overwritten, Gate}
 use Rattle.collector.specs.Records.{IsLoss, IsLossBy}
 
--- whatever gate there was
+-- for any gate
 pub loss : (may_refuse : Type 0) (fault : Fault) → IsLossBy may_refuse fault → IsLoss fault
 loss may_refuse fault (inl refused) = inl (refused.0, tt)
 loss may_refuse fault (inr rest) = inr rest
 
--- what holds of each image holds of what it is of
+-- if P holds of all elements under the map f, it holds of f of each element
 pub unmapped : {X Y : Type 0} (f : X → Y) (P : Y → Type 0) (xs : List X) → All P (map f xs) → All (λ x. P (f x)) xs
 unmapped f P [] all = All-nil (λ x. P (f x))
 unmapped f P (x ∷ xs) all = All-cons (λ y. P (f y)) x xs (All-head P (f x) (map f xs) all) (unmapped f P xs (All-tail P (f x) (map f xs) all))

@@ -7,7 +7,7 @@ use Rattle.std.proofs.Math.Seq.{get_or-append_seam}
 use Rattle.claim_board.specs.declared.pass.Pass.{Pass}
 use Rattle.claim_board.specs.Boards.{board_of, AllOf, ArePassesFrom, ArePasses}
 
--- what holds of each element holds of the front and of the last
+-- what holds of each element holds of the front and of the last element
 pub front_and_last : {X : Type 0} (P : X → Type 0) (all front : List X) (last : X) → all ≡ front ++ last ∷ [] → All P all → All P front × P last
 front_and_last P all front last is each =
     let more : length all ≡ length front + 1 = ap length is ∙ length_push front last in (
@@ -15,12 +15,12 @@ front_and_last P all front last is each =
       subst P (ap (λ l. get_or l (length front) last) is ∙ get_or-append_seam front last [] last) (each (length front) last (omega arith)),
     )
 
--- each pass is of the board, said by recursion
+-- each pass is one of the board's, by recursion
 pub all_of : (board : _) (passes : List Pass) → All (λ p. board_of p ≡ board) passes → AllOf board passes
 all_of board [] all = tt
 all_of board (p ∷ ps) all = (All-head (λ q. board_of q ≡ board) p ps all, all_of board ps (All-tail (λ q. board_of q ≡ board) p ps all))
 
--- each of the new passes is of the board
+-- each of the new passes is one of the board's
 seated : (board : _) (k : ℕ) (passes : List Pass) → ArePassesFrom board k passes → (i : ℕ) (d : Pass) → i < length passes → board_of (get_or passes i d) ≡ board
 seated board k [] all i d inside = absurd (omega arith)
 seated board k (p ∷ ps) all zero d inside = all.0.0

@@ -1,4 +1,4 @@
--- The live objects of an image and their places in its compaction.
+-- The live objects of an image and their new addresses.
 use Rattle.std.proofs.Common.{◌≡◌, ℕ, zero, suc, ◌+◌, ◌-◌, ◌≤◌, ◌<◌, inl, inr, false, List, [], ◌∷◌, length, get_or, drop, refl, sym, ◌∙◌, ap, subst, arith, ltb}
 use Rattle.std.specs.Prelude.{slice_range, fold, replicate, nat_lt, nat_le, if◌then◌else◌}
 use Rattle.std.proofs.lemmas.Bool.{cases_Bool, cond-true, cond-false, lt-ltb, le-ltb, le-leb, ltb-true, leb-true, and_from, and_parts, false_from_ne_true}
@@ -215,7 +215,7 @@ module _ (image : HeapImage) (a place : ℕ) (placed : IsPlaced image a place) w
       high : (r j : ℕ) → done ≡ 1 + r → a + (done + j) ≤ a + r → ⊥
       high r j e h = omega (arith, e, h)
 
--- a place that the code computes, by the object at an index
+-- a new address that the code computes, by the index of the object
 pub place_of : (image plan : HeapImage) (items : List ℕ) (i r : ℕ) → plan ≡ image → items ≡ image.live → r ≡ new_address plan (get_or items i 0) → r ≡ new_address image (object_at image i)
 place_of image plan items i r p q e = e ∙ ap (λ (m : HeapImage). new_address m (get_or items i 0)) p ∙ ap (λ (l : List ℕ). new_address image (get_or l i 0)) q
 

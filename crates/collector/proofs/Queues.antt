@@ -1,4 +1,4 @@
--- Each move keeps the rule of a queue's deque.
+-- Each operation keeps the invariant of a queue's deque.
 use Rattle.std.proofs.Common.{◌≡◌, ◌≢◌, ℕ, zero, suc, ◌<◌, ◌+◌, ◌-◌, true, false, List, [], ◌∷◌, ◌++◌, length, get_or, set, refl, sym, ◌∙◌, ap, subst, arith, ⊎_elim, append_assoc, length-append}
 use Rattle.std.specs.Prelude.{All, Contains}
 use Rattle.std.proofs.lemmas.Bool.{false≢true}
@@ -55,7 +55,7 @@ pushes port v xs is items views h at =
       refl,
     )
 
--- anyone takes the first
+-- any pass takes the first
 takes : (port : ℕ) (v : Pushed) (xs items : List ℕ) (views : List Pushed) → HoldsTheRest (xs ++ items) views → get_elem? views port ≡ some v → HoldsTheRest items (set views port v)
 takes port v xs items views h at = record {
   owner = h.owner;

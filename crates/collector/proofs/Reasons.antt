@@ -6,7 +6,7 @@ use Rattle.collector.specs.declared.outcome.Refusal.{Refusal}
 use Rattle.collector.specs.declared.outcome.Refusal.TheVariants.{Kept, Lost}
 use Rattle.collector.specs.Collections.{IfKept, fault_of}
 
--- where a collection ends by fault 16, some worker had begun
+-- if a collection ends with fault 16, some worker had begun
 pub lost_by_gate : (r : Refusal) (image : HeapImage) → IfKept r (λ back fault. (back ≡ image) × ((fault ≡ Memory) ⊎ (fault ≡ Workers))) → fault_of r ≡ Gate → r ≡ Lost Gate
 lost_by_gate (Kept back fault) image kept is = absurd (go kept.1)
   where

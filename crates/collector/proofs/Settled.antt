@@ -1,4 +1,4 @@
--- Where no region to fill is left unsettled, each one is settled.
+-- If no region to fill is left unsettled, each one is settled.
 use Rattle.std.proofs.Common.{◌≡◌, ℕ, zero, suc, ◌<◌, ◌≤◌, Bool, true, false, cond, List, [], ◌∷◌, length, get_or, refl, sym, ◌∙◌, subst, arith}
 use Rattle.std.specs.Prelude.{not, ◌&&◌, count_by, slice_index_or}
 use Rattle.std.specs.List.{range_with_len}
@@ -8,7 +8,7 @@ use Rattle.std.proofs.lemmas.List.Sums.{get_or-le-sum_by}
 use Rattle.history.specs.MoveTable.{MoveTable, region_count, to_fill}
 use Rattle.history.specs.State.{State, unsettled, AllAreSettled}
 
--- where nothing is counted, no element passes
+-- if the count is 0, no element passes
 none_passes : (p : ℕ → Bool) (xs : List ℕ) (k : ℕ) → count_by p xs ≡ 0 → k < length xs → p (get_or xs k 0) ≡ false
 none_passes p xs k none inside = go (p (get_or xs k 0)) (get_or-le-sum_by (λ y. cond (p y) 1 0) xs k 0 inside)
   where
@@ -16,7 +16,7 @@ none_passes p xs k none inside = go (p (get_or xs k 0)) (get_or-le-sum_by (λ y.
     go true few = absurd (omega (arith, none, few))
     go false few = refl
 
--- a flag that is set is one of the list
+-- a flag that is set is in the list
 flag_inside : (flags : List Bool) (r : ℕ) → slice_index_or flags r false ≡ true → r < length flags
 flag_inside [] r set = absurd (false≢true set)
 flag_inside (b ∷ bs) zero set = omega arith

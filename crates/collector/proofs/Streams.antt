@@ -11,11 +11,11 @@ use Rattle.heap_image.specs.declared.fault.Fault.{Fault}
 use Rattle.summary.specs.Compaction.{compact}
 use Rattle.collector.specs.Streams.{IsTextBegun, IsTextWritten}
 
--- reading answers no other fault than these
+-- reading returns no other fault than these
 pub no_such_reading : {P : Type 0} (fault other : Fault) → fault ≡ other → (IsOfReading other → ⊥) → IsOfReading fault → P
 no_such_reading fault other same none kind = absurd (none (subst IsOfReading same kind))
 
--- what was written whole is begun
+-- a whole text is a prefix of itself
 pub all_begun : (took took' : Option (List ℕ)) (bytes : List ℕ) → Appends took took' bytes → TakesBeginning took took' bytes
 all_begun took took' bytes whole = (length bytes, subst (λ (xs : List ℕ). Appends took took' xs) (sym (take-length bytes)) whole)
 
@@ -24,7 +24,7 @@ module _ (image moved : HeapImage) (left left' took took' : Option (List ℕ)) (
   pub appended : Appends took took' (text moved) → Appends took took' (text (compact image))
   appended whole = subst (λ (m : HeapImage). Appends took took' (text m)) same whole
 
-  -- a beginning of the text of the image that a collection gave
+  -- a prefix of the text of the image that a collection returned
   pub text_begun : TakesBeginning took took' (text moved) → IsTextBegun left left' took took'
   text_begun begun = record { image = image; read = read; written = subst (λ (m : HeapImage). TakesBeginning took took' (text m)) same begun }
 

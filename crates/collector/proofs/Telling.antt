@@ -1,4 +1,4 @@
--- What the first difference tells, between an image and the compaction of another.
+-- What the first difference between an image and the compaction of another says.
 use Rattle.std.proofs.Common.{◌≡◌, ℕ, ◌<◌, List, [], cond, length, get_or, refl, ap, sym, ◌∙◌, subst, arith}
 use Rattle.std.specs.Prelude.{Option, None, Some, map, option_map}
 use Rattle.std.specs.Option.{is_some}
@@ -14,7 +14,7 @@ use Rattle.collector.specs.Verdict.{HaveSameShape, root_count, root_at}
 pub same_image : (x y : HeapImage) → x.region_log ≡ y.region_log → x.allowance ≡ y.allowance → x.words ≡ y.words → x.live ≡ y.live → x.roots ≡ y.roots → x ≡ y
 same_image x y a b c d e = λ i. record { region_log = a i; allowance = b i; words = c i; live = d i; roots = e i }
 
--- of the same version and the same numbers
+-- images of the same version and the same numbers
 same_roots : (o p : Option (List ℕ)) → cond {A = ℕ} (is_some o) 2 1 ≡ cond {A = ℕ} (is_some p) 2 1 → roots_or [] o ≡ roots_or [] p → o ≡ p
 same_roots None None v e = refl
 same_roots None (Some ys) v e = let no : ⊥ = omega arith in absurd no

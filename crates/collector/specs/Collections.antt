@@ -1,4 +1,4 @@
--- What a collection gives, and what its refusal says.
+-- The result of a collection, and its refusals.
 use Rattle.std.specs.Prelude.{◌≡◌, ℕ, ◌<◌, ◌⊎◌}
 use Rattle.heap_image.specs.HeapImage.{HeapImage}
 use Rattle.heap_image.specs.declared.fault.Fault.{Fault}
@@ -16,12 +16,12 @@ figures_of image = record { prefix_end = prefix_end image; new_top = new_top ima
 abbrev pub AreNoneOrTooMany : ℕ → Type 0
 AreNoneOrTooMany workers = (workers ≡ 0) ⊎ (64 < workers)
 
--- the fact of the image that comes back and of the fault, where the image is kept
+-- if the image is kept, the fact holds of it and of the fault
 abbrev pub IfKept : Refusal → (HeapImage → Fault → Type 0) → Type 0
 IfKept (Kept image fault) fact = fact image fault
 IfKept (Lost fault) fact = Unit {0}
 
--- the fact of the fault, where the image is lost
+-- if the image is lost, the fact holds of the fault
 abbrev pub IfLost : Refusal → (Fault → Type 0) → Type 0
 IfLost (Kept image fault) fact = Unit {0}
 IfLost (Lost fault) fact = fact fault

@@ -1,4 +1,4 @@
--- How far the words of an image are those of the compaction of another, and what is known of that compaction.
+-- The words of an image compared with the compaction of another, and the laws of that compaction.
 use Rattle.std.specs.Prelude.{◌≡◌, ℕ, zero, suc, ◌+◌, ◌<◌, ◌≤◌, ◌≢◌, if◌then◌else◌, IsTrue, true, slice_range}
 use Rattle.heap_image.specs.HeapImage.{HeapImage, IsValid, HasSoundHeader, heap_words, word_at, size_at, references_at, reference_at, end_of, is_null_or_live, is_live_word, last_end}
 use Rattle.summary.specs.LiveObjects.{object_count, object_at}
@@ -6,18 +6,18 @@ use Rattle.summary.specs.NewAddresses.{prefix_end, new_address, new_end_of, new_
 use Rattle.summary.specs.WordMoves.{slid}
 use Rattle.summary.specs.Compaction.{is_reference_of, redirected, object_image, compact}
 
--- from one address up to another, the words of `after` are those of the compaction of `before`
+-- at addresses `from` up to `to`, the words of `after` are those of the compaction of `before`
 pub record AreCompacted (before after : HeapImage) (from to : ℕ) : Type 0 where
   pub alike : (p : ℕ) → from ≤ p → p < to → word_at after p ≡ word_at (compact before) p
 
--- a is the least address there at which they are not
+-- a is the lowest of these addresses at which they differ
 pub record IsFirstOther (before after : HeapImage) (from to a : ℕ) : Type 0 where
   pub behind : from ≤ a
   pub inside : a < to
   pub differs : word_at after a ≢ word_at (compact before) a
   pub least : (p : ℕ) → from ≤ p → p < a → word_at after p ≡ word_at (compact before) p
 
--- a live object begins at a, and the compaction has it at `place`
+-- a live object begins at a, and its new address is `place`
 pub record IsPlaced (image : HeapImage) (a place : ℕ) : Type 0 where
   pub valid : IsValid image
   pub sound : HasSoundHeader image a
@@ -26,12 +26,12 @@ pub record IsPlaced (image : HeapImage) (a place : ℕ) : Type 0 where
   pub words : (j : ℕ) → j < size_at image a
       → word_at (compact image) (place + j) ≡ (if is_reference_of image a (a + j) then redirected image (word_at image (a + j)) else word_at image (a + j))
 
--- where the last of the first so many ends, or 0 where there is none
+-- the end of the last of the first i objects, or 0 if i is 0
 unfoldable pub behind : (ℕ → ℕ) → ℕ → ℕ
 behind end zero = 0
 behind end (suc i) = end i
 
--- the laws of where the live objects go, for one image
+-- the laws of the new addresses of live objects, for one image
 pub record AreKnown (image : HeapImage) : Type 0 where
   pub valid : IsValid image
   pub below_end : prefix_end image ≤ last_end image

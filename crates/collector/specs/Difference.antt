@@ -1,11 +1,11 @@
--- Two tables of numbers side by side.
+-- Two tables of numbers compared.
 use Rattle.std.specs.Prelude.{◌≡◌, ℕ, ◌<◌, ◌≢◌}
 
--- they agree at each of the first so many indices
+-- they agree at each of the first `count` indices
 abbrev pub AreAlike : (ℕ → ℕ) → (ℕ → ℕ) → ℕ → Type 0
 AreAlike wanted found count = (k : ℕ) → k < count → found k ≡ wanted k
 
--- i is the least of these indices at which they differ
+-- i is the lowest of these indices at which they differ
 pub record IsLeastDifference (wanted found : ℕ → ℕ) (count i : ℕ) : Type 0 where
   pub inside : i < count
   pub differs : found i ≢ wanted i

@@ -8,26 +8,26 @@ use Rattle.fill.specs.FillFaults.{IsFaultOf}
 use Rattle.collector.specs.declared.worker.Halt.{Halt}
 use Rattle.collector.specs.declared.worker.Halt.TheVariants.{Stopped, Failed}
 
--- one of the first so many regions may be refused
+-- one of the first `regions` regions may be refused
 abbrev pub MayBeRefused : (ℕ → Type 0) → ℕ → Type 0
 MayBeRefused may_refuse regions = (r : ℕ) × (r < regions) × may_refuse r
 
--- one of these workers may be refused one of the regions to fill of the image
+-- one of the workers may be refused one of the image's regions to fill
 abbrev pub MayRefuse : (ℕ → ℕ → Type 0) → ℕ → HeapImage → Type 0
 MayRefuse may_refuse workers image = MayBeRefused (λ r. MayBeRefused (λ n. may_refuse n r) workers) (fill_count image)
 
--- A worker is stopped by another's fault, or meets one itself: that of a fill, or the gate's, which may refuse it one of
--- the first so many regions.
+-- A worker is stopped by another's fault, or meets one itself: that of a fill, or the gate's, which may refuse it one
+-- of the first `regions` regions.
 abbrev pub MayHalt : (Fault → Type 0) → (ℕ → Type 0) → ℕ → Halt → Type 0
 MayHalt may_fail may_refuse regions Stopped = Unit {0}
 MayHalt may_fail may_refuse regions (Failed fault) = IsFaultOf may_fail fault ⊎ ((fault ≡ Gate) × MayBeRefused may_refuse regions)
 
--- the fault that a worker which ended so has met itself
+-- the fault that a worker with this end has met itself
 unfoldable pub met_fault : Result Unit Halt → Option Fault
 met_fault (Ok _) = None
 met_fault (Err Stopped) = None
 met_fault (Err (Failed fault)) = Some fault
 
--- a collection of the image by so many workers meets the fault: that of a fill, or the gate's, which may refuse
+-- a collection of the image by `workers` workers may meet the fault: that of a fill, or the gate's, which may refuse
 abbrev pub IsLostTo : (Fault → Type 0) → (ℕ → ℕ → Type 0) → ℕ → HeapImage → Fault → Type 0
 IsLostTo may_fail may_refuse workers image fault = IsFaultOf may_fail fault ⊎ ((fault ≡ Gate) × MayRefuse may_refuse workers image)

@@ -14,7 +14,7 @@ use Rattle.history.specs.Record.{IsRecord}
 use Rattle.collector.specs.Collections.{figures_of}
 use Rattle.collector.specs.declared.outcome.Figures.{Figures}
 
--- a fault of an image's bytes, one of 1 to 10, or 17
+-- a fault of an image's bytes: one of 1 to 10, or 17
 abbrev pub IsOfBytes : Fault → Type 0
 IsOfBytes TruncatedHeader = Unit {0}
 IsOfBytes Magic = Unit {0}
@@ -29,25 +29,25 @@ IsOfBytes (Reference a f) = Unit {0}
 IsOfBytes Trailing = Unit {0}
 IsOfBytes _ = ⊥
 
--- all of the input was read, which is the text of some image, and a beginning of the text of its compaction was written
+-- all of the input was read, the text of some image, and a prefix of the text of its compaction was written
 pub record IsTextBegun (left left' took took' : Option (List ℕ)) : Type 0 where
   pub image : HeapImage
   pub read : IsRead image left left'
   pub written : TakesBeginning took took' (text (compact image))
 
--- all of the input was read, which is the text of some image, and the text of its compaction was written
+-- all of the input was read, the text of some image, and the text of its compaction was written
 pub record IsTextWritten (left left' took took' : Option (List ℕ)) : Type 0 where
   pub image : HeapImage
   pub read : IsRead image left left'
   pub written : Appends took took' (text (compact image))
 
--- All of the input was read, which is the text of some image. The text of its compaction was written, and that of a
--- schedule by which the word machine makes it. These are the figures.
-pub record AreRecorded (workers : ℕ) (left left' took took' told told' : Option (List ℕ)) (figures : Figures) : Type 0 where
+-- All of the input was read, the text of some image. The text of its compaction was written to one device, and to the
+-- other the text of a schedule by which the word machine makes the compaction. These are the figures.
+pub record AreRecorded (workers : ℕ) (left left' took took' lines lines' : Option (List ℕ)) (figures : Figures) : Type 0 where
   pub image : HeapImage
   pub read : IsRead image left left'
   pub collected : Appends took took' (text (compact image))
   pub schedule : ScheduleView
   pub recorded : IsRecord image workers schedule
-  pub lines : Appends told told' (schedule_text schedule)
+  pub listed : Appends lines lines' (schedule_text schedule)
   pub counted : figures ≡ figures_of image

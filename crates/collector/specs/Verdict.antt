@@ -6,14 +6,14 @@ use Rattle.collector.specs.Difference.{IsLeastDifference}
 use Rattle.collector.specs.declared.verdict.Verdict.{Verdict}
 use Rattle.collector.specs.declared.verdict.Verdict.TheVariants.{Same, Shape, Word, Live, Root}
 
--- how many roots an image has, and the i-th of them, from 0
+-- the number of an image's roots, and the i-th root, from 0
 abbrev pub root_count : HeapImage → ℕ
 root_count image = length (roots_of image)
 
 abbrev pub root_at : HeapImage → ℕ → ℕ
 root_at image i = slice_index (roots_of image) i
 
--- two images are alike in all but their words, their live addresses and their roots
+-- two images are alike in all but their words, live addresses and roots
 pub record HaveSameShape (wanted found : HeapImage) : Type 0 where
   pub region_log : found.region_log ≡ wanted.region_log
   pub words : heap_words found ≡ heap_words wanted
@@ -22,7 +22,7 @@ pub record HaveSameShape (wanted found : HeapImage) : Type 0 where
   pub version : version_of found ≡ version_of wanted
   pub roots : root_count found ≡ root_count wanted
 
--- The first difference decides: that of the shapes, or else the least of the words, of the live list, or of the roots.
+-- The first difference decides: in the shape, else the lowest in the words, else in the live list, else in the roots.
 abbrev pub IsVerdict : HeapImage → HeapImage → Verdict → Type 0
 IsVerdict wanted found Same = found ≡ wanted
 IsVerdict wanted found Shape = ¬ (HaveSameShape wanted found)

@@ -1,27 +1,26 @@
-//! The end of a collection, once all regions have moved.
 ghost use Rattle.std.specs.Prelude.{◌≡◌, ◌<◌, IfOk, IfErr, IsTrue, All, Contains, map, option_map};
 ghost use Rattle.heap_image.specs.HeapImage.{IsValid, AreBlocks, rooted_image_of, is_null_or_live};
 ghost use Rattle.summary.specs.NewAddresses.{new_address};
 ghost use Rattle.summary.specs.Compaction.{redirected, compact};
 ghost use Rattle.fill.specs.FillFaults.{IsOverwritten};
 
-use crate::valid::planned_image_is_valid;
 use fill::{clear_above, update_deferred_by_workers};
 use heap_image::{Fault, Image, ImageParts, roots_are_null_or_live};
 use region_cells::Cells;
 use std::thread::Threads;
 use summary::laws::compaction::compaction_is_valid;
+use summary::laws::plans::planned_image_is_valid;
 use summary::{Plan, Survey};
 use thread_row::for_each_mut;
 
-/// How many words are worth a thread of their own.
+/// The least number of words that is worth a thread.
 const LEAST: usize = 16_384;
 
-/// The compaction of the image of which the cells are. So many threads at most update the deferred objects, and redirect
-/// live list and roots.
+/// Ends a collection once all regions have moved, and returns the compaction. At most `workers` threads update the
+/// deferred objects and redirect the live list and the roots.
 ///
-/// Fault 15 comes where a region to fill has not moved, or another is not as it was. Beside the threads nothing takes
-/// memory.
+/// Returns fault 15 if a region to fill has not moved, or another one has changed. Allocates nothing apart from the
+/// threads.
 pub(crate) fn clean_up(
     cells: Cells,
     survey: &Survey,
@@ -46,7 +45,7 @@ pub(crate) fn clean_up(
     Ok(parts.into_image())
 }
 
-/// The roots of an image of version 2, redirected.
+/// The redirected roots, if the image has roots.
 fn redirected_roots(
     roots: Option<Vec<u64>>,
     plan: &Plan,
@@ -67,7 +66,7 @@ fn redirected_roots(
     }
 }
 
-/// Redirects each of these references, by so many threads at most.
+/// Redirects each of these references, with at most `workers` threads.
 fn redirect_all(words: &mut [u64], plan: &Plan, workers: usize, threads: &(impl Threads + Sync))
     requires words { All (λ w. IsTrue (is_null_or_live plan.now w)) words.old }
     ensures { words.new ≡ map (redirected plan.now) words.old }
@@ -82,7 +81,7 @@ fn redirect_all(words: &mut [u64], plan: &Plan, workers: usize, threads: &(impl 
     for_each_mut(threads, words, count, &redirect);
 }
 
-/// Puts the new address of each live object in the place of the old one, by so many threads at most.
+/// Replaces the old address of each live object by the new one, with at most `workers` threads.
 fn redirect_live(live: &mut [u64], survey: &Survey, workers: usize, threads: &(impl Threads + Sync))
     requires { live.old ≡ survey.now.live }
     ensures { live.new ≡ map (new_address survey.now) live.old }
@@ -98,7 +97,7 @@ fn redirect_live(live: &mut [u64], survey: &Survey, workers: usize, threads: &(i
     for_each_mut(threads, live, count, &redirect);
 }
 
-/// How many threads so many words are worth, of these workers.
+/// How many of the workers' threads `words` words are worth, at least 1.
 fn worth_threads(words: usize, workers: usize) -> usize
     ensures { 0 < result }
 {

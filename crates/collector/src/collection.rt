@@ -1,4 +1,3 @@
-//! `collect`: a collection by many workers.
 ghost use Rattle.std.specs.Prelude.{◌≡◌, ◌↔◌, ◌⊎◌, All, IfOk, IfErr, Err};
 ghost use Rattle.summary.specs.Compaction.{compact};
 ghost use Rattle.history.specs.ImageMoves.{image_table};
@@ -15,21 +14,21 @@ ghost use Rattle.collector.specs.declared.outcome.Refusal.TheVariants.{Kept, Los
 use crate::gate::Gate;
 use crate::outcome::{Outcome, Refusal};
 use crate::prepared::Prepared;
-use crate::valid::moves_are_lawful;
 use claim_board::{Board, Finished, Pass};
 use heap_image::{Fault, Image};
-use history::settled_histories_have_each_once;
+use history::{moves_are_lawful, settled_histories_have_each_once};
 use std::alloc::Global;
 use std::sync::Wait;
 use std::thread::Threads;
 
-/// Compacts an image. Its regions are filled by 1 to 64 workers, each in a thread of its own where one can be started.
+/// Compacts an image. Its regions are filled by 1 to 64 workers, each in a thread of its own if one can be started.
 ///
-/// `Kept` comes before any worker begins: fault 12 exactly where the number of workers, which is tested first, isn't 1
-/// to 64, and fault 11 where memory is refused. `Lost` comes after: fault 16 where the gate refused a region, and fault
-/// 15 where a cell or a queue contradicts the order of work. It is the fault of the lowest worker that met one.
+/// Returns `Kept` before any worker begins: with fault 12 exactly if the number of workers, which is tested first,
+/// isn't 1 to 64, and with fault 11 if memory runs out. Returns `Lost` afterwards: with fault 16 if the gate refused a
+/// region, and with fault 15 if a cell or a queue contradicts the order of work. If several workers meet a fault, the
+/// lowest worker's is returned.
 ///
-/// Beside the threads nothing takes memory once the workers begin. With one worker nothing waits.
+/// Nothing but the threads allocates once the workers begin. One worker alone never waits.
 pub fn collect<G: Gate + Sync, T: Threads + Sync, W: Wait + Sync>(
     alloc: Global,
     image: Image,
@@ -58,7 +57,7 @@ pub fn collect<G: Gate + Sync, T: Threads + Sync, W: Wait + Sync>(
     }
 }
 
-/// Lets all workers work, and ends the board.
+/// Runs all workers, and finishes the board.
 fn collected<G: Gate + Sync, T: Threads + Sync, W: Wait + Sync>(
     prepared: Prepared<Board>,
     gate: &G,
@@ -80,9 +79,8 @@ fn collected<G: Gate + Sync, T: Threads + Sync, W: Wait + Sync>(
     Ok((worked.outcome, finished))
 }
 
-/// Ends the board.
-///
-/// No contract sees the flag by which workers stop early, so none says that the board is finished here.
+/// Finishes the board. Contracts don't show the flag that stops workers early, so none says that the board is finished
+/// here.
 fn finish(board: Board, passes: Vec<Pass>) -> Result<Finished, Fault>
     requires { All (λ pass. board_of pass ≡ identity board) passes.items }
     ensures legal { IfOk result (λ finished. IsLegal (moves_of board) (worker_count board) (history finished)) }

@@ -1,4 +1,3 @@
-//! `CollectionDesk`: a desk over which an image is collected.
 ghost use Rattle.std.specs.Prelude.{◌≡◌, ◌<◌, ◌≤◌, ℕ, All, vec_len, IfOk};
 ghost use Rattle.history.specs.ImageMoves.{image_table};
 
@@ -8,10 +7,10 @@ use summary::Plan;
 
 /// A desk that can be opened for the moves of an image.
 pub(crate) trait CollectionDesk: Desk {
-    /// How many workers it has a seat for.
+    /// The number of workers that have a seat.
     ghost worker_count: { Self → ℕ };
 
-    /// A desk of the plan's moves, with a seat for each of 1 to 64 workers. The error is that memory is refused.
+    /// Makes a desk for the plan's moves, with a seat for each of 1 to 64 workers. Fails if memory runs out.
     fn open(alloc: Global, plan: &Plan, workers: u32) -> Result<(Self, Vec<Self::Seat>), AllocError>
         requires some { 0 < workers }
         requires few { workers ≤ 64 }

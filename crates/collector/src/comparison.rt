@@ -1,4 +1,3 @@
-//! `Comparison`: an image beside the compaction of another.
 ghost use Rattle.std.specs.Prelude.{◌≡◌, ◌+◌, ◌<◌, ◌≤◌, ◌↔◌, IsTrue, MatchOption, Contains};
 ghost use Rattle.heap_image.specs.HeapImage.{heap_words, word_at, size_at, references_at, is_null_or_live};
 ghost use Rattle.summary.specs.LiveObjects.{object_count, object_at};
@@ -10,9 +9,8 @@ ghost use Rattle.collector.specs.Compared.{AreCompacted, IsFirstOther, IsPlaced,
 ghost use Rattle.collector.specs.Verdict.{IsVerdict, HaveSameShape, root_count, root_at};
 
 use crate::difference::{first_nonzero, first_unlike};
-use crate::valid::image_is_valid;
 use crate::verdict::Verdict;
-use heap_image::{Image, header};
+use heap_image::{Image, header, image_is_valid};
 use summary::Survey;
 use summary::laws::compaction::{blocks_of_regions, compaction_by_objects};
 use summary::laws::dense_prefix::{fillers_by_runs, prefix_end_is_greatest};
@@ -22,7 +20,7 @@ use summary::laws::new_addresses::{
 };
 use summary::laws::region_data::regions_to_fill;
 
-/// An image, beside the one whose compaction it should be.
+/// An image, and the one whose compaction it should be.
 #[derive(Drop)]
 pub(crate) struct Comparison<'a> {
     before: &'a Image,
@@ -33,7 +31,7 @@ pub(crate) struct Comparison<'a> {
 }
 
 impl Comparison<'_> {
-    /// The first difference between `after` and the compaction of `before`, which was surveyed.
+    /// The first difference between `after` and the compaction of `before`. `survey` is the survey of `before`.
     pub(crate) fn verdict(before: &Image, after: &Image, survey: &Survey) -> Verdict
         requires survey { survey.now ≡ before.now }
         ensures { IsVerdict (compact before.now) after.now result }
@@ -59,7 +57,7 @@ impl Comparison<'_> {
         }
     }
 
-    /// The least address whose word is not the compaction's.
+    /// The lowest address whose word differs from the compaction's.
     fn other_word(&self) -> Option<u64>
         ensures { MatchOption result
             (AreCompacted self.now.before.now self.now.after.now 0 (heap_words self.now.before.now))
@@ -80,7 +78,7 @@ impl Comparison<'_> {
         self.other_above(next)
     }
 
-    /// In the dead words before an object, which become a filler.
+    /// The same in the dead words before an object, which become a filler.
     fn other_in_gap(&self, from: u64, to: u64) -> Option<u64>
         requires ordered { from ≤ to }
         requires inside { to ≤ heap_words self.now.before.now }
@@ -100,7 +98,7 @@ impl Comparison<'_> {
         Some(from + 1 + j)
     }
 
-    /// In the words of the object that was at `a`.
+    /// The same in the words of the object that was at `a`.
     fn other_in_object(&self, a: u64, place: u64) -> Option<u64>
         requires { IsPlaced self.now.before.now a place }
         ensures { MatchOption result
@@ -116,7 +114,7 @@ impl Comparison<'_> {
         self.other_data(a, place)
     }
 
-    /// In the references of the object that was at `a`.
+    /// The same in the references of the object that was at `a`.
     fn other_reference(&self, a: u64, place: u64) -> Option<u64>
         requires { IsPlaced self.now.before.now a place }
         ensures { MatchOption result
@@ -134,7 +132,7 @@ impl Comparison<'_> {
         None
     }
 
-    /// In the words behind the references of the object that was at `a`.
+    /// The same in the words after the references of the object that was at `a`.
     fn other_data(&self, a: u64, place: u64) -> Option<u64>
         requires { IsPlaced self.now.before.now a place }
         ensures { MatchOption result
@@ -149,7 +147,7 @@ impl Comparison<'_> {
         Some(place + done + j)
     }
 
-    /// From the new top up, where all words are 0.
+    /// The same from the new top up, where all words are 0.
     fn other_above(&self, top: u64) -> Option<u64>
         requires above { new_top self.now.before.now ≤ top }
         requires inside { top ≤ heap_words self.now.before.now }
@@ -162,7 +160,7 @@ impl Comparison<'_> {
         Some(top + j)
     }
 
-    /// The least index at which the live list is not the compaction's.
+    /// The lowest index at which the live list differs from the compaction's.
     fn other_live(&self) -> Option<u64>
         requires { object_count self.now.after.now ≡ object_count self.now.before.now }
         ensures { MatchOption result
@@ -180,7 +178,7 @@ impl Comparison<'_> {
         None
     }
 
-    /// The least index at which the roots are not the compaction's.
+    /// The lowest index at which the roots differ from the compaction's.
     fn other_root(&self) -> Option<u64>
         requires { root_count self.now.after.now ≡ root_count self.now.before.now }
         ensures { MatchOption result
@@ -199,7 +197,7 @@ impl Comparison<'_> {
     }
 }
 
-/// Where the live objects of an image go. It does nothing: its contract is what is known of that.
+/// A law: where the live objects of an image go.
 fn objects_are_placed(image: &Image)
     ensures { AreKnown image.now }
 {
@@ -213,7 +211,7 @@ fn objects_are_placed(image: &Image)
     compaction_by_objects();
 }
 
-/// Whether two images are alike in all but their words and their live addresses.
+/// Whether two images are alike in all but their words, live addresses and roots.
 fn have_same_shape(before: &Image, after: &Image) -> bool
     ensures { IsTrue result ↔ HaveSameShape before.now after.now }
 {
@@ -225,7 +223,7 @@ fn have_same_shape(before: &Image, after: &Image) -> bool
         && after.roots().len() == before.roots().len()
 }
 
-/// The size in words of the object at `a`.
+/// The size of the object at `a`, in words.
 fn object_words(image: &Image, a: u64) -> u64
     requires { a < heap_words image.now }
     ensures { result ≡ size_at image.now a }

@@ -1,4 +1,4 @@
-//! `Crew`: what the workers of one collection share, and what each of them does.
+//! What each worker of a collection does.
 ghost use Rattle.std.specs.Prelude.{◌≡◌, ◌<◌, ◌≤◌, ◌^◌, length, All, IfOk, IfErr, IfSome};
 ghost use Rattle.summary.specs.RegionData.{fill_count};
 ghost use Rattle.history.specs.ImageMoves.{image_table};
@@ -9,7 +9,6 @@ ghost use Rattle.collector.specs.declared.worker.Halt.TheVariants.{Stopped};
 
 use crate::gate::Gate;
 use crate::ready::Thief;
-use crate::valid::planned_image_is_valid;
 use crate::worker::{Halt, Worker};
 use claim_board::{Desk, Done, Ticket};
 use crossbeam_utils::Backoff;
@@ -21,6 +20,7 @@ use std::sync::Wait;
 use std::sync::atomic::{AtomicBool, Ordering};
 use std::thread::Threads;
 use summary::Survey;
+use summary::laws::plans::planned_image_is_valid;
 use summary::laws::region_data::regions_to_fill;
 use thread_row::for_each_mut;
 
@@ -32,16 +32,16 @@ pub(crate) struct Crew<'a, D: Desk, G: Gate, W: Wait> {
     pub(crate) survey: &'a Survey,
     pub(crate) gate: &'a G,
     pub(crate) wait: &'a W,
-    /// Takes numbers of each worker's queue, by the workers' numbers.
+    /// A handle to each worker's queue, by worker number.
     pub(crate) thieves: &'a [Thief],
-    /// Whether some worker has met a fault.
+    /// Set once some worker has met a fault.
     pub(crate) stop: &'a AtomicBool,
     pub(crate) ghost moves: { D.moves desk.now ≡ image_table survey.now },
     pub(crate) ghost same_cells: { cells.now ≡ survey.now },
 }
 
 impl<'a, D: Desk, G: Gate, W: Wait> Crew<'a, D, G, W> {
-    /// Fills regions until all are settled, or until some worker has met a fault. A fault of its own stops the others.
+    /// Fills regions until all are settled or some worker meets a fault. A fault of this worker stops the others.
     pub(crate) fn work(&self, number: u32, worker: &mut Worker<D::Seat>)
         requires number { number < length self.now.thieves.now }
         requires seat { D.serves self.now.desk.now worker.old.seat }
@@ -70,7 +70,7 @@ impl<'a, D: Desk, G: Gate, W: Wait> Crew<'a, D, G, W> {
         unreachable!()
     }
 
-    /// Fills a region, or where none is ready waits a little. Whether all regions to fill are settled.
+    /// Fills a region, or backs off if none is ready. Returns whether all regions to fill are settled.
     fn turn(
         &self,
         number: u32,
@@ -94,7 +94,7 @@ impl<'a, D: Desk, G: Gate, W: Wait> Crew<'a, D, G, W> {
         Ok(all_settled)
     }
 
-    /// A region to fill that is ready, of this worker's queue or stolen from another.
+    /// A region that is ready to be filled, from this worker's queue or stolen from another.
     fn next_region(&self, number: u32, worker: &mut Worker<D::Seat>) -> Option<u32>
         requires { number < length self.now.thieves.now }
         ensures seat { worker.new.seat ≡ worker.old.seat }
@@ -108,7 +108,7 @@ impl<'a, D: Desk, G: Gate, W: Wait> Crew<'a, D, G, W> {
         }
     }
 
-    /// Claims a region, and fills it if it is granted. Whether all regions to fill are settled.
+    /// Claims a region, and fills and settles it if it is granted. Returns whether all regions to fill are settled.
     fn visit(&self, number: u32, worker: &mut Worker<D::Seat>, region: u32) -> Result<bool, Halt>
         requires seat { D.serves self.now.desk.now worker.old.seat }
         requires region { region < fill_count self.now.survey.now }
@@ -124,7 +124,7 @@ impl<'a, D: Desk, G: Gate, W: Wait> Crew<'a, D, G, W> {
         }
     }
 
-    /// Fills the region of a ticket if the gate lets it, and settles it. Whether all regions to fill are settled.
+    /// Fills and settles the region of a ticket if the gate admits it. Returns whether all regions to fill are settled.
     fn settle(
         &self,
         number: u32,
@@ -148,7 +148,7 @@ impl<'a, D: Desk, G: Gate, W: Wait> Crew<'a, D, G, W> {
         Ok(self.desk.settle(&mut worker.seat, done, self.wait)?)
     }
 
-    /// Asks the gate, which may have held the worker until another one met a fault.
+    /// Fails if the gate refuses, or if another worker has met a fault while the gate held this one.
     fn admit(&self, number: u32, region: u32) -> Result<(), Halt>
         requires { region < fill_count self.now.survey.now }
         ensures { IfErr result (MayHalt D.may_fail (G.may_refuse self.now.gate.now number) (fill_count self.now.survey.now)) }
@@ -159,7 +159,7 @@ impl<'a, D: Desk, G: Gate, W: Wait> Crew<'a, D, G, W> {
         self.go_on()
     }
 
-    /// Whether no worker has met a fault so far.
+    /// Fails once some worker has met a fault.
     fn go_on(&self) -> Result<(), Halt>
         ensures { IfErr result (λ halt. halt ≡ Stopped) }
     {
@@ -170,7 +170,7 @@ impl<'a, D: Desk, G: Gate, W: Wait> Crew<'a, D, G, W> {
         }
     }
 
-    /// Fills the region of a ticket, and queues those to fill that nobody has to read any more.
+    /// Fills the region of a ticket, and queues the regions to fill that have no pending readers any more.
     fn fill(&self, worker: &mut Worker<D::Seat>, ticket: Ticket) -> Result<Done, Fault>
         requires seat { D.serves self.now.desk.now worker.old.seat }
         requires unused { IsUnused ticket }
@@ -197,7 +197,7 @@ impl<'a, D: Desk, G: Gate, W: Wait> Crew<'a, D, G, W> {
         }
     }
 
-    /// Fills the region of a ticket. `on_last` hears of each region that nobody has to read any more.
+    /// Fills the region of a ticket. Calls `on_last` with each region that has no pending readers any more.
     fn fill_region<F: FnMut(u32)>(
         &self,
         seat: &mut D::Seat,
@@ -225,7 +225,7 @@ impl<'a, D: Desk, G: Gate, W: Wait> Crew<'a, D, G, W> {
     }
 }
 
-/// All workers work, each in a thread of its own where one can be started, and else after another.
+/// Runs all workers, each in a thread of its own if one can be started, and otherwise one after another.
 pub(crate) fn work_all<D: Desk + Sync, G: Gate + Sync, T: Threads + Sync, W: Wait + Sync>(
     crew: &Crew<'_, D, G, W>,
     workers: &mut [Worker<D::Seat>],
@@ -243,7 +243,7 @@ where
         (fill_count crew.now.survey.now))) workers.new }
 {
     let count = workers.len();
-    // The closure holds each part by itself, since of a crew as a whole it isn't proved that threads may share it.
+    // The closure captures each part by itself: it isn't proved that threads may share a whole crew.
     let (desk, cells, survey) = (crew.desk, crew.cells, crew.survey);
     let (gate, wait, thieves, stop) = (crew.gate, crew.wait, crew.thieves, crew.stop);
     let work = |number: usize, worker: &mut Worker<D::Seat>|

@@ -3,8 +3,7 @@ ghost use Rattle.std.specs.Prelude.{◌≡◌, ◌+◌, ◌≤◌, MatchOption};
 ghost use Rattle.heap_image.specs.HeapImage.{heap_words, word_at};
 ghost use Rattle.collector.specs.Difference.{AreAlike, IsLeastDifference};
 
-use crate::valid::image_is_valid;
-use heap_image::Image;
+use heap_image::{Image, image_is_valid};
 
 /// The index of the first of the `n` words from address `at` on that is not 0.
 pub(crate) fn first_nonzero(image: &Image, at: u64, n: u64) -> Option<u64>
@@ -21,8 +20,8 @@ pub(crate) fn first_nonzero(image: &Image, at: u64, n: u64) -> Option<u64>
     None
 }
 
-/// The index of the first of the `n` words of an image, from address `at` on, that is not the word of another image,
-/// from address `from` on.
+/// The index of the first of the `n` words of `image`, from address `at` on, that differs from the word of `wanted` at
+/// the same index from address `from` on.
 pub(crate) fn first_unlike(image: &Image, at: u64, wanted: &Image, from: u64, n: u64) -> Option<u64>
     requires inside { at + n ≤ heap_words image.now }
     requires wanted_inside { from + n ≤ heap_words wanted.now }

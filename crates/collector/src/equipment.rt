@@ -1,4 +1,3 @@
-//! `Equipment`: what the workers of a collection work with, beside the cells.
 ghost use Rattle.std.specs.Prelude.{◌≡◌, ◌<◌, ◌≤◌, All, vec_len, IfOk, IfErr};
 ghost use Rattle.heap_image.specs.declared.fault.Fault.TheVariants.{Memory};
 ghost use Rattle.history.specs.ImageMoves.{image_table};
@@ -11,7 +10,8 @@ use std::alloc::Global;
 use std::thread::Threads;
 use summary::Survey;
 
-/// The survey of an image, a desk of its moves, and 1 to 64 workers, each with a seat of the desk and a queue.
+/// What a collection needs apart from the cells: the survey of the image, a desk for its moves, and 1 to 64 workers,
+/// each with a seat at the desk and a queue.
 #[derive(Drop)]
 pub(crate) struct Equipment<D: CollectionDesk + Drop>
 where
@@ -30,9 +30,10 @@ impl<D: CollectionDesk + Drop> Equipment<D>
 where
     D::Seat: Drop,
 {
-    /// For this image, with 1 to 64 workers, by as many threads. The only fault is want of memory.
+    /// Makes the equipment for an image and `workers` workers, with as many threads. Its only fault is that memory runs
+    /// out.
     ///
-    /// What was seen of the image when it was read is freed once the marks are made, so that what comes next has its room.
+    /// What the reader kept of the image is freed once the marks are made, which leaves its memory to the rest.
     pub(crate) fn of(
         alloc: Global,
         image: &mut Image,

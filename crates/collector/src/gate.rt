@@ -1,22 +1,21 @@
-//! `Gate`: who may fill, and when.
 ghost use Rattle.std.specs.Prelude.{◌≡◌, ℕ, false};
 
-/// Lets workers fill, and hears of it. Workers call it from their own threads, at the same time.
+/// Admits each fill, and is notified of its completion. Workers call it concurrently, from their own threads.
 ///
-/// A gate states for which workers and regions it may refuse; to all others it answers yes.
+/// A gate states for which workers and regions it may refuse; it admits all others.
 pub trait Gate {
-    /// The workers and regions at which the gate may answer no.
+    /// The workers and regions that the gate may refuse.
     ghost may_refuse: { Self → ℕ → ℕ → Type 0 };
 
-    /// Whether `worker` may fill `region`, which it has claimed. No stops the whole collection.
+    /// Whether `worker` may fill `region`, which it has claimed. A refusal stops the whole collection.
     fn before_fill(&self, worker: u32, region: u32) -> bool
         ensures { result ≡ false → may_refuse self.now worker region };
 
-    /// `worker` has filled `region` and has said so, and is about to settle it.
+    /// Notifies the gate that `worker` has filled and completed `region`, and is about to settle it.
     fn after_complete(&self, worker: u32, region: u32);
 }
 
-/// The gate that refuses nobody.
+/// A gate that refuses nothing.
 #[derive(Debug, Clone, Copy)]
 pub struct OpenGate;
 

@@ -1,6 +1,4 @@
-//! Laws of whole collections.
-//!
-//! The functions do nothing: each one's contract is a law.
+//! Laws of whole collections. The functions do nothing: their contracts are the laws.
 ghost use Rattle.std.specs.Prelude.{◌≡◌};
 ghost use Rattle.heap_image.specs.HeapImage.{HeapImage};
 ghost use Rattle.heap_image.specs.Upgrade.{upgraded};

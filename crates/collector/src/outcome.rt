@@ -1,33 +1,30 @@
-//! What a collection gives, and how one is refused.
 ghost use Rattle.std.specs.Prelude.{◌≡◌};
 
 use heap_image::{Fault, Image};
 use summary::Plan;
 
-/// The image after a collection, and its figures.
+/// The result of a collection.
 #[derive(Drop)]
 pub struct Outcome {
     /// The compaction of the image that was collected.
     pub image: Image,
-    /// What the collection found.
     pub figures: Figures,
 }
 
-/// What a collection found.
+/// The figures of a collection.
 #[derive(Debug, Clone, Copy, PartialEq, Eq)]
 pub struct Figures {
     /// The address at which the dense prefix ends.
     pub prefix_end: u64,
     /// The first free address after the collection.
     pub new_top: u64,
-    /// How many regions were filled.
+    /// The number of regions that were filled.
     pub filled: u32,
 }
 
 impl Figures {
     ghost use Rattle.collector.specs.Collections.{figures_of};
 
-    /// What the plan says.
     pub(crate) fn of(plan: &Plan) -> Figures
         ensures { result ≡ figures_of plan.now }
     {
@@ -39,19 +36,18 @@ impl Figures {
     }
 }
 
-/// Why a collection gives no image.
+/// Why a collection failed.
 #[derive(Drop)]
 pub enum Refusal {
-    /// No worker has begun. The image is handed back unchanged.
+    /// No worker has begun; this is the unchanged image.
     Kept(Image, Fault),
-    /// Some worker has begun. The image is gone.
+    /// Some worker has begun; the image is lost.
     Lost(Fault),
 }
 
 impl Refusal {
     ghost use Rattle.collector.specs.Collections.{fault_of};
 
-    /// The fault.
     pub fn fault(&self) -> Fault
         ensures { result ≡ fault_of self.now }
     {

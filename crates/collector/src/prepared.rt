@@ -1,4 +1,3 @@
-//! `Prepared`: a collection over any desk, before any worker begins.
 ghost use Rattle.std.specs.Prelude.{◌≡◌, ◌<◌, ◌≤◌, ◌↔◌, ◌⊎◌, ℕ, [], All, vec_len, IfOk, IfErr, IfSome, slice_index_or, length, None, Err};
 ghost use Rattle.std.specs.Vec.{vec_capacity};
 ghost use Rattle.summary.specs.Compaction.{compact};
@@ -23,7 +22,7 @@ use std::sync::atomic::AtomicBool;
 use std::thread::Threads;
 use summary::Survey;
 
-/// What a collection needs, made before any worker begins: its equipment, and the regions of the image in cells.
+/// A collection over any desk before its workers begin: the equipment, and the image's regions in cells.
 #[derive(Drop)]
 pub(crate) struct Prepared<D: CollectionDesk + Drop>
 where
@@ -34,7 +33,7 @@ where
     ghost same_cells: { cells ≡ equipment.survey },
 }
 
-/// What a collection leaves whose regions have all moved.
+/// The results of a collection whose regions have all moved.
 #[derive(Drop)]
 pub(crate) struct Worked<D: CollectionDesk + Drop>
 where
@@ -43,7 +42,7 @@ where
     pub(crate) outcome: Outcome,
     pub(crate) survey: Survey,
     pub(crate) desk: D,
-    /// Those of all workers.
+    /// The seats of all workers.
     pub(crate) seats: Vec<D::Seat>,
 }
 
@@ -51,7 +50,7 @@ impl<D: CollectionDesk + Drop> Worked<D>
 where
     D::Seat: Drop,
 {
-    /// The workers' seats are put into a list that has room for them.
+    /// Moves the workers' seats into `seats`, which has room for them.
     fn of(
         outcome: Outcome,
         survey: Survey,
@@ -88,8 +87,8 @@ impl<D: CollectionDesk + Drop> Prepared<D>
 where
     D::Seat: Drop,
 {
-    /// For this image. Else it is handed back unchanged, with its fault: 12 exactly where the number of workers, which
-    /// is tested first, isn't 1 to 64, and 11 where memory is refused.
+    /// Prepares the collection of an image. On failure it returns the image unchanged, with fault 12 exactly if the
+    /// number of workers, which is tested first, isn't 1 to 64, and with fault 11 if memory runs out.
     pub(crate) fn new(
         alloc: Global,
         mut image: Image,
@@ -116,8 +115,8 @@ where
         }
     }
 
-    /// Lets all workers work, and makes the image of what they leave. The fault is that of the lowest worker that met
-    /// one, or 15 where a region has not moved.
+    /// Runs all workers, and cleans up. Returns the fault of the lowest worker that met one, or fault 15 if a
+    /// region has not moved.
     pub(crate) fn work<G: Gate + Sync, T: Threads + Sync, W: Wait + Sync>(
         self,
         gate: &G,

@@ -1,4 +1,3 @@
-//! The image that a stream reads.
 ghost use Rattle.std.specs.Prelude.{◌≡◌, IsTrue, IfOk, IfErr, IfSome, Some, Err};
 ghost use Rattle.heap_image.specs.ImageText.{first_fault};
 ghost use Rattle.heap_image.specs.Reading.{IsRead};
@@ -9,8 +8,8 @@ use heap_image::{Fault, Image, Intake, read_image_by_workers};
 use std::alloc::Global;
 use std::thread::Threads;
 
-/// The image that the whole input is the text of. A fault is the first of the input, or 11 or 13. So many threads
-/// check it at most.
+/// Reads all of the input, the text of an image, and checks it with at most `workers` threads. A fault is the first of
+/// the input, or 11 if memory runs out, or 13 if the device fails.
 pub(crate) fn read_whole<R: Intake>(
     alloc: Global,
     reader: &mut R,

@@ -1,4 +1,3 @@
-//! `Ready`: the regions that are ready to be filled, of one worker.
 ghost use Rattle.std.specs.Prelude.{◌≡◌, ◌<◌, ◌++◌, [], ◌∷◌, ◌↔◌, length, true, false, IsTrue, IfOk, IfSome, Contains};
 ghost use Rattle.collector.specs.Ready.{Queue};
 
@@ -8,13 +7,14 @@ use std::alloc::{AllocError, Global};
 use std::collections::LinkedList;
 use std::marker::Model;
 
-/// What a pass of the deque knows: whether it is the owner's, and then the numbers that were pushed. No value is made.
+/// What a pass of the deque knows: whether it is the owner's, and if so, the numbers that were pushed. Used by proofs
+/// only.
 pub struct Pushed {
     pub owner: bool,
     pub numbers: LinkedList<u32>,
 }
 
-/// The rule of the deque.
+/// The protocol that proofs attach to the deque.
 struct InOrder;
 
 impl Protocol<u32, Pushed> for InOrder {
@@ -48,10 +48,10 @@ impl Outcome<u32, Pushed> for Take {
     ghost then = { λ view _ next. next ≡ view };
 }
 
-/// The numbers of the regions that one worker has found ready, first in first out. The worker pushes and pops, and
-/// others steal through a [`Thief`].
+/// The numbers of the regions that one worker has found ready, first in first out. The worker pushes and pops; others
+/// steal through a [`Thief`].
 ///
-/// A contract sees the room and the numbers that were pushed so far, also those that were taken again.
+/// Contracts view it as the room and all numbers pushed so far, taken or not.
 #[derive(Drop)]
 pub struct Ready {
     deque: Worker<u32, Global, Pushed, InOrder>,
@@ -72,7 +72,7 @@ impl Model for Ready {
 }
 
 impl Ready {
-    /// An empty queue with room for as many pushes, which is reserved now. The error is that memory is refused.
+    /// An empty queue that takes `room` pushes in all, for which it allocates now. Fails if memory runs out.
     pub fn new(alloc: Global, room: usize) -> Result<Ready, AllocError>
         ensures { IfOk result (λ queue. queue ≡ record { room = room; pushed = [] }) }
     {
@@ -84,8 +84,8 @@ impl Ready {
         })
     }
 
-    /// Queues a number, and answers whether there was room: fewer numbers than the room were pushed before. Where there
-    /// was none, nothing changes. Takes no memory.
+    /// Queues a number and returns true, or returns false and changes nothing if as many numbers as the room were
+    /// pushed before. Allocates nothing.
     pub fn push(&mut self, r: u32) -> bool
         ensures room { self.new.room ≡ self.old.room }
         ensures answer { IsTrue result ↔ length self.old.pushed < self.old.room }
@@ -104,7 +104,7 @@ impl Ready {
         }
     }
 
-    /// Takes the first number that is left, if there is one.
+    /// Takes the oldest number that is left, if there is one.
     pub fn pop(&mut self) -> Option<u32>
         ensures same { self.new ≡ self.old }
         ensures pushed { IfSome result (λ r. Contains self.old.pushed r) }
@@ -112,10 +112,10 @@ impl Ready {
         self.deque.pop_as::<Pop>()
     }
 
-    /// The number of a region to try next: the first that is left here, or else one stolen from the other workers in
-    /// turn, from the worker behind this one round to the one before it.
+    /// Takes the oldest number that is left here, or else steals one from the other workers, in turn from the worker
+    /// after this one round to the one before it.
     ///
-    /// `thieves` has a handle for each worker's queue, by the workers' numbers; this one's own is not used.
+    /// `thieves` has a handle to each worker's queue, by worker number; this worker's own is not used.
     pub fn take(&mut self, thieves: &[Thief], worker: usize) -> Option<u32>
         requires { worker < length thieves.now }
         ensures { self.new ≡ self.old }
@@ -131,7 +131,7 @@ impl Ready {
             .find_map(|thief| thief.steal().success())
     }
 
-    /// A handle by which others take numbers. The error is that memory is refused.
+    /// A handle by which other threads take numbers. Fails if memory runs out.
     pub fn thief(&self) -> Result<Thief, AllocError> {
         Ok(Thief {
             deque: self.deque.stealer()?,
@@ -139,15 +139,15 @@ impl Ready {
     }
 }
 
-/// Takes numbers of another worker's queue, from any thread.
+/// Takes numbers from another worker's queue, on any thread.
 #[derive(Drop)]
 pub struct Thief {
     deque: Stealer<u32, Global, Pushed, InOrder>,
 }
 
 impl Thief {
-    /// Takes the first number that is left. `Empty` says that there was none at one moment; `Retry` says that, or that
-    /// someone else took a number meanwhile.
+    /// Takes the oldest number that is left. `Empty` means that there was none at some moment; `Retry` means that, or
+    /// that another thread took a number meanwhile.
     pub fn steal(&self) -> Steal<u32> {
         let mut pass = self.deque.pass();
         self.deque.steal_as::<Take>(&mut pass)

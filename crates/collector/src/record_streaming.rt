@@ -1,4 +1,3 @@
-//! `record_stream`: a recorded collection from bytes to bytes.
 ghost use Rattle.std.specs.Prelude.{◌≡◌, ◌≢◌, ◌⊎◌, IsTrue, IfOk, OnErr, IfErr, IfSome, MatchResult, Some, Err};
 ghost use Rattle.heap_image.specs.HeapImage.{HeapImage};
 ghost use Rattle.heap_image.specs.ImageText.{first_fault};
@@ -12,18 +11,20 @@ use crate::gate::Gate;
 use crate::outcome::Figures;
 use crate::reading::read_whole;
 use crate::recording::record;
+use crate::workers::Workers;
 use heap_image::{Fault, Intake, Outlet, give_all, write_image_buffered};
 use history::write_schedule;
 use std::alloc::Global;
 use std::sync::Wait;
 use std::thread::Threads;
 
-/// Reads an image, compacts it as [`record`] does, and writes the compaction and then, to `lines`, the text of the schedule.
+/// Reads an image, compacts it as [`record`] does, and writes the compaction and then, to `lines`, the text of the
+/// schedule.
 ///
-/// Nothing is written before the collection has ended well and its schedule is found whole, and nothing takes memory once
-/// a byte is. A fault of 1 to 10, or 17, is the first fault of the input, fault 13 says that a device has failed, and the
-/// others are those of `record`. After fault 13 in writing, a beginning of the two texts was written, the compaction's
-/// first; after any other fault, nothing.
+/// Nothing is written before the collection has succeeded with a whole schedule, and nothing is allocated once a byte
+/// is written. Faults 1 to 10 and 17 are the first fault of the input, fault 13 means that a device has failed, and the
+/// others are those of `record`. If writing fails with fault 13, a prefix of the two texts was written, the
+/// compaction's first; after any other fault, nothing was.
 pub fn record_stream<
     R: Intake,
     O: Outlet,
@@ -36,15 +37,13 @@ pub fn record_stream<
     reader: &mut R,
     writer: &mut O,
     lines: &mut L,
-    workers: u32,
-    gate: &G,
-    threads: &T,
-    wait: &W,
+    workers: Workers<'_, G, T, W>,
 ) -> Result<Figures, Fault>
-    // The whole input was the text of an image. The texts of its compaction and of the record were written.
-    ensures texts { IfOk result (AreRecorded workers (R.left reader.old) (R.left reader.new)
+    // All of the input was read, the text of an image, and the texts of its compaction and of the schedule were
+    // written.
+    ensures texts { IfOk result (AreRecorded workers.entry.count (R.left reader.old) (R.left reader.new)
         (O.took writer.old) (O.took writer.new) (L.took lines.old) (L.took lines.new)) }
-    // Nothing was written, or the collection had ended well.
+    // Nothing was written, or the collection had succeeded.
     ensures written { OnErr result ((writer.new ≡ writer.old)
         ⊎ IsTextBegun (R.left reader.old) (R.left reader.new) (O.took writer.old) (O.took writer.new)) }
     // No line was written before the whole compaction.
@@ -56,16 +55,22 @@ pub fn record_stream<
         → IfSome (R.left reader.old) (λ input. first_fault input ≡ Some fault)) }
     ensures device { result ≡ Err Fault.Io → IsTrue (R.has_failed reader.new)
         ⊎ (IsTrue (O.has_failed writer.new) ⊎ IsTrue (L.has_failed lines.new)) }
-    ensures workers { result ≡ Err Fault.Workers → AreNoneOrTooMany workers }
-    // A number of workers that isn't 1 to 64 is refused, unless the input is.
-    ensures refused { AreNoneOrTooMany workers → MatchResult result (λ figures. ⊥)
+    ensures workers { result ≡ Err Fault.Workers → AreNoneOrTooMany workers.entry.count }
+    // Unless the input is refused, a number of workers that isn't 1 to 64 is.
+    ensures refused { AreNoneOrTooMany workers.entry.count → MatchResult result (λ figures. ⊥)
         (λ fault. (fault ≡ Fault.Workers) ⊎ IsOfReading fault) }
     ensures gate { result ≡ Err Fault.Gate → (image : HeapImage)
         × IsRead image (R.left reader.old) (R.left reader.new)
-        × MayRefuse (G.may_refuse gate.now) workers image }
+        × MayRefuse (G.may_refuse workers.entry.gate.now) workers.entry.count image }
 {
-    let image = read_whole(alloc, reader, workers, threads)?;
-    match record(alloc, image, workers, gate, threads, wait) {
+    let Workers {
+        count,
+        gate,
+        threads,
+        wait,
+    } = workers;
+    let image = read_whole(alloc, reader, count, threads)?;
+    match record(alloc, image, count, gate, threads, wait) {
         Ok((outcome, schedule)) => {
             let text = write_schedule(alloc, &schedule)?;
             write_image_buffered(alloc, &outcome.image, writer)?;

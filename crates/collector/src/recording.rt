@@ -1,4 +1,3 @@
-//! `record`: a collection whose calls are kept for a schedule.
 ghost use Rattle.std.specs.Prelude.{◌≡◌, ◌<◌, ◌↔◌, ◌⊎◌, All, vec_len, IfOk, IfErr, Err};
 ghost use Rattle.heap_image.specs.declared.fault.Fault.TheVariants.{Memory};
 ghost use Rattle.summary.specs.Compaction.{compact};
@@ -12,7 +11,6 @@ ghost use Rattle.collector.specs.declared.outcome.Refusal.TheVariants.{Kept, Los
 use crate::gate::Gate;
 use crate::outcome::{Outcome, Refusal};
 use crate::prepared::Prepared;
-use crate::valid::planned_image_is_valid;
 use claim_board::Recorder;
 use heap_image::{Fault, Image};
 use history::{Schedule, check, checked_histories_are_records};
@@ -20,13 +18,14 @@ use std::alloc::Global;
 use std::sync::Wait;
 use std::thread::Threads;
 use summary::Plan;
+use summary::laws::plans::planned_image_is_valid;
 
-/// Compacts an image as [`collect`](crate::collect) does, by workers that agree under one lock, and gives the schedule
-/// of all their calls and copies. Each call and copy takes memory for its line.
+/// Compacts an image as [`collect`](crate::collect) does, but under one lock, and returns the schedule of all the
+/// workers' calls and copies. Each call and copy allocates its line.
 ///
-/// `Kept` comes as from `collect`. `Lost` comes after a worker has begun: with the faults of `collect`, with fault 11
-/// where memory for a line was refused, and with fault 14 where the schedule is not one by which all regions are moved:
-/// it names the first line at fault, or the line after the last where some region isn't settled.
+/// Returns `Kept` as `collect` does. Returns `Lost` once a worker has begun: with the faults of `collect`, with fault
+/// 11 if memory for a line runs out, and with fault 14 if the schedule isn't one that moves all regions. Fault 14 names
+/// the first line at fault, or the line after the last if some region isn't settled.
 pub fn record<G: Gate + Sync, T: Threads + Sync, W: Wait + Sync>(
     alloc: Global,
     image: Image,
@@ -54,7 +53,7 @@ pub fn record<G: Gate + Sync, T: Threads + Sync, W: Wait + Sync>(
     }
 }
 
-/// Lets all workers work, and makes the schedule of what they called.
+/// Runs all workers, and returns the schedule of their calls.
 fn recorded<G: Gate + Sync, T: Threads + Sync, W: Wait + Sync>(
     alloc: Global,
     prepared: Prepared<Recorder>,
@@ -75,8 +74,8 @@ fn recorded<G: Gate + Sync, T: Threads + Sync, W: Wait + Sync>(
     Ok((worked.outcome, schedule))
 }
 
-/// The recorder's schedule, if it is the record of a whole collection of the plan's image. Fault 14 names the first line
-/// at fault, or the line after the last where some region isn't settled; fault 11 comes where memory was refused.
+/// The recorder's schedule, if it records a whole collection of the plan's image. Otherwise fault 14 names the first
+/// line at fault, or the line after the last if some region isn't settled. Returns fault 11 if memory runs out.
 fn whole_schedule(
     alloc: Global,
     recorder: Recorder,

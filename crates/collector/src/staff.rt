@@ -1,20 +1,19 @@
-//! `Staff`: the workers of a collection, made before any of them begins.
 ghost use Rattle.std.specs.Prelude.{◌≡◌, ◌<◌, ◌≤◌, [], map, vec_len, IfOk, length};
 ghost use Rattle.std.specs.Vec.{vec_capacity};
 
 use crate::ready::{Ready, Thief};
-use crate::valid::planned_image_is_valid;
 use crate::worker::{Halt, Worker};
 use std::alloc::{AllocError, Global};
 use summary::Plan;
+use summary::laws::plans::planned_image_is_valid;
 use summary::laws::region_data::regions_to_fill;
 
-/// The workers of a collection, and a handle to the queue of each.
+/// The workers of a collection before they begin, and a handle to the queue of each.
 #[derive(Drop)]
 pub(crate) struct Staff<S> {
     pub(crate) workers: Vec<Worker<S>>,
     pub(crate) thieves: Vec<Thief>,
-    /// Empty, with room for the seat of each worker once all have worked.
+    /// Empty, with room for the seats of all workers, which are collected at the end.
     pub(crate) seats: Vec<S>,
     ghost handles: { vec_len thieves ≡ vec_len workers },
     ghost no_seats: { seats.items ≡ [] },
@@ -22,9 +21,9 @@ pub(crate) struct Staff<S> {
 }
 
 impl<S: Drop> Staff<S> {
-    /// A worker in each seat. The regions to fill that nobody has to read are queued, each in turn with the next worker.
+    /// Makes a worker for each seat, and deals the regions to fill that have no pending readers to the workers in turn.
     ///
-    /// Each queue has room for all regions to fill. The error is that memory is refused.
+    /// Each queue has room for all regions to fill. Fails if memory runs out.
     pub(crate) fn new(alloc: Global, plan: &Plan, seats: Vec<S>) -> Result<Staff<S>, AllocError>
         ensures seats { IfOk result (λ staff. map (λ w. w.seat) staff.workers.items ≡ seats.items) }
     {
@@ -49,8 +48,8 @@ impl<S: Drop> Staff<S> {
     }
 }
 
-/// The queue with which a worker begins. Of the regions to fill that nobody has to read, counted from 0, it has those
-/// whose place leaves the worker's number over when divided by the number of workers.
+/// The queue with which worker `number` begins: of the regions to fill that have no pending readers, counted from 0,
+/// those whose place is `number` modulo `workers`.
 fn first_regions(
     alloc: Global,
     plan: &Plan,

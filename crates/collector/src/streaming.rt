@@ -1,4 +1,3 @@
-//! `collect_stream`: a collection from bytes to bytes.
 ghost use Rattle.std.specs.Prelude.{◌≡◌, ◌≢◌, ◌⊎◌, ℕ, IsTrue, IfOk, OnErr, IfErr, IfSome, MatchResult, Some, Err};
 ghost use Rattle.std.specs.Io.KnownBytes.{Appends};
 ghost use Rattle.heap_image.specs.HeapImage.{HeapImage};
@@ -21,9 +20,9 @@ use std::thread::Threads;
 
 /// Reads an image, compacts it as [`collect`] does, and writes the compaction.
 ///
-/// Nothing is written before the collection has ended well. A fault of 1 to 10, or 17, is the first fault of the input,
-/// fault 13 says that a device has failed, and the others are those of `collect`. After fault 13 in writing, a beginning
-/// of the text was written; after any other fault, nothing.
+/// Nothing is written before the collection has succeeded. Faults 1 to 10 and 17 are the first fault of the input,
+/// fault 13 means that a device has failed, and the others are those of `collect`. If writing fails with fault 13, a
+/// prefix of the text was written; after any other fault, nothing was.
 pub fn collect_stream<R: Intake, O: Outlet, G: Gate + Sync, T: Threads + Sync, W: Wait + Sync>(
     alloc: Global,
     reader: &mut R,
@@ -33,12 +32,12 @@ pub fn collect_stream<R: Intake, O: Outlet, G: Gate + Sync, T: Threads + Sync, W
     threads: &T,
     wait: &W,
 ) -> Result<Figures, Fault>
-    // The whole input was the text of an image. The text of its compaction was written.
+    // All of the input was read, the text of an image, and the text of its compaction was written.
     ensures text { IfOk result (λ figures. (image : HeapImage)
         × IsRead image (R.left reader.old) (R.left reader.new)
         × Appends (O.took writer.old) (O.took writer.new) (text (compact image))
         × (figures ≡ figures_of image)) }
-    // Nothing was written, or the collection had ended well.
+    // Nothing was written, or the collection had succeeded.
     ensures written { OnErr result ((writer.new ≡ writer.old)
         ⊎ IsTextBegun (R.left reader.old) (R.left reader.new) (O.took writer.old) (O.took writer.new)) }
     ensures nothing_yet { IfErr result (λ fault. fault ≢ Fault.Io → writer.new ≡ writer.old) }
@@ -47,7 +46,7 @@ pub fn collect_stream<R: Intake, O: Outlet, G: Gate + Sync, T: Threads + Sync, W
     ensures device { result ≡ Err Fault.Io
         → IsTrue (R.has_failed reader.new) ⊎ IsTrue (O.has_failed writer.new) }
     ensures workers { result ≡ Err Fault.Workers → AreNoneOrTooMany workers }
-    // A number of workers that isn't 1 to 64 is refused, unless the input is.
+    // Unless the input is refused, a number of workers that isn't 1 to 64 is.
     ensures refused { AreNoneOrTooMany workers → MatchResult result (λ figures. ⊥)
         (λ fault. (fault ≡ Fault.Workers) ⊎ IsOfReading fault) }
     ensures gate { result ≡ Err Fault.Gate → (image : HeapImage)

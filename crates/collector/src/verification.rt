@@ -1,4 +1,3 @@
-//! `verify`.
 ghost use Rattle.std.specs.Prelude.{◌≡◌, ◌↔◌, IfOk, IfErr};
 ghost use Rattle.heap_image.specs.declared.fault.Fault.TheVariants.{Memory};
 ghost use Rattle.summary.specs.Compaction.{compact};
@@ -12,11 +11,11 @@ use std::alloc::Global;
 use std::thread::Threads;
 use summary::Survey;
 
-/// Whether `after` is the compaction of `before`, and if not, the first difference: that of the shapes, or else of the
-/// words, or else of the live addresses.
+/// Says whether `after` is the compaction of `before`, and if not, returns the first difference: in the shape, else the
+/// words, else the live list, else the roots.
 ///
-/// Takes linear time, and no copy of the heap: the marks and the plan of `before` are all the memory that it takes.
-/// The only error is `Fault::Memory`, where memory is refused.
+/// Takes linear time. It allocates only the marks and the plan of `before`, and no copy of the heap. Its only error is
+/// `Fault::Memory`, if memory runs out.
 pub fn verify(
     alloc: Global,
     before: &Image,

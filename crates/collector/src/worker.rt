@@ -1,4 +1,3 @@
-//! `Worker`: one of those that fill regions.
 ghost use Rattle.std.specs.Prelude.{◌≡◌};
 ghost use Rattle.collector.specs.Halts.{met_fault};
 ghost use Rattle.collector.specs.declared.worker.Halt.TheVariants.{Failed};
@@ -6,18 +5,18 @@ ghost use Rattle.collector.specs.declared.worker.Halt.TheVariants.{Failed};
 use crate::ready::Ready;
 use heap_image::Fault;
 
-/// One of the workers of a collection. It calls its desk from a seat of its own.
+/// One worker of a collection, which fills regions and calls its desk from a seat of its own.
 #[derive(Drop)]
 pub(crate) struct Worker<S> {
     pub(crate) seat: S,
     /// The regions that it has found ready.
     pub(crate) ready: Ready,
-    /// How it ended: well, if all regions to fill are settled.
+    /// How it ended: Ok if all regions to fill were settled.
     pub(crate) end: Result<(), Halt>,
 }
 
 impl<S> Worker<S> {
-    /// The fault that it has met itself, if any.
+    /// The fault that this worker has met itself, if any.
     #[tactic(auto, unfolding(crate::specs::Halts::met_fault))]
     pub(crate) fn fault(&self) -> Option<Fault>
         ensures { result ≡ met_fault self.now.end }
@@ -34,7 +33,7 @@ impl<S> Worker<S> {
 pub(crate) enum Halt {
     /// Another worker has met a fault.
     Stopped,
-    /// It has met a fault itself.
+    /// This worker has met a fault.
     Failed(Fault),
 }
 

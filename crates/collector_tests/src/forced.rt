@@ -1,4 +1,4 @@
-//! Recorded collections whose lines a gate forces into an order.
+//! Recorded collections in which a gate forces an order of the schedule's lines.
 use crate::checks::equal;
 use crate::gates::Awaits;
 use crate::gates::Call::{After, Before};
@@ -9,9 +9,9 @@ use std::sync::Wait;
 use std::test::Fail;
 use std::thread::Threads;
 
-/// Of a recorded collection of this heap by two workers, whether the first of two lines stands before the other, and
-/// whether each call that the gate held was met.
-fn findings<R: AllocGlobal + Threads + Wait + Sync>(
+/// Records a collection of this heap by two workers. Returns whether the first line comes before the other, and whether
+/// each held call of the gate was released in time.
+fn line_order<R: AllocGlobal + Threads + Wait + Sync>(
     heap: Heap<'_>,
     gate: &Awaits,
     (first, other): (Event, Event),
@@ -22,30 +22,30 @@ fn findings<R: AllocGlobal + Threads + Wait + Sync>(
     Ok((is_before, gate.is_kept()))
 }
 
-/// `after_complete` called behind the settling meets its contract. It fails here.
+/// Calling `after_complete` after the settling meets the contract, and fails here.
 #[test]
-fn a_region_is_settled_after_the_gate_has_heard_of_it(rt: HostRuntime) -> Result<(), Fail> {
+fn a_region_is_settled_after_the_gate_is_notified(rt: HostRuntime) -> Result<(), Fail> {
     let gate = Awaits::new([(Before(1), After(0)), (After(0), After(1))]);
     let lines = (Event::Complete(1), Event::Settle(0));
-    equal(&rt, findings(base(2), &gate, lines, &rt)?, (true, true));
+    equal(&rt, line_order(base(2), &gate, lines, &rt)?, (true, true));
     Ok(())
 }
 
-/// `before_fill` called before the claim meets its contract. It fails here.
+/// Calling `before_fill` before the claim meets the contract, and fails here.
 #[test]
 fn a_region_is_claimed_before_the_gate_is_asked(rt: HostRuntime) -> Result<(), Fail> {
     let gate = Awaits::new([(Before(1), Before(0)), (Before(0), After(1))]);
     let lines = (Event::Claim(0), Event::Complete(1));
-    equal(&rt, findings(base(2), &gate, lines, &rt)?, (true, true));
+    equal(&rt, line_order(base(2), &gate, lines, &rt)?, (true, true));
     Ok(())
 }
 
-/// `after_complete` called before the fill or before the completion meets its contract. It fails here: region 1 is ready
-/// only once region 0 is filled.
+/// Calling `after_complete` before the fill or before the completion meets the contract, and fails here: region 1 is
+/// ready only once region 0 is filled.
 #[test]
-fn the_gate_hears_of_a_region_once_it_is_completed(rt: HostRuntime) -> Result<(), Fail> {
+fn the_gate_is_notified_of_a_region_once_it_is_completed(rt: HostRuntime) -> Result<(), Fail> {
     let gate = Awaits::new([(Before(1), After(0)), (After(0), After(1))]);
     let lines = (Event::Complete(0), Event::Complete(1));
-    equal(&rt, findings(base(0), &gate, lines, &rt)?, (true, true));
+    equal(&rt, line_order(base(0), &gate, lines, &rt)?, (true, true));
     Ok(())
 }

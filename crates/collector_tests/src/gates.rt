@@ -1,15 +1,15 @@
-//! Gates for orders that a test forces: they hold a call until another one has come.
+//! Gates with which tests force an order: they hold a call until another one has come.
 use collector::Gate;
 use std::sync::atomic::{AtomicBool, AtomicU32, Ordering};
 use std::thread;
 
-/// How often a held call looks whether what must come has come.
+/// How often a held call polls for a call that must come.
 pub(crate) const TURNS: u32 = 1_000_000;
 
-/// How often it looks where nothing may come.
+/// How often a held call polls for a call that may not come.
 pub(crate) const FEW_TURNS: u32 = 10_000;
 
-/// Waits until the flag is set, for so many turns at most. Whether it is.
+/// Waits until the flag is set, for at most `turns` polls. Returns whether it is.
 pub(crate) fn comes(flag: &AtomicBool, turns: u32) -> bool {
     for _ in 0..turns {
         if flag.load(Ordering::SeqCst) {
@@ -20,7 +20,7 @@ pub(crate) fn comes(flag: &AtomicBool, turns: u32) -> bool {
     false
 }
 
-/// Waits until so many are counted, for so many turns at most. Whether they are.
+/// Waits until the count reaches `wanted`, for at most `turns` polls. Returns whether it does.
 pub(crate) fn reaches(count: &AtomicU32, wanted: u32, turns: u32) -> bool {
     for _ in 0..turns {
         if count.load(Ordering::SeqCst) >= wanted {
@@ -31,16 +31,16 @@ pub(crate) fn reaches(count: &AtomicU32, wanted: u32, turns: u32) -> bool {
     false
 }
 
-/// A call of the gate for one of three regions.
+/// A call of the gate, for one of three regions.
 #[derive(Debug, Clone, Copy, PartialEq, Eq)]
 pub(crate) enum Call {
-    /// Before the fill of this region.
+    /// `before_fill` of this region.
     Before(u32),
-    /// After its completion.
+    /// `after_complete` of this region.
     After(u32),
 }
 
-/// Each call of the gate for three regions.
+/// All calls of the gate for three regions.
 pub(crate) const CALLS: [Call; 6] = [
     Call::Before(0),
     Call::Before(1),
@@ -50,7 +50,7 @@ pub(crate) const CALLS: [Call; 6] = [
     Call::After(2),
 ];
 
-/// Holds two calls, each until another one has come: the pairs give the held call and the other.
+/// Holds two calls, each until another one has come: each pair is the held call and the one it waits for.
 #[derive(Drop)]
 pub(crate) struct Awaits {
     held: [(Call, Call); 2],
@@ -68,7 +68,7 @@ fn none_came() -> [AtomicBool; 3] {
 }
 
 impl Awaits {
-    /// None of the calls has come.
+    /// A gate to which no call has come yet.
     pub(crate) fn new(held: [(Call, Call); 2]) -> Awaits {
         Awaits {
             held,
@@ -78,7 +78,7 @@ impl Awaits {
         }
     }
 
-    /// Whether each call that was waited for came.
+    /// Whether each call that was waited for has come.
     pub(crate) fn is_kept(&self) -> bool {
         !self.waited_in_vain.load(Ordering::SeqCst)
     }
@@ -90,8 +90,8 @@ impl Awaits {
         }
     }
 
-    /// Notes a call, and holds it if it is one to hold.
-    fn hear(&self, call: Call) {
+    /// Marks a call as come, and holds it if it is one to hold.
+    fn enter(&self, call: Call) {
         if let Some(flag) = self.flag(call) {
             flag.store(true, Ordering::SeqCst);
         }
@@ -111,26 +111,26 @@ impl Gate for Awaits {
     ghost may_refuse = { λ _ _ _. ⊥ };
 
     fn before_fill(&self, _worker: u32, region: u32) -> bool {
-        self.hear(Call::Before(region));
+        self.enter(Call::Before(region));
         true
     }
 
     fn after_complete(&self, _worker: u32, region: u32) {
-        self.hear(Call::After(region));
+        self.enter(Call::After(region));
     }
 }
 
-/// How long a worker is held while another one must find something out.
+/// How many turns a worker is held while another one must make progress.
 const LONG: u32 = 100_000;
 
-/// Lets other threads run for long.
+/// Lets other threads run for `LONG` turns.
 pub(crate) fn linger() {
     for _ in 0..LONG {
         thread::yield_now();
     }
 }
 
-/// Refuses region 0 once another worker has come to fill a region, which it lets go on only long after that.
+/// Refuses region 0 once another worker has come to fill a region, and holds that worker until long after the refusal.
 #[derive(Drop)]
 pub(crate) struct RefusesTheFirst {
     other_came: AtomicBool,
@@ -139,7 +139,7 @@ pub(crate) struct RefusesTheFirst {
 }
 
 impl RefusesTheFirst {
-    /// No worker has come.
+    /// A gate to which no worker has come yet.
     pub(crate) fn new() -> RefusesTheFirst {
         RefusesTheFirst {
             other_came: AtomicBool::new(false),
@@ -174,7 +174,7 @@ impl Gate for RefusesTheFirst {
     }
 }
 
-/// Holds the first fill to begin until so many calls of the other worker have come.
+/// Holds the first fill that begins until `wanted` calls of the other worker have come.
 #[derive(Drop)]
 pub(crate) struct FirstHeld {
     begun: AtomicBool,

@@ -1,4 +1,4 @@
-//! Heaps to collect, and what must come of a collection.
+//! Heaps to collect, and checks of their collections.
 ghost use Rattle.std.specs.Prelude.{◌≡◌};
 
 use collector::{Figures, Gate, Outcome, Verdict, collect, record, verify};
@@ -11,7 +11,7 @@ use std::test::Fail;
 use std::thread::Threads;
 use summary::{Survey, compact_plainly};
 
-/// The header of an object of so many words, without references.
+/// The header of an object of `size` words without references.
 const fn plain(size: u64) -> u64 {
     1 << 56 | size
 }
@@ -34,7 +34,7 @@ impl Heap<'_> {
         image_of(alloc, settings, self.words, self.live, threads)
     }
 
-    /// The figures of a collection by so many workers, whose image is the right one.
+    /// The figures of a collection by `workers` workers. Fails unless the image is the compaction.
     pub(crate) fn collected<G: Gate + Sync, R: Threads + Wait + Sync>(
         &self,
         alloc: Global,
@@ -48,7 +48,7 @@ impl Heap<'_> {
         Ok(outcome.figures)
     }
 
-    /// The schedule of a recorded collection by so many workers, whose image is the right one.
+    /// The schedule of a recorded collection by `workers` workers. Fails unless the image is the compaction.
     pub(crate) fn recorded<G: Gate + Sync, R: Threads + Wait + Sync>(
         &self,
         alloc: Global,
@@ -65,7 +65,7 @@ impl Heap<'_> {
         }
     }
 
-    /// Fails where this isn't the compaction.
+    /// Fails unless this is the compaction.
     fn verified(
         &self,
         alloc: Global,
@@ -76,12 +76,12 @@ impl Heap<'_> {
         if verify(alloc, &before, after, threads)? == Verdict::Same {
             Ok(())
         } else {
-            Err(Fail::from("another image"))
+            Err(Fail::from("not the compaction"))
         }
     }
 }
 
-/// What a collection of this image by so many workers gives.
+/// The outcome of a collection of this image by `workers` workers.
 fn outcome_of<G: Gate + Sync, R: Threads + Wait + Sync>(
     alloc: Global,
     image: Image,
@@ -104,7 +104,7 @@ pub(crate) fn base(allowance: u64) -> Heap<'static> {
     }
 }
 
-/// Four regions that one object fills, so that each is ready at the start.
+/// Four regions that one object occupies, so that each is ready at the start.
 pub(crate) fn four_regions(words: &mut [u64; 32]) -> Heap<'_> {
     words[0] = plain(32);
     Heap {
@@ -114,7 +114,7 @@ pub(crate) fn four_regions(words: &mut [u64; 32]) -> Heap<'_> {
     }
 }
 
-/// Five regions. Region 0 takes all that lives in 1 and 2, which then take what lives in 3 and 4.
+/// Five regions. All live words of regions 1 and 2 move to region 0, and those of 3 and 4 to 1 and 2.
 pub(crate) fn five_regions(words: &mut [u64; 40]) -> Heap<'_> {
     for (a, size) in [(0, 2), (8, 2), (16, 4), (24, 8), (32, 8)] {
         words[a] = plain(size);
@@ -126,7 +126,7 @@ pub(crate) fn five_regions(words: &mut [u64; 40]) -> Heap<'_> {
     }
 }
 
-/// Whether the schedule, replayed over the heap, ends with its compaction.
+/// Whether a replay of the schedule over the heap ends with its compaction.
 pub(crate) fn replays(
     alloc: Global,
     heap: Heap<'_>,
@@ -172,7 +172,6 @@ fn is_compacted(
     }
 }
 
-/// Where the dense prefix ends, where the first free address is, and how many regions were filled.
 pub(crate) fn figures(prefix_end: u64, new_top: u64, filled: u32) -> Figures {
     Figures {
         prefix_end,
@@ -181,7 +180,7 @@ pub(crate) fn figures(prefix_end: u64, new_top: u64, filled: u32) -> Figures {
     }
 }
 
-/// The plain compaction of the image with this text, as a text.
+/// The text of the plain compaction of the image with this text.
 pub(crate) fn compacted_text(
     alloc: Global,
     text: &[u8],

@@ -1,4 +1,4 @@
-//! Collections of which a gate holds a worker at each of its calls.
+//! Collections in which a gate holds a worker at each of its calls in turn.
 use crate::checks::equal;
 use crate::gates::{CALLS, Call, FEW_TURNS, comes};
 use crate::heaps::{Heap, base, figures};
@@ -9,21 +9,21 @@ use std::sync::atomic::{AtomicBool, AtomicU32, Ordering};
 use std::test::Fail;
 use std::thread::Threads;
 
-/// The number of no worker.
+/// A number that no worker has.
 const NOBODY: u32 = 64;
 
-/// Holds the worker that makes one call until another worker calls, or until so many turns have gone by.
+/// Holds the worker that makes `call` until another worker calls, for at most `FEW_TURNS` polls.
 ///
-/// It refuses region 2 as long as the call before the fill of region 1, which has to read it, has not returned.
+/// It refuses region 2 until `before_fill` of region 1, which reads region 2, has returned.
 #[derive(Drop)]
 struct Holding {
     call: Call,
-    /// The worker that has made the call.
+    /// The worker that has made `call`.
     held: AtomicU32,
     /// Whether another worker has called since.
     other_came: AtomicBool,
-    /// Whether region 1 was let.
-    let_region_1: AtomicBool,
+    /// Whether region 1 was admitted.
+    admitted_region_1: AtomicBool,
 }
 
 impl Holding {
@@ -32,12 +32,12 @@ impl Holding {
             call,
             held: AtomicU32::new(NOBODY),
             other_came: AtomicBool::new(false),
-            let_region_1: AtomicBool::new(false),
+            admitted_region_1: AtomicBool::new(false),
         }
     }
 
-    /// A worker has made a call.
-    fn hear(&self, worker: u32, call: Call) {
+    /// Marks a call of a worker as come, and holds it if it is the one to hold.
+    fn enter(&self, worker: u32, call: Call) {
         if call == self.call {
             self.held.store(worker, Ordering::SeqCst);
             let _ = comes(&self.other_came, FEW_TURNS);
@@ -54,20 +54,20 @@ impl Gate for Holding {
     ghost may_refuse = { λ _ _ _. Unit {0} };
 
     fn before_fill(&self, worker: u32, region: u32) -> bool {
-        let is_in_order = region != 2 || self.let_region_1.load(Ordering::SeqCst);
-        self.hear(worker, Call::Before(region));
+        let is_in_order = region != 2 || self.admitted_region_1.load(Ordering::SeqCst);
+        self.enter(worker, Call::Before(region));
         if region == 1 {
-            self.let_region_1.store(true, Ordering::SeqCst);
+            self.admitted_region_1.store(true, Ordering::SeqCst);
         }
         is_in_order
     }
 
     fn after_complete(&self, worker: u32, region: u32) {
-        self.hear(worker, Call::After(region));
+        self.enter(worker, Call::After(region));
     }
 }
 
-/// The figures of the heap's collections by two and by three workers, one of which is held at this call.
+/// The figures of collections by two and by three workers, one of which is held at this call.
 fn held_at<R: Threads + Wait + Sync>(
     alloc: Global,
     heap: Heap<'_>,

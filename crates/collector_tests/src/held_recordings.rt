@@ -11,20 +11,20 @@ use std::sync::atomic::{AtomicBool, AtomicU32, Ordering};
 use std::test::Fail;
 use std::thread::Threads;
 
-/// Holds the worker that makes one call until another one calls the gate, for so many turns at most.
+/// Holds the worker that makes `call` until another call comes, for at most `FEW_TURNS` polls.
 #[derive(Drop)]
 struct HoldsAt {
     call: Call,
     calls: AtomicU32,
     fillers: Fillers,
-    /// Of each of three regions, which of all calls was made as the fill began and which as it had ended.
+    /// For each of three regions, the number of its `before_fill` and of its `after_complete` among all calls.
     begun: [AtomicU32; 3],
     ended: [AtomicU32; 3],
     middle_may_begin: AtomicBool,
     last_came_early: AtomicBool,
 }
 
-/// A number of no call.
+/// A number that no call has.
 const NEVER: u32 = 1_000;
 
 fn never() -> [AtomicU32; 3] {
@@ -35,7 +35,7 @@ fn never() -> [AtomicU32; 3] {
     ]
 }
 
-fn note(calls: &[AtomicU32; 3], region: u32, number: u32) {
+fn set_number(calls: &[AtomicU32; 3], region: u32, number: u32) {
     if let Some(call) = calls.get(region as usize) {
         call.store(number, Ordering::SeqCst);
     }
@@ -62,8 +62,8 @@ impl HoldsAt {
         }
     }
 
-    /// Counts a call, and holds it until there is a later one if it is the one to hold. The number of the call.
-    fn hear(&self, call: Call) -> u32 {
+    /// Counts a call, and holds it until a later one comes if it is the one to hold. Returns the call's number.
+    fn enter(&self, call: Call) -> u32 {
         let number = self.calls.fetch_add(1, Ordering::SeqCst);
         if call == self.call {
             let _ = reaches(&self.calls, number.wrapping_add(2), FEW_TURNS);
@@ -71,8 +71,8 @@ impl HoldsAt {
         number
     }
 
-    /// Whether the gate heard that the first region was filled before it was asked for the other one.
-    fn heard_in_order(&self, first: u32, other: u32) -> bool {
+    /// Whether `after_complete` of `first` came before `before_fill` of `other`.
+    fn completes_before(&self, first: u32, other: u32) -> bool {
         number_of(&self.ended, first) < number_of(&self.begun, other)
     }
 }
@@ -85,8 +85,8 @@ impl Gate for HoldsAt {
         if region == 2 && !self.middle_may_begin.load(Ordering::SeqCst) {
             self.last_came_early.store(true, Ordering::SeqCst);
         }
-        let number = self.hear(Call::Before(region));
-        note(&self.begun, region, number);
+        let number = self.enter(Call::Before(region));
+        set_number(&self.begun, region, number);
         if region == 1 {
             self.middle_may_begin.store(true, Ordering::SeqCst);
         }
@@ -94,29 +94,29 @@ impl Gate for HoldsAt {
     }
 
     fn after_complete(&self, _worker: u32, region: u32) {
-        let number = self.hear(Call::After(region));
-        note(&self.ended, region, number);
+        let number = self.enter(Call::After(region));
+        set_number(&self.ended, region, number);
     }
 }
 
-/// Whether the completions of these regions stand in the order that the gate heard of.
-fn is_as_heard(schedule: &Schedule, gate: &HoldsAt, first: u32, other: u32) -> bool {
-    !gate.heard_in_order(first, other)
+/// Whether the schedule has these completions in the order in which the gate's calls came.
+fn agrees_on_two(schedule: &Schedule, gate: &HoldsAt, first: u32, other: u32) -> bool {
+    !gate.completes_before(first, other)
         || place_of(schedule, Event::Complete(first)) < place_of(schedule, Event::Complete(other))
 }
 
-/// Whether each two completions stand in the order that the gate heard of.
-fn is_all_as_heard(schedule: &Schedule, gate: &HoldsAt) -> bool {
+/// Whether the schedule has all completions in the order in which the gate's calls came.
+fn agrees_on_all(schedule: &Schedule, gate: &HoldsAt) -> bool {
     for (first, other) in [(0, 1), (0, 2), (1, 0), (1, 2), (2, 0), (2, 1)] {
-        if !is_as_heard(schedule, gate, first, other) {
+        if !agrees_on_two(schedule, gate, first, other) {
             return false;
         }
     }
     true
 }
 
-/// Whether a schedule is recorded under the gate that replays, and agrees with what the gate heard.
-fn comes_through<R: Threads + Wait + Sync>(
+/// Whether a collection under the gate records a schedule that replays and agrees with the gate's calls.
+fn records_rightly<R: Threads + Wait + Sync>(
     alloc: Global,
     allowance: u64,
     workers: u32,
@@ -124,13 +124,13 @@ fn comes_through<R: Threads + Wait + Sync>(
     rt: &R,
 ) -> Result<bool, Fail> {
     let schedule = base(allowance).recorded(alloc, workers, gate, rt)?;
-    let is_heard = is_of_its_fillers(&schedule, &gate.fillers) && is_all_as_heard(&schedule, gate);
+    let agrees = is_of_its_fillers(&schedule, &gate.fillers) && agrees_on_all(&schedule, gate);
     let is_early = gate.last_came_early.load(Ordering::SeqCst);
     let is_replayed = replays(alloc, base(allowance), &schedule, rt)?;
-    Ok(is_replayed && is_heard && !is_early)
+    Ok(is_replayed && agrees && !is_early)
 }
 
-/// The first of the calls at which a worker that is held leaves a wrong schedule, or none.
+/// The first call at which holding a worker gives a wrong schedule, if any.
 fn first_wrong<R: Threads + Wait + Sync>(
     alloc: Global,
     allowance: u64,
@@ -139,7 +139,7 @@ fn first_wrong<R: Threads + Wait + Sync>(
 ) -> Result<Option<Call>, Fail> {
     for call in CALLS {
         let gate = HoldsAt::new(call);
-        if !comes_through(alloc, allowance, workers, &gate, rt)? {
+        if !records_rightly(alloc, allowance, workers, &gate, rt)? {
             return Ok(Some(call));
         }
     }
@@ -147,7 +147,7 @@ fn first_wrong<R: Threads + Wait + Sync>(
 }
 
 #[test]
-fn a_worker_held_at_any_point_leaves_a_schedule_that_replays(rt: HostRuntime) -> Result<(), Fail> {
+fn a_worker_held_at_any_point_records_a_schedule_that_replays(rt: HostRuntime) -> Result<(), Fail> {
     for (workers, allowance) in [(2, 0), (2, 2), (3, 0), (3, 2)] {
         equal(&rt, first_wrong(rt.alloc(), allowance, workers, &rt)?, None);
     }

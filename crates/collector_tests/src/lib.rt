@@ -1,6 +1,6 @@
 //! The tests of `collector`, through its public calls alone: collections in memory, gates and verdicts.
 //!
-//! Those of its streams, queues and refused memory stand in `stream_tests`, which the gate proves at the same time.
+//! The tests of its streams, queues and failing allocations are in `stream_tests`, which is proved at the same time.
 #![tactic(auto)]
 
 #[cfg(test)]

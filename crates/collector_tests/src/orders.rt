@@ -1,4 +1,4 @@
-//! Recorded collections whose gate holds fills: the schedule tells who filled what, and in the forced order.
+//! Recorded collections whose gate holds fills: the schedule names the right worker for each fill, in the forced order.
 use crate::checks::{equal, holds};
 use crate::gates::{TURNS, comes, reaches};
 use crate::heaps::base;
@@ -7,7 +7,7 @@ use history::{Event, Reply, Schedule};
 use std::sync::atomic::{AtomicBool, AtomicU32, Ordering};
 use std::test::Fail;
 
-/// Of each of three regions, the worker for which the gate was called.
+/// For each of three regions, the worker that called the gate.
 #[derive(Drop)]
 pub(crate) struct Fillers([AtomicU32; 3]);
 
@@ -22,7 +22,7 @@ impl Fillers {
         }
     }
 
-    /// The worker for the region, or 64 where the gate heard of none.
+    /// The worker that called the gate for the region, or 64 if none did.
     fn of(&self, region: u32) -> u32 {
         match self.0.get(region as usize) {
             Some(filler) => filler.load(Ordering::SeqCst),
@@ -31,7 +31,7 @@ impl Fillers {
     }
 }
 
-/// The region that the worker of an entry must have been granted.
+/// The region that an entry's worker must have been granted.
 fn granted_region(event: Event, reply: Option<Reply>) -> Option<u32> {
     match event {
         Event::Claim(region) if reply == Some(Reply::Yes) => Some(region),
@@ -41,7 +41,7 @@ fn granted_region(event: Event, reply: Option<Reply>) -> Option<u32> {
     }
 }
 
-/// Whether each region was granted to the worker for which the gate was called, and moved by no other.
+/// Whether each region was granted to the worker that called the gate for it, and moved by no other.
 pub(crate) fn is_of_its_fillers(schedule: &Schedule, fillers: &Fillers) -> bool {
     for i in 0..schedule.len() {
         let (worker, event, reply) = schedule.line(i);
@@ -53,7 +53,7 @@ pub(crate) fn is_of_its_fillers(schedule: &Schedule, fillers: &Fillers) -> bool 
     true
 }
 
-/// The place of the event's first line, or of the end.
+/// The index of the event's first line, or the number of lines.
 pub(crate) fn place_of(schedule: &Schedule, event: Event) -> usize {
     for i in 0..schedule.len() {
         if schedule.line(i).1 == event {
@@ -63,7 +63,7 @@ pub(crate) fn place_of(schedule: &Schedule, event: Event) -> usize {
     schedule.len()
 }
 
-/// Holds the fill of one region until another one is filled, for so many turns at most.
+/// Holds the fill of region `held` until region `first` is filled, for at most `TURNS` polls.
 #[derive(Drop)]
 struct Holds {
     held: u32,
@@ -96,7 +96,7 @@ fn holding(held: u32, first: u32) -> Holds {
     }
 }
 
-/// Whether every copy into the held region stands after the completion of the other.
+/// Whether every copy into the held region comes after the completion of the other.
 fn is_in_order(schedule: &Schedule, gate: &Holds) -> bool {
     let mut is_completed = false;
     for i in 0..schedule.len() {
@@ -110,7 +110,7 @@ fn is_in_order(schedule: &Schedule, gate: &Holds) -> bool {
 }
 
 #[test]
-fn the_schedule_is_in_the_order_that_the_gate_forced(rt: HostRuntime) -> Result<(), Fail> {
+fn the_schedule_has_the_order_that_the_gate_forces(rt: HostRuntime) -> Result<(), Fail> {
     for (held, first) in [(0, 1), (1, 0)] {
         let gate = holding(held, first);
         let schedule = base(2).recorded(rt.alloc(), 2, &gate, &rt)?;
@@ -121,7 +121,7 @@ fn the_schedule_is_in_the_order_that_the_gate_forced(rt: HostRuntime) -> Result<
     Ok(())
 }
 
-/// Holds the first fill to begin until another worker begins one, for so many turns at most.
+/// Holds the first fill that begins until another worker begins one, for at most `TURNS` polls.
 #[derive(Drop)]
 struct Meets {
     begun: AtomicU32,

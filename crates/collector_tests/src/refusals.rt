@@ -1,4 +1,4 @@
-//! Collections that a gate ends: the image is lost.
+//! Collections that a gate refuses: the image is lost.
 use crate::checks::{equal, holds};
 use crate::gates::RefusesTheFirst;
 use crate::heaps::base;
@@ -25,8 +25,8 @@ impl Gate for Refuses {
     fn after_complete(&self, _worker: u32, _region: u32) {}
 }
 
-/// The fault of a collection of the base heap by two workers that loses the image.
-fn lost<G: Gate + Sync, R: Threads + Wait + Sync>(
+/// The fault with which a collection of the base heap by two workers loses the image.
+fn loss_fault<G: Gate + Sync, R: Threads + Wait + Sync>(
     alloc: Global,
     allowance: u64,
     gate: &G,
@@ -41,24 +41,22 @@ fn lost<G: Gate + Sync, R: Threads + Wait + Sync>(
 
 #[test]
 fn a_refused_region_loses_the_image(rt: HostRuntime) -> Result<(), Fail> {
-    let fault = lost(rt.alloc(), 0, &Refuses(2), &rt)?;
+    let fault = loss_fault(rt.alloc(), 0, &Refuses(2), &rt)?;
     equal(&rt, fault, Fault::Gate);
     Ok(())
 }
 
-/// No look at the stop flag behind the gate is a body that meets its contract. It fails here.
+/// A body that doesn't check the stop flag after the gate meets the contract, and fails here.
 #[test]
-fn a_worker_that_the_gate_held_stops_where_another_was_refused(
-    rt: HostRuntime,
-) -> Result<(), Fail> {
+fn a_worker_that_the_gate_held_stops_if_another_was_refused(rt: HostRuntime) -> Result<(), Fail> {
     let gate = RefusesTheFirst::new();
-    let fault = lost(rt.alloc(), 2, &gate, &rt)?;
+    let fault = loss_fault(rt.alloc(), 2, &gate, &rt)?;
     equal(&rt, fault, Fault::Gate);
     holds(&rt, gate.is_kept());
     Ok(())
 }
 
-/// A `record` that tells each loss as out of memory meets its contract. It fails here.
+/// A `record` that reports each loss as out of memory meets the contract, and fails here.
 #[test]
 fn a_refused_region_ends_a_recorded_collection(rt: HostRuntime) -> Result<(), Fail> {
     let gate = RefusesTheFirst::new();
@@ -72,7 +70,7 @@ fn a_refused_region_ends_a_recorded_collection(rt: HostRuntime) -> Result<(), Fa
 }
 
 #[test]
-fn the_open_gate_refuses_nobody() {
+fn the_open_gate_refuses_nothing() {
     prove!(OpenGate.before_fill(1, 2));
     OpenGate.after_complete(1, 2);
 }

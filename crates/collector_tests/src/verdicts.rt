@@ -1,4 +1,4 @@
-//! Verdicts on heaps made from seeds.
+//! Verdicts on seeded heaps.
 use crate::checks::equal_at;
 use crate::seeded::seeded_text;
 use collector::{Verdict, verify};
@@ -8,7 +8,7 @@ use std::test::Fail;
 use std::thread::Threads;
 use summary::compact_plainly;
 
-/// The verdicts on the heap of this seed, with its plain compaction and with itself.
+/// The verdicts on this seed's heap, compared with its plain compaction and with itself.
 fn verdicts(
     alloc: Global,
     seed: u64,

@@ -1,4 +1,4 @@
-//! Collections whose gate shows who fills what: how many workers run, and how the first regions are dealt.
+//! Collections whose gate shows which worker fills what: how many workers run, and how the first regions are dealt.
 use crate::checks::{equal, holds};
 use crate::gates::Call::Before;
 use crate::gates::{Awaits, FirstHeld, TURNS, linger, reaches};
@@ -28,7 +28,8 @@ fn a_worker_steals_what_the_other_leaves(rt: HostRuntime) -> Result<(), Fail> {
     Ok(())
 }
 
-/// A collection of this text by two workers, from bytes to bytes: its figures, and whether all was read and this written.
+/// Collects the text `before` with two workers, from bytes to bytes. Returns the figures, and whether all of it was
+/// read and `after` written.
 fn streamed<G: Gate + Sync, R: Threads + Wait + Sync>(
     alloc: Global,
     (before, after): (&[u8], &[u8]),
@@ -41,7 +42,7 @@ fn streamed<G: Gate + Sync, R: Threads + Wait + Sync>(
     Ok((figures, is_read && writer.into_inner().as_slice() == after))
 }
 
-/// A `collect_stream` that collects by one worker meets its contract. It fails here.
+/// A `collect_stream` that collects with one worker meets the contract, and fails here.
 #[test]
 fn two_workers_of_a_stream_fill_at_the_same_time(rt: HostRuntime) -> Result<(), Fail> {
     let before = Base::WithLiveList.text(rt.alloc(), 2)?;
@@ -53,10 +54,10 @@ fn two_workers_of_a_stream_fill_at_the_same_time(rt: HostRuntime) -> Result<(), 
     Ok(())
 }
 
-/// The number of no worker and no region.
+/// A number that no worker and no region has.
 const NONE: u32 = 64;
 
-/// Of four fills, in the order in which they are noted, the worker and the region.
+/// The workers and the regions of four fills, in the order in which they are noted.
 #[derive(Drop)]
 struct Fills {
     count: AtomicU32,
@@ -92,7 +93,7 @@ impl Fills {
         }
     }
 
-    /// Whether these are four fills, of regions 0 to 3, each by the worker of that number.
+    /// Whether these are the fills of regions 0 to 3, each by the worker of the same number.
     fn are_each_by_its_own(&self) -> bool {
         let regions = numbers(&self.regions);
         self.count.load(Ordering::SeqCst) == 4
@@ -131,7 +132,7 @@ impl Gate for NotedFirstHeld {
     }
 }
 
-/// All first regions dealt to one queue is a body that meets its contract. It fails here.
+/// A body that deals all first regions to one queue meets the contract, and fails here.
 #[test]
 fn the_first_regions_are_dealt_in_turn(rt: HostRuntime) -> Result<(), Fail> {
     let gate = NotedFirstHeld {
@@ -170,8 +171,9 @@ impl Gate for FourMeet {
     }
 }
 
-/// Two threads at most, whatever the number of workers, is a body that meets its contract. So is one that asks the gate
-/// twice, or doesn't tell it of a fill once, with its worker and region. They fail here.
+/// A body that runs at most two threads, whatever the number of workers, meets the contract, and fails here. So does
+/// one that calls `before_fill` twice, or doesn't call `after_complete` exactly once, with the fill's worker and
+/// region.
 #[test]
 fn four_workers_fill_at_the_same_time(rt: HostRuntime) -> Result<(), Fail> {
     let gate = FourMeet {
@@ -185,7 +187,8 @@ fn four_workers_fill_at_the_same_time(rt: HostRuntime) -> Result<(), Fail> {
     Ok(())
 }
 
-/// Holds the first fill for long, while nothing else is ready, and the two after it each until the other has begun.
+/// Holds the first fill for a long time, while nothing else is ready, and each of the next two until the other has
+/// begun.
 #[derive(Drop)]
 struct TwoMeetLater(Awaits);
 
@@ -204,7 +207,7 @@ impl Gate for TwoMeetLater {
     }
 }
 
-/// A worker that ends where it finds nothing to take is a body that meets its contract. It fails here.
+/// A body in which a worker ends if it finds nothing to take meets the contract, and fails here.
 #[test]
 fn a_worker_with_nothing_to_take_waits_for_what_becomes_ready(rt: HostRuntime) -> Result<(), Fail> {
     let gate = TwoMeetLater(Awaits::new([(Before(1), Before(2)), (Before(2), Before(1))]));

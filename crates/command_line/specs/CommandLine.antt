@@ -13,7 +13,7 @@ module _ {A : Type 0} where
   abbrev pub HaveWord : List ℕ → List (String A) → Type 0
   HaveWord text words = Contains (map string_bytes words) text
 
--- the program with no command yet: its first word is no program's name, and a command is required
+-- the program without commands: its first word isn't the program's name, and a command is required
 abbrev pub program_words : App
 program_words = let plain = new_app (codes "pcompact") in record plain {
   top = record plain.top { no_binary_name = true; has_version = true; subcommand_required = true };
@@ -24,11 +24,11 @@ abbrev pub with_commands : App → List App → App
 with_commands program [] = program
 with_commands program (command ∷ others) = with_commands (with_subcommand program command.top) others
 
--- the program and its commands, as the reading of the words sees them
+-- the program and its commands, as `clap` sees them
 abbrev pub commands : App
 commands = with_commands program_words listed
 
--- the program takes the line, which calls the command of this name
+-- the program accepts the line, which calls the command of this name
 abbrev pub IsCallOf : Text → List Text → Type 0
 IsCallOf name line = (takes commands line ≡ true) × (option_map (λ p. p.0) (subcommand_of commands line) ≡ Some name)
 

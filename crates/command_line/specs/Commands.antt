@@ -1,49 +1,49 @@
--- The commands of the program, as the reading of the words sees them.
+-- The commands of the program, as `clap` sees them.
 use Rattle.std.specs.Prelude.{ℕ, true, List, [], ◌∷◌, Some, codes, pos}
 use Rattle.clap.specs.Walk.{Rule, Text}
 use Rattle.clap.specs.Words.{App, new_app, new_rule, with_rule}
 use Rattle.clap.specs.declared.builder.value_parser.ValueParser.TheVariants.{Signed, Unsigned}
 use Rattle.command_line.specs.Arguments.{atomic_rule, file_rule, flag_rule, stats_rule, verbose_rule, workers_rule}
 
--- the words of `board`
+-- the definition of `board`
 abbrev pub board_words : App
 board_words = new_app (codes "board")
 
--- the words of `summary`
+-- the definition of `summary`
 abbrev pub summary_words : App
 summary_words =
     with_rule (with_rule (new_app (codes "summary")) (file_rule (codes "IMAGE"))) verbose_rule
 
--- the words of `collect`
+-- the definition of `collect`
 abbrev pub collect_words : App
 collect_words =
     with_rule (with_rule (with_rule (with_rule (with_rule (with_rule (new_app (codes "collect")) (file_rule (codes "IMAGE"))) (file_rule (codes "OUT")))
     workers_rule) atomic_rule) stats_rule) verbose_rule
 
--- the words of `verify`
+-- the definition of `verify`
 abbrev pub verify_words : App
 verify_words =
     with_rule (with_rule (with_rule (with_rule (new_app (codes "verify")) (file_rule (codes "BEFORE"))) (file_rule (codes "AFTER"))) stats_rule)
     verbose_rule
 
--- the words of `record`
+-- the definition of `record`
 abbrev pub record_words : App
 record_words =
     with_rule (with_rule (with_rule (with_rule (with_rule (with_rule (with_rule (new_app (codes "record")) (file_rule (codes "IMAGE")))
     (file_rule (codes "OUT"))) (file_rule (codes "SCHEDULE"))) workers_rule) atomic_rule) stats_rule) verbose_rule
 
--- the words of `replay`
+-- the definition of `replay`
 abbrev pub replay_words : App
 replay_words =
     with_rule (with_rule (with_rule (new_app (codes "replay")) (file_rule (codes "IMAGE"))) (file_rule (codes "SCHEDULE"))) verbose_rule
 
--- the words of `upgrade`
+-- the definition of `upgrade`
 abbrev pub upgrade_words : App
 upgrade_words =
     with_rule (with_rule (with_rule (with_rule (new_app (codes "upgrade")) (file_rule (codes "IMAGE"))) (file_rule (codes "OUT"))) atomic_rule)
     verbose_rule
 
--- the option `--region-log`, which takes a number from 3 to 16
+-- the option `--region-log`, with a number from 3 to 16
 abbrev pub region_log_rule : Rule
 region_log_rule = record (new_rule (codes "region-log")) {
   long = Some (codes "region-log");
@@ -51,7 +51,7 @@ region_log_rule = record (new_rule (codes "region-log")) {
   parser = Some (Signed (pos 3) (pos 16));
 }
 
--- the option `--allowance`, which takes a number of 64 bits
+-- the option `--allowance`, with a number of 64 bits
 abbrev pub allowance_rule : Rule
 allowance_rule = record (new_rule (codes "allowance")) {
   long = Some (codes "allowance");
@@ -59,30 +59,30 @@ allowance_rule = record (new_rule (codes "allowance")) {
   parser = Some (Unsigned 0 18446744073709551615);
 }
 
--- the words of `import`
+-- the definition of `import`
 abbrev pub import_words : App
 import_words =
     with_rule (with_rule (with_rule (with_rule (with_rule (with_rule (with_rule (new_app (codes "import"))
     (file_rule (codes "DUMP"))) (file_rule (codes "IMAGE"))) region_log_rule) allowance_rule) (flag_rule (codes "live-only")))
     atomic_rule) verbose_rule
 
--- an option that must be given
+-- makes an option required
 abbrev pub required : Rule → Rule
 required rule = record rule { required = true }
 
--- an option of this name, which takes a number from one to another
+-- an option of this name, with a number from `low` to `high`
 abbrev pub number_rule : Text → ℕ → ℕ → Rule
 number_rule name low high = record (new_rule name) { long = Some name; value_names = 1; parser = Some (Signed (pos low) (pos high)) }
 
--- the option `--words`, which must be given and takes a number from 1 to 4194304
+-- the required option `--words`, with a number from 1 to 4194304
 abbrev pub words_rule : Rule
 words_rule = required (number_rule (codes "words") 1 4194304)
 
--- the option `--live`, which must be given and takes a number from 0 to 100
+-- the required option `--live`, with a number from 0 to 100
 abbrev pub live_rule : Rule
 live_rule = required (number_rule (codes "live") 0 100)
 
--- the option `--seed`, which must be given and takes a number of 64 bits
+-- the required option `--seed`, with a number of 64 bits
 abbrev pub seed_rule : Rule
 seed_rule = record (new_rule (codes "seed")) {
   long = Some (codes "seed");
@@ -91,87 +91,87 @@ seed_rule = record (new_rule (codes "seed")) {
   required = true;
 }
 
--- the option `--refs`, which takes a number from 0 to 100
+-- the option `--refs`, with a number from 0 to 100
 abbrev pub refs_rule : Rule
 refs_rule = number_rule (codes "refs") 0 100
 
--- the option `--version` of an image, which takes 1 or 2
+-- the option `--version` of an image, with 1 or 2
 abbrev pub version_rule : Rule
 version_rule = number_rule (codes "version") 1 2
 
--- `generate` with what must be given
+-- `generate` with its file and its required options
 abbrev pub generate_needs : App
 generate_needs =
     with_rule (with_rule (with_rule (with_rule (with_rule (new_app (codes "generate")) (file_rule (codes "IMAGE"))) words_rule) live_rule)
     (required region_log_rule)) seed_rule
 
--- with what of a heap may be left out
+-- adds the options about the heap that may be left out
 abbrev pub with_generate_wishes : App → App
 with_generate_wishes app = with_rule (with_rule (with_rule app refs_rule) version_rule) allowance_rule
 
--- the words of `generate`
+-- the definition of `generate`
 abbrev pub generate_words : App
 generate_words =
     with_rule (with_rule (with_rule (with_rule (with_rule (with_rule (with_rule (with_rule (with_rule (with_rule (new_app (codes "generate"))
     (file_rule (codes "IMAGE"))) words_rule) live_rule) (required region_log_rule)) seed_rule) refs_rule) version_rule)
     allowance_rule) atomic_rule) verbose_rule
 
--- the words of `order`
+-- the definition of `order`
 abbrev pub order_words : App
 order_words =
     with_rule (with_rule (new_app (codes "order")) (file_rule (codes "IMAGE"))) verbose_rule
 
--- the words of `text`
+-- the definition of `text`
 abbrev pub text_words : App
 text_words =
     with_rule (with_rule (new_app (codes "text")) (file_rule (codes "IMAGE"))) verbose_rule
 
--- the words of `assemble`
+-- the definition of `assemble`
 abbrev pub assemble_words : App
 assemble_words =
     with_rule (with_rule (with_rule (with_rule (new_app (codes "assemble")) (file_rule (codes "TEXT"))) (file_rule (codes "IMAGE"))) atomic_rule)
     verbose_rule
 
--- the option `--width`, which takes a number from 1 to 1000
+-- the option `--width`, with a number from 1 to 1000
 abbrev pub width_rule : Rule
 width_rule = number_rule (codes "width") 1 1000
 
--- the option `--svg`, which takes the name of a file
+-- the option `--svg`, with a file name
 abbrev pub svg_rule : Rule
 svg_rule = record (new_rule (codes "svg")) { long = Some (codes "svg"); value_names = 1 }
 
--- `map` with the file that it reads, and the options for what of it is shown, and where
+-- `map` with its file, and with the options for the content and the file of the picture
 abbrev pub map_cells : App
 map_cells =
     with_rule (with_rule (with_rule (with_rule (new_app (codes "map")) (file_rule (codes "IMAGE"))) (flag_rule (codes "after"))) width_rule) svg_rule
 
--- the words of `map`
+-- the definition of `map`
 abbrev pub map_words : App
 map_words =
     with_rule (with_rule (with_rule (with_rule (with_rule (with_rule (with_rule (with_rule (with_rule (new_app (codes "map"))
     (file_rule (codes "IMAGE"))) (flag_rule (codes "after"))) width_rule) svg_rule) (flag_rule (codes "letters")))
     (flag_rule (codes "color"))) (flag_rule (codes "no-color"))) atomic_rule) verbose_rule
 
--- the option `--html`, which takes the name of a file
+-- the option `--html`, with a file name
 abbrev pub html_rule : Rule
 html_rule = record (new_rule (codes "html")) { long = Some (codes "html"); value_names = 1 }
 
--- `timeline` with the files that it reads
+-- `timeline` with its files
 abbrev pub timeline_inputs : App
 timeline_inputs = with_rule (with_rule (new_app (codes "timeline")) (file_rule (codes "IMAGE"))) (file_rule (codes "SCHEDULE"))
 
--- with the options for pictures of a schedule
+-- adds the options for the width of the picture and for its files
 abbrev pub with_picture_rules : App → App
 with_picture_rules app = with_rule (with_rule (with_rule app width_rule) svg_rule) html_rule
 
--- the words of `timeline`
+-- the definition of `timeline`
 abbrev pub timeline_words : App
 timeline_words =
     with_rule (with_rule (with_rule (with_rule (with_rule (with_rule (with_rule (with_rule (with_rule (with_rule (new_app (codes "timeline"))
     (file_rule (codes "IMAGE"))) (file_rule (codes "SCHEDULE"))) width_rule) svg_rule) html_rule) (flag_rule (codes "letters")))
     (flag_rule (codes "color"))) (flag_rule (codes "no-color"))) atomic_rule) verbose_rule
 
--- the words of the commands, in the order in which help lists them
+-- the definitions of the commands, in the order of help
 abbrev pub listed : List App
 listed =
     board_words

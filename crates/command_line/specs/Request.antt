@@ -8,29 +8,29 @@ use Rattle.command_line.specs.declared.unread.Unread.TheVariants.{Usage, NoComma
 -- the request is a call of the command of this name
 abbrev pub IsFor : Name → Request → Type 0
 IsFor name Board = name ≡ codes "board"
-IsFor name (Summary asked) = name ≡ codes "summary"
-IsFor name (Collect asked) = name ≡ codes "collect"
-IsFor name (Verify asked) = name ≡ codes "verify"
-IsFor name (Record asked) = name ≡ codes "record"
-IsFor name (Replay asked) = name ≡ codes "replay"
-IsFor name (Upgrade asked) = name ≡ codes "upgrade"
-IsFor name (Import asked) = name ≡ codes "import"
-IsFor name (Generate asked) = name ≡ codes "generate"
-IsFor name (Order asked) = name ≡ codes "order"
-IsFor name (Text asked) = name ≡ codes "text"
-IsFor name (Assemble asked) = name ≡ codes "assemble"
-IsFor name (Map asked) = name ≡ codes "map"
-IsFor name (Timeline asked) = name ≡ codes "timeline"
+IsFor name (Summary call) = name ≡ codes "summary"
+IsFor name (Collect call) = name ≡ codes "collect"
+IsFor name (Verify call) = name ≡ codes "verify"
+IsFor name (Record call) = name ≡ codes "record"
+IsFor name (Replay call) = name ≡ codes "replay"
+IsFor name (Upgrade call) = name ≡ codes "upgrade"
+IsFor name (Import call) = name ≡ codes "import"
+IsFor name (Generate call) = name ≡ codes "generate"
+IsFor name (Order call) = name ≡ codes "order"
+IsFor name (Text call) = name ≡ codes "text"
+IsFor name (Assemble call) = name ≡ codes "assemble"
+IsFor name (Map call) = name ≡ codes "map"
+IsFor name (Timeline call) = name ≡ codes "timeline"
 IsFor name (Show text) = ⊥
 
--- the request asks to be told what its work took
+-- the request has `--stats`
 abbrev pub asks_stats : Request → Bool
-asks_stats (Collect asked) = asked.stats
-asks_stats (Verify asked) = asked.stats
-asks_stats (Record asked) = asked.stats
+asks_stats (Collect call) = call.stats
+asks_stats (Verify call) = call.stats
+asks_stats (Record call) = call.stats
 asks_stats request = false
 
--- nothing is said of the words to whoever called
+-- the error isn't a usage error
 abbrev pub IsNoUsage : Unread → Type 0
 IsNoUsage (Usage text) = ⊥
 IsNoUsage NoCommand = ⊤

@@ -1,23 +1,24 @@
-//! The arguments that several commands share: how each is declared, and how it is read.
+//! The arguments that several commands share: their definitions and how they are parsed.
 ghost use Rattle.std.specs.Prelude.{◌≡◌, codes, false, IfErr, IfOk};
 ghost use Rattle.clap.specs.Words.{app_of, rule_of};
 ghost use Rattle.clap.specs.declared.builder.command.Command.TheViews.{out-Command as fields_of};
 ghost use Rattle.command_line.specs.Arguments.{file_rule, flag_rule, with_look, with_replacement, workers_rule};
+ghost use Rattle.command_line.specs.Commands.{allowance_rule, region_log_rule, svg_rule, width_rule};
 ghost use Rattle.command_line.specs.Request.{IsNoUsage};
 
 use crate::unread::Unread;
 use clap::{Arg, ArgAction, ArgMatches, Command, value_parser};
 use std::alloc::{AllocError, Global};
 
-/// The file that is read.
+/// The image that a command reads.
 pub fn image<'a>(alloc: Global) -> Arg<'a>
     ensures rule { rule_of result ≡ file_rule (codes "IMAGE") }
     ensures local { result.global ≡ false }
 {
-    file(alloc, "IMAGE", "A file with a heap image")
+    file(alloc, "IMAGE", "A heap image")
 }
 
-/// The name of a file, which must be given.
+/// A required file name.
 pub fn file<'a>(alloc: Global, id: &'a str, help: &'a str) -> Arg<'a>
     ensures rule { rule_of result ≡ file_rule id.now }
     ensures local { result.global ≡ false }
@@ -25,17 +26,17 @@ pub fn file<'a>(alloc: Global, id: &'a str, help: &'a str) -> Arg<'a>
     Arg::new(alloc, id).help(help).required(true)
 }
 
-/// The name that is given for the file of this word.
-pub fn file_in<'a>(given: &ArgMatches<'a>, id: &str) -> Result<&'a str, Unread>
+/// The name of the file with this id.
+pub fn file_in<'a>(matches: &ArgMatches<'a>, id: &str) -> Result<&'a str, Unread>
     ensures { IfErr result IsNoUsage }
 {
-    match given.get_str(id) {
+    match matches.get_str(id) {
         Some(name) => Ok(name),
         None => Err(Unread::NoCommand),
     }
 }
 
-/// How many workers, which must be given.
+/// The required option `--workers`.
 pub fn workers<'a>(alloc: Global) -> Arg<'a>
     ensures rule { rule_of result ≡ workers_rule }
     ensures local { result.global ≡ false }
@@ -44,28 +45,28 @@ pub fn workers<'a>(alloc: Global) -> Arg<'a>
         .long("workers")
         .value_name("n")
         .value_parser(value_parser!(u32))
-        .help("How many workers share the work, from 1 to 64; each is a thread")
+        .help("Number of worker threads, from 1 to 64")
         .required(true)
 }
 
-/// How many workers are given.
-pub fn workers_in(given: &ArgMatches<'_>) -> Result<u32, Unread>
+/// The number of workers.
+pub fn workers_in(matches: &ArgMatches<'_>) -> Result<u32, Unread>
     ensures { IfErr result IsNoUsage }
 {
-    number_in(given, "workers")
+    number_in(matches, "workers")
 }
 
-/// The number that is given for this option, which must be given.
-pub fn number_in(given: &ArgMatches<'_>, id: &str) -> Result<u32, Unread>
+/// The number of a required option.
+pub fn number_in(matches: &ArgMatches<'_>, id: &str) -> Result<u32, Unread>
     ensures { IfErr result IsNoUsage }
 {
-    match given.get_one(id) {
+    match matches.get_one(id) {
         Some(number) => Ok(number),
         None => Err(Unread::NoCommand),
     }
 }
 
-/// Whether files are replaced only once all is done.
+/// The option `--atomic`.
 pub fn atomic<'a>(alloc: Global) -> Arg<'a>
     ensures rule { rule_of result ≡ flag_rule (codes "atomic") }
     ensures local { result.global ≡ false }
@@ -73,42 +74,40 @@ pub fn atomic<'a>(alloc: Global) -> Arg<'a>
     flag(
         alloc,
         "atomic",
-        "Replaces files only once the command has ended well",
+        "Replace files only once the command has succeeded",
     )
 }
 
-/// Whether `--atomic` is given.
-pub fn is_atomic(given: &ArgMatches<'_>) -> bool {
-    given.get_flag("atomic")
+pub fn is_atomic(matches: &ArgMatches<'_>) -> bool {
+    matches.get_flag("atomic")
 }
 
-/// Whether to tell what the work took.
+/// The option `--stats`.
 pub fn stats<'a>(alloc: Global) -> Arg<'a>
     ensures rule { rule_of result ≡ flag_rule (codes "stats") }
     ensures local { result.global ≡ false }
 {
-    flag(alloc, "stats", "Tells on standard error what the work took")
+    flag(alloc, "stats", "Print timings and peak memory to stderr")
 }
 
-/// Whether `--stats` is given.
-pub fn asks_stats(given: &ArgMatches<'_>) -> bool {
-    given.get_flag("stats")
+pub fn asks_stats(matches: &ArgMatches<'_>) -> bool {
+    matches.get_flag("stats")
 }
 
-/// Whether to say at length what goes wrong.
+/// The option `--verbose`.
 pub fn verbose<'a>(alloc: Global) -> Arg<'a>
     ensures rule { rule_of result ≡ flag_rule (codes "verbose") }
     ensures local { result.global ≡ false }
 {
-    flag(alloc, "verbose", "Says more of what goes wrong")
+    flag(alloc, "verbose", "Print more details about errors")
 }
 
-/// Whether `--verbose` is given. Of a command that doesn't take it the answer is no.
-pub fn is_verbose(given: &ArgMatches<'_>) -> bool {
-    given.get_flag("verbose")
+/// Whether `--verbose` is on the line. A command without that option is never verbose.
+pub fn is_verbose(matches: &ArgMatches<'_>) -> bool {
+    matches.get_flag("verbose")
 }
 
-/// With the options that a command has last which writes files: `--atomic` and `--verbose`.
+/// Adds `--atomic` and `--verbose`, the last options of a command that writes files.
 pub fn with_last<'a>(alloc: Global, command: Command<'a>) -> Result<Command<'a>, AllocError>
     ensures app { IfOk result (λ made. app_of made ≡ with_replacement (app_of command.entry)) }
     ensures local { (fields_of command.entry).has_globals ≡ false
@@ -117,14 +116,8 @@ pub fn with_last<'a>(alloc: Global, command: Command<'a>) -> Result<Command<'a>,
     command.arg(atomic(alloc))?.arg(verbose(alloc))
 }
 
-/// With the options for how a terminal shows a picture. Two helps are given: of the option for colours, and of the one against
-/// them.
-pub fn with_looks<'a>(
-    alloc: Global,
-    command: Command<'a>,
-    coloured: &'a str,
-    plain: &'a str,
-) -> Result<Command<'a>, AllocError>
+/// Adds `--letters`, `--color` and `--no-color`, of a command that prints a picture.
+pub fn with_looks<'a>(alloc: Global, command: Command<'a>) -> Result<Command<'a>, AllocError>
     ensures app { IfOk result (λ made. app_of made ≡ with_look (app_of command.entry)) }
     ensures local { (fields_of command.entry).has_globals ≡ false
         → IfOk result (λ made. (fields_of made).has_globals ≡ false) }
@@ -133,13 +126,64 @@ pub fn with_looks<'a>(
         .arg(flag(
             alloc,
             "letters",
-            "Draws with letters where the locale has blocks too",
+            "Draw with letters even if the locale has block characters",
         ))?
-        .arg(flag(alloc, "color", coloured))?
-        .arg(flag(alloc, "no-color", plain))
+        .arg(flag(
+            alloc,
+            "color",
+            "Use colours even if standard output is no terminal",
+        ))?
+        .arg(flag(alloc, "no-color", "Never use colours"))
 }
 
-/// An option that takes no value and may be left out.
+/// The option `--width`, the number of cells of a picture.
+pub fn width<'a>(alloc: Global, help: &'a str) -> Arg<'a>
+    ensures rule { rule_of result ≡ width_rule }
+    ensures local { result.global ≡ false }
+{
+    Arg::new(alloc, "width")
+        .long("width")
+        .value_name("n")
+        .value_parser(value_parser!(u32).range(1..=1000))
+        .help(help)
+}
+
+/// The option `--svg`, the file for a drawing.
+pub fn svg<'a>(alloc: Global, help: &'a str) -> Arg<'a>
+    ensures rule { rule_of result ≡ svg_rule }
+    ensures local { result.global ≡ false }
+{
+    Arg::new(alloc, "svg")
+        .long("svg")
+        .value_name("FILE")
+        .help(help)
+}
+
+/// The option `--region-log`, the binary logarithm of the region size in words.
+pub fn region_log<'a>(alloc: Global, help: &'a str) -> Arg<'a>
+    ensures rule { rule_of result ≡ region_log_rule }
+    ensures local { result.global ≡ false }
+{
+    Arg::new(alloc, "region-log")
+        .long("region-log")
+        .value_name("k")
+        .value_parser(value_parser!(u32).range(3..=16))
+        .help(help)
+}
+
+/// The option `--allowance`, the number of dead words that the dense prefix may keep.
+pub fn allowance<'a>(alloc: Global) -> Arg<'a>
+    ensures rule { rule_of result ≡ allowance_rule }
+    ensures local { result.global ≡ false }
+{
+    Arg::new(alloc, "allowance")
+        .long("allowance")
+        .value_name("m")
+        .value_parser(value_parser!(u64))
+        .help("Number of dead words that the dense prefix may keep (default 0)")
+}
+
+/// An optional option without a value.
 pub fn flag<'a>(alloc: Global, name: &'a str, help: &'a str) -> Arg<'a>
     ensures rule { rule_of result ≡ flag_rule name.now }
     ensures local { result.global ≡ false }

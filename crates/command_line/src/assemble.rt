@@ -1,4 +1,4 @@
-//! The words of `assemble`.
+//! The command `assemble`: its arguments, their help, and how they are parsed.
 ghost use Rattle.std.specs.Prelude.{◌≡◌, codes, false, IfErr, IfOk, ◌∷◌, []};
 ghost use Rattle.clap.specs.Words.{app_of};
 ghost use Rattle.clap.specs.declared.builder.command.Command.TheViews.{out-Command as fields_of};
@@ -11,41 +11,40 @@ use crate::unread::Unread;
 use clap::{ArgMatches, Command};
 use std::alloc::{AllocError, Global};
 
-/// The words of `assemble`.
+/// The definition of `assemble`.
 pub fn words<'a>(alloc: Global) -> Result<Command<'a>, AllocError>
     ensures app { IfOk result (λ command. app_of command ≡ assemble_words) }
     ensures local { IfOk result (λ command. (fields_of command).has_globals ≡ false) }
 {
     let command = Command::new(alloc, "assemble")
-        .about("Writes the heap image of a text")
-        .arg(arguments::file(alloc, "TEXT", "A file with the text of a heap"))?
-        .arg(arguments::file(alloc, "IMAGE", "The file for the image"))?;
+        .about("Convert a heap text to a heap image")
+        .arg(arguments::file(alloc, "TEXT", "A heap text"))?
+        .arg(arguments::file(alloc, "IMAGE", "Where to write the image"))?;
     arguments::with_last(alloc, command)
 }
 
-/// What `assemble` is asked.
+/// The arguments of `assemble`.
 #[derive(Drop)]
 pub struct Assemble<'a> {
     /// The file with the text.
     pub text: &'a str,
     /// The file for the image.
     pub image: &'a str,
-    /// Whether what is written takes its place only once all is done.
+    /// Whether files are replaced only once all is done.
     pub atomic: bool,
-    /// Whether to say at length what goes wrong.
+    /// Whether to print more details about errors.
     pub verbose: bool,
 }
 
 impl<'a> Assemble<'a> {
-    /// What the words give.
-    pub(crate) fn of(given: &ArgMatches<'a>) -> Result<Assemble<'a>, Unread>
+    pub(crate) fn of(matches: &ArgMatches<'a>) -> Result<Assemble<'a>, Unread>
         ensures { IfErr result IsNoUsage }
     {
         Ok(Assemble {
-            text: arguments::file_in(given, "TEXT")?,
-            image: arguments::file_in(given, "IMAGE")?,
-            atomic: arguments::is_atomic(given),
-            verbose: arguments::is_verbose(given),
+            text: arguments::file_in(matches, "TEXT")?,
+            image: arguments::file_in(matches, "IMAGE")?,
+            atomic: arguments::is_atomic(matches),
+            verbose: arguments::is_verbose(matches),
         })
     }
 }

@@ -1,4 +1,4 @@
-//! The words of `board`.
+//! The command `board`.
 ghost use Rattle.std.specs.Prelude.{◌≡◌, codes, false, ◌∷◌, []};
 ghost use Rattle.clap.specs.Words.{app_of};
 ghost use Rattle.clap.specs.declared.builder.command.Command.TheViews.{out-Command as fields_of};
@@ -8,13 +8,13 @@ ghost use Rattle.command_line.specs.Commands.{board_words};
 use clap::Command;
 use std::alloc::Global;
 
-/// The words of `board`.
+/// The definition of `board`.
 pub fn words<'a>(alloc: Global) -> Command<'a>
     ensures app { app_of result ≡ board_words }
     ensures local { (fields_of result).has_globals ≡ false }
 {
     Command::new(alloc, "board").about(
-        "Schedules two workers over three regions, and counts their claims and completions",
+        "Schedule three regions among two workers, and count claims and completions",
     )
 }
 

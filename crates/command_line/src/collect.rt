@@ -1,4 +1,4 @@
-//! The words of `collect`.
+//! The command `collect`: its arguments, their help, and how they are parsed.
 ghost use Rattle.std.specs.Prelude.{◌≡◌, codes, false, IfErr, IfOk, ◌∷◌, []};
 ghost use Rattle.clap.specs.Words.{app_of};
 ghost use Rattle.clap.specs.declared.builder.command.Command.TheViews.{out-Command as fields_of};
@@ -11,50 +11,49 @@ use crate::unread::Unread;
 use clap::{ArgMatches, Command};
 use std::alloc::{AllocError, Global};
 
-/// The words of `collect`.
+/// The definition of `collect`.
 pub fn words<'a>(alloc: Global) -> Result<Command<'a>, AllocError>
     ensures app { IfOk result (λ command. app_of command ≡ collect_words) }
     ensures local { IfOk result (λ command. (fields_of command).has_globals ≡ false) }
 {
     Command::new(alloc, "collect")
-        .about("Collects a heap image, and writes the compacted one")
+        .about("Collect a heap image and write the compacted one")
         .arg(arguments::image(alloc))?
-        .arg(arguments::file(alloc, "OUT", "The file for the compacted image"))?
+        .arg(arguments::file(alloc, "OUT", "Where to write the compacted image"))?
         .arg(arguments::workers(alloc))?
         .arg(arguments::atomic(alloc))?
         .arg(arguments::stats(alloc))?
         .arg(arguments::verbose(alloc))
 }
 
-/// What `collect` is asked.
+/// The arguments of `collect`.
 #[derive(Drop)]
 pub struct Collect<'a> {
     /// The file with the image.
     pub image: &'a str,
-    /// The file for the compacted one.
+    /// The file for the compacted image.
     pub out: &'a str,
-    /// How many workers share the work.
+    /// The number of workers.
     pub workers: u32,
-    /// Whether what is written takes its place only once all is done.
+    /// Whether files are replaced only once all is done.
     pub atomic: bool,
-    /// Whether to tell what the work took.
+    /// Whether to print timings and peak memory.
     pub stats: bool,
-    /// Whether to say at length what goes wrong.
+    /// Whether to print more details about errors.
     pub verbose: bool,
 }
 
 impl<'a> Collect<'a> {
-    /// What the words give.
-    pub(crate) fn of(given: &ArgMatches<'a>) -> Result<Collect<'a>, Unread>
+    pub(crate) fn of(matches: &ArgMatches<'a>) -> Result<Collect<'a>, Unread>
         ensures { IfErr result IsNoUsage }
     {
         Ok(Collect {
-            image: arguments::file_in(given, "IMAGE")?,
-            out: arguments::file_in(given, "OUT")?,
-            workers: arguments::workers_in(given)?,
-            atomic: arguments::is_atomic(given),
-            stats: arguments::asks_stats(given),
-            verbose: arguments::is_verbose(given),
+            image: arguments::file_in(matches, "IMAGE")?,
+            out: arguments::file_in(matches, "OUT")?,
+            workers: arguments::workers_in(matches)?,
+            atomic: arguments::is_atomic(matches),
+            stats: arguments::asks_stats(matches),
+            verbose: arguments::is_verbose(matches),
         })
     }
 }

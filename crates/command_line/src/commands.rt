@@ -1,5 +1,5 @@
-//! The commands: the words of all of them, and which one was called. A command is a file of its own,
-//! and has a line in each of the two lists below.
+//! All commands: their definitions, and which of them a line calls. Each has a file of its own, and a line in each of the two
+//! lists below.
 ghost use Rattle.std.specs.Prelude.{◌≡◌, codes, Some, Ok, ℕ, List, [], ◌∷◌, IfOk, MatchResult};
 ghost use Rattle.clap.specs.Words.{app_of, subcommand_name_of};
 ghost use Rattle.command_line.specs.CommandLine.{commands, program_words, with_commands};
@@ -29,15 +29,15 @@ use crate::{
 use clap::{ArgMatches, Command};
 use std::alloc::{AllocError, Global};
 
-const ABOUT: &str = "Full collection of a heap image by parallel sliding compaction";
+const ABOUT: &str = "Parallel mark-compact collection of heap images";
 
 const STATUSES: &str = "\
 Exit status:
-  0  the command did its work, or showed help or the version
-  1  a fault, images that differ, or a dump that gives no image: standard error says which
-  2  the words are no command: standard error says why";
+  0  success, also of help and version
+  1  a fault, images that differ, a bad dump or a bad text; standard error says which
+  2  invalid usage; standard error says why";
 
-/// The words of the program with those of its commands, which help lists in this order.
+/// The definition of the program and its commands. Help lists them in this order.
 pub fn words<'a>(alloc: Global) -> Result<Command<'a>, AllocError>
     ensures { IfOk result (λ command. app_of command ≡ commands) }
 {
@@ -47,7 +47,7 @@ pub fn words<'a>(alloc: Global) -> Result<Command<'a>, AllocError>
     with_pictures(alloc, command)
 }
 
-/// With the commands that tell of a collection or make one.
+/// Adds `board` and the commands that plan, make or check a collection.
 fn with_collections<'a>(alloc: Global, command: Command<'a>) -> Result<Command<'a>, AllocError>
     ensures { IfOk result (λ made. app_of made
         ≡ with_commands (app_of command.entry) (board_words ∷ summary_words ∷ collect_words ∷ verify_words ∷ [])) }
@@ -59,7 +59,7 @@ fn with_collections<'a>(alloc: Global, command: Command<'a>) -> Result<Command<'
         .subcommand(verify::words(alloc)?)
 }
 
-/// With the commands on schedules, and `upgrade`.
+/// Adds the commands on schedules, and `upgrade`.
 fn with_followers<'a>(alloc: Global, command: Command<'a>) -> Result<Command<'a>, AllocError>
     ensures { IfOk result (λ made. app_of made
         ≡ with_commands (app_of command.entry) (record_words ∷ replay_words ∷ upgrade_words ∷ [])) }
@@ -70,7 +70,7 @@ fn with_followers<'a>(alloc: Global, command: Command<'a>) -> Result<Command<'a>
         .subcommand(upgrade::words(alloc)?)
 }
 
-/// With the commands that make images of other things, and `order`.
+/// Adds the commands that make images, and `order`.
 fn with_sources<'a>(alloc: Global, command: Command<'a>) -> Result<Command<'a>, AllocError>
     ensures { IfOk result (λ made. app_of made
         ≡ with_commands (app_of command.entry) (import_words ∷ generate_words ∷ order_words ∷ [])) }
@@ -81,7 +81,7 @@ fn with_sources<'a>(alloc: Global, command: Command<'a>) -> Result<Command<'a>, 
         .subcommand(order::words(alloc)?)
 }
 
-/// With the commands that show a heap or a schedule, and `assemble`.
+/// Adds the commands that show a heap or a schedule, and `assemble`.
 fn with_pictures<'a>(alloc: Global, command: Command<'a>) -> Result<Command<'a>, AllocError>
     ensures { IfOk result (λ made. app_of made
         ≡ with_commands (app_of command.entry) (text_words ∷ assemble_words ∷ map_words ∷ timeline_words ∷ [])) }
@@ -93,60 +93,60 @@ fn with_pictures<'a>(alloc: Global, command: Command<'a>) -> Result<Command<'a>,
         .subcommand(timeline::words(alloc)?)
 }
 
-/// What was called, with what it is given.
-pub fn called<'a>(matches: &ArgMatches<'a>) -> Result<Request<'a>, Unread>
+/// The request of a parsed line.
+pub fn parse_request<'a>(matches: &ArgMatches<'a>) -> Result<Request<'a>, Unread>
     ensures calls { (name : List ℕ) → subcommand_name_of matches.now ≡ Some name
         → MatchResult result (IsFor name) IsNoUsage }
     ensures board { subcommand_name_of matches.now ≡ Some (codes "board") → result ≡ Ok Board }
 {
     match matches.subcommand() {
         Some(("board", _)) => Ok(Request::Board),
-        Some((name, given)) => asked(name, given),
+        Some((name, arguments)) => parse_command(name, arguments),
         None => Err(Unread::NoCommand),
     }
 }
 
-/// What a command is asked that collects, or tells of a collection.
-fn asked<'a>(name: &str, given: &ArgMatches<'a>) -> Result<Request<'a>, Unread>
+/// Parses the arguments of this command.
+fn parse_command<'a>(name: &str, matches: &ArgMatches<'a>) -> Result<Request<'a>, Unread>
     ensures { MatchResult result (IsFor name.now) IsNoUsage }
 {
     Ok(match name {
-        "summary" => Request::Summary(Summary::of(given)?),
-        "collect" => Request::Collect(Collect::of(given)?),
-        "verify" => Request::Verify(Verify::of(given)?),
-        "record" => Request::Record(Record::of(given)?),
-        _ => return asked_to_show(name, given),
+        "summary" => Request::Summary(Summary::of(matches)?),
+        "collect" => Request::Collect(Collect::of(matches)?),
+        "verify" => Request::Verify(Verify::of(matches)?),
+        "record" => Request::Record(Record::of(matches)?),
+        _ => return parse_view(name, matches),
     })
 }
 
-/// What a command is asked that shows an image or a schedule.
-fn asked_to_show<'a>(name: &str, given: &ArgMatches<'a>) -> Result<Request<'a>, Unread>
+/// Parses the arguments of a command that shows an image or a schedule, or of another one.
+fn parse_view<'a>(name: &str, matches: &ArgMatches<'a>) -> Result<Request<'a>, Unread>
     ensures { MatchResult result (IsFor name.now) IsNoUsage }
 {
     Ok(match name {
-        "replay" => Request::Replay(Replay::of(given)?),
-        "order" => Request::Order(Order::of(given)?),
-        "text" => Request::Text(Text::of(given)?),
-        "map" => Request::Map(Map::of(given)?),
-        "timeline" => Request::Timeline(Timeline::of(given)?),
-        _ => return asked_for_image(name, given),
+        "replay" => Request::Replay(Replay::of(matches)?),
+        "order" => Request::Order(Order::of(matches)?),
+        "text" => Request::Text(Text::of(matches)?),
+        "map" => Request::Map(Map::of(matches)?),
+        "timeline" => Request::Timeline(Timeline::of(matches)?),
+        _ => return parse_source(name, matches),
     })
 }
 
-/// What a command is asked that makes an image of something else.
-fn asked_for_image<'a>(name: &str, given: &ArgMatches<'a>) -> Result<Request<'a>, Unread>
+/// Parses the arguments of a command that makes an image.
+fn parse_source<'a>(name: &str, matches: &ArgMatches<'a>) -> Result<Request<'a>, Unread>
     ensures { MatchResult result (IsFor name.now) IsNoUsage }
 {
     Ok(match name {
-        "upgrade" => Request::Upgrade(Upgrade::of(given)?),
-        "import" => Request::Import(Import::of(given)?),
-        "generate" => Request::Generate(Generate::of(given)?),
-        "assemble" => Request::Assemble(Assemble::of(given)?),
+        "upgrade" => Request::Upgrade(Upgrade::of(matches)?),
+        "import" => Request::Import(Import::of(matches)?),
+        "generate" => Request::Generate(Generate::of(matches)?),
+        "assemble" => Request::Assemble(Assemble::of(matches)?),
         _ => return Err(Unread::NoCommand),
     })
 }
 
-/// The words of the program, with no command yet.
+/// The definition of the program, without commands.
 fn program<'a>(alloc: Global) -> Result<Command<'a>, AllocError>
     ensures { IfOk result (λ command. app_of command ≡ program_words) }
 {

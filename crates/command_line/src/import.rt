@@ -1,91 +1,66 @@
-//! The words of `import`.
+//! The command `import`: its arguments, their help, and how they are parsed.
 ghost use Rattle.std.specs.Prelude.{◌≡◌, codes, false, IfErr, IfOk, ◌∷◌, []};
-ghost use Rattle.clap.specs.Words.{app_of, rule_of};
+ghost use Rattle.clap.specs.Words.{app_of};
 ghost use Rattle.clap.specs.declared.builder.command.Command.TheViews.{out-Command as fields_of};
 ghost use Rattle.command_line.specs.CommandLine.{IsCallOf};
 ghost use Rattle.command_line.specs.Request.{IsNoUsage};
-ghost use Rattle.command_line.specs.Commands.{allowance_rule, import_words, region_log_rule};
+ghost use Rattle.command_line.specs.Commands.{import_words};
 
 use crate::arguments;
 use crate::unread::Unread;
-use clap::{Arg, ArgMatches, Command, value_parser};
+use clap::{ArgMatches, Command};
 use std::alloc::{AllocError, Global};
 
-/// The words of `import`.
+/// The definition of `import`.
 pub fn words<'a>(alloc: Global) -> Result<Command<'a>, AllocError>
     ensures app { IfOk result (λ command. app_of command ≡ import_words) }
     ensures local { IfOk result (λ command. (fields_of command).has_globals ≡ false) }
 {
     let command = Command::new(alloc, "import")
-        .about("Writes the heap dump of a Java virtual machine as a heap image")
-        .arg(arguments::file(alloc, "DUMP", "A file with a heap dump"))?
-        .arg(arguments::file(alloc, "IMAGE", "The file for the image"))?
-        .arg(region_log(alloc))?
-        .arg(allowance(alloc))?
+        .about("Convert the heap dump of a Java virtual machine to a heap image")
+        .arg(arguments::file(alloc, "DUMP", "A heap dump"))?
+        .arg(arguments::file(alloc, "IMAGE", "Where to write the image"))?
+        .arg(arguments::region_log(alloc, "Regions have 2^k words, k from 3 to 16 (default 9)"))?
+        .arg(arguments::allowance(alloc))?
         .arg(arguments::flag(
             alloc,
             "live-only",
-            "Keeps the objects alone that are reached from the roots",
+            "Keep only objects that are reachable from the roots",
         ))?;
     arguments::with_last(alloc, command)
 }
 
-/// The size of regions.
-fn region_log<'a>(alloc: Global) -> Arg<'a>
-    ensures rule { rule_of result ≡ region_log_rule }
-    ensures local { result.global ≡ false }
-{
-    Arg::new(alloc, "region-log")
-        .long("region-log")
-        .value_name("k")
-        .value_parser(value_parser!(u32).range(3..=16))
-        .help("The image has regions of 2^k words, k from 3 to 16; 9 if not given")
-}
-
-/// How many dead words may stay.
-pub fn allowance<'a>(alloc: Global) -> Arg<'a>
-    ensures rule { rule_of result ≡ allowance_rule }
-    ensures local { result.global ≡ false }
-{
-    Arg::new(alloc, "allowance")
-        .long("allowance")
-        .value_name("m")
-        .value_parser(value_parser!(u64))
-        .help("How many dead words the dense prefix may keep; 0 if not given")
-}
-
-/// What `import` is asked.
+/// The arguments of `import`.
 #[derive(Drop)]
 pub struct Import<'a> {
     /// The file with the dump.
     pub dump: &'a str,
     /// The file for the image.
     pub image: &'a str,
-    /// The logarithm of the number of words of a region, where it is given.
+    /// The binary logarithm of the region size in words, if it is on the line.
     pub region_log: Option<u32>,
-    /// How many dead words the dense prefix may keep.
+    /// The number of dead words that the dense prefix may keep.
     pub allowance: u64,
-    /// Whether reachable objects alone are kept.
+    /// Whether only reachable objects are kept.
     pub live_only: bool,
-    /// Whether what is written takes its place only once all is done.
+    /// Whether files are replaced only once all is done.
     pub atomic: bool,
-    /// Whether to say at length what goes wrong.
+    /// Whether to print more details about errors.
     pub verbose: bool,
 }
 
 impl<'a> Import<'a> {
-    /// What the words give.
-    pub(crate) fn of(given: &ArgMatches<'a>) -> Result<Import<'a>, Unread>
+    pub(crate) fn of(matches: &ArgMatches<'a>) -> Result<Import<'a>, Unread>
         ensures { IfErr result IsNoUsage }
     {
         Ok(Import {
-            dump: arguments::file_in(given, "DUMP")?,
-            image: arguments::file_in(given, "IMAGE")?,
-            region_log: given.get_one("region-log"),
-            allowance: given.get_one("allowance").unwrap_or(0),
-            live_only: given.get_flag("live-only"),
-            atomic: arguments::is_atomic(given),
-            verbose: arguments::is_verbose(given),
+            dump: arguments::file_in(matches, "DUMP")?,
+            image: arguments::file_in(matches, "IMAGE")?,
+            region_log: matches.get_one("region-log"),
+            allowance: matches.get_one("allowance").unwrap_or(0),
+            live_only: matches.get_flag("live-only"),
+            atomic: arguments::is_atomic(matches),
+            verbose: arguments::is_verbose(matches),
         })
     }
 }

@@ -1,23 +1,21 @@
-//! The words of the program `pcompact`: which words are which command, and what each command is given.
+//! The command line of `pcompact`: its commands, their arguments and help.
 //!
-//! [`read`] reads the words after the program's name with the kit's `clap`, and answers a [`Request`]:
-//! a command with what it is given, or a text to show. A command is a file of its own, with its words,
-//! their help, and what they give. What a command does stands in the program.
+//! [`read`] parses the words after the program's name with the kit's `clap`, and returns a [`Request`]: a command with its
+//! arguments, or a text to show. Each command has a file of its own. `heap_commands` and `pcompact` carry the commands out.
 //!
 //! # What is proved
 //!
-//! - The words of the program and its commands are those of `specs/Commands.antt`, as the definitions
-//!   of `clap` see them (`commands` of `specs/CommandLine.antt`).
-//! - Words that `clap` takes as a call of a command give the request for that command, and are never
-//!   answered by a text. On the one word `board` the only error is that an allocation was refused.
-//! - A law beside each command shows lines such as `collect heap.pcheap out.pcheap --workers 2` to be
-//!   such calls.
+//! - The definitions of the program and its commands, as `clap` sees them, are those of `specs/Commands.antt` (`commands` of
+//!   `specs/CommandLine.antt`).
+//! - Words that `clap` accepts as a call of a command give the request for that command, and never a text. For the one word
+//!   `board` the only error is that memory runs out.
+//! - A law beside each command shows that lines such as `collect heap.pcheap out.pcheap --workers 2` are such calls.
 //! - Nothing here reads out of bounds, overflows or stops the process, and every loop ends.
 //!
 //! # What is only tested
 //!
-//! What a command is given: that each name and each number is the one in the words. The texts of help
-//! and of usage errors, and which other words are which command.
+//! The arguments in a request: that each name and each number is the one in the words. The texts of help and of usage errors,
+//! and which other words are which command.
 #![tactic(auto)]
 
 mod arguments;

@@ -1,4 +1,4 @@
-//! The words of `order`.
+//! The command `order`: its arguments, their help, and how they are parsed.
 ghost use Rattle.std.specs.Prelude.{◌≡◌, codes, false, IfErr, IfOk, ◌∷◌, []};
 ghost use Rattle.clap.specs.Words.{app_of};
 ghost use Rattle.clap.specs.declared.builder.command.Command.TheViews.{out-Command as fields_of};
@@ -11,34 +11,33 @@ use crate::unread::Unread;
 use clap::{ArgMatches, Command};
 use std::alloc::{AllocError, Global};
 
-/// The words of `order`.
+/// The definition of `order`.
 pub fn words<'a>(alloc: Global) -> Result<Command<'a>, AllocError>
     ensures app { IfOk result (λ command. app_of command ≡ order_words) }
     ensures local { IfOk result (λ command. (fields_of command).has_globals ≡ false) }
 {
     Command::new(alloc, "order")
-        .about("Prints what parallelism the order of work of a collection allows")
+        .about("Print how many workers a collection can keep busy")
         .arg(arguments::image(alloc))?
         .arg(arguments::verbose(alloc))
 }
 
-/// What `order` is asked.
+/// The arguments of `order`.
 #[derive(Drop)]
 pub struct Order<'a> {
     /// The file with the image.
     pub image: &'a str,
-    /// Whether to say at length what goes wrong.
+    /// Whether to print more details about errors.
     pub verbose: bool,
 }
 
 impl<'a> Order<'a> {
-    /// What the words give.
-    pub(crate) fn of(given: &ArgMatches<'a>) -> Result<Order<'a>, Unread>
+    pub(crate) fn of(matches: &ArgMatches<'a>) -> Result<Order<'a>, Unread>
         ensures { IfErr result IsNoUsage }
     {
         Ok(Order {
-            image: arguments::file_in(given, "IMAGE")?,
-            verbose: arguments::is_verbose(given),
+            image: arguments::file_in(matches, "IMAGE")?,
+            verbose: arguments::is_verbose(matches),
         })
     }
 }

@@ -1,4 +1,4 @@
-//! The reading of the words.
+//! Parsing the command line.
 ghost use Rattle.std.specs.Prelude.{◌≡◌, ◌∷◌, [], codes, ℕ, List, Err, IfErr, MatchResult};
 ghost use Rattle.clap.specs.Words.{kind_of};
 ghost use Rattle.command_line.specs.CommandLine.{AreCallOf, AreWords};
@@ -12,9 +12,9 @@ use clap::Error;
 use clap::error::ErrorKind;
 use std::alloc::Global;
 
-/// Reads the words that follow the program's name.
+/// Parses the words after the program's name.
 ///
-/// Words that call a command give its request, where memory suffices.
+/// Words that call a command give its request, unless memory runs out.
 pub fn read(alloc: Global, words: &[String]) -> Result<Request<'_>, Unread>
     ensures calls { (name : List ℕ) → AreCallOf name words.now
         → MatchResult result (IsFor name) IsNoUsage }
@@ -22,14 +22,13 @@ pub fn read(alloc: Global, words: &[String]) -> Result<Request<'_>, Unread>
         → MatchResult result (IsFor (codes "board")) (λ unread. unread ≡ Memory) }
 {
     match commands::words(alloc)?.try_get_matches_from(words) {
-        Ok(matches) => commands::called(&matches),
-        Err(error) => answered(alloc, &error),
+        Ok(matches) => commands::parse_request(&matches),
+        Err(error) => interpret_error(alloc, &error),
     }
 }
 
-/// What the reading of the words answers in place of a command: help, the version, what is wrong
-/// with the words, or that memory ran out.
-fn answered<'a>(alloc: Global, error: &Error) -> Result<Request<'a>, Unread>
+/// The result for words that are no call of a command: help, the version, a usage error, or that memory ran out.
+fn interpret_error<'a>(alloc: Global, error: &Error) -> Result<Request<'a>, Unread>
     ensures { kind_of error.now ≡ ErrorKind.OutOfMemory → result ≡ Err Memory }
 {
     if error.kind() == ErrorKind::OutOfMemory {

@@ -1,4 +1,4 @@
-//! The words of `record`.
+//! The command `record`: its arguments, their help, and how they are parsed.
 ghost use Rattle.std.specs.Prelude.{◌≡◌, codes, false, IfErr, IfOk, ◌∷◌, []};
 ghost use Rattle.clap.specs.Words.{app_of};
 ghost use Rattle.clap.specs.declared.builder.command.Command.TheViews.{out-Command as fields_of};
@@ -11,19 +11,19 @@ use crate::unread::Unread;
 use clap::{ArgMatches, Command};
 use std::alloc::{AllocError, Global};
 
-/// The words of `record`.
+/// The definition of `record`.
 pub fn words<'a>(alloc: Global) -> Result<Command<'a>, AllocError>
     ensures app { IfOk result (λ command. app_of command ≡ record_words) }
     ensures local { IfOk result (λ command. (fields_of command).has_globals ≡ false) }
 {
     Command::new(alloc, "record")
-        .about("Collects a heap image, and writes down what each worker did")
+        .about("Collect a heap image and record what each worker does")
         .arg(arguments::image(alloc))?
-        .arg(arguments::file(alloc, "OUT", "The file for the compacted image"))?
+        .arg(arguments::file(alloc, "OUT", "Where to write the compacted image"))?
         .arg(arguments::file(
             alloc,
             "SCHEDULE",
-            "The file for the schedule of the workers",
+            "Where to write the schedule of the workers",
         ))?
         .arg(arguments::workers(alloc))?
         .arg(arguments::atomic(alloc))?
@@ -31,38 +31,37 @@ pub fn words<'a>(alloc: Global) -> Result<Command<'a>, AllocError>
         .arg(arguments::verbose(alloc))
 }
 
-/// What `record` is asked.
+/// The arguments of `record`.
 #[derive(Drop)]
 pub struct Record<'a> {
     /// The file with the image.
     pub image: &'a str,
-    /// The file for the compacted one.
+    /// The file for the compacted image.
     pub out: &'a str,
     /// The file for the schedule.
     pub schedule: &'a str,
-    /// How many workers share the work.
+    /// The number of workers.
     pub workers: u32,
-    /// Whether what is written takes its place only once all is done.
+    /// Whether files are replaced only once all is done.
     pub atomic: bool,
-    /// Whether to tell what the work took.
+    /// Whether to print timings and peak memory.
     pub stats: bool,
-    /// Whether to say at length what goes wrong.
+    /// Whether to print more details about errors.
     pub verbose: bool,
 }
 
 impl<'a> Record<'a> {
-    /// What the words give.
-    pub(crate) fn of(given: &ArgMatches<'a>) -> Result<Record<'a>, Unread>
+    pub(crate) fn of(matches: &ArgMatches<'a>) -> Result<Record<'a>, Unread>
         ensures { IfErr result IsNoUsage }
     {
         Ok(Record {
-            image: arguments::file_in(given, "IMAGE")?,
-            out: arguments::file_in(given, "OUT")?,
-            schedule: arguments::file_in(given, "SCHEDULE")?,
-            workers: arguments::workers_in(given)?,
-            atomic: arguments::is_atomic(given),
-            stats: arguments::asks_stats(given),
-            verbose: arguments::is_verbose(given),
+            image: arguments::file_in(matches, "IMAGE")?,
+            out: arguments::file_in(matches, "OUT")?,
+            schedule: arguments::file_in(matches, "SCHEDULE")?,
+            workers: arguments::workers_in(matches)?,
+            atomic: arguments::is_atomic(matches),
+            stats: arguments::asks_stats(matches),
+            verbose: arguments::is_verbose(matches),
         })
     }
 }

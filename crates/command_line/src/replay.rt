@@ -1,4 +1,4 @@
-//! The words of `replay`.
+//! The command `replay`: its arguments, their help, and how they are parsed.
 ghost use Rattle.std.specs.Prelude.{◌≡◌, codes, false, IfErr, IfOk, ◌∷◌, []};
 ghost use Rattle.clap.specs.Words.{app_of};
 ghost use Rattle.clap.specs.declared.builder.command.Command.TheViews.{out-Command as fields_of};
@@ -11,38 +11,37 @@ use crate::unread::Unread;
 use clap::{ArgMatches, Command};
 use std::alloc::{AllocError, Global};
 
-/// The words of `replay`.
+/// The definition of `replay`.
 pub fn words<'a>(alloc: Global) -> Result<Command<'a>, AllocError>
     ensures app { IfOk result (λ command. app_of command ≡ replay_words) }
     ensures local { IfOk result (λ command. (fields_of command).has_globals ≡ false) }
 {
     Command::new(alloc, "replay")
-        .about("Follows a schedule word by word, and prints it with each reply")
+        .about("Replay a schedule word by word and print it with all replies")
         .arg(arguments::image(alloc))?
-        .arg(arguments::file(alloc, "SCHEDULE", "A file with a schedule"))?
+        .arg(arguments::file(alloc, "SCHEDULE", "A schedule for the image"))?
         .arg(arguments::verbose(alloc))
 }
 
-/// What `replay` is asked.
+/// The arguments of `replay`.
 #[derive(Drop)]
 pub struct Replay<'a> {
     /// The file with the image.
     pub image: &'a str,
     /// The file with the schedule.
     pub schedule: &'a str,
-    /// Whether to say at length what goes wrong.
+    /// Whether to print more details about errors.
     pub verbose: bool,
 }
 
 impl<'a> Replay<'a> {
-    /// What the words give.
-    pub(crate) fn of(given: &ArgMatches<'a>) -> Result<Replay<'a>, Unread>
+    pub(crate) fn of(matches: &ArgMatches<'a>) -> Result<Replay<'a>, Unread>
         ensures { IfErr result IsNoUsage }
     {
         Ok(Replay {
-            image: arguments::file_in(given, "IMAGE")?,
-            schedule: arguments::file_in(given, "SCHEDULE")?,
-            verbose: arguments::is_verbose(given),
+            image: arguments::file_in(matches, "IMAGE")?,
+            schedule: arguments::file_in(matches, "SCHEDULE")?,
+            verbose: arguments::is_verbose(matches),
         })
     }
 }

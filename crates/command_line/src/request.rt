@@ -1,4 +1,4 @@
-//! `Request`.
+//! The commands with their arguments.
 use crate::assemble::Assemble;
 use crate::collect::Collect;
 use crate::generate::Generate;
@@ -13,38 +13,24 @@ use crate::timeline::Timeline;
 use crate::upgrade::Upgrade;
 use crate::verify::Verify;
 
-/// What the words ask for: a command, with what it is given, or a text.
+/// A command with its arguments, or a text to show.
 #[derive(Drop)]
 pub enum Request<'a> {
-    /// The command `board`.
     Board,
-    /// The command `summary`.
     Summary(Summary<'a>),
-    /// The command `collect`.
     Collect(Collect<'a>),
-    /// The command `verify`.
     Verify(Verify<'a>),
-    /// The command `record`.
     Record(Record<'a>),
-    /// The command `replay`.
     Replay(Replay<'a>),
-    /// The command `upgrade`.
     Upgrade(Upgrade<'a>),
-    /// The command `import`.
     Import(Import<'a>),
-    /// The command `generate`.
     Generate(Generate<'a>),
-    /// The command `order`.
     Order(Order<'a>),
-    /// The command `text`.
     Text(Text<'a>),
-    /// The command `assemble`.
     Assemble(Assemble<'a>),
-    /// The command `map`.
     Map(Map<'a>),
-    /// The command `timeline`.
     Timeline(Timeline<'a>),
-    /// To show this text, help or the version, of whole lines.
+    /// Show help or the version. The text has whole lines.
     Show(String),
 }
 
@@ -52,35 +38,35 @@ impl Request<'_> {
     ghost use Rattle.std.specs.Prelude.{◌≡◌};
     ghost use Rattle.command_line.specs.Request.{asks_stats};
 
-    /// Whether to tell what the work took. Of a command that doesn't take `--stats` the answer is no.
+    /// Whether to print timings and peak memory. A command without `--stats` prints none.
     pub fn asks_stats(&self) -> bool
         ensures { result ≡ asks_stats self.now }
     {
         match self {
-            Request::Collect(asked) => asked.stats,
-            Request::Verify(asked) => asked.stats,
-            Request::Record(asked) => asked.stats,
+            Request::Collect(call) => call.stats,
+            Request::Verify(call) => call.stats,
+            Request::Record(call) => call.stats,
             _ => false,
         }
     }
 
-    /// Whether to say at length what goes wrong.
+    /// Whether to print more details about errors.
     pub fn is_verbose(&self) -> bool {
         match self {
             Request::Board | Request::Show(_) => false,
-            Request::Summary(asked) => asked.verbose,
-            Request::Collect(asked) => asked.verbose,
-            Request::Verify(asked) => asked.verbose,
-            Request::Record(asked) => asked.verbose,
-            Request::Replay(asked) => asked.verbose,
-            Request::Upgrade(asked) => asked.verbose,
-            Request::Import(asked) => asked.verbose,
-            Request::Generate(asked) => asked.verbose,
-            Request::Order(asked) => asked.verbose,
-            Request::Text(asked) => asked.verbose,
-            Request::Assemble(asked) => asked.verbose,
-            Request::Map(asked) => asked.verbose,
-            Request::Timeline(asked) => asked.verbose,
+            Request::Summary(call) => call.verbose,
+            Request::Collect(call) => call.verbose,
+            Request::Verify(call) => call.verbose,
+            Request::Record(call) => call.verbose,
+            Request::Replay(call) => call.verbose,
+            Request::Upgrade(call) => call.verbose,
+            Request::Import(call) => call.verbose,
+            Request::Generate(call) => call.verbose,
+            Request::Order(call) => call.verbose,
+            Request::Text(call) => call.verbose,
+            Request::Assemble(call) => call.verbose,
+            Request::Map(call) => call.verbose,
+            Request::Timeline(call) => call.verbose,
         }
     }
 }

@@ -1,4 +1,4 @@
-//! The words of `summary`.
+//! The command `summary`: its arguments, their help, and how they are parsed.
 ghost use Rattle.std.specs.Prelude.{◌≡◌, codes, false, IfErr, IfOk, ◌∷◌, []};
 ghost use Rattle.clap.specs.Words.{app_of};
 ghost use Rattle.clap.specs.declared.builder.command.Command.TheViews.{out-Command as fields_of};
@@ -11,34 +11,33 @@ use crate::unread::Unread;
 use clap::{ArgMatches, Command};
 use std::alloc::{AllocError, Global};
 
-/// The words of `summary`.
+/// The definition of `summary`.
 pub fn words<'a>(alloc: Global) -> Result<Command<'a>, AllocError>
     ensures app { IfOk result (λ command. app_of command ≡ summary_words) }
     ensures local { IfOk result (λ command. (fields_of command).has_globals ≡ false) }
 {
     Command::new(alloc, "summary")
-        .about("Prints what a collection of a heap image will do, region by region")
+        .about("Print the plan of a collection, region by region")
         .arg(arguments::image(alloc))?
         .arg(arguments::verbose(alloc))
 }
 
-/// What `summary` is asked.
+/// The arguments of `summary`.
 #[derive(Drop)]
 pub struct Summary<'a> {
     /// The file with the image.
     pub image: &'a str,
-    /// Whether to say at length what goes wrong.
+    /// Whether to print more details about errors.
     pub verbose: bool,
 }
 
 impl<'a> Summary<'a> {
-    /// What the words give.
-    pub(crate) fn of(given: &ArgMatches<'a>) -> Result<Summary<'a>, Unread>
+    pub(crate) fn of(matches: &ArgMatches<'a>) -> Result<Summary<'a>, Unread>
         ensures { IfErr result IsNoUsage }
     {
         Ok(Summary {
-            image: arguments::file_in(given, "IMAGE")?,
-            verbose: arguments::is_verbose(given),
+            image: arguments::file_in(matches, "IMAGE")?,
+            verbose: arguments::is_verbose(matches),
         })
     }
 }

@@ -1,4 +1,4 @@
-//! `Unread`.
+//! Command lines that give no request.
 ghost use Rattle.std.specs.Prelude.{◌≡◌};
 ghost use Rattle.command_line.specs.declared.unread.Unread.TheVariants.{Memory};
 
@@ -7,10 +7,9 @@ use std::alloc::AllocError;
 /// Why words give no request.
 #[derive(Debug, Drop)]
 pub enum Unread {
-    /// They are no command. The text, of whole lines, says what is wrong with them.
+    /// They are no command. The text, in whole lines, says why.
     Usage(String),
-    /// They name no command, or leave out what one must be given. The reading of the words refuses
-    /// both before, with a text.
+    /// They name no command, or a required argument is missing. `clap` reports both earlier, as [`Unread::Usage`].
     NoCommand,
     /// An allocation was refused.
     Memory,

@@ -1,4 +1,4 @@
-//! The words of `upgrade`.
+//! The command `upgrade`: its arguments, their help, and how they are parsed.
 ghost use Rattle.std.specs.Prelude.{◌≡◌, codes, false, IfErr, IfOk, ◌∷◌, []};
 ghost use Rattle.clap.specs.Words.{app_of};
 ghost use Rattle.clap.specs.declared.builder.command.Command.TheViews.{out-Command as fields_of};
@@ -11,41 +11,40 @@ use crate::unread::Unread;
 use clap::{ArgMatches, Command};
 use std::alloc::{AllocError, Global};
 
-/// The words of `upgrade`.
+/// The definition of `upgrade`.
 pub fn words<'a>(alloc: Global) -> Result<Command<'a>, AllocError>
     ensures app { IfOk result (λ command. app_of command ≡ upgrade_words) }
     ensures local { IfOk result (λ command. (fields_of command).has_globals ≡ false) }
 {
     let command = Command::new(alloc, "upgrade")
-        .about("Writes a heap image as one with roots")
+        .about("Convert a heap image to version 2, which has roots")
         .arg(arguments::image(alloc))?
-        .arg(arguments::file(alloc, "OUT", "The file for the upgraded image"))?;
+        .arg(arguments::file(alloc, "OUT", "Where to write the upgraded image"))?;
     arguments::with_last(alloc, command)
 }
 
-/// What `upgrade` is asked.
+/// The arguments of `upgrade`.
 #[derive(Drop)]
 pub struct Upgrade<'a> {
     /// The file with the image.
     pub image: &'a str,
-    /// The file for the upgraded one.
+    /// The file for the upgraded image.
     pub out: &'a str,
-    /// Whether what is written takes its place only once all is done.
+    /// Whether files are replaced only once all is done.
     pub atomic: bool,
-    /// Whether to say at length what goes wrong.
+    /// Whether to print more details about errors.
     pub verbose: bool,
 }
 
 impl<'a> Upgrade<'a> {
-    /// What the words give.
-    pub(crate) fn of(given: &ArgMatches<'a>) -> Result<Upgrade<'a>, Unread>
+    pub(crate) fn of(matches: &ArgMatches<'a>) -> Result<Upgrade<'a>, Unread>
         ensures { IfErr result IsNoUsage }
     {
         Ok(Upgrade {
-            image: arguments::file_in(given, "IMAGE")?,
-            out: arguments::file_in(given, "OUT")?,
-            atomic: arguments::is_atomic(given),
-            verbose: arguments::is_verbose(given),
+            image: arguments::file_in(matches, "IMAGE")?,
+            out: arguments::file_in(matches, "OUT")?,
+            atomic: arguments::is_atomic(matches),
+            verbose: arguments::is_verbose(matches),
         })
     }
 }

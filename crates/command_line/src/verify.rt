@@ -1,4 +1,4 @@
-//! The words of `verify`.
+//! The command `verify`: its arguments, their help, and how they are parsed.
 ghost use Rattle.std.specs.Prelude.{◌≡◌, codes, false, IfErr, IfOk, ◌∷◌, []};
 ghost use Rattle.clap.specs.Words.{app_of};
 ghost use Rattle.clap.specs.declared.builder.command.Command.TheViews.{out-Command as fields_of};
@@ -11,46 +11,41 @@ use crate::unread::Unread;
 use clap::{ArgMatches, Command};
 use std::alloc::{AllocError, Global};
 
-/// The words of `verify`.
+/// The definition of `verify`.
 pub fn words<'a>(alloc: Global) -> Result<Command<'a>, AllocError>
     ensures app { IfOk result (λ command. app_of command ≡ verify_words) }
     ensures local { IfOk result (λ command. (fields_of command).has_globals ≡ false) }
 {
     Command::new(alloc, "verify")
-        .about("Says whether a heap image is the compaction of another, or where they differ")
-        .arg(arguments::file(alloc, "BEFORE", "A file with a heap image"))?
-        .arg(arguments::file(
-            alloc,
-            "AFTER",
-            "A file with the image that should be its compaction",
-        ))?
+        .about("Compare a heap image with the compaction of another")
+        .arg(arguments::file(alloc, "BEFORE", "The image before its collection"))?
+        .arg(arguments::file(alloc, "AFTER", "The image to compare with its compaction"))?
         .arg(arguments::stats(alloc))?
         .arg(arguments::verbose(alloc))
 }
 
-/// What `verify` is asked.
+/// The arguments of `verify`.
 #[derive(Drop)]
 pub struct Verify<'a> {
     /// The file with the image as it was.
     pub before: &'a str,
     /// The file with the image that should be its compaction.
     pub after: &'a str,
-    /// Whether to tell what the work took.
+    /// Whether to print timings and peak memory.
     pub stats: bool,
-    /// Whether to say at length what goes wrong.
+    /// Whether to print more details about errors.
     pub verbose: bool,
 }
 
 impl<'a> Verify<'a> {
-    /// What the words give.
-    pub(crate) fn of(given: &ArgMatches<'a>) -> Result<Verify<'a>, Unread>
+    pub(crate) fn of(matches: &ArgMatches<'a>) -> Result<Verify<'a>, Unread>
         ensures { IfErr result IsNoUsage }
     {
         Ok(Verify {
-            before: arguments::file_in(given, "BEFORE")?,
-            after: arguments::file_in(given, "AFTER")?,
-            stats: arguments::asks_stats(given),
-            verbose: arguments::is_verbose(given),
+            before: arguments::file_in(matches, "BEFORE")?,
+            after: arguments::file_in(matches, "AFTER")?,
+            stats: arguments::asks_stats(matches),
+            verbose: arguments::is_verbose(matches),
         })
     }
 }

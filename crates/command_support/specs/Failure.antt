@@ -16,7 +16,7 @@ status_of (Generation GenerationError.Defect) = 1
 status_of (Generation error) = 2
 status_of (Text error) = 1
 
--- the failure for want of memory
+-- the failure if memory runs out
 abbrev pub out_of_memory : Failure
 out_of_memory = Fault Memory
 
@@ -30,12 +30,12 @@ failure_of ImportError.Input = failed_device
 failure_of ImportError.Memory = out_of_memory
 failure_of error = Dump error
 
--- the failure of a heap that can't be made as it is wanted
+-- the failure of a request for a heap that can't be made
 abbrev pub generation_failure : GenerationError → Failure
 generation_failure GenerationError.Memory = out_of_memory
 generation_failure error = Generation error
 
--- the failure of a text that is none of a heap
+-- the failure of a text that isn't a heap's
 abbrev pub text_failure : TextError → Failure
 text_failure TextError.Memory = out_of_memory
 text_failure error = Text error

@@ -1,16 +1,16 @@
-//! `Difference`.
+//! How an image differs from the compaction of another.
 use std::fmt;
 
 /// The first difference between an image and the compaction of another.
 #[derive(Debug, Clone, Copy, PartialEq, Eq)]
 pub enum Difference {
-    /// What the image has beside its words, its live addresses and its roots, or how many of these.
+    /// The region log, the allowance, the version, or the number of words, live objects or roots.
     Shape,
-    /// The word at this address.
+    /// The words at this address.
     Word(u64),
-    /// The live address at this index.
+    /// The live addresses at this index.
     Live(u64),
-    /// The root at this index.
+    /// The roots at this index.
     Root(u64),
 }
 

@@ -1,24 +1,23 @@
-//! `FailedCall`.
+//! System calls that fail.
 use std::io::{Error, ErrorKind, Write};
 use std::{fmt, io};
 
-/// What the system was asked to do with a file.
+/// A system call on a file.
 #[derive(Debug, Clone, Copy, PartialEq, Eq)]
 pub enum SystemCall {
     Open,
-    /// To tell which file it is, and of what kind.
+    /// Gets the metadata.
     Stat,
-    /// To make it empty.
+    /// Cuts the file.
     Empty,
-    /// To make a new file beside it.
+    /// Makes the new file.
     Make,
-    /// To give the new file the owner and the permissions of the old one.
+    /// Gives the new file the owner and the permissions of the old one.
     Access,
     Read,
     Write,
-    /// To bring what was written onto the disk.
     Sync,
-    /// To give the new file the name of the old one.
+    /// Renames the new file to its place.
     Rename,
 }
 
@@ -38,17 +37,16 @@ impl fmt::Display for SystemCall {
     }
 }
 
-/// A call of the system that failed.
+/// A system call that failed.
 #[derive(Clone, Copy)]
 pub struct FailedCall {
     call: SystemCall,
     kind: ErrorKind,
-    /// The system's own number of the error, where it gave one.
+    /// The system's number of the error, if it is from the system.
     number: Option<i32>,
 }
 
 impl FailedCall {
-    /// This call, which failed with this error.
     pub fn of(call: SystemCall, error: &Error) -> FailedCall {
         FailedCall {
             call,
@@ -66,14 +64,14 @@ impl FailedCall {
         }
     }
 
-    /// Writes the lines that tell it: the call, and the reason.
-    pub fn tell<B: Write>(&self, err: &mut B) -> io::Result<()> {
+    /// Writes the lines of the call and of the reason.
+    pub fn print<B: Write>(&self, err: &mut B) -> io::Result<()> {
         writeln!(err, "pcompact: call {}", self.call)?;
         writeln!(err, "pcompact: reason {self}")
     }
 }
 
-/// The reason, in words: one of four that users can mend, or the system's own number of it.
+/// The reason: in words if the user can mend it, else the system's number.
 impl fmt::Display for FailedCall {
     fn fmt<W: fmt::Write>(&self, f: &mut fmt::Formatter<W>) -> fmt::Result {
         match (self.kind, self.number) {

@@ -14,29 +14,28 @@ use std::alloc::{AllocError, Global};
 /// Why the program ends with a status other than 0.
 #[derive(Debug, Drop)]
 pub enum Failure {
-    /// The words are no command. The text, of whole lines, says what is wrong with them.
+    /// The words are no command. The text, in whole lines, says why.
     Usage(String),
-    /// The command met a fault.
     Fault(Fault),
-    /// An image isn't the compaction of another: the first difference.
+    /// An image isn't the compaction of another one. This is the first difference.
     Differs(Difference),
     /// A heap dump gives no image.
     Dump(ImportError),
-    /// No heap is as it is wanted.
+    /// No heap has the requested figures.
     Generation(GenerationError),
-    /// A text is none of a heap.
+    /// A text isn't that of a heap.
     Text(TextError),
 }
 
 impl Failure {
     ghost use Rattle.command_support.specs.Failure.{out_of_memory, status_of};
 
-    /// Words that are no command, for this reason.
+    /// The failure of words that are no command, with this text.
     pub fn usage(alloc: Global, reason: &str) -> Result<Failure, AllocError> {
         Ok(Failure::Usage(String::from_str(alloc, reason)?))
     }
 
-    /// Why words give no request.
+    /// The failure of words that give no request.
     pub fn of_unread(alloc: Global, unread: Unread) -> Failure
         ensures { unread ≡ Unread.Memory → result ≡ out_of_memory }
     {
@@ -50,7 +49,7 @@ impl Failure {
         }
     }
 
-    /// The exit status: 2 for words that are no command or give no heap, else 1.
+    /// The exit status: 2 for words that are no command or request an impossible heap, else 1.
     pub fn status(&self) -> u8
         ensures { result ≡ status_of self.now }
     {
@@ -78,7 +77,7 @@ impl From<Fault> for Failure {
     }
 }
 
-/// A device that failed is fault 13 and refused memory is fault 11, as everywhere.
+/// A failed device is fault 13, and refused memory is fault 11.
 impl From<ImportError> for Failure {
     ghost from_gives = { λ error failure. failure ≡ failure_of error };
 
@@ -91,7 +90,7 @@ impl From<ImportError> for Failure {
     }
 }
 
-/// Refused memory is fault 11, as everywhere.
+/// Refused memory is fault 11.
 impl From<GenerationError> for Failure {
     ghost from_gives = { λ error failure. failure ≡ generation_failure error };
 
@@ -103,7 +102,7 @@ impl From<GenerationError> for Failure {
     }
 }
 
-/// Refused memory is fault 11, as everywhere.
+/// Refused memory is fault 11.
 impl From<TextError> for Failure {
     ghost from_gives = { λ error failure. failure ≡ text_failure error };
 

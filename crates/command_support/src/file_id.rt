@@ -1,18 +1,18 @@
-//! `FileId`.
+//! Which file of the system a file is.
 use std::fs::Metadata;
 use std::os::unix::fs::MetadataExt;
 
-/// Which file of the system it is, whatever its names.
-#[derive(Clone, Copy, PartialEq, Eq)]
+/// A file of the system, whatever its names.
+#[derive(Debug, Clone, Copy, PartialEq, Eq)]
 pub struct FileId {
-    /// The number of the device on which the file lies.
+    /// The number of the device that has the file.
     device: u64,
-    /// The file's number there, 0 where the system tells none.
+    /// The file's number on that device, 0 if the system has none.
     inode: u64,
 }
 
 impl FileId {
-    /// The file that this is told of.
+    /// The file that this metadata is of.
     pub fn of(metadata: &Metadata) -> FileId {
         FileId {
             device: metadata.dev(),
@@ -20,7 +20,7 @@ impl FileId {
         }
     }
 
-    /// Whether both are one file. Of a file without a number this isn't known, and the answer is no.
+    /// Whether both are one file. A file without a number is the same as none, not even itself.
     pub fn is_same(self, other: FileId) -> bool {
         self.inode != 0 && self == other
     }

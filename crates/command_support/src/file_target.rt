@@ -1,13 +1,14 @@
-//! `FileTarget`.
+//! Files to write, as they are before a command changes them.
 use crate::access::{Access, first_mode};
 use crate::failed_call::{FailedCall, SystemCall};
 use crate::file_id::FileId;
 use crate::file_word::FileWord;
 use crate::files::not_regular;
+use crate::leftovers::Inputs;
 use crate::output::Output;
 use crate::replacement::{Making, Replacement};
 use crate::system_file::SystemFile;
-use crate::trouble::{Trouble, called};
+use crate::trouble::{Trouble, on_file};
 use crate::watched::Watched;
 use std::alloc::AllocError;
 use std::fs::{Metadata, OpenFile, OpenOptions};
@@ -17,64 +18,68 @@ use std::path::{Path, PathBuf};
 use std::rt::Files;
 use std::{fs, io};
 
-/// What a command asks of the files that it writes.
+/// How a command writes its files.
 #[derive(Debug, Clone, Copy, PartialEq, Eq)]
 pub struct Writing {
-    /// Whether each is replaced, once all is done.
+    /// Whether each file is replaced, once all is done.
     pub atomic: bool,
-    /// Whether one that isn't there yet is made for its owner alone.
+    /// Whether a file that isn't there yet is made for its owner alone.
     pub is_private: bool,
+    /// The file that the command reads, if it reads one. It isn't removed as a leftover of a killed call.
+    pub read: Option<FileId>,
 }
 
-/// A file to be written. It still is as it was found.
+/// A file to write, unchanged yet.
 #[derive(Drop)]
 pub struct FileTarget<'a, F: Drop> {
     word: FileWord<'a>,
     /// Whether it is made for its owner alone, if it isn't there yet.
     is_private: bool,
-    /// What was there, or was made for want of it.
+    /// The metadata of the file that was there, or was made because there was none.
     found: Option<Metadata>,
+    inputs: Inputs,
     way: Way<F>,
 }
 
 /// How a file is to be written.
 #[derive(Drop)]
 enum Way<F: Drop> {
-    /// Where it stands. It is open, and was made if it wasn't there.
+    /// In place. The file is open, and was made if it wasn't there.
     InPlace { file: F, is_new: bool },
-    /// As a new one beside this place, which it takes in the end.
+    /// As a new file beside this place, which that takes in the end.
     Beside(PathBuf),
 }
 
 impl<'a, F: OpenFile + Drop> FileTarget<'a, F> {
-    /// Finds the file of this word: opens it for writing, and makes it if it isn't there; or, where
-    /// it is to be replaced, looks at what is there.
+    /// Opens the file of this word for writing, and makes it if it isn't there. With `atomic` it only looks at what is there,
+    /// which must be a regular file or nothing.
     ///
-    /// Fault 13 where it can't be opened for writing, and 11 for want of memory. What is to be
-    /// replaced must be a regular file, or not be there.
+    /// Fault 13 if the file can't be opened for writing, and 11 if memory runs out.
     pub fn find<H: Files<File = F> + AllocGlobal>(
         host: &H,
         word: FileWord<'a>,
         writing: Writing,
     ) -> Result<FileTarget<'a, F>, Trouble<'a>> {
         if writing.atomic {
-            FileTarget::beside(host, word, writing.is_private)
+            FileTarget::beside(host, word, writing)
         } else {
-            FileTarget::in_place(host, word, writing.is_private)
+            FileTarget::in_place(host, word, writing)
         }
     }
 
     fn in_place<H: Files<File = F> + AllocGlobal>(
         host: &H,
         word: FileWord<'a>,
-        is_private: bool,
+        writing: Writing,
     ) -> Result<FileTarget<'a, F>, Trouble<'a>> {
-        let (file, is_new) = called(word, SystemCall::Open, open(host, word.name, is_private))?;
-        match called(word, SystemCall::Stat, file.metadata()) {
+        let opened = open(host, word.name, writing.is_private);
+        let (file, is_new) = on_file(word, SystemCall::Open, opened)?;
+        match on_file(word, SystemCall::Stat, file.metadata()) {
             Ok(found) => Ok(FileTarget {
                 word,
-                is_private,
+                is_private: writing.is_private,
                 found: Some(found),
+                inputs: writing.inputs(),
                 way: Way::InPlace { file, is_new },
             }),
             Err(trouble) => {
@@ -89,24 +94,24 @@ impl<'a, F: OpenFile + Drop> FileTarget<'a, F> {
     fn beside<H: Files<File = F> + AllocGlobal>(
         host: &H,
         word: FileWord<'a>,
-        is_private: bool,
+        writing: Writing,
     ) -> Result<FileTarget<'a, F>, Trouble<'a>> {
-        let (place, found) = replaced(host, word)?;
+        let (place, found) = find_place(host, word)?;
         let way = Way::Beside(place);
         Ok(FileTarget {
             word,
-            is_private,
+            is_private: writing.is_private,
             found,
+            inputs: writing.inputs(),
             way,
         })
     }
 
-    /// The file's word.
     pub fn word(&self) -> FileWord<'a> {
         self.word
     }
 
-    /// Whether a new file is to take its place.
+    /// Whether a new file takes its place.
     pub fn is_replaced(&self) -> bool {
         match &self.way {
             Way::InPlace { .. } => false,
@@ -114,11 +119,22 @@ impl<'a, F: OpenFile + Drop> FileTarget<'a, F> {
         }
     }
 
-    /// The name, without its folder, of the file whose place a new one is to take.
+    /// The name, without the folder, of the place that a new file takes.
     pub fn place_name(&self) -> Option<&str> {
         match &self.way {
             Way::InPlace { .. } => None,
             Way::Beside(place) => place.file_name(),
+        }
+    }
+
+    /// Notes that the command reads this file besides the one of its [`Writing`].
+    pub(crate) fn beside_input(self, id: FileId) -> FileTarget<'a, F> {
+        FileTarget {
+            inputs: Inputs {
+                second: Some(id),
+                ..self.inputs
+            },
+            ..self
         }
     }
 
@@ -130,7 +146,7 @@ impl<'a, F: OpenFile + Drop> FileTarget<'a, F> {
         }
     }
 
-    /// Whether both are one file, or will be. Fault 13 where the system doesn't tell.
+    /// Whether both are one file, or will be. Fault 13 if a call on one of them fails.
     pub fn is_same<H: Files<File = F>>(
         &self,
         host: &H,
@@ -143,18 +159,18 @@ impl<'a, F: OpenFile + Drop> FileTarget<'a, F> {
         }
     }
 
-    /// Gives it up unchanged. One that was not there is removed again.
+    /// Leaves the file unchanged. If it was made it is removed.
     pub fn leave<H: Files<File = F> + AllocGlobal>(self, host: &H) {
         if let Way::InPlace { is_new: true, .. } = self.way {
             remove_made(host, self.word.name);
         }
     }
 
-    /// Begins to write it: empties it, or makes the new file beside it. A pipe, a device or standard output has nothing to
-    /// be emptied, and a file that is empty isn't emptied again: some systems write a file that was emptied to the disk when
-    /// it is closed.
+    /// Begins to write the file: empties it, or makes the new file beside it. A pipe, a device and standard output have nothing
+    /// to empty, and an empty file isn't emptied again: some systems write a file that was emptied to the disk when it is
+    /// closed.
     ///
-    /// After fault 13, or 11 for want of memory, it is as it was.
+    /// After fault 13, or 11 if memory runs out, the file is as it was.
     pub fn begin<H: Files<File = F> + AllocGlobal>(
         self,
         host: &H,
@@ -165,8 +181,8 @@ impl<'a, F: OpenFile + Drop> FileTarget<'a, F> {
         self.begin_apart(host, None)
     }
 
-    /// Begins to write it, as [`FileTarget::begin`]. Where a new file is made it doesn't get this name, which is that of the
-    /// other file that the command writes.
+    /// Begins to write the file, as [`FileTarget::begin`]. A new file doesn't get this name, which is that of the other file
+    /// that the command writes.
     pub fn begin_apart<H: Files<File = F> + AllocGlobal>(
         self,
         host: &H,
@@ -179,6 +195,7 @@ impl<'a, F: OpenFile + Drop> FileTarget<'a, F> {
             word,
             is_private,
             found,
+            inputs,
             way,
         } = self;
         match way {
@@ -188,6 +205,7 @@ impl<'a, F: OpenFile + Drop> FileTarget<'a, F> {
                     access: found.as_ref().map(Access::of),
                     is_private,
                     apart,
+                    inputs,
                 };
                 let (file, replacement) = Replacement::make(host, word, place, making)?;
                 let may_have_holes = !file.is_standard_output();
@@ -201,7 +219,16 @@ impl<'a, F: OpenFile + Drop> FileTarget<'a, F> {
     }
 }
 
-/// Begins to write a file where it stands.
+impl Writing {
+    fn inputs(self) -> Inputs {
+        Inputs {
+            first: self.read,
+            second: None,
+        }
+    }
+}
+
+/// Begins to write a file in place.
 fn begin_in_place<'a, F: SystemFile + Drop>(
     word: FileWord<'a>,
     file: F,
@@ -212,7 +239,7 @@ fn begin_in_place<'a, F: SystemFile + Drop>(
         None => (false, 0),
     };
     if is_regular && len > 0 {
-        called(word, SystemCall::Empty, file.set_len(0))?;
+        on_file(word, SystemCall::Empty, file.set_len(0))?;
     }
     Ok(Output {
         file: Watched::new(word, file),
@@ -232,8 +259,7 @@ fn open<H: Files>(host: &H, name: &str, is_private: bool) -> io::Result<(H::File
     }
 }
 
-/// Makes a file of this name, which was not there. Where a link has the name, the file is made that
-/// it leads to.
+/// Makes a file of this name, which was not there. If the name is a link's, the file that it leads to is made.
 fn make<H: Files>(host: &H, name: &str, is_private: bool) -> io::Result<H::File> {
     OpenOptions::new()
         .write(true)
@@ -242,8 +268,8 @@ fn make<H: Files>(host: &H, name: &str, is_private: bool) -> io::Result<H::File>
         .open(host, name)
 }
 
-/// Removes a file that was made under this name. Where a link has the name, the file is removed that it
-/// leads to, if memory for that file's name is found.
+/// Removes a file that was made under this name. If the name is a link's, the file that it leads to is removed, unless memory
+/// for that file's name runs out.
 fn remove_made<H: Files + AllocGlobal>(host: &H, name: &str) {
     let is_link = match fs::symlink_metadata(host, name) {
         Ok(named) => named.is_symlink(),
@@ -256,18 +282,18 @@ fn remove_made<H: Files + AllocGlobal>(host: &H, name: &str) {
     }
 }
 
-/// What is told of a file that may be written.
+/// The metadata of a file that this process may write.
 fn writable<H: Files>(host: &H, name: &str) -> io::Result<Metadata> {
     OpenOptions::new().write(true).open(host, name)?.metadata()
 }
 
-/// The place of a file that is to be replaced, and what is told of it, or of one that isn't there yet.
-fn replaced<'a, H: Files + AllocGlobal>(
+/// The place of a new file, and the metadata of the file that it replaces, if there is one.
+fn find_place<'a, H: Files + AllocGlobal>(
     host: &H,
     word: FileWord<'a>,
 ) -> Result<(PathBuf, Option<Metadata>), Trouble<'a>> {
     match fs::symlink_metadata(host, word.name) {
-        Ok(named) => standing(host, word, named.is_symlink()),
+        Ok(named) => find_replaced(host, word, named.is_symlink()),
         Err(error) if error.kind() == ErrorKind::NotFound && may_be_made(word.name) => {
             Ok((PathBuf::from_str(host.alloc(), word.name)?, None))
         }
@@ -278,24 +304,24 @@ fn replaced<'a, H: Files + AllocGlobal>(
     }
 }
 
-/// Whether a file can be made under this name: no name at all and that of a folder are none.
+/// Whether a file can be made under this name, which is neither empty nor a folder's.
 fn may_be_made(name: &str) -> bool {
     !name.is_empty() && !name.ends_with('/')
 }
 
-/// The place of a file that is to be replaced, and what is told of it. It must be a regular file.
-fn standing<'a, H: Files + AllocGlobal>(
+/// The place of a file that is to be replaced, and its metadata. It must be a regular file.
+fn find_replaced<'a, H: Files + AllocGlobal>(
     host: &H,
     word: FileWord<'a>,
     is_link: bool,
 ) -> Result<(PathBuf, Option<Metadata>), Trouble<'a>> {
     must_be_regular(host, word)?;
     let place = place_of(host, word, is_link)?;
-    let found = called(word, SystemCall::Open, writable(host, word.name))?;
+    let found = on_file(word, SystemCall::Open, writable(host, word.name))?;
     Ok((place, Some(found)))
 }
 
-/// What a name leads to must be a regular file.
+/// Refuses what isn't a regular file.
 fn must_be_regular<'a, H: Files + AllocGlobal>(
     host: &H,
     word: FileWord<'a>,
@@ -309,7 +335,7 @@ fn must_be_regular<'a, H: Files + AllocGlobal>(
     }
 }
 
-/// The place of a file: its name, or where that leads if it is a link.
+/// The place of a file: its name, or where a link of this name leads.
 fn place_of<'a, H: Files + AllocGlobal>(
     host: &H,
     word: FileWord<'a>,
@@ -334,12 +360,12 @@ fn is_one_place<'a, H: Files>(
     if Path::new(one.name).file_name() != Path::new(other.name).file_name() {
         return Ok(false);
     }
-    let first = called(
+    let first = on_file(
         one,
         SystemCall::Stat,
         fs::metadata(host, folder_of(Path::new(one.name))),
     )?;
-    let second = called(
+    let second = on_file(
         other,
         SystemCall::Stat,
         fs::metadata(host, folder_of(Path::new(other.name))),
@@ -348,7 +374,7 @@ fn is_one_place<'a, H: Files>(
 }
 
 /// The folder of a file.
-fn folder_of(path: Path<'_>) -> &str {
+pub(crate) fn folder_of(path: Path<'_>) -> &str {
     match path.parent() {
         Some(folder) if !folder.as_str().is_empty() => folder.as_str(),
         _ => ".",

@@ -1,7 +1,7 @@
-//! `FileWord`.
+//! The files of a command line.
 use std::fmt;
 
-/// Which file of a command it is, as the command's usage names it.
+/// A file of a command, by the name that the command's usage gives it.
 #[derive(Debug, Clone, Copy, PartialEq, Eq)]
 pub enum Role {
     Image,
@@ -33,12 +33,12 @@ impl fmt::Display for Role {
 #[derive(Clone, Copy)]
 pub struct FileWord<'a> {
     pub role: Role,
-    /// Its name, as it was given.
+    /// The name, as on the command line.
     pub name: &'a str,
 }
 
 impl<'a> FileWord<'a> {
-    /// The file of this name, in this place of the command line.
+    /// The file of this name.
     pub fn new(role: Role, name: &'a str) -> FileWord<'a> {
         FileWord { role, name }
     }

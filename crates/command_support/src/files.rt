@@ -1,5 +1,5 @@
-//! The files that several commands open together, and how a command ends that wrote one. A file that
-//! can't be opened is fault 13.
+//! The files that several commands open together, and the end of a command that wrote one. A file that can't be opened is
+//! fault 13.
 ghost use Rattle.std.specs.Prelude.{◌≡◌, ◌≢◌, IfOk, OnOk, string_bytes};
 
 use crate::failure::Failure;
@@ -18,8 +18,7 @@ use std::rt::Files;
 /// A file to read, and one to write.
 type ImageAndOut<'a, F> = (Watched<'a, F>, Output<'a, F>);
 
-/// A file to read and one to write. The first is opened before the second is made or emptied. They
-/// may be one file only where that is replaced.
+/// Opens a file to read, and then makes or empties one to write. They may be one file only with `atomic`.
 pub fn image_and_out<'a, H: Files + AllocGlobal>(
     host: &H,
     image: &'a str,
@@ -35,7 +34,7 @@ where
     Ok((image, out.begin(host)?))
 }
 
-/// A file to read, open, and one to write, as it was found.
+/// An open file to read, and one to write, unchanged yet.
 type ImageAndTarget<'a, F> = (Watched<'a, F>, FileTarget<'a, F>);
 
 /// Opens the file to read, and then finds the one to write.
@@ -53,7 +52,7 @@ fn image_and_target<'a, H: Files + AllocGlobal>(
     Ok((image, out))
 }
 
-/// Two files to read, of which both are opened before one is read.
+/// Opens two files to read.
 pub fn two_inputs<'a, H: Files>(
     host: &H,
     one: FileWord<'a>,
@@ -64,7 +63,7 @@ pub fn two_inputs<'a, H: Files>(
     Ok((one, other))
 }
 
-/// Two files to read, as [`two_inputs`]. They may not be one file.
+/// Opens two files to read, which must not be one file.
 pub fn two_different_inputs<'a, H: Files + AllocGlobal>(
     host: &H,
     one: FileWord<'a>,
@@ -76,7 +75,7 @@ pub fn two_different_inputs<'a, H: Files + AllocGlobal>(
     Ok((one, other))
 }
 
-/// Two open files must not be one.
+/// Refuses two open files that are one.
 fn must_be_two<'a, F: OpenFile + Drop>(
     alloc: Global,
     one: &Watched<'a, F>,
@@ -88,7 +87,7 @@ fn must_be_two<'a, F: OpenFile + Drop>(
     Ok(())
 }
 
-/// The file to write, where this one is read. They may be one file only where that is replaced.
+/// Finds the file to write beside this one that is read. They may be one file only with `atomic`.
 pub fn target_beside<'a, H: Files + AllocGlobal>(
     host: &H,
     read: &Watched<'a, H::File>,
@@ -100,12 +99,12 @@ pub fn target_beside<'a, H: Files + AllocGlobal>(
     if atomic {
         Ok(out)
     } else {
-        apart_from(host, out, read.word(), id)
+        reject_same_file(host, out, read.word(), id)
     }
 }
 
-/// The file to write, as it was found, unless it is this one that is read. Then it is left as it stood.
-pub fn apart_from<'a, H: Files + AllocGlobal>(
+/// Refuses a file to write that is this one that is read, and leaves it unchanged.
+pub fn reject_same_file<'a, H: Files + AllocGlobal>(
     host: &H,
     found: FileTarget<'a, H::File>,
     read: FileWord<'a>,
@@ -116,10 +115,10 @@ pub fn apart_from<'a, H: Files + AllocGlobal>(
         found.leave(host);
         return Err(same?);
     }
-    Ok(found)
+    Ok(found.beside_input(id))
 }
 
-/// Two files of one command must have other names.
+/// Refuses two files of one command that have one name.
 pub fn must_differ<'a>(
     alloc: Global,
     one: FileWord<'a>,
@@ -148,7 +147,7 @@ pub fn not_regular<'a>(alloc: Global, file: FileWord<'a>) -> Result<Trouble<'a>,
     Ok(Trouble::new(Failure::usage(alloc, "pcompact: not a regular file\n")?).about(file))
 }
 
-/// What a command has done that prints this line and has written one file.
+/// Finishes the file that a command has written. The command prints this line.
 pub fn ended<'a, H: Files>(
     host: &H,
     line: String,
@@ -166,7 +165,7 @@ where
     })
 }
 
-/// Why a command fails that met this trouble while it wrote a file.
+/// Abandons the file that a command was writing when this error came, and returns the error.
 pub fn failed<'a, H: Files>(
     host: &H,
     trouble: Trouble<'a>,
@@ -176,7 +175,8 @@ pub fn failed<'a, H: Files>(
     trouble
 }
 
-/// Why a command fails that met this trouble while it read an image and wrote another.
+/// Abandons the image that a command was writing, and returns the error with the file that it is about, which is one of the
+/// two.
 pub fn failed_between<'a, H: Files>(
     host: &H,
     trouble: Trouble<'a>,

@@ -1,4 +1,4 @@
-//! `Laps`.
+//! The durations of a command's phases.
 use crate::phase::Phase;
 use crate::tenths::Tenths;
 use std::io;
@@ -8,16 +8,16 @@ use std::time::Duration;
 /// How many phases a command has at most.
 const MAX_LAPS: usize = 7;
 
-/// How long the phases of a command took, one behind the other from its beginning on.
+/// The durations of a command's phases, in order.
 #[derive(Clone, Copy)]
 pub struct Laps {
     laps: [Option<Lap>; MAX_LAPS],
     count: usize,
-    /// When the last of them ended, since the beginning.
+    /// The end of the last phase, since the command began.
     end: Duration,
 }
 
-/// How long a phase took.
+/// The duration of a phase.
 #[derive(Clone, Copy)]
 struct Lap {
     phase: Phase,
@@ -26,7 +26,7 @@ struct Lap {
 
 impl Lap {
     /// Writes its line.
-    fn tell<B: Write>(&self, err: &mut B) -> io::Result<()> {
+    fn print<B: Write>(&self, err: &mut B) -> io::Result<()> {
         let took = Tenths::of_milliseconds(self.took);
         writeln!(err, "pcompact: {} {took} ms", self.phase)
     }
@@ -55,18 +55,18 @@ impl Laps {
     }
 
     /// Writes a line for each phase, and where the time of all is known one for the rest of it, and one for all of it.
-    pub fn tell<B: Write>(&self, total: Option<Duration>, err: &mut B) -> io::Result<()> {
+    pub fn print<B: Write>(&self, total: Option<Duration>, err: &mut B) -> io::Result<()> {
         for lap in self.laps.iter().flatten() {
-            lap.tell(err)?;
+            lap.print(err)?;
         }
         match total {
-            Some(total) => self.tell_total(total, err),
+            Some(total) => self.print_total(total, err),
             None => Ok(()),
         }
     }
 
     /// Writes the lines for the rest of this time and for all of it.
-    fn tell_total<B: Write>(&self, total: Duration, err: &mut B) -> io::Result<()> {
+    fn print_total<B: Write>(&self, total: Duration, err: &mut B) -> io::Result<()> {
         let rest = total.saturating_sub(self.end);
         writeln!(err, "pcompact: finish {} ms", Tenths::of_milliseconds(rest))?;
         writeln!(err, "pcompact: total {} ms", Tenths::of_milliseconds(total))

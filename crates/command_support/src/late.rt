@@ -1,4 +1,4 @@
-//! `Late`.
+//! Files that are changed only once there is something to write.
 use crate::file_target::FileTarget;
 use crate::output::Output;
 use crate::system_file::SystemFile;
@@ -8,13 +8,13 @@ use std::io;
 use std::io::{Error, ErrorKind, Write};
 use std::rt::Files;
 
-/// A file that is begun with its first byte, and until then stands as it was found.
+/// A file that is emptied, or made anew, only with the first byte that is written.
 #[derive(Drop)]
 pub struct Late<'a, 'h, H: Files> {
     host: &'h H,
     /// The file before its first byte.
     found: Option<FileTarget<'a, H::File>>,
-    /// The file from its first byte on, or why it couldn't be begun.
+    /// The file from its first byte on, or the error that prevented it.
     begun: Option<Result<Output<'a, H::File>, Trouble<'a>>>,
 }
 
@@ -22,7 +22,7 @@ impl<'a, 'h, H: Files + AllocGlobal> Late<'a, 'h, H>
 where
     H::File: SystemFile,
 {
-    /// This file, as it was found.
+    /// Wraps a file, which stays unchanged until the first byte.
     pub fn new(host: &'h H, found: FileTarget<'a, H::File>) -> Late<'a, 'h, H> {
         Late {
             host,
@@ -37,9 +37,9 @@ where
         }
     }
 
-    /// The file, which is begun by now.
+    /// The file, begun even if nothing was written.
     ///
-    /// Fault 13 where it can't be begun, and 11 for want of memory.
+    /// Fault 13 if it can't be begun, and 11 if memory runs out.
     pub fn into_output(mut self) -> Result<Output<'a, H::File>, Trouble<'a>> {
         self.begin();
         let Late { begun, .. } = self;
@@ -49,8 +49,7 @@ where
         }
     }
 
-    /// Why a command fails that met this trouble before it had written all of the file. Where the file
-    /// wasn't begun it is as it was found.
+    /// The error of a command that failed before the file was complete. A file that wasn't begun is unchanged.
     pub fn failed(self, trouble: Trouble<'a>) -> Trouble<'a> {
         let Late { host, found, begun } = self;
         if let Some(found) = found {

@@ -1,28 +1,28 @@
-//! What every command of the program works with: the files that it opens, why it fails, and what its work took.
+//! What all commands of the program use: files, failures and timings.
 //!
-//! **Files.** A [`FileWord`] is a name from the command line with what it stands for. [`Watched`] is an open file that
-//! keeps its first bytes and the first call on it that failed. [`FileTarget::find`] looks at a file to write and touches nothing;
-//! [`FileTarget::begin`] makes an [`Output`] of it, which is emptied, or a new file beside it that takes its place in the end
-//! ([`Replacement`]). [`Late`] does that with the first byte. [`WorkDone`] is what a command has done, but for its end.
+//! **Files.** A [`FileWord`] is a file name from the command line, with its role. [`Watched`] is an open file that keeps its
+//! first bytes and the last call on it that failed. [`FileTarget::find`] looks at a file to write and changes nothing;
+//! [`FileTarget::begin`] makes an [`Output`] of it: the emptied file, or a new file that takes its place in the end
+//! ([`Replacement`]). [`Late`] begins with the first byte. [`WorkDone`] is the outcome of a command before it prints.
 //!
-//! **Failures.** A [`Failure`] decides the exit status and the first line of standard error. [`Trouble`] adds which file it is
-//! about and the [`Reason`], which is told where that is asked for.
+//! **Failures.** A [`Failure`] decides the exit status and the first line on standard error. [`Trouble`] adds the file and the
+//! [`Reason`], which `--verbose` prints.
 //!
-//! **Times.** [`Stats`] is what the work took, by a [`Stopwatch`] and by devices that note when bytes go through them
+//! **Timings.** [`Stats`] has what `--stats` prints: times by a [`Stopwatch`] and by devices that note when bytes go through them
 //! ([`TimedIntake`], [`TimedOutlet`]).
 //!
 //! # What is proved
 //!
 //! - The exit status of a failure (`status_of` of `specs/Failure.antt`), and which failure comes of which error.
-//! - What adds a file or a reason to a failure leaves it the same failure.
-//! - A call on a file that fails is fault 13.
-//! - A timed device is the device that it stands for: its contract is that device's.
+//! - Adding a file or a reason leaves a failure the same.
+//! - A system call that fails on a file is fault 13.
+//! - A timed device has the contract of the device that it wraps.
 //! - Nothing here reads out of bounds, overflows or stops the process, and every loop ends.
 //!
 //! # What is only tested
 //!
-//! Which files are opened, emptied, made, replaced and removed, and in which order: no clause tells what stands in a file. The
-//! texts of reasons and times. The tests are those of the program (see the README).
+//! Which files are opened, emptied, made, replaced and removed, and in which order: no clause is about the content of a file.
+//! The texts of reasons and times. The tests are those of the program (see the README).
 #![tactic(auto)]
 
 mod access;
@@ -35,6 +35,7 @@ mod file_word;
 mod files;
 mod laps;
 mod late;
+mod leftovers;
 mod moved;
 mod output;
 mod peak_memory;
@@ -59,8 +60,8 @@ pub use file_id::FileId;
 pub use file_target::{FileTarget, Writing};
 pub use file_word::{FileWord, Role};
 pub use files::{
-    apart_from, ended, failed, failed_between, image_and_out, must_differ, not_regular, same_file,
-    target_beside, two_different_inputs, two_inputs,
+    ended, failed, failed_between, image_and_out, must_differ, not_regular, reject_same_file,
+    same_file, target_beside, two_different_inputs, two_inputs,
 };
 pub use laps::Laps;
 pub use late::Late;
@@ -72,9 +73,9 @@ pub use reason::{LineReason, Reason};
 pub use replacement::Replacement;
 pub use stats::Stats;
 pub use stopwatch::Stopwatch;
-pub use system_file::SystemFile;
+pub use system_file::{FileLock, SystemFile};
 pub use timed_intake::TimedIntake;
 pub use timed_outlet::TimedOutlet;
-pub use trouble::{Trouble, called};
+pub use trouble::{Trouble, on_file};
 pub use watched::Watched;
 pub use work_done::WorkDone;

@@ -1,4 +1,4 @@
-//! `Moved`.
+//! The amount of live data that a collection moves.
 use crate::tenths::Tenths;
 use std::io;
 use std::io::Write;
@@ -6,7 +6,7 @@ use std::time::Duration;
 
 const BYTES_IN_A_WORD: u64 = 8;
 
-/// The live words that a collection moved, and how long it took in memory.
+/// The number of live words that a collection moved, and the time that it worked in memory.
 #[derive(Clone, Copy)]
 pub struct Moved {
     words: u64,
@@ -14,13 +14,13 @@ pub struct Moved {
 }
 
 impl Moved {
-    /// So many live words, moved in this time where it is known.
+    /// `took` is None if the clock failed.
     pub fn new(words: u64, took: Option<Duration>) -> Moved {
         Moved { words, took }
     }
 
-    /// Writes the line that tells it, with the rate where the time is known.
-    pub fn tell<B: Write>(&self, err: &mut B) -> io::Result<()> {
+    /// Writes the line of `--stats`, with the rate if the time is known.
+    pub fn print<B: Write>(&self, err: &mut B) -> io::Result<()> {
         let bytes = self.words.saturating_mul(BYTES_IN_A_WORD);
         write!(err, "pcompact: live {} MiB moved", Tenths::of_mib(bytes))?;
         match self.took {

@@ -1,4 +1,4 @@
-//! `Output`.
+//! Files that are being written.
 use crate::replacement::Replacement;
 use crate::system_file::SystemFile;
 use crate::trouble::Trouble;
@@ -7,22 +7,22 @@ use std::fs::OpenFile;
 use std::io::Seek;
 use std::rt::Files;
 
-/// A file that is being written: where it stands, or as a new one beside it.
+/// A file that is being written, in place or as a new file beside it.
 #[derive(Drop)]
 pub struct Output<'a, F: Drop> {
     /// The file, open for writing.
     pub file: Watched<'a, F>,
     /// Whether it is a regular file, and not standard output.
     pub may_have_holes: bool,
-    /// That it takes the place of another in the end.
+    /// The place that a new file takes in the end.
     pub replacement: Option<Replacement<'a>>,
 }
 
 impl<'a, F: OpenFile + Seek + Drop> Output<'a, F> {
-    /// Ends the writing. A regular file ends where what was written ends, whatever else was written there meanwhile. One
-    /// that takes the place of another has its owner, its group and its permissions then, and is on the disk.
+    /// Cuts a regular file after what was written, whatever another process has written there meanwhile. A new file gets the
+    /// owner, the group and the permissions of the one that it replaces, and is synced to the disk.
     ///
-    /// After fault 13 such a file is removed.
+    /// After fault 13 a new file is removed.
     pub fn finish<H: Files<File = F>>(
         self,
         host: &H,
@@ -47,7 +47,7 @@ impl<'a, F: OpenFile + Seek + Drop> Output<'a, F> {
         }
     }
 
-    /// The name, without its folder, of the file whose place it takes in the end.
+    /// The name, without the folder, of the place that a new file takes.
     pub fn place_name(&self) -> Option<&str> {
         match &self.replacement {
             Some(replacement) => replacement.place_name(),
@@ -55,8 +55,7 @@ impl<'a, F: OpenFile + Seek + Drop> Output<'a, F> {
         }
     }
 
-    /// Ends the writing where something went wrong. A file that would take the place of another is
-    /// removed.
+    /// Gives up writing. A new file is removed.
     pub fn abandon<H: Files<File = F>>(self, host: &H) {
         let Output { replacement, .. } = self;
         if let Some(replacement) = replacement {

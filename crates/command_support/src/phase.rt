@@ -1,18 +1,18 @@
-//! `Phase`.
+//! The phases of commands.
 use std::fmt;
 
-/// A part of a command's work.
+/// A phase of a command, as `--stats` names it.
 #[derive(Debug, Clone, Copy, PartialEq, Eq)]
 pub enum Phase {
     Read,
     Check,
-    /// What comes before the first region is filled: marks, the plan and its cells.
+    /// Before the first region is filled: marks, plan and cells.
     Prepare,
     Fills,
-    /// What comes once all regions are filled, and before a byte is written.
+    /// After the last region is filled, and before the first byte is written.
     CleanUp,
     Write,
-    /// To write the schedule.
+    /// Writing the schedule.
     Schedule,
     ReadBefore,
     CheckBefore,

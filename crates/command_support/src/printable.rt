@@ -1,8 +1,8 @@
-//! `Printable`.
+//! Words of the command line in messages.
 use std::fmt;
 
-/// A word of the command line as it may be shown on a terminal: on one line, and with an escape in place of each character
-/// that isn't printable, as `\n`, `\x1b` or `\u{202e}`. A backslash is shown as two.
+/// A word of the command line, shown on one line and with an escape for each character that isn't printable, as `\n`, `\x1b`
+/// or `\u{202e}`. A backslash is shown as two.
 #[derive(Clone, Copy)]
 pub struct Printable<'a>(pub &'a str);
 

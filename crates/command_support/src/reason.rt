@@ -1,58 +1,58 @@
-//! `Reason`.
+//! Reasons of faults.
 use crate::failed_call::FailedCall;
 use heap_image::LengthCause;
 use history::{LineCause, MAX_WORKERS};
 use std::io;
 use std::io::Write;
 
-/// What more is known of a fault than its text says.
+/// What is known of a fault beyond its text.
 #[derive(Clone, Copy)]
 pub enum Reason {
     /// Fault 4: which of its conditions holds.
     Length(LengthCause),
-    /// Fault 12: how many workers were asked for.
+    /// Fault 12: the requested number of workers.
     Workers(u32),
-    /// Fault 13: the call of the system that failed.
+    /// Fault 13: the system call that failed.
     SystemCall(FailedCall),
     /// Fault 13: the write to standard output that failed.
     Output(FailedCall),
-    /// Fault 14: why the line isn't taken.
+    /// Fault 14: why the line is refused.
     Line(LineReason),
 }
 
-/// Why a line of a schedule isn't taken.
+/// Why a line of a schedule is refused.
 #[derive(Clone, Copy, Debug, PartialEq, Eq)]
 pub enum LineReason {
-    /// It isn't one of a schedule.
+    /// It isn't a schedule's line.
     Malformed,
-    /// It is one, and the replay refuses it.
+    /// The replay refuses it.
     Refused(LineCause),
 }
 
 impl Reason {
-    /// Writes the lines that tell it, one fact a line.
-    pub fn tell<B: Write>(&self, err: &mut B) -> io::Result<()> {
+    /// Writes its lines, one for each fact.
+    pub fn print<B: Write>(&self, err: &mut B) -> io::Result<()> {
         match self {
             Reason::Length(cause) => writeln!(err, "pcompact: reason {cause}"),
-            Reason::Workers(asked) => {
+            Reason::Workers(count) => {
                 writeln!(
                     err,
-                    "pcompact: reason {asked} is not from 1 to {MAX_WORKERS}"
+                    "pcompact: reason {count} is not from 1 to {MAX_WORKERS}"
                 )
             }
-            Reason::SystemCall(failed) => failed.tell(err),
+            Reason::SystemCall(failed) => failed.print(err),
             Reason::Output(failed) => {
                 writeln!(err, "pcompact: standard output")?;
-                failed.tell(err)
+                failed.print(err)
             }
-            Reason::Line(reason) => reason.tell(err),
+            Reason::Line(reason) => reason.print(err),
         }
     }
 }
 
 impl LineReason {
-    /// Writes the lines that tell it: the reason, and the reply where one was found.
-    fn tell<B: Write>(&self, err: &mut B) -> io::Result<()> {
+    /// Writes the line of the reason, and of the reply if that is another one.
+    fn print<B: Write>(&self, err: &mut B) -> io::Result<()> {
         match self {
             LineReason::Malformed => writeln!(err, "pcompact: reason the line is malformed"),
             LineReason::Refused(LineCause::NotAllowed) => {

@@ -1,4 +1,4 @@
-//! `Stats`: what `--stats` tells.
+//! What `--stats` prints.
 use crate::laps::Laps;
 use crate::moved::Moved;
 use crate::peak_memory::peak_kib;
@@ -10,20 +10,20 @@ use std::rt::Files;
 use std::thread::{Threads, available_parallelism};
 use std::time::Clock;
 
-/// What the work of a command took.
+/// The timings of a command.
 #[derive(Clone, Copy)]
 pub struct Stats {
-    /// It began with the command.
+    /// Started with the command.
     watch: Stopwatch,
     laps: Laps,
-    /// What a collection moved.
+    /// Of a collection only.
     moved: Option<Moved>,
-    /// How many workers a collection had.
+    /// Of a collection only. A comparison uses a thread for each processor.
     workers: Option<u32>,
 }
 
 impl Stats {
-    /// Those of a collection by so many workers, which moved this.
+    /// The timings of a collection.
     pub fn of_collection(watch: Stopwatch, laps: Laps, moved: Moved, workers: u32) -> Stats {
         Stats {
             watch,
@@ -33,7 +33,7 @@ impl Stats {
         }
     }
 
-    /// Those of a comparison, which is by as many threads as there are processors.
+    /// The timings of a comparison.
     pub fn of_comparison(watch: Stopwatch, laps: Laps) -> Stats {
         Stats {
             watch,
@@ -43,25 +43,25 @@ impl Stats {
         }
     }
 
-    /// Writes the lines that tell it, one fact a line, and with them what the process has taken until now.
-    pub fn tell<H: Files + Threads + Clock, B: Write>(
+    /// Writes the lines of `--stats`, with the total time and the peak memory until now.
+    pub fn print<H: Files + Threads + Clock, B: Write>(
         &self,
         host: &H,
         err: &mut B,
     ) -> io::Result<()> {
-        self.laps.tell(self.watch.elapsed(host), err)?;
+        self.laps.print(self.watch.elapsed(host), err)?;
         if let Some(moved) = &self.moved {
-            moved.tell(err)?;
+            moved.print(err)?;
         }
         if let Some(threads) = self.workers.or_else(|| processors(host)) {
             writeln!(err, "pcompact: threads {threads}")?;
         }
-        tell_peak(host, err)
+        print_peak(host, err)
     }
 }
 
-/// Writes the line of the peak memory of this process, where the system tells it.
-fn tell_peak<H: Files, B: Write>(host: &H, err: &mut B) -> io::Result<()> {
+/// Writes the line of the peak memory, if the system reports it.
+fn print_peak<H: Files, B: Write>(host: &H, err: &mut B) -> io::Result<()> {
     match peak_kib(host) {
         Some(kib) => {
             let peak = Tenths::of_mib(kib.saturating_mul(1024));
@@ -71,7 +71,7 @@ fn tell_peak<H: Files, B: Write>(host: &H, err: &mut B) -> io::Result<()> {
     }
 }
 
-/// How many processors there are for this process, where the system tells it.
+/// The number of processors for this process, if the system reports it.
 fn processors(threads: &impl Threads) -> Option<u32> {
     let count = available_parallelism(threads).ok()?;
     u32::try_from(count.get()).ok()

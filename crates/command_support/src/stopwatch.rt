@@ -1,16 +1,16 @@
-//! `Stopwatch`.
+//! The time since a command began.
 use std::time::{Clock, Duration, Instant};
 
-/// How long a command has worked, where that is asked for and the clock goes.
+/// Measures the time since a command began, if that is requested and the clock works.
 #[derive(Clone, Copy)]
 pub struct Stopwatch {
     begun: Option<Instant>,
 }
 
 impl Stopwatch {
-    /// Begins now, if that is asked for. One that isn't asked for never reads the clock.
-    pub fn start(clock: &impl Clock, is_asked: bool) -> Stopwatch {
-        let begun = if is_asked {
+    /// Starts now. If it isn't requested the clock is never read.
+    pub fn start(clock: &impl Clock, is_requested: bool) -> Stopwatch {
+        let begun = if is_requested {
             Instant::now(clock).ok()
         } else {
             None
@@ -18,7 +18,7 @@ impl Stopwatch {
         Stopwatch { begun }
     }
 
-    /// What has passed since it began.
+    /// The time since the start.
     pub fn elapsed(self, clock: &impl Clock) -> Option<Duration> {
         self.begun?.elapsed(clock).ok()
     }

@@ -1,17 +1,17 @@
-//! `Tenths`.
+//! Numbers with one digit after the point.
 use std::fmt;
 use std::time::Duration;
 
 const BYTES_IN_A_MIB: u64 = 1 << 20;
 
-/// A number with one digit behind the point.
+/// A number of tenths.
 #[derive(Debug, Clone, Copy, PartialEq, Eq)]
 pub struct Tenths {
     count: u64,
 }
 
 impl Tenths {
-    /// This time in milliseconds, rounded.
+    /// A time in milliseconds, rounded.
     pub fn of_milliseconds(time: Duration) -> Tenths {
         let tenths = time.as_micros().saturating_add(50) / 100;
         Tenths {
@@ -19,7 +19,7 @@ impl Tenths {
         }
     }
 
-    /// So many bytes in MiB, rounded.
+    /// A number of bytes in MiB, rounded.
     pub fn of_mib(bytes: u64) -> Tenths {
         let tenths = bytes.saturating_mul(10).saturating_add(BYTES_IN_A_MIB / 2);
         Tenths {

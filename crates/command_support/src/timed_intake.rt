@@ -1,10 +1,10 @@
-//! `TimedIntake`.
+//! Input devices that note times.
 use crate::stopwatch::Stopwatch;
 use heap_image::{Body, BodySize, Failed, Intake};
 use std::alloc::Global;
 use std::time::{Clock, Duration};
 
-/// A device that gives what another gives, and notes when.
+/// Reads from another device, and notes when.
 #[derive(Drop)]
 pub struct TimedIntake<'h, H, I: Drop> {
     intake: I,
@@ -15,7 +15,7 @@ pub struct TimedIntake<'h, H, I: Drop> {
 }
 
 impl<'h, H: Clock, I: Drop> TimedIntake<'h, H, I> {
-    /// What this device gives, by this stopwatch.
+    /// Reads from this device, with times by this stopwatch.
     pub fn new(clock: &'h H, watch: Stopwatch, intake: I) -> TimedIntake<'h, H, I> {
         TimedIntake {
             intake,
@@ -26,17 +26,16 @@ impl<'h, H: Clock, I: Drop> TimedIntake<'h, H, I> {
         }
     }
 
-    /// When the last bytes had come.
+    /// When the last bytes were read.
     pub fn came(&self) -> Option<Duration> {
         self.came
     }
 
-    /// When the end was asked for, behind the last bytes.
+    /// When the read began that found the end.
     pub fn ended(&self) -> Option<Duration> {
         self.ended
     }
 
-    /// The device.
     pub fn into_inner(self) -> I {
         let TimedIntake { intake, .. } = self;
         intake
@@ -49,12 +48,12 @@ impl<H: Clock, I: Intake + Drop> Intake for TimedIntake<'_, H, I> {
     ghost has_failed = { λ timed. I.has_failed timed.intake };
 
     fn take(&mut self, buffer: &mut [u8]) -> Result<usize, Failed> {
-        let asked = self.watch.elapsed(self.clock);
+        let start = self.watch.elapsed(self.clock);
         let count = self.intake.take(buffer)?;
         if count > 0 {
             self.came = self.watch.elapsed(self.clock);
         } else {
-            self.ended = asked;
+            self.ended = start;
         }
         Ok(count)
     }

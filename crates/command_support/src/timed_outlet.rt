@@ -1,11 +1,11 @@
-//! `TimedOutlet`.
+//! Output devices that note times.
 ghost use Rattle.std.specs.Prelude.{◌≡◌};
 
 use crate::stopwatch::Stopwatch;
 use heap_image::{Failed, Outlet};
 use std::time::{Clock, Duration};
 
-/// A device that gives another what it is given, and notes when.
+/// Writes to another device, and notes when.
 #[derive(Drop)]
 pub struct TimedOutlet<'h, H, O: Drop> {
     outlet: O,
@@ -16,7 +16,7 @@ pub struct TimedOutlet<'h, H, O: Drop> {
 }
 
 impl<'h, H: Clock, O: Drop> TimedOutlet<'h, H, O> {
-    /// What goes to this device, by this stopwatch.
+    /// Writes to this device, with times by this stopwatch.
     pub fn new(clock: &'h H, watch: Stopwatch, outlet: O) -> TimedOutlet<'h, H, O> {
         TimedOutlet {
             outlet,
@@ -27,7 +27,6 @@ impl<'h, H: Clock, O: Drop> TimedOutlet<'h, H, O> {
         }
     }
 
-    /// The device that is given what this one is.
     pub fn into_inner(self) -> O
         ensures { result ≡ self.entry.outlet }
     {
@@ -35,12 +34,12 @@ impl<'h, H: Clock, O: Drop> TimedOutlet<'h, H, O> {
         outlet
     }
 
-    /// When the first bytes were given.
+    /// When the first write began.
     pub fn begun(&self) -> Option<Duration> {
         self.begun
     }
 
-    /// When the last bytes had been taken.
+    /// When the last write ended.
     pub fn ended(&self) -> Option<Duration> {
         self.ended
     }

@@ -1,4 +1,4 @@
-//! `Trouble`.
+//! Failures with what is known of them: the file and the reason.
 ghost use Rattle.std.specs.Prelude.{◌≡◌, None, IfErr};
 ghost use Rattle.command_support.specs.Failure.{failed_device};
 ghost use Rattle.heap_image.specs.declared.fault.Fault.TheVariants.{Memory};
@@ -15,20 +15,20 @@ use std::alloc::AllocError;
 use std::io;
 use std::io::Write;
 
-/// Why the program ends with a status other than 0, and what more is known of it.
+/// A failure with the details that `--verbose` prints.
 #[derive(Drop)]
 pub struct Trouble<'a> {
-    /// Why. It decides the status and the first line of standard error.
+    /// Decides the exit status and the first line on standard error.
     pub failure: Failure,
-    /// Which file it is about.
+    /// The file that it is about.
     file: Option<FileWord<'a>>,
-    /// Which other file it is about too.
+    /// The other file that it is about.
     other: Option<FileWord<'a>>,
     reason: Option<Reason>,
 }
 
 impl<'a> Trouble<'a> {
-    /// A failure of which nothing more is known.
+    /// A failure without details.
     pub fn new(failure: Failure) -> Trouble<'a>
         ensures { result.failure ≡ failure }
     {
@@ -49,7 +49,7 @@ impl<'a> Trouble<'a> {
             .about(file)
     }
 
-    /// It is about this file, and about another if it was about that before.
+    /// Adds the file that it is about. A file that was there stays, as the other one.
     pub fn about(self, file: FileWord<'a>) -> Trouble<'a>
         ensures { result.failure ≡ self.entry.failure }
     {
@@ -60,7 +60,7 @@ impl<'a> Trouble<'a> {
         }
     }
 
-    /// This is the reason.
+    /// Adds the reason.
     pub fn because(self, reason: Reason) -> Trouble<'a>
         ensures { result.failure ≡ self.entry.failure }
     {
@@ -70,7 +70,7 @@ impl<'a> Trouble<'a> {
         }
     }
 
-    /// Where a call on this file failed, it is about the file.
+    /// Adds this file and the call, if a call on the file failed.
     pub fn if_failed<F: Drop>(self, file: &Watched<'a, F>) -> Trouble<'a>
         ensures { result.failure ≡ self.entry.failure }
     {
@@ -82,8 +82,7 @@ impl<'a> Trouble<'a> {
         }
     }
 
-    /// Where it is a fault of the image in this file, or a call on this file failed, it is about the
-    /// file.
+    /// Adds this file, if it is a fault of the image in the file or a call on the file failed.
     pub fn if_image<F: Drop>(self, image: &Watched<'a, F>) -> Trouble<'a>
         ensures { result.failure ≡ self.entry.failure }
     {
@@ -94,8 +93,7 @@ impl<'a> Trouble<'a> {
         }
     }
 
-    /// Where a dump gives no image, or a call on one of these two openings of it failed, it is about the
-    /// dump.
+    /// Adds the dump, if it gives no image or a call on one of these two openings of it failed.
     pub fn if_dump<F: Drop>(self, dump: &Watched<'a, F>, again: &Watched<'a, F>) -> Trouble<'a>
         ensures { result.failure ≡ self.entry.failure }
     {
@@ -106,7 +104,7 @@ impl<'a> Trouble<'a> {
         }
     }
 
-    /// Where a line of a text is none of a heap, or a call on the file failed, it is about the file.
+    /// Adds this file, if its text is none of a heap or a call on the file failed.
     pub fn if_text<F: Drop>(self, text: &Watched<'a, F>) -> Trouble<'a>
         ensures { result.failure ≡ self.entry.failure }
     {
@@ -117,17 +115,17 @@ impl<'a> Trouble<'a> {
         }
     }
 
-    /// Where the number of workers is none that is allowed, this is it.
-    pub fn if_workers(self, asked: u32) -> Trouble<'a>
+    /// Adds the requested number of workers, if that isn't allowed.
+    pub fn if_workers(self, count: u32) -> Trouble<'a>
         ensures { result.failure ≡ self.entry.failure }
     {
         match self.fault() {
-            Some(Fault::Workers) => self.because(Reason::Workers(asked)),
+            Some(Fault::Workers) => self.because(Reason::Workers(count)),
             _ => self,
         }
     }
 
-    /// Where it is a line of the schedule in this file, it is about the file, for this reason.
+    /// Adds this file, if it is about a line of the schedule in it or a call on it failed, and the reason.
     pub fn if_line<F: Drop>(
         self,
         schedule: &Watched<'a, F>,
@@ -145,12 +143,12 @@ impl<'a> Trouble<'a> {
         }
     }
 
-    /// Writes the lines that tell more than the first: the files, and the reason.
-    pub fn tell_more<B: Write>(&self, err: &mut B) -> io::Result<()> {
-        tell_file(self.other, err)?;
-        tell_file(self.file, err)?;
+    /// Writes the lines of `--verbose`: the files and the reason.
+    pub fn print_details<B: Write>(&self, err: &mut B) -> io::Result<()> {
+        print_file(self.other, err)?;
+        print_file(self.file, err)?;
         match &self.reason {
-            Some(reason) => reason.tell(err),
+            Some(reason) => reason.print(err),
             None => Ok(()),
         }
     }
@@ -186,8 +184,8 @@ impl<'a> Trouble<'a> {
     }
 }
 
-/// Writes the line of a file that a failure is about, if there is one.
-fn tell_file<B: Write>(file: Option<FileWord<'_>>, err: &mut B) -> io::Result<()> {
+/// Writes the line of a file, if there is one.
+fn print_file<B: Write>(file: Option<FileWord<'_>>, err: &mut B) -> io::Result<()> {
     match file {
         Some(file) => {
             let name = Printable(file.name);
@@ -197,8 +195,8 @@ fn tell_file<B: Write>(file: Option<FileWord<'_>>, err: &mut B) -> io::Result<()
     }
 }
 
-/// What a call of the system on this file answered. Fault 13 where it failed.
-pub fn called<'a, T>(
+/// The result of a system call on this file. Fault 13 if the call failed.
+pub fn on_file<'a, T>(
     file: FileWord<'a>,
     call: SystemCall,
     outcome: io::Result<T>,
@@ -211,7 +209,7 @@ pub fn called<'a, T>(
     }
 }
 
-/// Whether the fault is one of an image's bytes.
+/// Whether it is a fault of an image's bytes.
 fn is_of_image(fault: Fault) -> bool {
     match fault {
         Fault::TruncatedHeader

@@ -1,18 +1,18 @@
-//! `Watched`.
+//! Open files that note how calls on them fail.
 use crate::access::is_private;
 use crate::failed_call::{FailedCall, SystemCall};
 use crate::file_id::FileId;
 use crate::file_target::Writing;
 use crate::file_word::FileWord;
-use crate::trouble::{Trouble, called};
+use crate::trouble::{Trouble, on_file};
 use heap_image::FRONT_BYTES;
 use std::fs::{Metadata, OpenFile};
 use std::io::{Read, Seek, SeekFrom, Write};
 use std::rt::Files;
 use std::{fs, io};
 
-/// A file of the command line, which remembers the first bytes that it gave, and how a call on it
-/// failed. What it gives and takes is what the file gives and takes.
+/// An open file of the command line. It reads and writes as the file does, and keeps the first bytes that were read and the
+/// last call that failed.
 #[derive(Drop)]
 pub struct Watched<'a, F: Drop> {
     file: F,
@@ -22,7 +22,7 @@ pub struct Watched<'a, F: Drop> {
 }
 
 impl<'a, F: Drop> Watched<'a, F> {
-    /// This open file, which has this word.
+    /// Watches this open file.
     pub fn new(word: FileWord<'a>, file: F) -> Watched<'a, F> {
         Watched {
             file,
@@ -34,18 +34,16 @@ impl<'a, F: Drop> Watched<'a, F> {
 
     /// Opens the file of this word for reading.
     ///
-    /// Fault 13 where it can't be opened.
+    /// Fault 13 if it can't be opened.
     pub fn open<H: Files<File = F>>(
         host: &H,
         word: FileWord<'a>,
     ) -> Result<Watched<'a, F>, Trouble<'a>> {
-        let file = called(word, SystemCall::Open, fs::open(host, word.name))?;
+        let file = on_file(word, SystemCall::Open, fs::open(host, word.name))?;
         Ok(Watched::new(word, file))
     }
 
-    /// Which file it is.
-    ///
-    /// Fault 13 where the system doesn't tell.
+    /// Which file of the system it is. Fault 13 if the call fails.
     pub fn id(&self) -> Result<FileId, Trouble<'a>>
     where
         F: OpenFile,
@@ -53,70 +51,68 @@ impl<'a, F: Drop> Watched<'a, F> {
         Ok(FileId::of(&self.metadata()?))
     }
 
-    /// What the system tells of it.
-    ///
-    /// Fault 13 where it doesn't.
+    /// The file's metadata. Fault 13 if the call fails.
     pub fn metadata(&self) -> Result<Metadata, Trouble<'a>>
     where
         F: OpenFile,
     {
-        called(self.word, SystemCall::Stat, self.file.metadata())
+        on_file(self.word, SystemCall::Stat, self.file.metadata())
     }
 
-    /// What is asked of a file that is written beside it: one that isn't there yet is for its owner alone where this one is.
+    /// How a command writes that reads this file: a file that isn't there yet is made for its owner alone if this one is.
     ///
-    /// Fault 13 where the system doesn't tell.
+    /// Fault 13 if the call for its metadata fails.
     pub fn writing(&self, atomic: bool) -> Result<Writing, Trouble<'a>>
     where
         F: OpenFile,
     {
-        let is_private = is_private(&self.metadata()?);
-        Ok(Writing { atomic, is_private })
+        let metadata = self.metadata()?;
+        Ok(Writing {
+            atomic,
+            is_private: is_private(&metadata),
+            read: Some(FileId::of(&metadata)),
+        })
     }
 
-    /// The file itself.
     pub fn file(&self) -> &F {
         &self.file
     }
 
-    /// The file's word.
     pub fn word(&self) -> FileWord<'a> {
         self.word
     }
 
-    /// The first 32 bytes that it gave, and zeros in place of those that it didn't give.
+    /// The first 32 bytes that were read, with zeros for those that weren't.
     pub fn front(&self) -> &[u8; FRONT_BYTES] {
         &self.front.bytes
     }
 
-    /// The call on it that failed last.
+    /// The last call on the file that failed.
     pub fn failed(&self) -> Option<FailedCall> {
         self.failed
     }
 }
 
 impl<F: OpenFile + Drop> Watched<'_, F> {
-    /// How many bytes it has, if it is a regular file and the system tells, and else 0.
+    /// The length of a regular file in bytes, and 0 for any other or if the call fails.
     pub fn regular_len(&self) -> u64 {
         match self.file.metadata() {
-            Ok(told) if told.is_file() => told.len(),
+            Ok(metadata) if metadata.is_file() => metadata.len(),
             _ => 0,
         }
     }
 }
 
 impl<'a, F: OpenFile + Seek + Drop> Watched<'a, F> {
-    /// Ends it where what was written to it ends: there may be more, which another process has written.
-    ///
-    /// Fault 13 where the system doesn't.
+    /// Cuts the file at the present position: another process may have written more. Fault 13 if a call fails.
     pub fn cut(&mut self) -> Result<(), Trouble<'a>> {
-        let end = called(self.word, SystemCall::Write, self.file.stream_position())?;
-        called(self.word, SystemCall::Empty, self.cut_at(end))
+        let end = on_file(self.word, SystemCall::Write, self.file.stream_position())?;
+        on_file(self.word, SystemCall::Empty, self.cut_at(end))
     }
 
-    /// Passes over so many bytes. They read as zeros once more is written, whatever another process has written there.
+    /// Skips `count` bytes. They read as zeros once more is written, whatever another process has written there.
     pub fn skip(&mut self, count: u64) -> io::Result<()> {
-        match self.sought(count) {
+        match self.cut_and_seek(count) {
             Ok(_) => Ok(()),
             Err(error) => {
                 self.failed = Some(FailedCall::of(SystemCall::Write, &error));
@@ -125,7 +121,7 @@ impl<'a, F: OpenFile + Seek + Drop> Watched<'a, F> {
         }
     }
 
-    fn sought(&mut self, count: u64) -> io::Result<u64> {
+    fn cut_and_seek(&mut self, count: u64) -> io::Result<u64> {
         let at = self.file.stream_position()?;
         self.cut_at(at)?;
         self.file.seek(SeekFrom::Start(at.saturating_add(count)))
@@ -140,7 +136,7 @@ impl<'a, F: OpenFile + Seek + Drop> Watched<'a, F> {
 }
 
 impl<F: Seek + Drop> Watched<'_, F> {
-    /// Passes over the bytes between two places, if the next one that would be read is the first of them. Whether it did.
+    /// Skips the bytes between two positions, if the first is the present one. Returns whether it did.
     pub fn pass(&mut self, from: u64, to: u64) -> bool {
         match self.file.stream_position() {
             Ok(at) if at == from => self.file.seek(SeekFrom::Start(to)).is_ok(),
@@ -193,23 +189,23 @@ impl<F: Write + Drop> Write for Watched<'_, F> {
 #[derive(Drop)]
 struct Front {
     bytes: [u8; FRONT_BYTES],
-    /// How many of them have come.
-    came: usize,
+    /// How many of them were read.
+    count: usize,
 }
 
 impl Front {
     fn empty() -> Front {
         Front {
             bytes: [0; FRONT_BYTES],
-            came: 0,
+            count: 0,
         }
     }
 
     /// Keeps as many of the next bytes as there is room for.
     fn keep(&mut self, bytes: &[u8]) {
-        let from = self.came.min(FRONT_BYTES);
+        let from = self.count.min(FRONT_BYTES);
         let count = bytes.len().min(FRONT_BYTES - from);
         self.bytes[from..from + count].copy_from_slice(&bytes[..count]);
-        self.came = from + count;
+        self.count = from + count;
     }
 }

@@ -1,4 +1,4 @@
-//! `WorkDone`.
+//! What a command has done before it prints.
 ghost use Rattle.std.specs.Prelude.{◌≡◌, IfErr};
 ghost use Rattle.command_support.specs.Failure.{failed_device};
 
@@ -7,21 +7,21 @@ use crate::stats::Stats;
 use crate::trouble::Trouble;
 use std::rt::Files;
 
-/// What a command has done, but for its end.
+/// The outcome of a command before it prints and before new files take their places.
 #[derive(Drop)]
 pub struct WorkDone<'a> {
     /// What it prints.
     pub text: Vec<u8>,
-    /// The new file for OUT, where it takes its place once all is printed.
+    /// The new file for OUT, which takes its place once all is printed.
     pub out: Option<Replacement<'a>>,
-    /// That for SCHEDULE.
+    /// The new file for SCHEDULE.
     pub schedule: Option<Replacement<'a>>,
-    /// What the work took, of a command that tells it.
+    /// Timings, if the command measures them.
     pub stats: Option<Stats>,
 }
 
 impl<'a> WorkDone<'a> {
-    /// It prints this, and no file takes the place of another.
+    /// The outcome of a command that prints this and replaces no file.
     pub fn printing(text: Vec<u8>) -> WorkDone<'a>
         ensures { result.text ≡ text }
     {
@@ -33,7 +33,7 @@ impl<'a> WorkDone<'a> {
         }
     }
 
-    /// And this is what the work took.
+    /// Adds timings.
     pub fn with_stats(self, stats: Stats) -> WorkDone<'a>
         ensures { result.text ≡ self.entry.text }
     {
@@ -43,27 +43,30 @@ impl<'a> WorkDone<'a> {
         }
     }
 
-    /// The new files take their places, OUT's first.
+    /// Renames the new files to their places, OUT's first.
     ///
     /// After fault 13 no new file is left beside a place. OUT's may have taken its place.
     pub fn take_places<H: Files>(self, host: &H) -> Result<(), Trouble<'a>>
         ensures { IfErr result (λ trouble. trouble.failure ≡ failed_device) }
     {
-        if let Err(trouble) = taken(host, self.out) {
-            removed(host, self.schedule);
+        if let Err(trouble) = take_place(host, self.out) {
+            remove(host, self.schedule);
             return Err(trouble);
         }
-        taken(host, self.schedule)
+        take_place(host, self.schedule)
     }
 
     /// Removes the new files.
     pub fn remove<H: Files>(self, host: &H) {
-        removed(host, self.out);
-        removed(host, self.schedule);
+        remove(host, self.out);
+        remove(host, self.schedule);
     }
 }
 
-fn taken<'a, H: Files>(host: &H, replacement: Option<Replacement<'a>>) -> Result<(), Trouble<'a>>
+fn take_place<'a, H: Files>(
+    host: &H,
+    replacement: Option<Replacement<'a>>,
+) -> Result<(), Trouble<'a>>
     ensures { IfErr result (λ trouble. trouble.failure ≡ failed_device) }
 {
     match replacement {
@@ -72,7 +75,7 @@ fn taken<'a, H: Files>(host: &H, replacement: Option<Replacement<'a>>) -> Result
     }
 }
 
-fn removed<H: Files>(host: &H, replacement: Option<Replacement<'_>>) {
+fn remove<H: Files>(host: &H, replacement: Option<Replacement<'_>>) {
     if let Some(replacement) = replacement {
         replacement.remove(host);
     }

@@ -1,4 +1,4 @@
-//! The base heap, whose regions are read, written and put back.
+//! Reading, writing and putting back regions of the base heap.
 ghost use Rattle.std.specs.Prelude.{◌≡◌, IfOk};
 ghost use Rattle.heap_image.specs.HeapImage.{region_count};
 
@@ -18,7 +18,7 @@ use std::thread::Threads;
 use summary::Plan;
 use summary::laws::compaction::blocks_of_regions;
 
-/// The cells of the base heap with these live objects, and its plan.
+/// The cells and the plan of the base heap with these live objects.
 pub fn base_cells<T: Threads + Sync>(
     alloc: Global,
     live: &[u64],
@@ -31,7 +31,7 @@ pub fn base_cells<T: Threads + Sync>(
     Ok(cells_and_plan(alloc, base_of_four(alloc, 0, live)?, threads)?)
 }
 
-/// The words of region 1 by a source, and the fault of a writing while that is open.
+/// The words of region 1 as a source shows them, and the fault of a write while the source is open.
 fn words_and_fault_while_read<W: Wait>(
     cells: &Cells,
     alloc: Global,
@@ -50,7 +50,7 @@ fn words_and_fault_while_read<W: Wait>(
     Ok((words, fault?))
 }
 
-/// The words of region 0 once some were slid, filled, set and copied from region 1.
+/// The words of region 0 after a slide, a fill, a set and a copy from region 1.
 fn written_words<W: Wait>(cells: &Cells, alloc: Global, wait: &W) -> Result<[u64; 8], Fail>
     requires regions { region_count cells.now ≡ 4 }
     requires region_log { cells.now.region_log ≡ 3 }
@@ -69,7 +69,7 @@ fn written_words<W: Wait>(cells: &Cells, alloc: Global, wait: &W) -> Result<[u64
     Ok(words)
 }
 
-/// Copies three words of region 1 to the end of a target.
+/// Copies three words from region 1 to the end of the target.
 fn copy_words<W: Wait>(
     cells: &Cells,
     target: &mut Target<'_>,
@@ -87,7 +87,7 @@ fn copy_words<W: Wait>(
     Ok(())
 }
 
-/// The faults of region 1 while it is written, and once it was given up.
+/// The faults of a read and a write of region 1, while it is open for writing and after it was given up.
 fn faults_while_written_and_after<W: Wait>(
     cells: &Cells,
     alloc: Global,
@@ -101,7 +101,7 @@ fn faults_while_written_and_after<W: Wait>(
     Ok([meanwhile?, read_and_write_faults(cells, alloc, 1, wait)?])
 }
 
-/// What readings and writings of the base heap find, one after the other.
+/// The results of reads and writes of the base heap, one after the other.
 #[derive(Clone, Copy)]
 struct Found {
     read: [u64; 8],
@@ -153,7 +153,7 @@ fn a_region_is_read_by_many_or_written_by_one(rt: HostRuntime) -> Result<(), Fai
     Ok(())
 }
 
-/// Puts region 3 back, which lies above the new top, so that its words stay.
+/// Puts region 3 back. It lies above the new top, so its moved words are its original ones.
 fn put_back<W: Wait>(cells: &Cells, plan: &Plan, alloc: Global, wait: &W) -> Result<u32, Fail>
     requires same { plan.now ≡ cells.now }
     requires regions { region_count cells.now ≡ 4 }
@@ -169,7 +169,7 @@ fn put_back<W: Wait>(cells: &Cells, plan: &Plan, alloc: Global, wait: &W) -> Res
     Ok(placed.region())
 }
 
-/// The region that was put back, and the faults of a reading and a writing of it then.
+/// The region that was put back, and the faults of a read and a write of it afterwards.
 fn put_back_and_faults<W: Wait>(
     cells: &Cells,
     plan: &Plan,
@@ -184,7 +184,7 @@ fn put_back_and_faults<W: Wait>(
     Ok((region, read_and_write_faults(cells, alloc, 3, wait)?))
 }
 
-/// The region of the base heap that was put back, the faults that its cell tells, and that of the end.
+/// The same in the base heap, and the fault with which the cells end.
 fn put_back_in_base<R: Threads + Wait + Sync>(
     alloc: Global,
     live: &[u64],
@@ -196,7 +196,7 @@ fn put_back_in_base<R: Threads + Wait + Sync>(
 }
 
 #[test]
-fn a_region_that_was_put_back_has_moved(rt: HostRuntime) -> Result<(), Fail> {
+fn a_region_that_is_put_back_has_moved(rt: HostRuntime) -> Result<(), Fail> {
     equal(
         &rt,
         put_back_in_base(rt.alloc(), BASE_LIVE.as_slice(), &rt)?,
@@ -210,7 +210,7 @@ fn a_region_that_was_put_back_has_moved(rt: HostRuntime) -> Result<(), Fail> {
 }
 
 #[test]
-fn a_region_that_is_not_to_be_filled_was_put_back(rt: HostRuntime) -> Result<(), Fail> {
+fn cells_do_not_end_if_another_region_is_put_back(rt: HostRuntime) -> Result<(), Fail> {
     equal(
         &rt,
         put_back_in_base(rt.alloc(), [].as_slice(), &rt)?,
@@ -224,13 +224,14 @@ fn a_region_that_is_not_to_be_filled_was_put_back(rt: HostRuntime) -> Result<(),
 }
 
 #[test]
-fn cells_do_not_end_with_nothing_filled(rt: HostRuntime) -> Result<(), Fail> {
+fn cells_do_not_end_if_nothing_is_filled(rt: HostRuntime) -> Result<(), Fail> {
     let (cells, _plan) = base_cells(rt.alloc(), BASE_LIVE.as_slice(), &rt)?;
     equal(&rt, end_fault(cells), Some(Fault::Overwritten(0)));
     Ok(())
 }
 
-/// The faults of a writing of region 2 where nothing is live, which is given up, and of the end.
+/// The fault of a write of region 2 that is given up in a heap without live objects, and the fault with which the cells
+/// end.
 fn faults_of_a_dead_region<R: Threads + Wait + Sync>(
     alloc: Global,
     rt: &R,
@@ -241,7 +242,7 @@ fn faults_of_a_dead_region<R: Threads + Wait + Sync>(
 }
 
 #[test]
-fn a_region_that_is_not_to_be_filled_was_given_up(rt: HostRuntime) -> Result<(), Fail> {
+fn cells_do_not_end_if_another_region_is_given_up(rt: HostRuntime) -> Result<(), Fail> {
     equal(
         &rt,
         faults_of_a_dead_region(rt.alloc(), &rt)?,
@@ -250,7 +251,7 @@ fn a_region_that_is_not_to_be_filled_was_given_up(rt: HostRuntime) -> Result<(),
     Ok(())
 }
 
-/// The fault of a reading where nothing is live, and the parts of the heap then.
+/// The fault of a read in a heap without live objects, and the parts of the heap afterwards.
 fn parts_once_read<R: Threads + Wait + Sync>(
     alloc: Global,
     rt: &R,
@@ -260,7 +261,7 @@ fn parts_once_read<R: Threads + Wait + Sync>(
     Ok((fault, cells.into_regions()?))
 }
 
-/// Ends the test where these are not the parts of the base heap without a live object.
+/// Fails unless these are the parts of the base heap without live objects.
 fn are_of_dead_base(rt: &impl Abort, parts: &Parts) {
     equal(rt, (parts.region_log, parts.allowance), (3, 0));
     equal(rt, (parts.regions.len(), parts.live.len()), (4, 0));
@@ -271,14 +272,14 @@ fn are_of_dead_base(rt: &impl Abort, parts: &Parts) {
 }
 
 #[test]
-fn a_heap_without_objects_is_left_as_it_was(rt: HostRuntime) -> Result<(), Fail> {
+fn a_heap_without_live_objects_stays_unchanged(rt: HostRuntime) -> Result<(), Fail> {
     let (fault, parts) = parts_once_read(rt.alloc(), &rt)?;
     equal(&rt, fault, None);
     are_of_dead_base(&rt, &parts);
     Ok(())
 }
 
-/// The parts of the image with this text, of whose cells none is used.
+/// The parts of the image with this text after it was put into cells.
 fn parts_of<T: Threads + Sync>(alloc: Global, text: &[u8], threads: &T) -> Result<Parts, Fault> {
     let image = decode_by_threads(alloc, text, threads)?;
     let (cells, _plan) = cells_and_plan(alloc, image, threads)?;
@@ -286,7 +287,7 @@ fn parts_of<T: Threads + Sync>(alloc: Global, text: &[u8], threads: &T) -> Resul
 }
 
 #[test]
-fn roots_are_handed_on(rt: HostRuntime) -> Result<(), Fail> {
+fn roots_are_kept(rt: HostRuntime) -> Result<(), Fail> {
     let text = rooted_text(rt.alloc(), Settings::of_base(0), &BASE_WORDS, &[0, 0])?;
     let parts = parts_of(rt.alloc(), text.as_slice(), &rt)?;
     match &parts.roots {

@@ -24,10 +24,10 @@ const THIRD: u64 = 0x0100_0001_0000_0002;
 
 const FOURTH: u64 = 0x0100_0008_0000_000a;
 
-/// The words of its last region.
+/// The words of the base heap's last region.
 const LAST_REGION: [u64; 8] = [13, 1, 0, 21, 6, 129, DEAD, DEAD];
 
-/// Headers of objects without references, of so many words.
+/// Headers of objects without references, by their number of words.
 const ONE: u64 = 0x0100_0000_0000_0001;
 
 const TWO: u64 = 0x0100_0000_0000_0002;
@@ -36,10 +36,10 @@ const THREE: u64 = 0x0100_0000_0000_0003;
 
 const FOUR: u64 = 0x0100_0000_0000_0004;
 
-/// The header of a filler of one word; one of more words has more by their number less one.
+/// The header of a filler of one word. Each further word adds 1.
 const FILLER: u64 = 0x0200_0000_0000_0001;
 
-/// The sources of which the fills of a heap told the last drain, and the words of its regions once they are filled and
+/// The sources that the fills of a heap reported as last drained, and the words of its regions once they are filled and
 /// once the heap is compacted.
 #[derive(Drop)]
 struct Outcome {
@@ -48,7 +48,7 @@ struct Outcome {
     compacted: Vec<u64>,
 }
 
-/// What fills of this heap in this order leave.
+/// The outcome of fills of this heap in this order.
 fn filled_heap<W: Wait>(
     heap: Heap,
     pass: Pass,
@@ -67,7 +67,7 @@ fn filled_heap<W: Wait>(
     })
 }
 
-/// What they leave of this image.
+/// The outcome of fills of this image in this order.
 fn filled_image<R: Threads + Wait + Sync>(
     alloc: Global,
     image: Image,
@@ -78,8 +78,8 @@ fn filled_image<R: Threads + Wait + Sync>(
     Ok(filled_heap(heap, pass, alloc, order, rt)?)
 }
 
-/// What fills in this order leave of the heap of these words and live addresses, in regions of 8 words with this
-/// allowance.
+/// The outcome of fills in this order of the heap with these words, live addresses and allowance, in regions of 8
+/// words.
 fn filled<R: Threads + Wait + Sync>(
     alloc: Global,
     allowance: u64,
@@ -92,7 +92,7 @@ fn filled<R: Threads + Wait + Sync>(
     filled_image(alloc, image, order, rt)
 }
 
-/// What they leave of the base heap.
+/// The outcome of fills of the base heap in this order.
 fn filled_base<R: Threads + Wait + Sync>(
     alloc: Global,
     allowance: u64,
@@ -102,20 +102,20 @@ fn filled_base<R: Threads + Wait + Sync>(
     filled_image(alloc, base_image(alloc, allowance, &BASE_LIVE)?, order, rt)
 }
 
-/// Ends the test where the regions have other words once they are filled, or once the heap is compacted.
+/// Fails the test unless these are the words once the regions are filled, and once the heap is compacted.
 fn equal_words(rt: &impl Abort, found: &Outcome, moved: &[[u64; 8]], compacted: &[[u64; 8]]) {
     equal_items(rt, found.moved.as_slice(), moved.as_flattened());
     equal_items(rt, found.compacted.as_slice(), compacted.as_flattened());
 }
 
-/// A region of 8 words, each of them 5.
+/// A region of 8 words that are all 5.
 fn fives(alloc: Global) -> Result<Region, AllocError> {
     let mut region = Region::new(alloc, 8)?;
     region.fill(0, 8, 5);
     Ok(region)
 }
 
-/// The words of two such regions, cleared from here up.
+/// The words of two such regions, cleared from `new_top` up.
 fn cleared_fives(alloc: Global, new_top: u64) -> Result<Vec<u64>, AllocError> {
     let mut regions = [fives(alloc)?, fives(alloc)?];
     clear_above(&mut regions, new_top);
@@ -157,7 +157,7 @@ fn the_base_heap_is_filled(rt: HostRuntime) -> Result<(), Fail> {
 }
 
 #[test]
-fn the_base_heap_is_filled_behind_a_prefix(rt: HostRuntime) -> Result<(), Fail> {
+fn the_base_heap_is_filled_after_a_prefix(rt: HostRuntime) -> Result<(), Fail> {
     let found = filled_base(rt.alloc(), 2, &[1, 2, 0], &rt)?;
     equal_items(&rt, found.sources.as_slice(), [2, 3].as_slice());
     let moved = [
@@ -189,7 +189,7 @@ fn the_small_heap_is_filled(rt: HostRuntime) -> Result<(), Fail> {
 }
 
 #[test]
-fn the_small_heap_stays_behind_a_filler(rt: HostRuntime) -> Result<(), Fail> {
+fn the_small_heap_stays_with_a_filler(rt: HostRuntime) -> Result<(), Fail> {
     let found = filled(rt.alloc(), 1, (&SMALL, &[0, 2, 3]), &[0], &rt)?;
     let stayed = [[ONE, FILLER, ONE, FIRST + 2, 3, 4, 106, 107]];
     equal_words(&rt, &found, &stayed, &stayed);
@@ -240,7 +240,7 @@ fn a_filler_crosses_a_region_end(rt: HostRuntime) -> Result<(), Fail> {
 }
 
 #[test]
-fn a_region_behind_the_prefix_reads_the_next(rt: HostRuntime) -> Result<(), Fail> {
+fn a_region_after_the_prefix_reads_the_next(rt: HostRuntime) -> Result<(), Fail> {
     let found = filled(rt.alloc(), 13, (&SPARSE, &[2, 20]), &[0, 1, 2], &rt)?;
     equal_items(&rt, found.sources.as_slice(), [2].as_slice());
     let moved = [

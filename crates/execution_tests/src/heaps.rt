@@ -1,4 +1,4 @@
-//! Heaps whose regions are filled by the one worker of a board, and what the fills leave.
+//! Heaps whose regions are filled by a board's only worker.
 ghost use Rattle.std.specs.Prelude.{◌≡◌, IfOk};
 ghost use Rattle.history.specs.ImageMoves.{image_table};
 ghost use Rattle.claim_board.specs.Boards.{moves as moves_of, identity, board_of};
@@ -17,7 +17,7 @@ use std::thread::Threads;
 use summary::Survey;
 use summary::laws::region_data::regions_to_fill;
 
-/// A heap whose regions are to be filled.
+/// A heap to fill, with a board of its moves.
 #[derive(Drop)]
 pub struct Heap {
     pub survey: Survey,
@@ -27,7 +27,7 @@ pub struct Heap {
     ghost moves_are: { moves_of board ≡ image_table survey },
 }
 
-/// A heap, and the pass of its one worker.
+/// The heap of an image, and the pass of its only worker.
 pub fn heap_of<T: Threads + Sync>(
     alloc: Global,
     image: Image,
@@ -40,7 +40,6 @@ pub fn heap_of<T: Threads + Sync>(
     heap_with_board(alloc, survey, cells)
 }
 
-/// The survey and the cells of an image.
 pub fn survey_and_cells<T: Threads + Sync>(
     alloc: Global,
     image: Image,
@@ -68,8 +67,8 @@ fn heap_with_board(alloc: Global, survey: Survey, cells: Cells) -> Result<(Heap,
     Ok((heap, pass))
 }
 
-/// Claims, fills and settles a region, and adds the sources of which it told the last drain. False where the region is
-/// not to be filled, or cannot be claimed.
+/// Claims, fills and settles a region, and appends the sources that it reports as last drained. Returns false if the
+/// region is not to be filled, or cannot be claimed.
 pub fn fill<W: Wait>(
     heap: &Heap,
     pass: &mut Pass,
@@ -105,7 +104,7 @@ pub fn fill<W: Wait>(
     Ok(placed.region() == region)
 }
 
-/// Tries to fill the regions in this order, and answers the sources of which the fills told the last drain.
+/// Tries to fill the regions in this order. Returns the sources that the fills report as last drained.
 pub fn fill_in_order<W: Wait>(
     heap: &Heap,
     mut pass: Pass,
@@ -122,7 +121,7 @@ pub fn fill_in_order<W: Wait>(
     Ok(sources)
 }
 
-/// Whether all regions below this one are filled, in ascending order.
+/// Fills the regions below `end` in ascending order. Returns false if one cannot be filled.
 pub fn fill_below<W: Wait>(
     heap: &Heap,
     mut pass: Pass,
@@ -141,7 +140,7 @@ pub fn fill_below<W: Wait>(
     Ok(true)
 }
 
-/// The words of a heap's regions, which are filled, and those once the heap is compacted.
+/// The words of a heap whose regions are filled, and its words once it is compacted.
 pub fn moved_and_compacted(alloc: Global, heap: Heap) -> Result<(Vec<u64>, Vec<u64>), Fault> {
     let Heap { survey, cells, .. } = heap;
     moved_and_compacted_cells(alloc, cells, &survey)
@@ -161,7 +160,7 @@ fn moved_and_compacted_cells(
     Ok((moved, joined(alloc, parts.regions.as_slice())?))
 }
 
-/// The words of these regions, one after the other.
+/// The words of these regions, concatenated.
 pub fn joined(alloc: Global, regions: &[Region]) -> Result<Vec<u64>, AllocError> {
     let mut words = Vec::new(alloc);
     for region in regions {
@@ -170,7 +169,7 @@ pub fn joined(alloc: Global, regions: &[Region]) -> Result<Vec<u64>, AllocError>
     Ok(words)
 }
 
-/// The fault with which the cells of a heap end, if they don't give their regions.
+/// The fault of `into_regions` on the cells of a heap, if it fails.
 pub fn end_fault_of(heap: Heap) -> Option<Fault> {
     let Heap { cells, .. } = heap;
     end_fault(cells)

@@ -1,6 +1,6 @@
 //! The tests of `region_cells` and `fill`, through their public calls alone.
 //!
-//! They stand in a crate of their own so that a check of them doesn't prove those libraries again.
+//! They are in a separate crate so that a check of them doesn't prove those libraries again.
 #![tactic(auto)]
 
 #[cfg(test)]

@@ -1,4 +1,4 @@
-//! What the making of cells answers where memory is refused.
+//! Making cells while allocations fail.
 ghost use Rattle.std.specs.Prelude.{◌≡◌};
 
 use crate::checks::holds;
@@ -10,14 +10,14 @@ use std::alloc::Global;
 use std::thread::Threads;
 use summary::Plan;
 
-/// Whether the cells of the base heap are made. Where their memory is refused, false if the image that came back is not
-/// as it was in words, live list, roots or numbers.
+/// Makes the cells of the base heap. Returns `Ok(true)` if they are made, `Err(Memory)` if an allocation fails and the
+/// unchanged image comes back, and `Ok(false)` if it comes back changed.
 fn are_made(alloc: Global, base: Base, threads: &(impl Threads + Sync)) -> Result<bool, Fault> {
     let text = base.text(alloc, 0)?;
     are_made_of_text(alloc, text.as_slice(), threads)
 }
 
-/// The same of the cells of the image with this text.
+/// The same for the image with this text.
 fn are_made_of_text(
     alloc: Global,
     text: &[u8],
@@ -27,19 +27,19 @@ fn are_made_of_text(
     let plan = plan_of(alloc, &image, threads)?;
     match image_back(alloc, image, &plan) {
         None => Ok(true),
-        Some(back) => answer_of_refusal(alloc, &back, text),
+        Some(back) => check_image_back(alloc, &back, text),
     }
 }
 
-/// The image that comes back where the cells are not made.
+/// The image that comes back if the cells are not made.
 fn image_back(alloc: Global, image: Image, plan: &Plan) -> Option<Image>
     requires { plan.now ≡ image }
 {
     Cells::of(alloc, image, plan).err()
 }
 
-/// The fault of refused memory if the image has this text, and else false.
-fn answer_of_refusal(alloc: Global, back: &Image, text: &[u8]) -> Result<bool, Fault> {
+/// Returns `Err(Memory)` if the image has this text, and else `Ok(false)`.
+fn check_image_back(alloc: Global, back: &Image, text: &[u8]) -> Result<bool, Fault> {
     if encode(alloc, back)?.as_slice() == text {
         Err(Fault::Memory)
     } else {
@@ -47,9 +47,9 @@ fn answer_of_refusal(alloc: Global, back: &Image, text: &[u8]) -> Result<bool, F
     }
 }
 
-/// The script tests/crate-allocations runs this with each allocation refused in turn.
+/// The script tests/build/test_crate_allocations.sh runs this with each allocation refused in turn.
 #[test]
-fn refused_memory_is_told(rt: HostRuntime) {
+fn refused_memory_is_reported(rt: HostRuntime) {
     let answers = [
         are_made(rt.alloc(), Base::WithLiveList, &rt),
         are_made(rt.alloc(), Base::WithRoots, &rt),

@@ -1,5 +1,5 @@
-//! Fault 15: what meets a region of the base heap that is written, was filled, or was given up. Rights and openings are
-//! those of other boards.
+//! Fault 15: reads, writes and fills of a base-heap region that is being written, was filled, or was given up. The
+//! rights and openings come from other boards.
 ghost use Rattle.std.specs.Prelude.{◌≡◌, ◌<◌, IfOk};
 ghost use Rattle.heap_image.specs.HeapImage.{region_count};
 ghost use Rattle.claim_board.specs.Boards.{identity, board_of};
@@ -15,7 +15,7 @@ use std::sync::Wait;
 use std::test::Fail;
 use std::thread::Threads;
 
-/// The base heap, and the pass of its one worker.
+/// The base heap, and the pass of its only worker.
 fn base_heap<T: Threads + Sync>(alloc: Global, threads: &T) -> Result<(Heap, Pass), Fail>
     ensures pass { IfOk result (λ made. board_of made.1 ≡ identity made.0.board) }
     ensures regions { IfOk result (λ made. region_count made.0.cells ≡ 4) }
@@ -23,7 +23,7 @@ fn base_heap<T: Threads + Sync>(alloc: Global, threads: &T) -> Result<(Heap, Pas
     heap_of(alloc, base_of_four(alloc, 0, &BASE_LIVE)?, threads)
 }
 
-/// The fault that a fill of region 0 meets, and of how many sources it told the last drain.
+/// The fault of a fill of region 0, and the number of sources that it reported as last drained.
 fn fill_fault<W: Wait>(
     heap: &Heap,
     mut pass: Pass,
@@ -37,7 +37,7 @@ fn fill_fault<W: Wait>(
     (fault, sources.len())
 }
 
-/// What a fill of region 0 meets while another writes a region.
+/// The same while another writer has `region`.
 fn fill_fault_while_written<W: Wait>(
     heap: &Heap,
     pass: Pass,
@@ -68,7 +68,7 @@ fn base_fault_while_written<R: Threads + Wait + Sync>(
 }
 
 #[test]
-fn a_fill_meets_a_region_that_is_written(rt: HostRuntime) -> Result<(), Fail> {
+fn a_fill_fails_at_a_region_that_is_being_written(rt: HostRuntime) -> Result<(), Fail> {
     for region in [0, 1] {
         let found = base_fault_while_written(rt.alloc(), region, &rt)?;
         equal(&rt, found, (Some(Fault::Overwritten(region)), 0));
@@ -76,8 +76,8 @@ fn a_fill_meets_a_region_that_is_written(rt: HostRuntime) -> Result<(), Fail> {
     Ok(())
 }
 
-/// The faults of a writing of region 1 that is given up, of a fill of region 0 and of a writing of that; and of how
-/// many sources the fill told the last drain.
+/// The faults of a write of region 1 that is given up, of a fill of region 0, and of a write of region 0; and the
+/// number of sources that the fill reported as last drained.
 type Spoiled = ([Option<Fault>; 3], usize);
 
 fn spoil<W: Wait>(heap: &Heap, pass: Pass, alloc: Global, wait: &W) -> Result<Spoiled, Fail>
@@ -90,7 +90,7 @@ fn spoil<W: Wait>(heap: &Heap, pass: Pass, alloc: Global, wait: &W) -> Result<Sp
     Ok(([given_up, filled, written], count))
 }
 
-/// These, and the fault with which the cells end.
+/// The same, and the fault with which the cells end.
 fn spoil_to_the_end<W: Wait>(
     heap: Heap,
     pass: Pass,
@@ -114,7 +114,7 @@ fn spoil_base<R: Threads + Wait + Sync>(
 }
 
 #[test]
-fn a_fill_meets_a_source_that_was_given_up(rt: HostRuntime) -> Result<(), Fail> {
+fn a_fill_fails_at_a_source_that_was_given_up(rt: HostRuntime) -> Result<(), Fail> {
     let spoiled = Some(Fault::Overwritten(0));
     equal(
         &rt,
@@ -124,7 +124,7 @@ fn a_fill_meets_a_source_that_was_given_up(rt: HostRuntime) -> Result<(), Fail> 
     Ok(())
 }
 
-/// Whether all regions below one were filled, and the faults of a reading and a writing of a region then.
+/// Whether all regions below `end` were filled, and the faults of a read and a write of a region afterwards.
 type Filled = (bool, [Option<Fault>; 2]);
 
 fn fill_and_open<R: AllocGlobal + Wait>(
@@ -143,7 +143,7 @@ fn fill_and_open<R: AllocGlobal + Wait>(
     Ok((are_filled, faults))
 }
 
-/// These, with the regions below `end` filled, and the fault with which the cells end.
+/// The same, and the fault with which the cells end.
 fn fill_to_the_end<R: AllocGlobal + Wait>(
     heap: Heap,
     pass: Pass,
@@ -172,7 +172,7 @@ fn fill_base<R: AllocGlobal + Threads + Wait + Sync>(
 }
 
 #[test]
-fn a_region_that_was_filled_is_not_opened(rt: HostRuntime) -> Result<(), Fail> {
+fn a_region_that_was_filled_cannot_be_opened(rt: HostRuntime) -> Result<(), Fail> {
     equal(
         &rt,
         fill_base(2, 1, &rt)?,
@@ -185,7 +185,7 @@ fn a_region_that_was_filled_is_not_opened(rt: HostRuntime) -> Result<(), Fail> {
 }
 
 #[test]
-fn the_region_that_stays_was_given_up(rt: HostRuntime) -> Result<(), Fail> {
+fn cells_do_not_end_if_the_last_region_is_given_up(rt: HostRuntime) -> Result<(), Fail> {
     equal(
         &rt,
         fill_base(3, 3, &rt)?,

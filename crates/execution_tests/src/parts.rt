@@ -1,4 +1,4 @@
-//! Deferred objects of larger heaps, updated by several threads.
+//! The update of deferred objects of larger heaps by several threads.
 ghost use Rattle.std.specs.Prelude.{◌≡◌};
 ghost use Rattle.claim_board.specs.Boards.{identity, board_of};
 
@@ -15,17 +15,16 @@ use std::test::Fail;
 use std::thread::Threads;
 use summary::Survey;
 
-/// How many regions of 8 words the heaps have: enough for several threads.
+/// The number of regions of 8 words in a heap: enough for several threads.
 const REGIONS: u64 = 4_096;
 
-/// The words of a region that are live where an object begins in each.
+/// The number of live words in a region if an object begins in each.
 const LIVE: u64 = 6;
 
 /// The header of an object of six words, of which three are references.
 const SMALL: u64 = 0x0100_0003_0000_0006;
 
-/// An object of six words at this address, the next one at another: its references lead to itself, to the next and
-/// nowhere.
+/// An object of six words at `address`, whose references lead to itself, to the object at `next`, and nowhere.
 fn object(address: u64, next: u64, number: u64) -> [u64; 6] {
     [
         SMALL,
@@ -37,8 +36,7 @@ fn object(address: u64, next: u64, number: u64) -> [u64; 6] {
     ]
 }
 
-/// Objects in a row, so many words from one to the next, with dead words between them. The last one refers to itself
-/// twice.
+/// One object every `stride` words, with dead words between them. The last one refers to itself twice.
 fn objects_apart(alloc: Global, stride: u64) -> Result<Vec<u64>, AllocError> {
     let mut words = Vec::new(alloc);
     for i in 0..REGIONS {
@@ -52,7 +50,7 @@ fn objects_apart(alloc: Global, stride: u64) -> Result<Vec<u64>, AllocError> {
     Ok(words)
 }
 
-/// The first words of the regions.
+/// The first address of each region.
 fn region_starts(alloc: Global) -> Result<Vec<u64>, AllocError> {
     let mut starts = Vec::new(alloc);
     for i in 0..REGIONS {
@@ -61,7 +59,7 @@ fn region_starts(alloc: Global) -> Result<Vec<u64>, AllocError> {
     Ok(starts)
 }
 
-/// The words of the compaction, its deferred objects updated by so many workers.
+/// The words of the compaction, with the deferred objects updated by `workers` workers.
 fn compacted_by<R: Threads + Wait + Sync>(
     rt: &R,
     alloc: Global,
@@ -73,7 +71,7 @@ fn compacted_by<R: Threads + Wait + Sync>(
     Ok(updated_by(rt, alloc, heap, workers)?)
 }
 
-/// Fills all regions that are to be filled.
+/// Fills all regions to fill.
 fn fill_all<W: Wait>(heap: &Heap, pass: Pass, alloc: Global, wait: &W) -> Result<(), Fail>
     requires { board_of pass ≡ identity heap.now.board }
 {
@@ -85,7 +83,7 @@ fn fill_all<W: Wait>(heap: &Heap, pass: Pass, alloc: Global, wait: &W) -> Result
     }
 }
 
-/// The words of a filled heap, its deferred objects updated by so many workers.
+/// The words of a filled heap, with its deferred objects updated by `workers` workers.
 fn updated_by<R: Threads + Sync>(
     rt: &R,
     alloc: Global,
@@ -111,7 +109,7 @@ fn updated_cells<R: Threads + Sync>(
     Ok(joined(alloc, parts.regions.as_slice())?)
 }
 
-/// Whether this is the compaction of the heap of these words and live addresses, by so many workers.
+/// Whether `workers` workers compact the heap of these words and live addresses to `expected`.
 fn is_compacted<R: AllocGlobal + Threads + Wait + Sync>(
     rt: &R,
     (words, live): (&[u64], &[u64]),
@@ -122,7 +120,7 @@ fn is_compacted<R: AllocGlobal + Threads + Wait + Sync>(
     Ok(compacted_by(rt, rt.alloc(), image, workers)?.as_slice() == expected)
 }
 
-/// Whether the heap with an object in each region is compacted by so many workers.
+/// Whether `workers` workers compact the heap with an object in each region to `expected`.
 fn rows_are_compacted<R: AllocGlobal + Threads + Wait + Sync>(
     rt: &R,
     expected: &[u64],
@@ -156,7 +154,7 @@ fn deferred_objects_are_updated_in_parts(rt: HostRuntime) -> Result<(), Fail> {
     Ok(())
 }
 
-/// A dead word, and an object over all words behind it, all of them but its header references to it.
+/// An object from `address` to the end of the heap, whose words after the header are all references to itself.
 fn one_object(alloc: Global, address: u64) -> Result<Vec<u64>, AllocError> {
     let size = REGIONS.wrapping_mul(8).wrapping_sub(1);
     let references = size.wrapping_sub(1);
@@ -176,7 +174,7 @@ fn one_object_compacted(alloc: Global) -> Result<Vec<u64>, AllocError> {
 }
 
 #[test]
-fn one_object_over_all_regions_is_of_one_part(rt: HostRuntime) -> Result<(), Fail> {
+fn one_object_over_all_regions_is_updated_in_one_part(rt: HostRuntime) -> Result<(), Fail> {
     let words = one_object(rt.alloc(), 1)?;
     let expected = one_object_compacted(rt.alloc())?;
     holds(

@@ -1,4 +1,4 @@
-//! Two threads that read one region of the base heap at once.
+//! Two threads that read one region of the base heap at the same time.
 ghost use Rattle.std.specs.Prelude.{◌≡◌, ◌<◌, IfSome};
 ghost use Rattle.heap_image.specs.HeapImage.{region_count};
 ghost use Rattle.history.specs.MoveTable.{region_count as table_regions};
@@ -18,13 +18,14 @@ use std::test::Fail;
 use std::thread;
 use std::thread::Threads;
 
-/// The moves of the base heap, each as destination and source.
+/// The moves of the base heap, as pairs of destination and source.
 const PAIRS: [(u32, u32); 4] = [(0, 1), (1, 2), (1, 3), (2, 3)];
 
-/// How often a reader looks whether the other one reads too.
+/// How often a reader polls whether the other one reads too.
 const TURNS: u32 = 1_000_000;
 
-/// Claims region 0, 1 and 2 and drains (0, 1) and (1, 2): what is left to the tickets of 1 and 2 is to read region 3.
+/// Claims regions 0, 1 and 2 and drains (0, 1) and (1, 2), so that the tickets of 1 and 2 have only region 3 left to
+/// read.
 fn last_tickets(board: &Board, moves: &GivenMoves, pass: &mut Pass) -> Option<(Ticket, Ticket)>
     requires moves { moves_of board.now ≡ moves.now }
     requires regions { table_regions moves.now ≡ 4 }
@@ -42,7 +43,7 @@ fn last_tickets(board: &Board, moves: &GivenMoves, pass: &mut Pass) -> Option<(T
     }
 }
 
-/// The ticket of a region whose first source is drained.
+/// Claims a region and drains its first source.
 fn drained_ticket(board: &Board, moves: &GivenMoves, pass: &mut Pass, region: u32) -> Option<Ticket>
     requires moves { moves_of board.now ≡ moves.now }
     requires inside { region < table_regions moves.now }
@@ -64,14 +65,14 @@ fn drained_ticket(board: &Board, moves: &GivenMoves, pass: &mut Pass, region: u3
     }
 }
 
-/// A reader's flag, raised while its source is open, and the other reader's.
+/// A reader's flag, which it raises while its source is open, and the other reader's flag.
 #[derive(Clone, Copy)]
 struct Flags<'a> {
     mine: &'a AtomicBool,
     theirs: &'a AtomicBool,
 }
 
-/// Whether a source of the ticket's next region was open together with the other thread's.
+/// Opens the ticket's next source. Returns whether the other thread's was open at the same time.
 fn reads_beside<W: Wait>(
     cells: &Cells,
     moves: &GivenMoves,
@@ -97,7 +98,7 @@ fn reads_beside<W: Wait>(
     }
 }
 
-/// Whether the flag is raised within `TURNS` turns.
+/// Whether the flag is raised within `TURNS` polls.
 fn was_raised(flag: &AtomicBool) -> bool {
     for _ in 0..TURNS {
         if flag.load(Ordering::SeqCst) {
@@ -108,7 +109,7 @@ fn was_raised(flag: &AtomicBool) -> bool {
     false
 }
 
-/// Whether two threads saw each other's source, each with one of these tickets.
+/// Whether two threads, each with one of these tickets, see each other's source.
 fn read_by_two<R: Threads + Wait + Sync>(
     cells: &Cells,
     moves: &GivenMoves,
@@ -140,7 +141,7 @@ fn read_by_two<R: Threads + Wait + Sync>(
     met
 }
 
-/// Whether they did so in region 3, with the last tickets of this board.
+/// The same with the last tickets of this board, which read region 3.
 fn read_by_last_tickets<R: Threads + Wait + Sync>(
     cells: &Cells,
     moves: &GivenMoves,
@@ -157,7 +158,7 @@ fn read_by_last_tickets<R: Threads + Wait + Sync>(
     Some(read_by_two(cells, moves, first, second, rt))
 }
 
-/// Whether two threads saw each other's source of region 3 of these cells.
+/// Whether two threads see each other's source of region 3 of these cells.
 fn met_in_region_3<R: Threads + Wait + Sync>(
     cells: &Cells,
     alloc: Global,
@@ -172,16 +173,16 @@ fn met_in_region_3<R: Threads + Wait + Sync>(
     }
 }
 
-/// The same of the base heap.
+/// The same for the base heap.
 fn met_in_base<R: Threads + Wait + Sync>(alloc: Global, rt: &R) -> Result<(bool, bool), Fail> {
     let (cells, _plan) = base_cells(alloc, BASE_LIVE.as_slice(), rt)?;
     met_in_region_3(&cells, alloc, rt)
 }
 
 #[test]
-fn two_threads_read_one_region_at_once(rt: HostRuntime) -> Result<(), Fail> {
+fn two_threads_read_one_region_at_the_same_time(rt: HostRuntime) -> Result<(), Fail> {
     let mut met = met_in_base(rt.alloc(), &rt)?;
-    // Where memory is short, the second thread may not have started.
+    // If memory is short, the second thread may not have started.
     if met != (true, true) {
         met = met_in_base(rt.alloc(), &rt)?;
     }

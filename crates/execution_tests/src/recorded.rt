@@ -1,4 +1,4 @@
-//! What a recorder keeps of the fills of the base heap: how many words are noted, and when.
+//! What a recorder keeps of fills of the base heap: how many words are reported, and when.
 ghost use Rattle.std.specs.Prelude.{◌≡◌, ◌<◌, IfOk};
 ghost use Rattle.history.specs.ImageMoves.{image_table};
 ghost use Rattle.claim_board.specs.Recorders.{moves as moves_of, worker_count};
@@ -20,7 +20,7 @@ use std::thread::Threads;
 use summary::Survey;
 use summary::laws::region_data::regions_to_fill;
 
-/// The fills with allowance 0.
+/// The schedule of fills with allowance 0.
 const SLID: &str = "schedule 1 1
 0 claim 0 yes
 0 copy 0 6 ok
@@ -43,8 +43,8 @@ const SLID: &str = "schedule 1 1
 0 settle 2 all
 ";
 
-/// The fills with allowance 2, by which the first region stays.
-const BEHIND_PREFIX: &str = "schedule 1 1
+/// The schedule of fills with allowance 2, with which the first region stays.
+const AFTER_PREFIX: &str = "schedule 1 1
 0 claim 0 yes
 0 copy 0 8 ok
 0 complete 0 ok
@@ -64,7 +64,7 @@ const BEHIND_PREFIX: &str = "schedule 1 1
 0 settle 2 all
 ";
 
-/// A heap whose fills are recorded, by one worker.
+/// A heap and a recorder of its fills by one worker.
 #[derive(Drop)]
 struct RecordedHeap {
     survey: Survey,
@@ -75,7 +75,7 @@ struct RecordedHeap {
     ghost alone: { worker_count recorder ≡ 1 },
 }
 
-/// The base heap with this allowance, of whose fills none is recorded yet.
+/// The base heap with this allowance and an empty recorder.
 fn base_heap<T: Threads + Sync>(
     alloc: Global,
     allowance: u64,
@@ -97,7 +97,7 @@ fn heap_with_recorder(alloc: Global, survey: Survey, cells: Cells) -> Result<Rec
     })
 }
 
-/// Fills the region of a ticket. Nobody is told of last drains.
+/// Fills the region of a ticket, and ignores the last drains.
 fn fill_of<W: Wait>(
     heap: &RecordedHeap,
     seat: &mut u32,
@@ -120,7 +120,7 @@ fn fill_of<W: Wait>(
     Ok(done)
 }
 
-/// Claims, fills and settles a region. False where it is not to be filled, or cannot be claimed.
+/// Claims, fills and settles a region. Returns false if it is not to be filled, or cannot be claimed.
 fn fill_recorded<W: Wait>(heap: &RecordedHeap, region: u32, wait: &W) -> Result<bool, Fault> {
     moves_of_images();
     regions_to_fill();
@@ -137,7 +137,7 @@ fn fill_recorded<W: Wait>(heap: &RecordedHeap, region: u32, wait: &W) -> Result<
     Ok(true)
 }
 
-/// The schedule of the base heap with this allowance, filled in ascending order.
+/// The schedule of fills of the base heap with this allowance, in ascending order.
 fn base_schedule<R: Threads + Wait + Sync>(
     alloc: Global,
     allowance: u64,
@@ -156,13 +156,13 @@ fn fill_four<W: Wait>(heap: &RecordedHeap, wait: &W) -> Result<(), Fault> {
     Ok(())
 }
 
-/// What the recorder of a heap has kept.
+/// The schedule that the heap's recorder has kept.
 fn schedule_of(heap: RecordedHeap) -> Schedule {
     let RecordedHeap { recorder, .. } = heap;
     recorder.into_schedule()
 }
 
-/// A ticket of a recorder of four regions, all to be filled.
+/// A ticket from another recorder, of four regions that are all to be filled.
 fn other_ticket<W: Wait>(alloc: Global, region: u32, wait: &W) -> Result<Ticket, Fail>
     requires { region < 4 }
     ensures { IfOk result (λ ticket. (ticket.region ≡ region) × IsUnused ticket) }
@@ -176,7 +176,7 @@ fn other_ticket<W: Wait>(alloc: Global, region: u32, wait: &W) -> Result<Ticket,
     }
 }
 
-/// The fault that a fill of the heap meets that is handed a ticket of another recorder.
+/// The fault of a fill with a ticket from another recorder.
 fn foreign_fault<W: Wait>(
     heap: &RecordedHeap,
     alloc: Global,
@@ -196,7 +196,7 @@ fn foreign_fault<W: Wait>(
     }
 }
 
-/// The fault that a fill of region 3 of the base heap meets, and whether nothing was recorded.
+/// The fault of a fill of region 3 of the base heap, and whether nothing was recorded.
 fn fault_at_region_3<R: Threads + Wait + Sync>(
     alloc: Global,
     rt: &R,
@@ -217,8 +217,8 @@ fn a_region_that_is_not_to_be_filled_is_refused(rt: HostRuntime) -> Result<(), F
 }
 
 #[test]
-fn the_words_are_noted_before_each_drain(rt: HostRuntime) -> Result<(), Fail> {
-    for (allowance, schedule) in [(0, SLID), (2, BEHIND_PREFIX)] {
+fn the_words_are_reported_before_each_drain(rt: HostRuntime) -> Result<(), Fail> {
+    for (allowance, schedule) in [(0, SLID), (2, AFTER_PREFIX)] {
         let text = base_schedule(rt.alloc(), allowance, &rt)?;
         equal_items(&rt, text.as_slice(), schedule.as_bytes());
     }

@@ -1,4 +1,4 @@
-//! Heaps made from seeds, filled in several orders and compared with the plain compaction.
+//! Seeded heaps, filled in several orders and compared with the plain compaction.
 ghost use Rattle.std.specs.Prelude.{◌≡◌};
 ghost use Rattle.claim_board.specs.Boards.{identity, board_of};
 
@@ -13,21 +13,21 @@ use std::test::Fail;
 use std::thread::Threads;
 use summary::{Plan, compact_plainly};
 
-/// An address and a size.
+/// The address and the size of an object, in words.
 type Object = (u64, u64);
 
-/// How the objects of a heap lie.
+/// How the objects of a heap are laid out.
 #[derive(Clone, Copy)]
 enum Shape {
     /// With no dead words between them.
     Packed,
     /// Each of one word.
     Small,
-    /// At times over some regions, and at times behind some dead regions.
+    /// Some over several regions, and some after several dead regions.
     Mixed,
 }
 
-/// Numbers that look like chance, the same in each run.
+/// A pseudo-random generator, the same in each run.
 #[derive(Clone, Copy)]
 struct Seed(u64);
 
@@ -48,7 +48,7 @@ impl Seed {
         }
     }
 
-    /// How many dead words come next.
+    /// The number of dead words before the next object.
     fn gap(&mut self, shape: Shape, region_words: u64) -> u64 {
         match (shape, self.below(6)) {
             (Shape::Packed, _) => 0,
@@ -58,14 +58,14 @@ impl Seed {
         }
     }
 
-    /// How many words the next object has.
+    /// The number of words of the next object.
     fn size(&mut self, shape: Shape, region_words: u64) -> u64 {
-        let behind = match (shape, self.below(6)) {
+        let others = match (shape, self.below(6)) {
             (Shape::Small, _) | (_, 1 | 2) => 0,
             (_, 0) => self.below(region_words.wrapping_mul(3)),
             _ => self.below(region_words),
         };
-        behind.wrapping_add(1)
+        others.wrapping_add(1)
     }
 
     /// Null, or a reference to one of these objects.
@@ -78,7 +78,7 @@ impl Seed {
     }
 }
 
-/// The objects of a heap of so many words.
+/// The objects of a heap of `len` words.
 fn seeded_objects(
     alloc: Global,
     seed: &mut Seed,
@@ -100,7 +100,7 @@ fn seeded_objects(
     Ok(objects)
 }
 
-/// The words of a heap of these objects.
+/// The words of a heap with these objects.
 fn seeded_words(
     alloc: Global,
     seed: &mut Seed,
@@ -116,7 +116,7 @@ fn seeded_words(
     Ok(words)
 }
 
-/// Puts dead words up to this address.
+/// Appends dead words up to this address.
 fn put_dead(words: &mut Vec<u64>, end: u64) -> Result<(), AllocError> {
     for _ in words.len() as u64..end {
         words.push(DEAD)?;
@@ -124,7 +124,7 @@ fn put_dead(words: &mut Vec<u64>, end: u64) -> Result<(), AllocError> {
     Ok(())
 }
 
-/// Puts an object with some references to these objects.
+/// Appends an object with some references to these objects.
 fn put_object(
     words: &mut Vec<u64>,
     seed: &mut Seed,
@@ -168,7 +168,7 @@ fn seeded_image(
     image_of(alloc, settings, words.as_slice(), live.as_slice(), threads)
 }
 
-/// The words of eight regions, and the addresses of the objects in them.
+/// The words of eight regions, and the addresses of their objects.
 fn seeded_words_and_live(
     alloc: Global,
     seed: &mut Seed,
@@ -180,7 +180,7 @@ fn seeded_words_and_live(
     Ok((words, begins(alloc, objects.as_slice())?))
 }
 
-/// Which of the regions whose claim is granted is filled next.
+/// The order in which the regions are tried.
 #[derive(Clone, Copy)]
 enum Order {
     Lowest,
@@ -189,7 +189,7 @@ enum Order {
 }
 
 impl Order {
-    /// The regions as they are tried next.
+    /// The regions, in the order in which to try them next.
     fn next(&mut self) -> [u32; 8] {
         match self {
             Order::Lowest => [0, 1, 2, 3, 4, 5, 6, 7],
@@ -202,7 +202,7 @@ impl Order {
     }
 }
 
-/// Fills the first of these regions that is granted. False where none is.
+/// Fills the first of these regions that is granted. Returns false if none is.
 fn fill_first<W: Wait>(
     heap: &Heap,
     pass: &mut Pass,
@@ -221,7 +221,7 @@ fn fill_first<W: Wait>(
     Ok(false)
 }
 
-/// Fills as many regions as are to be filled. False where none is granted before.
+/// Fills all regions to fill. Returns false if at some point none is granted.
 fn fill_ordered<W: Wait>(
     heap: &Heap,
     pass: &mut Pass,
@@ -251,7 +251,7 @@ fn compacted_image<R: Threads + Wait + Sync>(
     compacted_heap(heap, pass, alloc, order, rt)
 }
 
-/// The same of this heap.
+/// The same for this heap.
 fn compacted_heap<W: Wait>(
     heap: Heap,
     pass: Pass,
@@ -266,8 +266,7 @@ fn compacted_heap<W: Wait>(
     Ok(compacted)
 }
 
-/// Fills in this order. Fails unless the sources of which the fills told the last drain are those that another region
-/// reads.
+/// Fills in this order. Fails unless the fills report as last drained exactly the sources that another region reads.
 fn fill_and_compare_sources<W: Wait>(
     heap: &Heap,
     pass: Pass,
@@ -281,11 +280,11 @@ fn fill_and_compare_sources<W: Wait>(
     if sources == read_by_others(alloc, heap.survey.plan())? {
         Ok(())
     } else {
-        Err(Fail::from("other sources were told"))
+        Err(Fail::from("other sources were reported"))
     }
 }
 
-/// The sources of which fills in this order told the last drain, ascending.
+/// The sources that fills in this order report as last drained, ascending.
 fn drained_sources<W: Wait>(
     heap: &Heap,
     mut pass: Pass,
@@ -321,7 +320,7 @@ fn plain_words(alloc: Global, image: &Image) -> Result<Vec<u64>, Fault> {
     Ok(joined(alloc, plain.regions.as_slice())?)
 }
 
-/// Whether fills in this order leave the plain compaction of the heap that this seed makes.
+/// Whether fills in this order make the plain compaction of this seed's heap.
 fn order_agrees<R: Threads + Wait + Sync>(
     rt: &R,
     alloc: Global,
@@ -333,7 +332,7 @@ fn order_agrees<R: Threads + Wait + Sync>(
     image_agrees(alloc, image, order, rt)
 }
 
-/// Whether fills in this order leave the plain compaction of this image.
+/// Whether fills in this order make the plain compaction of this image.
 fn image_agrees<R: Threads + Wait + Sync>(
     alloc: Global,
     image: Image,
@@ -345,7 +344,7 @@ fn image_agrees<R: Threads + Wait + Sync>(
     Ok(compacted == plain)
 }
 
-/// Whether fills of the heap that this seed makes leave its plain compaction in each order.
+/// Whether fills of this seed's heap make its plain compaction in each order.
 fn seed_agrees<R: Threads + Wait + Sync>(
     rt: &R,
     alloc: Global,

@@ -1,5 +1,5 @@
-//! The cells of a heap of four regions, and what reads and writes them without a fill: openings and rights of boards of
-//! their own.
+//! The cells of a heap of four regions, and openings and rights to read and write them without a fill. Each comes from
+//! a board of its own.
 ghost use Rattle.std.specs.Prelude.{◌≡◌, ◌<◌, IfOk};
 ghost use Rattle.heap_image.specs.HeapImage.{region_count};
 ghost use Rattle.history.specs.MoveTable.{region_count as table_regions};
@@ -31,7 +31,6 @@ pub fn base_of_four(alloc: Global, allowance: u64, live: &[u64]) -> Result<Image
     }
 }
 
-/// The plan of an image.
 pub fn plan_of<T: Threads + Sync>(alloc: Global, image: &Image, threads: &T) -> Result<Plan, Fault>
     ensures { IfOk result (λ plan. plan ≡ image.now) }
 {
@@ -39,7 +38,7 @@ pub fn plan_of<T: Threads + Sync>(alloc: Global, image: &Image, threads: &T) -> 
     Plan::of(alloc, image, &marks, threads)
 }
 
-/// The cells of an image by its plan.
+/// The cells of an image. `plan` is its plan.
 pub fn cells_of(alloc: Global, image: Image, plan: &Plan) -> Result<Cells, Fault>
     requires { plan.now ≡ image }
     ensures { IfOk result (λ cells. cells ≡ image) }
@@ -50,7 +49,6 @@ pub fn cells_of(alloc: Global, image: Image, plan: &Plan) -> Result<Cells, Fault
     }
 }
 
-/// The cells of an image, and its plan.
 pub fn cells_and_plan<T: Threads + Sync>(
     alloc: Global,
     image: Image,
@@ -64,7 +62,7 @@ pub fn cells_and_plan<T: Threads + Sync>(
     Ok((cells, plan))
 }
 
-/// A board over four regions, all to be filled, with these pairs of a destination and a source, and the pass of its one
+/// A board for four regions, all to be filled, with these pairs of destination and source, and the pass of its only
 /// worker.
 pub fn board_of_four(alloc: Global, pairs: &[(u32, u32)]) -> Result<(GivenMoves, Board, Pass), Fail>
     ensures moves { IfOk result (λ made. moves_of made.1 ≡ made.0) }
@@ -90,7 +88,7 @@ pub fn moves_of_four(alloc: Global, pairs: &[(u32, u32)]) -> Result<GivenMoves, 
     }
 }
 
-/// A board over these moves, and the pass of its one worker.
+/// A board for these moves, and the pass of its only worker.
 pub fn board_for_one<M: Moves>(alloc: Global, moves: &M) -> Result<(Board, Pass), Fail>
     ensures moves { IfOk result (λ made. moves_of made.0 ≡ M.table moves.now) }
     ensures pass { IfOk result (λ made. board_of made.1 ≡ identity made.0) }
@@ -100,7 +98,7 @@ pub fn board_for_one<M: Moves>(alloc: Global, moves: &M) -> Result<(Board, Pass)
     Ok((board, pass))
 }
 
-/// The opening by which region 0 reads this one.
+/// An opening with which region 0 reads region `source`.
 pub fn opening(alloc: Global, source: u32) -> Result<Opening, Fail>
     ensures { IfOk result (λ opening. opening.source < 4) }
 {
@@ -116,7 +114,7 @@ pub fn opening(alloc: Global, source: u32) -> Result<Opening, Fail>
     }
 }
 
-/// The right to write this region.
+/// A right to write this region.
 pub fn right(alloc: Global, region: u32) -> Result<Right, Fail>
     requires { region < 4 }
     ensures { IfOk result (λ right. right.region ≡ region) }
@@ -133,7 +131,7 @@ pub fn right(alloc: Global, region: u32) -> Result<Right, Fail>
     }
 }
 
-/// The fault that a reading of the region meets.
+/// The fault of a read of the region, if it fails.
 pub fn read_fault<W: Wait>(
     cells: &Cells,
     alloc: Global,
@@ -151,7 +149,7 @@ pub fn read_fault<W: Wait>(
     }
 }
 
-/// The fault that a writing of the region meets, which is given up.
+/// The fault of a write of the region, if it fails. Otherwise the write is given up.
 pub fn write_fault<W: Wait>(
     cells: &Cells,
     alloc: Global,
@@ -170,7 +168,7 @@ pub fn write_fault<W: Wait>(
     }
 }
 
-/// The faults that a reading of the region and then a writing of it meet.
+/// The faults of a read and then a write of the region.
 pub fn read_and_write_faults<W: Wait>(
     cells: &Cells,
     alloc: Global,
@@ -186,7 +184,7 @@ pub fn read_and_write_faults<W: Wait>(
     ])
 }
 
-/// The fault with which the cells end, if they don't give their regions.
+/// The fault of `into_regions`, if it fails.
 pub fn end_fault(cells: Cells) -> Option<Fault> {
     cells.into_regions().err()
 }

@@ -22,9 +22,9 @@ use Rattle.claim_board.specs.declared.drained.Drained.{Drained}
 use Rattle.claim_board.specs.declared.drained.Drained.TheVariants.{Last, NotLast}
 use Rattle.claim_board.specs.Callers.{Caller, Gains, IsSeenLast}
 use Rattle.claim_board.specs.Drains.{reply_of}
-use Rattle.fill.specs.SourceDrains.{SourceDrain, source_drain, is_last, other_sources_below, sources_of, last_sources, drain_calls, GainsAll, TellsLast, HasDrained, HasFilled}
+use Rattle.fill.specs.SourceDrains.{SourceDrain, source_drain, is_last, other_sources_below, sources_of, last_sources, drain_calls, GainsAll, ReportsLast, HasDrained, HasFilled}
 
--- what a table and its image say of one pair
+-- what a table and its image say about one pair
 module _ (d s : ℕ) (table image : Bool) (is : table ≡ (not (d == s) && image)) where
   pub other_read : table ≡ true → (image ≡ true) × (d ≢ s)
   other_read e =
@@ -38,7 +38,7 @@ module _ (d s : ℕ) (table image : Bool) (is : table ≡ (not (d == s) && image
   unread_above l e = false_from_ne_true image (λ h.
       false≢true (sym e ∙ is ∙ and_from (not (d == s)) image (not_from_false (d == s) (ne_eqb d s (λ f. let no : ⊥ = omega arith in no))) h))
 
--- What a table of moves says that is the image's, of a region that is d.
+-- What the image's table of moves says about region d.
 module _ (image : HeapImage) (valid : IsValid image) (law : (d s : ℕ) → reads (image_table image) d s ≡ (not (d == s) && image_reads image d s)) (plan : HeapImage) (same : plan ≡ image) (d r : ℕ) (here : r ≡ d) where
   same_reads : (s : ℕ) → reads (image_table image) d s ≡ reads (image_table plan) r s
   same_reads s = sym (λ i. reads (image_table (same i)) (here i) s)
@@ -77,7 +77,7 @@ module _ (m : MoveTable) (d : ℕ) where
 last_append : (xs ys : List SourceDrain) → last_sources (xs ++ ys) ≡ last_sources xs ++ last_sources ys
 last_append xs ys = ap sources_of (filter-append (λ x. is_last x.answer) xs ys) ∙ map-append (λ x. x.source) (filter (λ x. is_last x.answer) xs) (filter (λ x. is_last x.answer) ys)
 
--- what is seen after one call more begins with what was seen before the calls before it
+-- what is seen after one more call begins with what was seen before the earlier calls
 seen_more : (old mid new : List Entry) (e : Entry) → BeginsWith mid old → IsSeenLast mid new e → BeginsWith new old
 seen_more old mid new e first last =
     let began = last.1 in (
@@ -87,7 +87,7 @@ seen_more old mid new e first last =
           ∙ append_assoc old (first.0 ++ began.0) (e ∷ [])),
     )
 
--- one call more
+-- one more call
 gains_more : (old mid new : Caller) (d s : ℕ) (answer : Drained) (drains : List SourceDrain) → GainsAll old mid (drain_calls old.worker d drains) → Gains mid new (Drain d s) (reply_of answer)
     → GainsAll old new (drain_calls old.worker d (drains ++ source_drain s answer ∷ []))
 gains_more old mid new d s answer drains before g =
@@ -101,9 +101,9 @@ gains_more old mid new d s answer drains before g =
     }
 
 module _ {F : Type 0} (step : F → ℕ → F → Type 0) where
-  told_more : (drains : List SourceDrain) (s : ℕ) (answer : Drained) (f g h : F) → FoldsTo step f (last_sources drains) g → TellsLast step s answer g h → FoldsTo step f (last_sources (drains ++ source_drain s answer ∷ [])) h
-  told_more drains s Last f g h before t = subst (λ (xs : List ℕ). FoldsTo step f xs h) (sym (last_append drains (source_drain s Last ∷ []))) (FoldsTo-push step f (last_sources drains) g s h before t)
-  told_more drains s NotLast f g h before t =
+  reported_more : (drains : List SourceDrain) (s : ℕ) (answer : Drained) (f g h : F) → FoldsTo step f (last_sources drains) g → ReportsLast step s answer g h → FoldsTo step f (last_sources (drains ++ source_drain s answer ∷ [])) h
+  reported_more drains s Last f g h before t = subst (λ (xs : List ℕ). FoldsTo step f xs h) (sym (last_append drains (source_drain s Last ∷ []))) (FoldsTo-push step f (last_sources drains) g s h before t)
+  reported_more drains s NotLast f g h before t =
       subst (λ (xs : List ℕ). FoldsTo step f xs h) (sym (last_append drains (source_drain s NotLast ∷ []) ∙ append-nil (last_sources drains)))
       (subst (FoldsTo step f (last_sources drains)) t before)
 
@@ -114,7 +114,7 @@ module _ {F : Type 0} (step : F → ℕ → F → Type 0) (tells : Type 0) (m : 
       record {
         drains = [];
         each = sym none;
-        told = refl;
+        reported = refl;
         gains = λ t. record {
           board = ap (λ c. c.board) (same t);
           worker = ap (λ c. c.worker) (same t);
@@ -124,19 +124,19 @@ module _ {F : Type 0} (step : F → ℕ → F → Type 0) (tells : Type 0) (m : 
       }
 
   pub drained_more : (next s : ℕ) (answer : Drained) (old mid new : Caller) (f g h : F) → HasDrained step tells m d next old mid f g → next ≤ s → ((t : ℕ) → next ≤ t → t < s → reads m d t ≡ false) → reads m d s ≡ true
-      → TellsLast step s answer g h → (tells → Gains mid new (Drain d s) (reply_of answer)) → HasDrained step tells m d (s + 1) old new f h
-  drained_more next s answer old mid new f g h before l unread read told gains =
+      → ReportsLast step s answer g h → (tells → Gains mid new (Drain d s) (reply_of answer)) → HasDrained step tells m d (s + 1) old new f h
+  drained_more next s answer old mid new f g h before l unread read reported gains =
       record {
         drains = before.drains ++ source_drain s answer ∷ [];
         each = map-append (λ x. x.source) before.drains (source_drain s answer ∷ []) ∙ ap (λ (xs : List ℕ). xs ++ s ∷ []) (before.each ∙ sym (sources_skip m d next s l unread)) ∙ sym (sources_more m d s read);
-        told = told_more step before.drains s answer f g h before.told told;
+        reported = reported_more step before.drains s answer f g h before.reported reported;
         gains = λ t. gains_more old mid new d s answer before.drains (before.gains t) (gains t);
       }
 
   -- no source from next on
   pub drained_all : (next all : ℕ) (old new : Caller) (f g : F) → HasDrained step tells m d next old new f g → next ≤ all → ((t : ℕ) → next ≤ t → reads m d t ≡ false) → HasDrained step tells m d all old new f g
   drained_all next all old new f g before l unread =
-      record { drains = before.drains; each = before.each ∙ sym (sources_skip m d next all l (λ t a b. unread t a)); told = before.told; gains = before.gains }
+      record { drains = before.drains; each = before.each ∙ sym (sources_skip m d next all l (λ t a b. unread t a)); reported = before.reported; gains = before.gains }
 
   pub filled_all : (old mid new : Caller) (f g : F) → HasDrained step tells m d (region_count m) old mid f g → (tells → Gains mid new (Complete d) Done) → HasFilled step tells m d old new f g
   filled_all old mid new f g h last =
@@ -144,7 +144,7 @@ module _ {F : Type 0} (step : F → ℕ → F → Type 0) (tells : Type 0) (m : 
       record {
         drains = h.drains;
         each = h.each;
-        told = h.told;
+        reported = h.reported;
         gains = λ t. let b = h.gains t in let a = last t in record {
           board = a.board ∙ b.board;
           worker = a.worker ∙ b.worker;
@@ -153,7 +153,7 @@ module _ {F : Type 0} (step : F → ℕ → F → Type 0) (tells : Type 0) (m : 
         };
       }
 
--- the same by a table, regions and a completion that are the image's, and of region d
+-- the same for the image's table, regions and completion, and for region d
 pub filled_here : {F : Type 0} (step : F → ℕ → F → Type 0) (tells : Type 0) (image guide : HeapImage) → guide ≡ image → region_count (image_table image) ≡ heap_regions image → (d r q : ℕ) → r ≡ d → q ≡ d → (old mid new : Caller) (f g : F)
     → HasDrained step tells (image_table guide) r (heap_regions guide) old mid f g → (tells → Gains mid new (Complete q) Done) → HasFilled step tells (image_table image) d old new f g
 filled_here step tells image guide same count d r q here there old mid new f g h last =

@@ -1,4 +1,4 @@
--- Fillers, as they are with_words.
+-- Fillers, as they are written.
 use Rattle.std.proofs.Common.{◌≡◌, ℕ, ◌+◌, ◌-◌, ◌≤◌, ◌<◌, true, false, ◌||◌, List, length, replicate, sym, ◌∙◌, ap, subst, arith, eqb}
 use Rattle.std.proofs.lemmas.Bool.{cond-true, cond-false, or_from, ne_eqb}
 use Rattle.std.proofs.lemmas.List.{get_or-replicate, length-replicate}
@@ -33,7 +33,7 @@ module _ (image : HeapImage) (sound : HasLiveList image) where
   pub copied-dead : (p : ℕ) → p < P → is_live_word image p ≡ false → c p ≡ filler_word image p
   copied-dead p l dead = let top = top-above image sound in word_by-below image (λ _. false) p None (omega arith) (origin-dead image sound p l dead)
 
-  -- the first word of a run, and those behind another dead word
+  -- the first word of a dead run, and the words after another dead word
   pub copied-first : (a b : ℕ) → a < b → b ≤ P → ((q : ℕ) → a ≤ q → q < b → is_live_word image q ≡ false) → (b < P → is_live_word image b ≡ true) → (eqb a 0 || is_live_word image (a - 1)) ≡ true → c a ≡ filler_header (b - a)
   copied-first a b some l dead live first =
       copied-dead a (omega arith) (dead a (omega arith) some)

@@ -26,7 +26,7 @@ or_false true = refl
 or_false false = refl
 
 module _ (image : HeapImage) where
-  -- the n words from address a up, with the references redirected that the test passes
+  -- the n words from address a up, redirected where the test passes
   module _ (a n : ℕ) where
     abbrev words_by : (ℕ → Bool) → List ℕ
     words_by test = map (redirected_where image test) (range_with_len a n)
@@ -108,7 +108,7 @@ module _ (image : HeapImage) where
       list_any_at (late_in p) (range_with_len 0 d) e 0 (omega arith)
       (ap (late_in p) (get_or-range_with_len 0 d e 0 l ∙ zero-add e) ∙ ap (λ o. is_late_behind image o p) is ∙ behind-from x p m n)
 
-  -- the references of the object at x up to p, itself not included
+  -- the references of the object at x below p
   abbrev pub late_up_to : ℕ → ℕ → ℕ → ℕ → Bool
   late_up_to d x p q = is_late_before image d q || (ltb x q && ltb q p)
 
@@ -161,7 +161,7 @@ module _ (image : HeapImage) where
     abbrev Once : Type 0
     Once = (p e f y z : ℕ) → deferred image e ≡ Some y → deferred image f ≡ Some z → y < p → p ≤ y + references_of (moved_word image y) → z < p → p ≤ z + references_of (moved_word image z) → (e ≡ f) × (y ≡ z)
 
-    -- its references are not of one that begins in an earlier region
+    -- its references belong to no deferred object of an earlier region
     pub not_before : Once → (p : ℕ) → x < p → p ≤ x + n → is_late_before image d p ≡ false
     not_before once p l m = false_from_ne_true (is_late_before image d p) (λ h.
         let at = late-parts d p h in

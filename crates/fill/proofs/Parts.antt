@@ -1,4 +1,4 @@
--- Parts of a heap: regions in a row, between which no deferred object has references on both sides.
+-- Parts of a heap: consecutive regions at whose borders no deferred object has references on both sides.
 use Rattle.std.proofs.Common.{◌≡◌, ℕ, zero, suc, ◌+◌, ◌*◌, ◌^◌, ◌≤◌, ◌<◌, inl, inr, true, false, List, ◌++◌, length, get_or, set, take, drop, refl, sym, ◌∙◌, ap, subst, arith}
 use Rattle.std.specs.Prelude.{Option, None, Some, map}
 use Rattle.std.specs.List.{concat, range_with_len}
@@ -34,7 +34,7 @@ module _ (image : HeapImage) where
   pub part_end : (first count : ℕ) → start_of image first + count * S ≡ start_of image (first + count)
   part_end first count = omega arith
 
-  -- regions in a row that are made one by one, as one row of words
+  -- consecutive regions made one by one are one sequence of words
   pub joined_regions : (g : ℕ → ℕ) (first count : ℕ) → concat (map (λ r. map g (region_addresses image r)) (range_with_len first count)) ≡ map g (range_with_len (start_of image first) (count * S))
   joined_regions g first zero = let none : 0 ≡ 0 * S = omega arith in ap (λ n. map g (range_with_len (start_of image first) n)) none
   joined_regions g first (suc n) =
@@ -100,7 +100,7 @@ module _ (image : HeapImage) where
       let start : start_of image (region_of image x) ≡ start_of image d = ap (start_of image) e in
       (omega arith, omega arith)
 
-  -- once all regions of a part are gone over, all late references in it are redirected
+  -- once all regions of a part are visited, all late references in it are redirected
   pub part_late : (first count : ℕ)
       → ((p : ℕ) → is_late_reference image p ≡ true → (d : ℕ) × (x : ℕ) × (deferred image d ≡ Some x) × (x < p) × (p ≤ x + references_of (moved_word image x)))
       → ((p d x : ℕ) → deferred image d ≡ Some x → x < p → p ≤ x + references_of (moved_word image x) → is_late_reference image p ≡ true)
@@ -126,7 +126,7 @@ module _ (image : HeapImage) where
       let up = mul-le (d + 1) S (first + count) S (omega arith) (omega arith) in
       (omega arith, omega arith)
 
-  -- the references of an object that is deferred in a part lie in it
+  -- the references of an object that is deferred in a part lie in that part
   pub late_inside : (first count d x : ℕ) → first ≤ d → d < first + count → IsCut image (first + count) → deferred image d ≡ Some x → region_of image x ≡ d
       → (start_of image first ≤ x) × (x + references_of (moved_word image x) < start_of image first + count * S)
   late_inside first count d x low high cut here region =
@@ -142,7 +142,7 @@ module _ (image : HeapImage) where
         ],
       )
 
-  -- behind an object whose references end in its region no earlier object has one
+  -- after an object whose references end in its region, no earlier object has a reference
   pub cut_behind : (d x : ℕ) → deferred image d ≡ Some x → region_of image x ≡ d
       → ((e y : ℕ) → deferred image e ≡ Some y → region_of image y ≡ e)
       → is_late_before image d x ≡ false → x + references_of (moved_word image x) < start_of image (d + 1) → IsCut image (d + 1)
@@ -206,7 +206,7 @@ module _ (image : HeapImage) where
         },
       )
 
-  -- two parts side by side that are updated
+  -- two adjacent parts that are updated
   pub join_parts : (first few others all : ℕ) (low high : List (List ℕ)) → few + others ≡ all → IsUpdatedPart image first few low → IsUpdatedPart image (first + few) others high
       → IsUpdatedPart image first all (low ++ high)
   join_parts first few others all low high e below above = record {

@@ -158,7 +158,7 @@ module _ (image : HeapImage) (sound : HasLiveList image) where
       let h = ends_before image sound o.index u.index o.inside u.inside (subst (λ (n : ℕ). place o.index < n) (sym u.is) (subst (λ (n : ℕ). n < b) (sym o.is) l)) in
       subst (λ (n : ℕ). end_of image n ≤ b) o.is (subst (λ (n : ℕ). end_of image (place o.index) ≤ n) u.is h)
 
-  -- behind an object, no object reaches over
+  -- no object extends across the end of another
   pub passed-object : (a : ℕ) → IsObject image a → IsPassed image (end_of image a)
   passed-object a o = record {
     late = λ b u l m. elim (cases_order b a) [
@@ -170,7 +170,7 @@ module _ (image : HeapImage) (sound : HasLiveList image) where
     ];
   }
 
-  -- objects keep apart as they are moved
+  -- objects stay apart as they are moved
   pub moved-apart : (a b : ℕ) → IsObject image a → IsObject image b → a < b → new_address image a + size_at image a ≤ new_address image b
   moved-apart a b o u l =
       let apart = objects_apart a b o u l in
@@ -179,7 +179,7 @@ module _ (image : HeapImage) (sound : HasLiveList image) where
       let to = new_address-is b u in
       omega arith
 
-  -- and none reaches over the place of another, or over its end
+  -- and none extends across the new address of another, or across its end
   pub between-object : (a : ℕ) → IsObject image a → IsBetween image (new_address image a)
   between-object a o = λ b u l. elim (cases_order b a) [
     | inl same ↦ let e : new_address image b ≡ new_address image a = ap (new_address image) same in let no : ⊥ = omega arith in absurd no
@@ -201,7 +201,7 @@ module _ (image : HeapImage) (sound : HasLiveList image) where
     ]
   ]
 
-  -- behind the prefix, an object goes to each such address
+  -- after the prefix, an object goes to each such address
   pub object-at : (at : ℕ) → prefix_end image ≤ at → at < new_top image → IsBetween image at → (a : ℕ) × IsMovedTo image at a
   object-at at low high between =
       let on = slid-onto image sound at low high in
@@ -226,7 +226,7 @@ module _ (image : HeapImage) (sound : HasLiveList image) where
       ] in
       (b, record { object = is; place = first })
 
-  -- an object begun before what goes to the start of a region, and reaching over it, is deferred
+  -- an object that begins before the word that goes to the start of a region, and ends after it, is deferred
   pub passed-start : (d first : ℕ) → slid image first ≡ d * region_words image → IsPassed image first
   passed-start d first e = record {
     late = λ b u l m. (
@@ -249,7 +249,7 @@ module _ (image : HeapImage) (sound : HasLiveList image) where
         omega arith)));
   }
 
-  -- between what is passed and the next object, words are moved as they are copied
+  -- between the visited words and the next object, words are moved as they are copied
   pub moved-between : (from p : ℕ) → IsPassed image from → ((b : ℕ) → IsObject image b → from ≤ b → p < new_address image b) → slid image from ≤ p → copied_word image p ≡ moved_word image p
   moved-between from p passed next low = elim (cases_lt p (new_top image)) [
     | inr top ↦ moved-top p top

@@ -1,4 +1,4 @@
--- New places of runs of live words, and the words there.
+-- New addresses of runs of live words, and the words there.
 use Rattle.std.proofs.Common.{◌≡◌, ℕ, zero, suc, ◌+◌, ◌-◌, ◌≤◌, ◌<◌, Bool, true, false, ◌&&◌, List, [], ◌∷◌, length, get_or, refl, sym, ◌∙◌, ap, subst, arith, ltb}
 use Rattle.std.proofs.lemmas.Bool.{cond-true, cond-false, lt-ltb, le-ltb, and_right}
 use Rattle.std.specs.Prelude.{Some, Option}
@@ -80,18 +80,18 @@ module _ (image : HeapImage) (sound : HasLiveList image) where
   pub word_by-slid : (test : ℕ → Bool) (q : ℕ) → is_live_word image q ≡ true → word_by image test (slid image q) ≡ carried image test q
   word_by-slid test q live = word_by-below image test (slid image q) (Some q) (slid-below image sound q live) (origin-slid image sound q (live_below image sound q live) live)
 
-  -- the new place of a live word gets that word
+  -- the new address of a live word gets that word
   pub copied-slid : (q : ℕ) → is_live_word image q ≡ true → copied_word image (slid image q) ≡ word_at image q
   copied-slid q live = word_by-slid (λ _. false) q live ∙ carried-none image q
 
-  -- so the new places of a run get its words
+  -- so the new addresses of a run get its words
   pub copied-run : (a n p : ℕ) → P ≤ a → p ≡ slid image a → ((q : ℕ) → a ≤ q → q < a + n → is_live_word image q ≡ true) → (j : ℕ) → j < n → copied_word image (p + j) ≡ word_at image (a + j)
   copied-run a n p l e live j m =
       let to = slid-run image a j l (λ q b c. live q b (omega arith)) in
       let same : p + j ≡ slid image (a + j) = omega arith in
       ap (copied_word image) same ∙ copied-slid (a + j) (live (a + j) (omega arith) (omega arith))
 
-  -- a run of live words written at its new place
+  -- a run of live words written at its new address
   pub split_run : (start : ℕ) (xs zs : List ℕ) (a n p : ℕ) → IsSplitAt (copied_word image) (word_at image) start xs p → P ≤ a → p ≡ slid image a
       → ((q : ℕ) → a ≤ q → q < a + n → is_live_word image q ≡ true) → start ≤ p → p + n ≤ start + length xs
       → length zs ≡ n → ((j : ℕ) → j < n → get_or zs j 0 ≡ word_at image (a + j)) → IsSplitAt (copied_word image) (word_at image) start (put xs (p - start) zs) (p + n)
@@ -100,7 +100,7 @@ module _ (image : HeapImage) (sound : HasLiveList image) where
       subst (IsSplitAt (copied_word image) (word_at image) start (put xs (p - start) zs)) same
       (split_more (copied_word image) (word_at image) start xs zs p h low (omega arith) (λ j m. each j (omega arith) ∙ sym (copied-run a n p l e live j (omega arith))))
 
-  -- the same of a part of a source that begins at `first`
+  -- the same for a part of a source that begins at `first`
   pub split_copy : (start : ℕ) (xs : List ℕ) (first : ℕ) (ys : List ℕ) (a n p : ℕ) → IsSplitAt (copied_word image) (word_at image) start xs p → Shows (word_at image) first ys → P ≤ a → p ≡ slid image a
       → ((q : ℕ) → a ≤ q → q < a + n → is_live_word image q ≡ true) → start ≤ p → p + n ≤ start + length xs → first ≤ a → a + n ≤ first + length ys
       → IsSplitAt (copied_word image) (word_at image) start (put xs (p - start) (part ys (a - first) n)) (p + n)
@@ -109,7 +109,7 @@ module _ (image : HeapImage) (sound : HasLiveList image) where
       let same : first + (a - first + j) ≡ a + j = omega arith in
       get_or-part ys (a - first) n j m ∙ shows (a - first + j) (omega arith) ∙ ap (word_at image) same)
 
-  -- the same of words of the block itself that are not yet written
+  -- the same for words of the block itself that are not yet overwritten
   pub split_slide : (start : ℕ) (xs : List ℕ) (a n p : ℕ) → IsSplitAt (copied_word image) (word_at image) start xs p → P ≤ a → p ≡ slid image a
       → ((q : ℕ) → a ≤ q → q < a + n → is_live_word image q ≡ true) → start ≤ p → a + n ≤ start + length xs
       → IsSplitAt (copied_word image) (word_at image) start (put xs (p - start) (part xs (a - start) n)) (p + n)

@@ -120,7 +120,7 @@ module _ (image : HeapImage) (sound : HasLiveList image) where
       let far = slid-ordered image a b (n.first b u up) in
       omega arith) l)
 
-  -- all that goes to the block lies below `to`
+  -- all words for the block lie below `to`
   abbrev pub IsReached : ℕ → ℕ → List ℕ → Type 0
   IsReached to start xs = (p : ℕ) → start ≤ p → p < start + length xs → p < new_top image → p < slid image to
 
@@ -139,7 +139,7 @@ module _ (image : HeapImage) (sound : HasLiveList image) where
             omega arith) l
       ]
 
-  -- the same of a region whose words come from `first` on, before any object is redirected
+  -- the same for a region whose words come from `first` on, before any object is redirected
   region-begin : (d first : ℕ) (xs : List ℕ) → slid image first ≡ start_of image d → Shows c (start_of image d) xs → IsSplitAt m c (start_of image d) xs (slid image first)
   region-begin d first xs e shows = subst (IsSplitAt m c (start_of image d) xs) (sym e) (split_none m c (start_of image d) xs shows)
 

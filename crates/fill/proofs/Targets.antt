@@ -13,7 +13,7 @@ same_target w = record { image = refl; right = refl; long = refl }
 pub target_over : (a b c : Writing) → SameTarget a b → SameTarget b c → SameTarget a c
 target_over a b c h k = record { image = k.image ∙ h.image; right = k.right ∙ h.right; long = k.long ∙ h.long }
 
--- a call that changes words alone
+-- a call that changes only words
 pub target_kept : (heap : HeapImage) (before after : Writing) (xs : List ℕ) → IsBlockOf heap before → after ≡ record before { words = xs } → length after.words ≡ region_words before.image → SameTarget before after
 target_kept heap before after xs block e long =
     record { image = ap (λ w. w.image) e; right = ap (λ w. w.right) e; long = long ∙ (ap region_words block.image ∙ sym block.long) }
@@ -24,7 +24,7 @@ still_block heap before after block h = record { image = h.image ∙ block.image
 pub unwritten_block : (heap : HeapImage) (d : ℕ) (w : Writing) → IsValid heap → d < region_count heap → IsUnwritten heap d w → IsBlockOf heap w
 unwritten_block heap d w valid inside u = record { image = u.image; long = ap length u.words ∙ length_start heap valid d inside }
 
--- a call that wrote these words, by which more of the region is written
+-- a call that wrote these words, so that more of the region is written
 pub written_on : (heap : HeapImage) (f g : ℕ → ℕ) (start to : ℕ) (first before after : Writing) (xs : List ℕ) → IsBlockOf heap first → SameTarget first before
     → after ≡ record before { words = xs } → length after.words ≡ region_words before.image → IsSplitAt f g start xs to
     → SameTarget first after × IsSplitAt f g start after.words to
@@ -33,7 +33,7 @@ written_on heap f g start to first before after xs block same e long split = (
   subst (λ (ys : List ℕ). IsSplitAt f g start ys to) (sym (ap (λ w. w.words) e)) split,
 )
 
--- a region to which all is copied that comes from its sources up to s
+-- a region once all words from its sources up to s are copied
 pub copied_from : (heap : HeapImage) (d s start to : ℕ) (before after : Writing) → start ≡ start_of heap d → IsBlockOf heap before → SameTarget before after
     → IsSplitAt (copied_word heap) (word_at heap) start after.words to → to ≡ written_to heap (start_of heap d) (start_of heap s + region_words heap)
     → Becomes (IsCopied heap d (s + 1) to) before after

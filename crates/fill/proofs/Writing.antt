@@ -1,4 +1,4 @@
--- A block as words are with_words into it.
+-- A block as words are written into it.
 use Rattle.std.proofs.Common.{◌≡◌, ℕ, ◌+◌, ◌-◌, ◌≤◌, ◌<◌, inl, inr, List, ◌++◌, length, get_or, take, drop, set, refl, ◌∙◌, ap, arith, length-append, length-take, length-drop}
 use Rattle.std.proofs.lemmas.Bool.{cases_lt, cases_eq}
 use Rattle.std.proofs.lemmas.List.{length-set, get_or-set_same, get_or-set_other, get_or-drop, get_or-take, get_or-append_right, get_or_append_left}
@@ -43,7 +43,7 @@ module _ (f g : ℕ → ℕ) (start : ℕ) where
   pub split_all : (xs : List ℕ) (p : ℕ) → IsSplitAt f g start xs p → start + length xs ≤ p → Shows f start xs
   split_all xs p h m = λ k l. h.below k l (omega arith)
 
-  -- f's words zs with_words at p
+  -- the words zs of f written at p
   pub split_more : (xs zs : List ℕ) (p : ℕ) → IsSplitAt f g start xs p → start ≤ p → p + length zs ≤ start + length xs
       → ((j : ℕ) → j < length zs → get_or zs j 0 ≡ f (p + j)) → IsSplitAt f g start (with_words xs (p - start) zs) (p + length zs)
   split_more xs zs p h low high each =
@@ -60,7 +60,7 @@ module _ (f g : ℕ → ℕ) (start : ℕ) where
         above = λ k l m. get_or-written_above xs zs at k (omega arith) (omega arith) ∙ h.above k (omega arith) (omega arith);
       }
 
-  -- one word of f with_words at p
+  -- one word of f written at p
   pub split_set : (xs : List ℕ) (p w : ℕ) → IsSplitAt f g start xs p → start ≤ p → p < start + length xs → w ≡ f p → IsSplitAt f g start (set xs (p - start) w) (p + 1)
   split_set xs p w h low high e =
       let at : ℕ = p - start in
@@ -75,7 +75,7 @@ module _ (f g : ℕ → ℕ) (start : ℕ) where
         above = λ k l m. get_or-set_other xs at k w 0 (omega arith) ∙ h.above k (omega arith) (omega arith);
       }
 
-  -- where f and g agree nothing need be with_words
+  -- where f and g agree nothing needs to be written
   pub split_skip : (xs : List ℕ) (p q : ℕ) → IsSplitAt f g start xs p → p ≤ q → ((a : ℕ) → p ≤ a → a < q → a < start + length xs → g a ≡ f a) → IsSplitAt f g start xs q
   split_skip xs p q h l same = record {
     below = λ k m n. elim (cases_lt (start + k) p) [

@@ -1,4 +1,4 @@
--- How far a region is written once the live words below an address are.
+-- How far a region is written once the live words below an address are copied.
 use Rattle.std.proofs.Common.{◌≡◌, ℕ, zero, suc, ◌+◌, ◌-◌, ◌*◌, ◌/◌, ◌≤◌, ◌<◌, inl, inr, true, false, ◌&&◌, List, length, refl, sym, ◌∙◌, ap, subst, arith, ltb, max, min}
 use Rattle.std.proofs.lemmas.Bool.{cases_lt, and_from, and_parts, lt-ltb, ltb-true, false≢true}
 use Rattle.heap_image.specs.HeapImage.{HeapImage, HasLiveList, IsValid, heap_words, region_words, start_of, region_count, word_at, is_live_word, block_of}
@@ -44,7 +44,7 @@ module _ (image : HeapImage) (sound : HasLiveList image) where
       let all = slid-all image sound in
       let on = slid-onto image sound t (omega arith) (omega arith) in
       let q : ℕ = on.0 in
-      let behind_prefix : P ≤ q = on.1 in
+      let after_prefix : P ≤ q = on.1 in
       let live : is_live_word image q ≡ true = on.2 in
       let to : slid image q ≡ t = on.3 in
       let from : start_of image s ≤ q = elim (cases_lt q (start_of image s)) [
@@ -89,7 +89,7 @@ module _ (image : HeapImage) (sound : HasLiveList image) where
       and_from (ltb first (start_of image d + R)) (ltb (start_of image d) behind && ltb first behind) (lt-ltb first (start_of image d + R) r.0)
       (and_from (ltb (start_of image d) behind) (ltb first behind) (lt-ltb (start_of image d) behind r.1) (lt-ltb first behind r.2)))
 
-  -- a region that is not read leaves the target as far written as it was
+  -- a region that is not read leaves the target written up to the same address
   pub written_to-skip : (d s : ℕ) → P ≤ start_of image d → P ≤ start_of image s → start_of image s + R ≤ heap_words image → reads image d s ≡ false
       → written_to image (start_of image d) (start_of image s) ≡ written_to image (start_of image d) (start_of image s + R)
   written_to-skip d s l m n h =
@@ -107,7 +107,7 @@ module _ (image : HeapImage) (sound : HasLiveList image) where
         ]
       ]
 
-  -- one that is read is so from the place to which the target is written
+  -- a region that is read continues where the target is written up to
   pub written_to-read : (d s : ℕ) → P ≤ start_of image s → reads image d s ≡ true
       → (slid image (start_of image s) ≤ written_to image (start_of image d) (start_of image s)) × (written_to image (start_of image d) (start_of image s) ≤ slid image (start_of image s + R))
       × (written_to image (start_of image d) (start_of image s + R) ≡ min (start_of image d + R) (slid image (start_of image s + R)))
@@ -182,7 +182,7 @@ module _ (image : HeapImage) (valid : IsValid image) where
       let e : s + (t - s) ≡ t = omega arith in
       written_to-gap d s (t - s) l m (omega arith) (λ u a b. unread u a (omega arith)) ∙ ap (λ r. written_to image (start_of image d) (start_of image r)) e
 
-  -- a region written up to what its last source gives is written whole
+  -- a region written up to the words of its last source is written whole
   pub written_to-last : (d from to : ℕ) (xs : List ℕ) → prefix_end image ≤ start_of image d → d < from → from ≤ region_count image
       → ((t : ℕ) → from ≤ t → t < region_count image → reads image d t ≡ false) → to ≡ written_to image (start_of image d) (start_of image from)
       → length xs ≡ S → IsSplitAt (copied_word image) (word_at image) (start_of image d) xs to → Shows (copied_word image) (start_of image d) xs
@@ -190,7 +190,7 @@ module _ (image : HeapImage) (valid : IsValid image) where
       let rest = written_to-between d from (region_count image) l (omega arith) within (omega arith) last ∙ ap (written_to image (start_of image d)) all_regions in
       written_to-all image valid.live_list (start_of image d) xs to long (place ∙ rest) h
 
-  -- what goes to a region lies below the region behind its last source
+  -- the words for a region lie below the region after its last source
   pub reached-last : (d from p : ℕ) → prefix_end image ≤ start_of image d → d < from → from ≤ region_count image
       → ((t : ℕ) → from ≤ t → t < region_count image → reads image d t ≡ false) → start_of image d ≤ p → p < start_of image d + S → p < new_top image → p < slid image (start_of image from)
   reached-last d from p l own within last low high below =

@@ -7,12 +7,12 @@ use Rattle.summary.specs.Compaction.{moved_word, redirected}
 use Rattle.summary.specs.RegionData.{region_addresses, deferred}
 use Rattle.summary.specs.Updates.{is_late_reference}
 
--- the words, with 0 from this address up
+-- the words, with zeros from address `top` up
 abbrev pub cleared : ℕ → List ℕ → List ℕ
 cleared top words = take top words ++ replicate (length words - top) 0
 
 module _ (image : HeapImage) where
-  -- so many regions from this one on, each with its moved words
+  -- `count` regions from region `first` on, each with its moved words
   abbrev pub moved_regions_from : ℕ → ℕ → List (List ℕ)
   moved_regions_from first count = map (λ r. map (moved_word image) (region_addresses image r)) (range_with_len first count)
 
@@ -20,15 +20,15 @@ module _ (image : HeapImage) where
   abbrev pub moved_regions : List (List ℕ)
   moved_regions = moved_regions_from 0 (region_count image)
 
-  -- the moved words, with the references redirected that the test passes
+  -- the moved word at p, redirected if p passes the test
   abbrev pub redirected_where : (ℕ → Bool) → ℕ → ℕ
   redirected_where test p = if test p then redirected image (moved_word image p) else moved_word image p
 
-  -- the words of so many regions from this one on, with the references redirected that the test passes
+  -- the words of `count` regions from region `first` on, redirected where the test passes
   abbrev pub words_from : ℕ → ℕ → (ℕ → Bool) → List ℕ
   words_from first count test = map (redirected_where test) (range_with_len (start_of image first) (count * region_words image))
 
-  -- the words of the heap, with the references redirected that the test passes
+  -- the words of the heap, redirected where the test passes
   abbrev pub words_where : (ℕ → Bool) → List ℕ
   words_where test = map (redirected_where test) (range_with_len 0 (heap_words image))
 
@@ -36,7 +36,7 @@ module _ (image : HeapImage) where
   abbrev pub updated_words : List ℕ
   updated_words = words_where (is_late_reference image)
 
-  -- the address of the last reference of the moved object at x, or x where it has none
+  -- the address of the last reference of the moved object at x, or x if it has none
   abbrev pub last_reference : ℕ → ℕ
   last_reference x = x + references_of (moved_word image x)
 
@@ -44,7 +44,7 @@ module _ (image : HeapImage) where
   abbrev pub is_reference_behind : ℕ → ℕ → Bool
   is_reference_behind x p = nat_lt x p && nat_le p (last_reference x)
 
-  -- p is one of the references of the deferred object that begins there, if one does
+  -- p is one of the references of the deferred object, if there is one
   abbrev pub is_late_behind : Option ℕ → ℕ → Bool
   is_late_behind None p = false
   is_late_behind (Some x) p = is_reference_behind x p
@@ -57,15 +57,15 @@ module _ (image : HeapImage) where
   abbrev pub IsCut : ℕ → Type 0
   IsCut d = (p : ℕ) → start_of image d ≤ p → is_late_before d p ≡ false
 
-  -- these blocks are regions from this one on, each with its moved words, and no references of a deferred object lie
-  -- both within and without
+  -- The blocks are regions from region `first` on, each with its moved words, and no deferred object has references
+  -- both inside and outside of them.
   pub record IsMovedPart (first : ℕ) (blocks : List (List ℕ)) : Type 0 where
     pub inside : first + length blocks ≤ region_count image
     pub moved : blocks ≡ moved_regions_from first (length blocks)
     pub begins : IsCut first
     pub ends : IsCut (first + length blocks)
 
-  -- these blocks are so many regions from this one on, with the references of the deferred objects redirected
+  -- the blocks are `count` regions from region `first` on, with the references of the deferred objects redirected
   pub record IsUpdatedPart (first count : ℕ) (blocks : List (List ℕ)) : Type 0 where
     pub whole : AreBlocks image.region_log blocks
     pub words : concat blocks ≡ words_from first count (is_late_reference image)

@@ -1,16 +1,16 @@
--- The regions from which words come to a region behind the prefix.
+-- The regions that have words for a region after the prefix.
 use Rattle.std.specs.Prelude.{◌≡◌, ℕ, ◌<◌, ◌≤◌, true, false}
 use Rattle.heap_image.specs.HeapImage.{HeapImage, region_count, start_of}
 use Rattle.summary.specs.NewAddresses.{prefix_end}
 use Rattle.summary.specs.WordMoves.{reads}
 use Rattle.region_cells.specs.Views.{Reading}
 
--- a region behind the prefix
-pub record IsBehindPrefix (image : HeapImage) (r : ℕ) : Type 0 where
+-- a region after the prefix
+pub record IsAfterPrefix (image : HeapImage) (r : ℕ) : Type 0 where
   pub inside : r < region_count image
-  pub behind_prefix : prefix_end image ≤ start_of image r
+  pub after_prefix : prefix_end image ≤ start_of image r
 
--- s is the first region, from `from` on, from which region d takes words; `from` lies behind d
+-- s is the first region, from `from` on, that has words for region d; `from` comes after d
 pub record IsNextOtherSource (image : HeapImage) (d from s : ℕ) : Type 0 where
   pub own : d < from
   pub ordered : from ≤ s

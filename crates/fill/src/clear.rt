@@ -1,4 +1,3 @@
-//! What is above the new top.
 ghost use Rattle.std.specs.Prelude.{◌≡◌, ℕ, length, min};
 ghost use Rattle.std.specs.List.{concat};
 ghost use Rattle.heap_image.specs.HeapImage.{AreBlocks};
@@ -6,7 +5,7 @@ ghost use Rattle.fill.specs.MovedHeap.{cleared};
 
 use raw_region::Region;
 
-/// Makes every word from the address `new_top` up 0. The regions are those of a heap from address 0 up.
+/// Zeroes every word from the address `new_top` up. `regions` are all regions of a heap, in order.
 pub fn clear_above(regions: &mut [Region], new_top: u64)
     ensures words { concat regions.new ≡ cleared new_top (concat regions.old) }
     ensures blocks { (log : ℕ) → AreBlocks log regions.old → AreBlocks log regions.new }
@@ -17,7 +16,7 @@ pub fn clear_above(regions: &mut [Region], new_top: u64)
     }
 }
 
-/// Makes every word of a region but the first `kept` 0, and answers how many words of it were kept.
+/// Zeroes all but the first `kept` words of a region. Returns how many words it has kept.
 fn clear_region(region: &mut Region, kept: u64) -> u64
     ensures words { region.new ≡ cleared kept region.old }
     ensures kept { result ≡ min kept (length region.old) }

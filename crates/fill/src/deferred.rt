@@ -1,4 +1,4 @@
-//! The update of the deferred objects.
+//! The update of deferred objects, those whose new words cross the end of the region in which they begin.
 ghost use Rattle.std.specs.Prelude.{◌≡◌, ℕ, ◌+◌, ◌*◌, ◌<◌, ◌≤◌, false, List, length, IsTrue, Some};
 ghost use Rattle.std.specs.List.{concat};
 ghost use Rattle.heap_image.specs.HeapImage.{FormHeap, AreBlocks, region_of, region_words, start_of, region_count, is_null_or_live};
@@ -9,21 +9,21 @@ ghost use Rattle.fill.specs.MovedHeap.{moved_regions, cleared, words_from, updat
 
 use crate::deferred_parts::DeferredParts;
 use crate::heap::{set_word, word};
-use crate::valid::planned_image_is_valid;
 use heap_image::header::references;
 use raw_region::Region;
 use std::thread::Threads;
 use summary::laws::compaction::blocks_of_regions;
 use summary::laws::deferred_objects::{moved_objects, one_deferred_object, update_then_clear};
 use summary::laws::new_addresses::objects_keep_their_order;
+use summary::laws::plans::planned_image_is_valid;
 use summary::laws::region_data::regions_to_fill;
 use summary::{Plan, Survey};
 
-/// Redirects the references of the deferred objects, once all regions are filled. The regions are those of the heap
-/// from address 0 up, and hold the moved words.
+/// Redirects the references of the deferred objects, once all regions are filled. `regions` are all regions of the
+/// heap, in order, with their moved words.
 ///
-/// Afterwards they hold the compacted words, but for the words from the new top up: [`clear_above`](crate::clear_above)
-/// is the rest. Takes no memory.
+/// Afterwards they hold the compacted words, except from the new top up, where [`clear_above`](crate::clear_above) puts
+/// the zeros. Allocates nothing.
 pub fn update_deferred(regions: &mut [Region], survey: &Survey)
     requires { regions.old ≡ moved_regions survey.now }
     ensures blocks { AreBlocks survey.now.region_log regions.new }
@@ -35,10 +35,10 @@ pub fn update_deferred(regions: &mut [Region], survey: &Survey)
     update_regions(regions, plan, 0);
 }
 
-/// As [`update_deferred`], by so many threads at most, the caller's among them; 0 is taken for 1. The heap is cut into
-/// parts between regions where no references of a deferred object lie on both sides.
+/// Does what [`update_deferred`] does, with at most `workers` threads, the caller's included; 0 counts as 1. Splits the
+/// heap between regions where no deferred object has references on both sides.
 ///
-/// Beside the threads nothing takes memory.
+/// Allocates nothing apart from the threads.
 pub fn update_deferred_by_workers(
     regions: &mut [Region],
     survey: &Survey,
@@ -55,9 +55,7 @@ pub fn update_deferred_by_workers(
     DeferredParts { plan, threads }.start(regions, workers);
 }
 
-/// The whole heap is a part of itself, and its words are updated once that part is.
-///
-/// The function does nothing: its contract is the law.
+/// A law: the whole heap is one part, and once that part is updated the heap is.
 fn whole_heap(plan: &Plan)
     ensures moved { (blocks : List (List ℕ)) → blocks ≡ moved_regions plan.now → IsMovedPart plan.now 0 blocks }
     ensures updated { (blocks done : List (List ℕ)) → blocks ≡ moved_regions plan.now → IsUpdatedPart plan.now 0 (length blocks) done → concat done ≡ updated_words plan.now }
@@ -71,7 +69,7 @@ fn whole_heap(plan: &Plan)
     update_then_clear();
 }
 
-/// Redirects the references of the deferred objects that begin in a part of the heap, whose first region is `first`.
+/// Redirects the references of the deferred objects that begin in a part of the heap. `first` is its first region.
 pub(crate) fn update_regions(regions: &mut [Region], plan: &Plan, first: u32)
     requires { IsMovedPart plan.now first regions.old }
     ensures { IsUpdatedPart plan.now first (length regions.old) regions.new }
@@ -84,8 +82,8 @@ pub(crate) fn update_regions(regions: &mut [Region], plan: &Plan, first: u32)
     }
 }
 
-/// Redirects the references of the deferred object that begins in region `d`, if one does. The regions are a part of the
-/// heap, whose first region is `first`.
+/// Redirects the references of the deferred object that begins in region `d`, if one does. `regions` are a part of the
+/// heap, and `first` is its first region.
 fn update_region(regions: &mut [Region], plan: &Plan, first: u32, d: u32)
     requires inside { (first ≤ d) × (d < first + length regions.old) × (first + length regions.old ≤ region_count plan.now) }
     requires heap { FormHeap plan.now.region_log regions.old }
@@ -100,17 +98,15 @@ fn update_region(regions: &mut [Region], plan: &Plan, first: u32, d: u32)
         late_references(plan, d, begin);
         references_in_part(plan, regions, first, d, begin);
         let header = begin - part_start(plan, first);
-        let behind = header + 1;
-        for p in behind..behind + u64::from(references(word(regions, log, header))) {
+        let start = header + 1;
+        for p in start..start + u64::from(references(word(regions, log, header))) {
             let reference = word(regions, log, p);
             set_word(regions, log, p, plan.redirected(reference));
         }
     }
 }
 
-/// The deferred object that begins in region `d` of a part has its header and its references in that part.
-///
-/// The function does nothing: its contract is the law.
+/// A law: the deferred object that begins in region `d` of a part has its header and its references in that part.
 fn references_in_part(plan: &Plan, regions: &[Region], first: u32, d: u32, begin: u64)
     requires inside { (first ≤ d) × (d < first + length regions.now) }
     requires ends { IsCut plan.now (first + length regions.now) }
@@ -120,7 +116,7 @@ fn references_in_part(plan: &Plan, regions: &[Region], first: u32, d: u32, begin
     late_references(plan, d, begin);
 }
 
-/// The first address of a part of the heap, whose first region is `first`.
+/// The first address of the part that begins with region `first`.
 #[inline]
 pub(crate) fn part_start(plan: &Plan, first: u32) -> u64
     requires { first ≤ region_count plan.now }
@@ -130,11 +126,9 @@ pub(crate) fn part_start(plan: &Plan, first: u32) -> u64
     u64::from(first) * plan.region_words()
 }
 
-/// Of the deferred object that begins at its new address in region `d`: none of its references is one of an object that
-/// begins in an earlier region, and each is null or leads to a live object. If they end in region `d`, the heap can be
-/// cut behind it.
-///
-/// The function does nothing: its contract is the law.
+/// A law about the deferred object whose new address is `begin`, in region `d`: its references belong to no deferred
+/// object of an earlier region, and each is null or leads to a live object. If they end in region `d`, the heap can be
+/// split after that region.
 pub(crate) fn late_references(plan: &Plan, d: u32, begin: u64)
     requires begins { deferred plan.now d ≡ Some begin }
     ensures region { region_of plan.now begin ≡ d }

@@ -1,19 +1,19 @@
-//! `DeferredParts`: the deferred objects updated in parts, each by a thread of its own.
+//! The parallel update of deferred objects: the heap is split into parts, one per thread.
 ghost use Rattle.std.specs.Prelude.{◌≡◌, ◌+◌, ◌<◌, ◌≤◌, length, IsSome, IfSome, IsTrue};
 ghost use Rattle.fill.specs.MovedHeap.{IsCut, IsMovedPart, IsUpdatedPart};
 
 use crate::deferred::{late_references, part_start, update_regions};
 use crate::heap::word;
-use crate::valid::planned_image_is_valid;
 use heap_image::header::references;
 use raw_region::Region;
 use std::thread::{Threads, join_mut};
 use summary::Plan;
+use summary::laws::plans::planned_image_is_valid;
 
-/// How many regions to fill are worth a thread of their own.
+/// The least number of regions to fill that is worth a thread.
 const LEAST_REGIONS: usize = 512;
 
-/// What the threads share that update the deferred objects of a heap.
+/// What the threads share while they update the deferred objects of a heap.
 #[derive(Drop)]
 pub(crate) struct DeferredParts<'a, T: Threads + Sync> {
     pub(crate) plan: &'a Plan,
@@ -21,8 +21,8 @@ pub(crate) struct DeferredParts<'a, T: Threads + Sync> {
 }
 
 impl<T: Threads + Sync> DeferredParts<'_, T> {
-    /// Redirects the references of the deferred objects of a heap, by so many threads at most, and one that does nothing:
-    /// the system lets the first one wait that this thread starts.
+    /// Redirects the references of the deferred objects of a heap with at most `most` threads, and an extra one that
+    /// does nothing: the system delays the first thread that the caller starts.
     pub(crate) fn start(&self, regions: &mut [Region], most: usize)
         requires { IsMovedPart self.now.plan.now 0 regions.old }
         ensures { IsUpdatedPart self.now.plan.now 0 (length regions.old) regions.new }
@@ -38,8 +38,8 @@ impl<T: Threads + Sync> DeferredParts<'_, T> {
         join_mut(self.threads, &mut || {}, &mut update);
     }
 
-    /// Redirects the references of the deferred objects that begin in a part of the heap, whose first region is `first`,
-    /// by so many threads at most.
+    /// Redirects the references of the deferred objects that begin in the part from region `first`, with at most `most`
+    /// threads.
     #[cycle(parts)]
     pub(crate) fn update(&self, regions: &mut [Region], first: u32, most: usize)
         requires { IsMovedPart self.now.plan.now first regions.old }
@@ -54,7 +54,7 @@ impl<T: Threads + Sync> DeferredParts<'_, T> {
         }
     }
 
-    /// Redirects the references of the deferred objects that begin in two parts side by side, by two threads and more.
+    /// Redirects the references of the deferred objects that begin in two adjacent parts, each in a thread of its own.
     #[cycle(parts)]
     fn update_both(&self, low: &mut [Region], high: &mut [Region], first: u32, most: usize)
         requires most { 1 < most }
@@ -78,9 +78,8 @@ impl<T: Threads + Sync> DeferredParts<'_, T> {
     }
 }
 
-/// How many regions of a part come before the place at which it is cut, which are the share of one of so many threads, and
-/// more only where a part can't be cut there. None where the part has too few regions to fill for two threads, or has no
-/// such place.
+/// Where to split a part: the number of its regions that come before the cut. They are one thread's share, or more if
+/// the part cannot be cut there. None if the part has too few regions to fill for two threads, or cannot be cut at all.
 fn first_cut(regions: &[Region], plan: &Plan, first: u32, most: usize) -> Option<usize>
     requires { IsMovedPart plan.now first regions.now }
     ensures most { IsSome result → 1 < most }
@@ -100,7 +99,7 @@ fn first_cut(regions: &[Region], plan: &Plan, first: u32, most: usize) -> Option
     None
 }
 
-/// Whether an object is deferred in the region before this place of a part, and has no reference behind it.
+/// Whether an object is deferred in the last region before `cut`, and all its references lie before `cut`.
 fn is_cut(regions: &[Region], plan: &Plan, first: u32, cut: usize) -> bool
     requires part { IsMovedPart plan.now first regions.now }
     requires place { (0 < cut) × (cut ≤ length regions.now) }

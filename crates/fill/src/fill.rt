@@ -1,4 +1,3 @@
-//! The fill of one region.
 ghost use Rattle.std.specs.Prelude.{◌≡◌, ◌≤◌, IfOk, IfErr, OnOk, Err};
 ghost use Rattle.summary.specs.RegionData.{fill_count};
 ghost use Rattle.history.specs.ImageMoves.{image_table};
@@ -9,24 +8,24 @@ ghost use Rattle.fill.specs.FillFaults.{IsFaultOf};
 use crate::filling::Filling;
 use crate::guide::Guide;
 use crate::site::Site;
-use crate::valid::planned_image_is_valid;
 use claim_board::{Desk, Done, Ticket};
 use heap_image::Fault;
 use history::moves_of_images;
 use region_cells::{Cells, Placed};
 use std::sync::Wait;
 use summary::Survey;
+use summary::laws::plans::planned_image_is_valid;
 use summary::laws::region_data::regions_to_fill;
 
-/// Fills the region of a ticket: its moved words are put back into its cell, and it is completed.
+/// Fills the region of a ticket: puts its moved words back into its cell, and completes it.
 ///
-/// The words that come from the region itself are written first. Then each other source is read, closed and drained,
-/// ascending; `on_last` is called after each drain that answered `Last`, with the source's number. The desk is told how
-/// many words are written before each drain, and before the completion.
+/// Writes the region's own words first. Then it opens, copies, closes and drains each other source, in ascending order,
+/// and calls `on_last` with the source's number after each drain that returned `Last`. Before each drain and before the
+/// completion it reports to the desk how many words it has written.
 ///
-/// Fault 15 comes where the region is not to be filled, and where a cell is not as a legal history leaves it, and the
-/// desk may answer faults of its own. The ticket and what came from it are given up then, and the region's words are
-/// spoiled if it was opened to write.
+/// Returns fault 15 if the region is not to be filled, or if a cell is not in the state that a legal history leaves;
+/// the desk may return faults of its own. The ticket and what came from it are given up then, and the region is spoiled
+/// if it was open for writing.
 pub fn fill_region<D: Desk, F: FnMut(u32), W: Wait>(
     desk: &D,
     cells: &Cells,

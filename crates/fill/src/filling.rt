@@ -1,4 +1,3 @@
-//! `Filling`: one fill, over a desk and cells.
 ghost use Rattle.std.specs.Prelude.{◌≡◌, ◌+◌, ◌-◌, ◌<◌, ◌≤◌, ◌^◌, [], IfOk, IfErr, OnOk};
 ghost use Rattle.heap_image.specs.HeapImage.{region_count};
 ghost use Rattle.summary.specs.NewAddresses.{prefix_end};
@@ -10,7 +9,7 @@ ghost use Rattle.claim_board.specs.Tickets.{IsTicketOf, IsClosedOf};
 ghost use Rattle.fill.specs.Targets.{Becomes, IsUnwritten, IsCopied, IsMoved};
 ghost use Rattle.fill.specs.SourceRegions.{IsNextOtherSource};
 ghost use Rattle.fill.specs.FillTickets.{IsUnopened, IsSpent};
-ghost use Rattle.fill.specs.SourceDrains.{TellsLast, other_sources_below, HasDrained};
+ghost use Rattle.fill.specs.SourceDrains.{ReportsLast, other_sources_below, HasDrained};
 ghost use Rattle.fill.specs.FillFaults.{IsOverwritten, IsFaultOf};
 
 use crate::site::Site;
@@ -24,7 +23,7 @@ use region_cells::{Cells, Target};
 use std::sync::Wait;
 use summary::laws::readers::reads_by_words;
 
-/// What one fill is given: the desk and the cells, which others share, and the region.
+/// One fill: the region, and the desk and the cells, which the workers share.
 #[derive(Drop)]
 pub(crate) struct Filling<'d, 'c, 's, 'w, D: Desk, W: Wait> {
     pub(crate) desk: &'d D,
@@ -36,10 +35,10 @@ pub(crate) struct Filling<'d, 'c, 's, 'w, D: Desk, W: Wait> {
 }
 
 impl<D: Desk, W: Wait> Filling<'_, '_, '_, '_, D, W> {
-    /// Writes the moved words of the region to the target, and drains its other sources.
+    /// Writes the region's moved words to the target, and drains its other sources.
     ///
-    /// Behind the prefix its own words are written first, then those of each other source, ascending, which is drained
-    /// then. Last the references are redirected.
+    /// After the prefix, the region's own words are written first, then those of each other source, in ascending order;
+    /// a source is drained as soon as it is copied. The references are redirected last.
     pub(crate) fn fill<F: FnMut(u32)>(
         &self,
         seat: &mut D::Seat,
@@ -64,7 +63,7 @@ impl<D: Desk, W: Wait> Filling<'_, '_, '_, '_, D, W> {
         if self.site.span.start < self.site.guide.prefix_end() {
             return self.fill_in_prefix(seat, ticket, target);
         }
-        let place = self.site.behind_prefix();
+        let place = self.site.after_prefix();
         let mut from = self.site.region + 1;
         let mut to = place.slide_own(target);
         self.note(seat, ticket, to - self.site.span.start)?;
@@ -72,7 +71,7 @@ impl<D: Desk, W: Wait> Filling<'_, '_, '_, '_, D, W> {
             let s = opening.source();
             let (closed, end) = self.copy_opened(opening, target, from, to)?;
             let answer = self.drain(seat, ticket, closed, end - to)?;
-            tell(on_last, s, answer);
+            report_last(on_last, s, answer);
             from = s + 1;
             to = end;
         }
@@ -80,7 +79,7 @@ impl<D: Desk, W: Wait> Filling<'_, '_, '_, '_, D, W> {
         Ok(())
     }
 
-    /// Fills the region where it lies in the prefix. It has no other source.
+    /// Fills a region that begins in the prefix, which has no other source.
     fn fill_in_prefix(
         &self,
         seat: &mut D::Seat,
@@ -107,8 +106,8 @@ impl<D: Desk, W: Wait> Filling<'_, '_, '_, '_, D, W> {
         self.note(seat, ticket, words)
     }
 
-    /// Opens a source, copies what comes from it to the target, and closes it. What comes from the regions below `from` is
-    /// copied, so that the target is written up to `to`. Answers how far it is written then.
+    /// Opens a source, copies its words to the target, and closes it. On entry the words from all regions below `from`
+    /// are copied, and the target is written up to `to`. Returns the address up to which it is written afterwards.
     fn copy_opened(
         &self,
         opening: Opening,
@@ -116,7 +115,7 @@ impl<D: Desk, W: Wait> Filling<'_, '_, '_, '_, D, W> {
         from: u32,
         to: u64,
     ) -> Result<(Closed, u64), Fault>
-        requires behind_prefix { prefix_end self.now.site.guide.now ≤ self.now.site.span.start }
+        requires after_prefix { prefix_end self.now.site.guide.now ≤ self.now.site.span.start }
         requires next { IsNextOtherSource self.now.site.guide.now self.now.site.region from opening.source }
         requires copied { IsCopied self.now.site.guide.now self.now.site.region from to target.old }
         ensures closed { IfOk result (λ x. (x.0.destination ≡ opening.destination) × (x.0.source ≡ opening.source) × (x.0.ticket ≡ opening.ticket)) }
@@ -125,14 +124,14 @@ impl<D: Desk, W: Wait> Filling<'_, '_, '_, '_, D, W> {
         ensures fault { IfErr result IsOverwritten }
     {
         self.site.guide.image_is_valid();
-        let place = self.site.behind_prefix();
+        let place = self.site.after_prefix();
         let s = opening.source();
         let source = self.cells.read(opening, self.wait)?;
         let end = place.copy_source(&source, s, target, to);
         Ok((source.close(), end))
     }
 
-    /// Notes that so many words of the ticket's region are written, if it is any.
+    /// Reports to the desk that `words` words of the ticket's region are written, unless that is 0.
     fn note(&self, seat: &mut D::Seat, ticket: &Ticket, words: u64) -> Result<(), Fault>
         requires seat { D.serves self.now.desk.now seat.old }
         requires few { words < 2 ^ 32 }
@@ -146,7 +145,7 @@ impl<D: Desk, W: Wait> Filling<'_, '_, '_, '_, D, W> {
         self.desk.copied(seat, ticket, words as u32, self.wait)
     }
 
-    /// Notes the words that were copied from a source, and drains it.
+    /// Reports the words that were copied from a source, and drains it.
     fn drain(
         &self,
         seat: &mut D::Seat,
@@ -172,11 +171,11 @@ impl<D: Desk, W: Wait> Filling<'_, '_, '_, '_, D, W> {
     }
 }
 
-/// Calls `on_last` with a source whose drain answered `Last`.
-fn tell<F: FnMut(u32)>(on_last: &mut F, source: u32, answer: Drained)
+/// Calls `on_last` with the source if its drain returned `Last`.
+fn report_last<F: FnMut(u32)>(on_last: &mut F, source: u32, answer: Drained)
     requires { F.IsAlwaysCallable on_last.old }
     ensures callable { F.IsAlwaysCallable on_last.new }
-    ensures told { TellsLast (λ f s f'. F.step f s tt f') source answer on_last.old on_last.new }
+    ensures reported { ReportsLast (λ f s f'. F.step f s tt f') source answer on_last.old on_last.new }
 {
     match answer {
         Drained::Last => on_last(source),

@@ -1,26 +1,25 @@
-//! What tells a fill where words go.
 ghost use Rattle.std.specs.Prelude.{◌≡◌, ℕ, ◌+◌, ◌-◌, ◌<◌, ◌≤◌, ◌==◌, ◌||◌, true, false, IfSome, MatchOption, Some};
 ghost use Rattle.heap_image.specs.HeapImage.{IsValid, heap_words, region_words, region_count, start_of, is_live_word};
 ghost use Rattle.summary.specs.NewAddresses.{prefix_end, new_address, new_top};
 ghost use Rattle.summary.specs.WordMoves.{slid};
 ghost use Rattle.summary.specs.RegionData.{source};
-ghost use Rattle.fill.specs.SourceRegions.{IsBehindPrefix};
+ghost use Rattle.fill.specs.SourceRegions.{IsAfterPrefix};
 ghost use Rattle.fill.specs.Runs.{IsNextRun};
 ghost use Rattle.fill.specs.Objects.{IsObject, IsNextObject, HasNoObject};
 
 use crate::runs::Run;
 use crate::span::Span;
-use crate::valid::planned_image_is_valid;
 use mark_bitmap::Marks;
 use std::marker::Model;
 use summary::laws::new_addresses::objects_keep_their_order;
+use summary::laws::plans::planned_image_is_valid;
 use summary::laws::readers::sources_in_a_row;
 use summary::laws::region_data::region_data_by_words;
 use summary::{Plan, Survey};
 
-/// The plan and the marks of one image.
+/// The plan and the marks of one image, which say where words go.
 ///
-/// A contract sees them as that image.
+/// Contracts view it as that image.
 #[derive(Drop)]
 pub(crate) struct Guide<'a> {
     plan: &'a Plan,
@@ -48,14 +47,13 @@ impl<'a> Guide<'a> {
         }
     }
 
-    /// The plan.
     pub(crate) fn plan(&self) -> &Plan
         ensures { result.now ≡ self.now }
     {
         self.plan
     }
 
-    /// The image is valid. The method does nothing: its contract is what a plan keeps.
+    /// A law: the image is valid.
     #[inline]
     pub(crate) fn image_is_valid(&self)
         ensures { IsValid self.now }
@@ -63,7 +61,6 @@ impl<'a> Guide<'a> {
         planned_image_is_valid(self.plan);
     }
 
-    /// The prefix end.
     #[inline]
     pub(crate) fn prefix_end(&self) -> u64
         ensures value { result ≡ prefix_end self.now }
@@ -88,18 +85,18 @@ impl<'a> Guide<'a> {
         }
     }
 
-    /// Where the first live word at or above the start of region `r` goes, which is not a region of the prefix.
+    /// The new address of the first live word from the start of region `r` on. The region lies after the prefix.
     pub(crate) fn destination(&self, r: u32) -> u64
-        requires { IsBehindPrefix self.now r }
+        requires { IsAfterPrefix self.now r }
         ensures { result ≡ slid self.now (start_of self.now r) }
     {
         planned_image_is_valid(self.plan);
         self.plan.region(r).destination
     }
 
-    /// Where the first live word behind region `r` goes, which is not a region of the prefix.
-    pub(crate) fn behind(&self, r: u32) -> u64
-        requires { IsBehindPrefix self.now r }
+    /// The new address of the first live word after region `r`, which lies after the prefix.
+    pub(crate) fn destination_after(&self, r: u32) -> u64
+        requires { IsAfterPrefix self.now r }
         ensures { result ≡ slid self.now (start_of self.now r + region_words self.now) }
     {
         planned_image_is_valid(self.plan);
@@ -110,7 +107,7 @@ impl<'a> Guide<'a> {
 
     /// The region from which the first word of region `d` comes.
     pub(crate) fn source(&self, d: u32) -> u32
-        requires region { IsBehindPrefix self.now d }
+        requires region { IsAfterPrefix self.now d }
         requires to_fill { start_of self.now d < new_top self.now }
         ensures { source self.now d ≡ Some result }
     {
@@ -122,9 +119,9 @@ impl<'a> Guide<'a> {
         }
     }
 
-    /// The address in region `r`, which is not one of the prefix, from which on its live words go to `to` and on.
+    /// The address in region `r` from which its live words go to `to` and above. The region lies after the prefix.
     pub(crate) fn first_from(&self, r: u32, to: u64) -> u64
-        requires region { IsBehindPrefix self.now r }
+        requires region { IsAfterPrefix self.now r }
         requires low { slid self.now (start_of self.now r) ≤ to }
         requires high { to ≤ slid self.now (start_of self.now r + region_words self.now) }
         ensures after { start_of self.now r ≤ result }
@@ -143,7 +140,7 @@ impl<'a> Guide<'a> {
         at
     }
 
-    /// The first run of live words at or after `from`, cut at `to`.
+    /// The first run of live words in `from..to`, cut at `to`.
     #[inline]
     pub(crate) fn next_run(&self, from: u64, to: u64) -> Run
         requires { from ≤ to }
@@ -152,7 +149,7 @@ impl<'a> Guide<'a> {
         Run::next(self.marks, from, to)
     }
 
-    /// The first live object that begins at or after `from` and before `to`.
+    /// The first live object that begins in `from..to`.
     #[inline]
     pub(crate) fn next_object(&self, from: u64, to: u64) -> Option<u64>
         ensures first { MatchOption result (HasNoObject self.now from to) (IsNextObject self.now from) }
@@ -161,10 +158,10 @@ impl<'a> Guide<'a> {
         self.marks.next_begin_before(from, to)
     }
 
-    /// The first live word at or after `at`, or the prefix end where no word of the prefix from there on is live.
+    /// The first live word from `at` on, or the prefix end if no word of the prefix from there on is live.
     pub(crate) fn gap_end(&self, at: u64) -> u64
         requires { at ≤ prefix_end self.now }
-        ensures behind { at ≤ result }
+        ensures after { at ≤ result }
         ensures inside { result ≤ prefix_end self.now }
         ensures dead { (q : ℕ) → at ≤ q → q < result → is_live_word self.now q ≡ false }
         ensures live { result < prefix_end self.now → is_live_word self.now result ≡ true }
@@ -175,7 +172,7 @@ impl<'a> Guide<'a> {
             .unwrap_or(prefix_end)
     }
 
-    /// Whether a filler begins at `at`, if the word there is dead.
+    /// Whether a filler begins at `at`, whose word is dead.
     pub(crate) fn begins_gap(&self, at: u64) -> bool
         requires { at ≤ heap_words self.now }
         ensures { result ≡ ((at == 0) || is_live_word self.now (at - 1)) }
@@ -183,7 +180,6 @@ impl<'a> Guide<'a> {
         at == 0 || self.marks.live_words(at - 1, at) == 1
     }
 
-    /// The new address of a live object.
     #[inline]
     pub(crate) fn new_address(&self, a: u64) -> u64
         requires { IsObject self.now a }

@@ -1,4 +1,3 @@
-//! Words of a heap that lies in regions.
 ghost use Rattle.std.specs.Prelude.{◌≡◌, ◌<◌, length, slice_index, slice_set};
 ghost use Rattle.std.specs.List.{concat};
 ghost use Rattle.heap_image.specs.HeapImage.{FormHeap};
@@ -6,7 +5,7 @@ ghost use Rattle.heap_image.specs.HeapImage.{FormHeap};
 use heap_image::Heap;
 use raw_region::Region;
 
-/// The word at address `a` of a heap that lies in regions of `2 ^ region_log` words.
+/// The word at address `a` of a heap whose regions have `2 ^ region_log` words.
 #[inline]
 pub(crate) fn word(regions: &[Region], region_log: u32, a: u64) -> u64
     requires heap { FormHeap region_log regions.now }
@@ -16,7 +15,7 @@ pub(crate) fn word(regions: &[Region], region_log: u32, a: u64) -> u64
     Heap::new(regions, region_log).word(a)
 }
 
-/// Makes `word` the one at address `a` of a heap that lies in regions of `2 ^ region_log` words.
+/// Sets the word at address `a` of a heap whose regions have `2 ^ region_log` words.
 #[inline]
 pub(crate) fn set_word(regions: &mut [Region], region_log: u32, a: u64, word: u64)
     requires heap { FormHeap region_log regions.old }

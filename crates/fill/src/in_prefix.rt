@@ -1,4 +1,3 @@
-//! `InPrefix`: a region of the dense prefix.
 ghost use Rattle.std.specs.Prelude.{◌≡◌, ℕ, ◌<◌, ◌≤◌, false};
 ghost use Rattle.heap_image.specs.HeapImage.{start_of, word_at, is_live_word};
 ghost use Rattle.summary.specs.NewAddresses.{prefix_end};
@@ -11,7 +10,7 @@ use crate::site::Site;
 use heap_image::header::{filler, size};
 use region_cells::Target;
 
-/// A region of the dense prefix, where each live object keeps its place.
+/// A region that begins in the dense prefix, where each live object keeps its address.
 #[derive(Drop)]
 pub(crate) struct InPrefix<'a> {
     pub(crate) site: Site<'a>,
@@ -19,7 +18,7 @@ pub(crate) struct InPrefix<'a> {
 }
 
 impl InPrefix<'_> {
-    /// Fills the region: the fillers are written, and the references redirected in place.
+    /// Writes the fillers, and redirects the references in place.
     pub(crate) fn fill(&self, target: &mut Target<'_>)
         requires { IsUnwritten self.now.site.guide.now self.now.site.region target.old }
         ensures { Becomes (IsMoved self.now.site.guide.now self.now.site.region) target.old target.new }
@@ -29,7 +28,6 @@ impl InPrefix<'_> {
         self.redirect_objects(target);
     }
 
-    /// Writes the fillers.
     fn write_fillers(&self, target: &mut Target<'_>)
         requires { IsUnwritten self.now.site.guide.now self.now.site.region target.old }
         ensures { Becomes (λ w. Shows (copied_word self.now.site.guide.now) self.now.site.span.start w.words) target.old target.new }
@@ -44,8 +42,8 @@ impl InPrefix<'_> {
         }
     }
 
-    /// Writes the filler's words from `at` up to `stop`, which are dead. No word behind them is written, though the
-    /// filler may go on in the regions behind.
+    /// Writes the filler over the dead words `at..stop`. Writes nothing after `stop`, though the filler may continue in
+    /// the next regions.
     fn write_gap(&self, target: &mut Target<'_>, at: u64, stop: u64)
         requires low { self.now.site.span.start ≤ at }
         requires ordered { at ≤ stop }

@@ -1,10 +1,9 @@
-//! Runs of addresses.
 ghost use Rattle.std.specs.Prelude.{◌≡◌, ◌≤◌};
 ghost use Rattle.fill.specs.Runs.{IsNextRun};
 
 use mark_bitmap::Marks;
 
-/// Addresses of live words that stand together, from `begin` up to `end`, itself not included.
+/// A run of live words, at the addresses `begin..end`.
 #[derive(Debug, Clone, Copy)]
 pub(crate) struct Run {
     pub(crate) begin: u64,
@@ -12,7 +11,7 @@ pub(crate) struct Run {
 }
 
 impl Run {
-    /// The first run of live words at or after `from`, cut at `to`.
+    /// The first run of live words in `from..to`, cut at `to`; empty at `to` if there is none.
     #[inline]
     pub(crate) fn next(marks: &Marks, from: u64, to: u64) -> Run
         requires { from ≤ to }

@@ -1,4 +1,3 @@
-//! `Site`: the region that is filled.
 ghost use Rattle.std.specs.Prelude.{◌≡◌, ℕ, ◌+◌, ◌<◌, ◌≤◌};
 ghost use Rattle.heap_image.specs.HeapImage.{heap_words, region_words, region_count, start_of, size_at};
 ghost use Rattle.summary.specs.NewAddresses.{prefix_end, new_top};
@@ -9,7 +8,7 @@ ghost use Rattle.fill.specs.CopiedWords.{copied_word};
 ghost use Rattle.fill.specs.Objects.{IsMovedTo, IsEarlyAt};
 ghost use Rattle.fill.specs.Targets.{Becomes, IsBlockOf};
 
-use crate::behind_prefix::BehindPrefix;
+use crate::after_prefix::AfterPrefix;
 use crate::guide::Guide;
 use crate::in_prefix::InPrefix;
 use crate::span::Span;
@@ -17,7 +16,7 @@ use heap_image::header::references;
 use region_cells::Target;
 use summary::laws::region_data::regions_to_fill;
 
-/// The region that is filled: its number and its addresses, and what tells where its words come from.
+/// The region to fill: its number, its addresses, and the guide to its words.
 #[derive(Clone, Copy)]
 pub(crate) struct Site<'a> {
     pub(crate) guide: &'a Guide<'a>,
@@ -31,7 +30,6 @@ pub(crate) struct Site<'a> {
 }
 
 impl<'a> Site<'a> {
-    /// Region `region`, which is to be filled.
     pub(crate) fn of(guide: &'a Guide<'a>, region: u32) -> Site<'a>
         requires { region < fill_count guide.now }
         ensures guide { result.guide.now ≡ guide.now }
@@ -46,7 +44,6 @@ impl<'a> Site<'a> {
         }
     }
 
-    /// The region as one of the prefix.
     pub(crate) fn in_prefix(self) -> InPrefix<'a>
         requires { self.span.start < prefix_end self.guide.now }
         ensures { result.site ≡ self.entry }
@@ -54,16 +51,14 @@ impl<'a> Site<'a> {
         InPrefix { site: self }
     }
 
-    /// The region as one behind the prefix.
-    pub(crate) fn behind_prefix(self) -> BehindPrefix<'a>
+    pub(crate) fn after_prefix(self) -> AfterPrefix<'a>
         requires { prefix_end self.guide.now ≤ self.span.start }
         ensures { result.site ≡ self.entry }
     {
-        BehindPrefix { site: self }
+        AfterPrefix { site: self }
     }
 
-    /// Redirects the references of the live object that goes to the address `at`, where its new words lie wholly in the
-    /// region.
+    /// Redirects the references of the live object whose new address is `at`. Its new words lie wholly in the region.
     pub(crate) fn redirect_object(&self, target: &mut Target<'_>, at: u64)
         requires object { IsEarlyAt self.now.guide.now at self.now.span.end }
         requires low { self.now.span.start ≤ at }

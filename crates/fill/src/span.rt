@@ -1,6 +1,4 @@
-//! `Span`: addresses in a row.
-
-/// The addresses from `start` up to `end`, itself not included.
+/// The addresses `start..end`.
 #[derive(Debug, Clone, Copy)]
 pub(crate) struct Span {
     pub(crate) start: u64,

@@ -1,23 +1,25 @@
--- What is shown of a schedule that was read is shown of some schedule.
+-- What is printed of a schedule that was read is printed of some schedule.
 use Rattle.std.proofs.Common.{ℕ, List, Option, inl, inr}
-use Rattle.heap_commands.specs.Timeline.{HasFigures, HasLanes, IsTimeline}
+use Rattle.heap_commands.specs.Timeline.{HasLanes, HasPicture, IsTimeline}
+use Rattle.heap_commands.specs.declared.timeline.Form.{Form}
 
-pub lanes_are_a_timeline : (left left' asked : Option (List ℕ)) → (shown : List ℕ) → HasLanes left left' asked shown → IsTimeline shown
-lanes_are_a_timeline left left' asked shown (timeline, followed, tells) = record {
+pub lanes_are_a_timeline : (left left' schedule : Option (List ℕ)) → (shown : List ℕ) → HasLanes left left' schedule shown → IsTimeline shown
+lanes_are_a_timeline left left' schedule shown (timeline, followed, begins) = record {
   image = followed.image;
   valid = followed.valid;
-  schedule = followed.schedule;
+  schedule = followed.lines;
   timeline = timeline;
   follows = followed.follows;
-  tells = inl tells;
+  printed = inl begins;
 }
 
-pub figures_are_a_timeline : (left left' asked : Option (List ℕ)) → (shown : List ℕ) → HasFigures left left' asked shown → IsTimeline shown
-figures_are_a_timeline left left' asked shown (timeline, followed, tells) = record {
+pub figures_are_a_timeline : (form : Form) (left left' schedule : Option (List ℕ)) → (shown picture : List ℕ)
+    → HasPicture form left left' schedule shown picture → IsTimeline shown
+figures_are_a_timeline form left left' schedule shown picture (timeline, followed, is) = record {
   image = followed.image;
   valid = followed.valid;
-  schedule = followed.schedule;
+  schedule = followed.lines;
   timeline = timeline;
   follows = followed.follows;
-  tells = inr tells;
+  printed = inr is.figures;
 }

@@ -1,4 +1,3 @@
--- The command `board`.
 use Rattle.std.specs.Prelude.{codes}
 use Rattle.board_sweep.specs.Report.{IsBoardText}
 use Rattle.heap_commands.specs.Command.{Command}

@@ -2,32 +2,32 @@ use Rattle.std.specs.Prelude.{◌≡◌, ℕ, List, ◌++◌, ◌==◌, Option, 
 use Rattle.std.specs.Io.KnownBytes.{Appends}
 use Rattle.heap_image.specs.HeapImage.{HeapImage, IsValid}
 use Rattle.heap_image.specs.ImageText.{text}
-use Rattle.heap_maker.specs.Figures.{AreFiguresOf, figures_text}
+use Rattle.heap_maker.specs.GenerationFigures.{AreFiguresOf, figures_text}
 use Rattle.heap_maker.specs.Wanted.{IsAsWanted}
-use Rattle.heap_maker.specs.declared.figures.Figures.{Figures}
+use Rattle.heap_maker.specs.declared.figures.GenerationFigures.{GenerationFigures}
 use Rattle.heap_maker.specs.declared.wanted.Wanted.{Wanted}
 use Rattle.command_line.specs.declared.generate.Generate.{Generate}
 use Rattle.heap_commands.specs.Command.{Command}
 
--- the heap that the words of the command ask for
+-- the heap that a request describes
 abbrev pub wanted_of : Generate → Wanted
-wanted_of asked = record {
-  words = asked.words;
-  region_log = asked.region_log;
-  live_percent = asked.live;
-  reference_percent = asked.references;
-  is_rooted = asked.version == 2;
-  allowance = asked.allowance;
-  seed = asked.seed;
+wanted_of request = record {
+  words = request.words;
+  region_log = request.region_log;
+  live_percent = request.live;
+  reference_percent = request.references;
+  is_rooted = request.version == 2;
+  allowance = request.allowance;
+  seed = request.seed;
 }
 
 -- the line with the figures of an image
 pub record IsFiguresLine (image : HeapImage) (shown : List ℕ) : Type 0 where
-  pub figures : Figures
+  pub figures : GenerationFigures
   pub counted : AreFiguresOf image figures
-  pub tells : shown ≡ figures_text figures ++ codes "\n"
+  pub printed : shown ≡ figures_text figures ++ codes "\n"
 
--- the text of an image that is as it was wanted was written, and its figures are shown
+-- the text of an image as requested was written, and its figures are printed
 abbrev pub IsGeneration : Wanted → Option (List ℕ) → Option (List ℕ) → List ℕ → Type 0
 IsGeneration wanted took took' shown = (image : HeapImage) × IsAsWanted wanted image
     × IsFiguresLine image shown × Appends took took' (text image)

@@ -2,19 +2,19 @@ use Rattle.std.specs.Prelude.{◌≡◌, ℕ, List, ◌++◌, Option, Some, code
 use Rattle.std.specs.Io.KnownBytes.{Appends}
 use Rattle.heap_image.specs.HeapImage.{HeapImage, IsValid, version_of}
 use Rattle.heap_image.specs.ImageText.{text}
-use Rattle.heap_dump.specs.Figures.{AreFiguresOf, figures_text}
-use Rattle.heap_dump.specs.declared.figures.Figures.{Figures}
+use Rattle.heap_dump.specs.ImportFigures.{AreFiguresOf, figures_text}
+use Rattle.heap_dump.specs.declared.figures.ImportFigures.{ImportFigures}
 use Rattle.heap_commands.specs.Command.{Command}
 
 -- the line with the figures of an image of version 2
 pub record IsLineOf (image : HeapImage) (shown : List ℕ) : Type 0 where
   pub valid : IsValid image
   pub rooted : version_of image ≡ 2
-  pub figures : Figures
+  pub figures : ImportFigures
   pub counted : AreFiguresOf image figures
-  pub tells : shown ≡ figures_text figures ++ codes "\n"
+  pub printed : shown ≡ figures_text figures ++ codes "\n"
 
--- the text of a valid image of version 2 with this allowance was written, and its figures are shown
+-- the text of a valid image of version 2 with this allowance was written, and its figures are printed
 abbrev pub IsImport : ℕ → Option (List ℕ) → Option (List ℕ) → List ℕ → Type 0
 IsImport allowance took took' shown = (image : HeapImage) × IsLineOf image shown
     × (image.allowance ≡ allowance) × Appends took took' (text image)

@@ -9,4 +9,5 @@ pub mod Replay
 pub mod Summarize
 pub mod Text
 pub mod Timeline
+pub mod Unreplayed
 pub mod Upgrade

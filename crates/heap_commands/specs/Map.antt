@@ -3,40 +3,40 @@ use Rattle.std.specs.Io.KnownBytes.{Consumes}
 use Rattle.heap_image.specs.HeapImage.{HeapImage, IsValid}
 use Rattle.heap_image.specs.ImageText.{text}
 use Rattle.heap_map.specs.Cells.{cells_after, cells_before}
-use Rattle.heap_map.specs.Figures.{AreFiguresOf, figures_text}
+use Rattle.heap_map.specs.MapFigures.{AreFiguresOf, figures_text}
 use Rattle.heap_map.specs.Text.{picture_text}
 use Rattle.heap_map.specs.declared.cell.Cell.{Cell}
-use Rattle.heap_map.specs.declared.figures.Figures.{Figures}
+use Rattle.heap_map.specs.declared.figures.MapFigures.{MapFigures}
 use Rattle.heap_map.specs.declared.style.Style.{Style}
 use Rattle.heap_commands.specs.Command.{Command}
 use Rattle.heap_commands.specs.declared.map.Cut.{Cut}
 
--- how many cells are shown where so many were asked for
+-- the number of cells shown for a requested number
 abbrev pub cells_shown : ℕ → ℕ
-cells_shown asked = min (max asked 1) 1000
+cells_shown requested = min (max requested 1) 1000
 
--- the cells after the collection, where these are asked for
+-- the cells after the collection, where the cut includes them
 abbrev pub after_shown : HeapImage → Cut → Option (List Cell)
 after_shown image cut = if cut.after then Some (cells_after image (cells_shown cut.cells)) else None
 
--- the picture of an image, cut so, in this style
+-- the picture of an image in this style
 pub record IsPicture (style : Style) (cut : Cut) (image : HeapImage) (shown : List ℕ) : Type 0 where
-  pub figures : Figures
+  pub figures : MapFigures
   pub counted : AreFiguresOf image figures
-  pub tells : shown ≡ picture_text style figures (cells_before image (cells_shown cut.cells)) (after_shown image cut)
+  pub printed : shown ≡ picture_text style figures (cells_before image (cells_shown cut.cells)) (after_shown image cut)
 
 -- the line with the figures of an image
 pub record IsMapLine (image : HeapImage) (shown : List ℕ) : Type 0 where
-  pub figures : Figures
+  pub figures : MapFigures
   pub counted : AreFiguresOf image figures
-  pub tells : shown ≡ figures_text figures ++ codes "\n"
+  pub printed : shown ≡ figures_text figures ++ codes "\n"
 
--- what was read is the text of some valid image, and this is its picture
+-- the bytes read are the text of some valid image, and this is its picture
 abbrev pub IsPrinted : Style → Cut → Option (List ℕ) → Option (List ℕ) → List ℕ → Type 0
 IsPrinted style cut before after shown = (image : HeapImage) × IsValid image
     × Consumes before after (text image) × IsPicture style cut image shown
 
--- what was read is the text of some valid image, and this is the line with its figures
+-- the bytes read are the text of some valid image, and this is the line with its figures
 abbrev pub IsDrawing : Option (List ℕ) → Option (List ℕ) → List ℕ → Type 0
 IsDrawing before after shown = (image : HeapImage) × IsValid image
     × Consumes before after (text image) × IsMapLine image shown

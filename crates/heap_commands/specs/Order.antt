@@ -7,7 +7,7 @@ use Rattle.work_order.specs.Chains.{IsLongestChain}
 use Rattle.work_order.specs.WorkOrder.{order_text}
 use Rattle.heap_commands.specs.Command.{Command}
 
--- the line with the words of the longest chain of an image, those in all, and what follows from both
+-- the line with the words of the longest chain of an image, those of the whole heap, and what follows from both
 abbrev pub IsOrderLine : HeapImage → List ℕ → Type 0
 IsOrderLine image shown = (chain : ℕ) × IsLongestChain image chain
     × (shown ≡ order_text (new_top image) chain ++ codes "\n")
@@ -16,7 +16,7 @@ IsOrderLine image shown = (chain : ℕ) × IsLongestChain image chain
 abbrev pub IsOrder : List ℕ → Type 0
 IsOrder shown = (image : HeapImage) × IsValid image × IsOrderLine image shown
 
--- what was read is the text of some valid image, and this is its line
+-- the bytes read are the text of some valid image, and this is its line
 abbrev pub IsOrderOf : Option (List ℕ) → Option (List ℕ) → List ℕ → Type 0
 IsOrderOf before after shown = (image : HeapImage) × IsValid image
     × Consumes before after (text image) × IsOrderLine image shown

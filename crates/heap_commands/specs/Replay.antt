@@ -10,27 +10,22 @@ use Rattle.history.specs.declared.replayed.End.TheVariants.{Finished, Open}
 use Rattle.history.specs.declared.replayed.Replayed.{Replayed}
 use Rattle.heap_commands.specs.Command.{Command}
 
--- the line that tells how a replay ended
+-- the line that says how a replay ended
 abbrev pub end_line : End → List ℕ
 end_line (Finished image) = codes "finished\n"
 end_line Open = codes "open\n"
 
--- The one device gave the text of a valid image, the other had that of a schedule. What is shown is the replay of the
--- schedule on the image: its lines with their replies, and how it ended.
-pub record IsReplayOf (left left' asked : Option (List ℕ)) (shown : List ℕ) : Type 0 where
+-- The first device gave the text of a valid image, and the second had that of a schedule. The text printed is the replay of
+-- the schedule on the image: its lines with their replies, and how it ended.
+pub record IsReplayOf (left left' source : Option (List ℕ)) (shown : List ℕ) : Type 0 where
   pub image : HeapImage
   pub valid : IsValid image
   pub read : Consumes left left' (text image)
   pub schedule : ScheduleView
-  pub whole : IfSome asked (λ bytes. bytes ≡ schedule_text schedule)
+  pub whole : IfSome source (λ bytes. bytes ≡ schedule_text schedule)
   pub replayed : Replayed
   pub follows : IsReplayed image schedule replayed
-  pub tells : shown ≡ schedule_text replayed.lines ++ end_line replayed.ended
-
--- what is shown is the replay of this schedule on this image
-abbrev pub IsReplayShown : HeapImage → ScheduleView → List ℕ → Type 0
-IsReplayShown image schedule shown = (replayed : Replayed) × IsReplayed image schedule replayed
-    × (shown ≡ schedule_text replayed.lines ++ end_line replayed.ended)
+  pub printed : shown ≡ schedule_text replayed.lines ++ end_line replayed.ended
 
 -- the replay of some schedule on some valid image
 pub record IsReplayText (shown : List ℕ) : Type 0 where
@@ -39,7 +34,7 @@ pub record IsReplayText (shown : List ℕ) : Type 0 where
   pub schedule : ScheduleView
   pub replayed : Replayed
   pub follows : IsReplayed image schedule replayed
-  pub tells : shown ≡ schedule_text replayed.lines ++ end_line replayed.ended
+  pub printed : shown ≡ schedule_text replayed.lines ++ end_line replayed.ended
 
 abbrev pub replay_command : Command
 replay_command = record { name = codes "replay"; prints = IsReplayText }

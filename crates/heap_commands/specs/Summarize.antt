@@ -6,7 +6,7 @@ use Rattle.summary.specs.NewAddresses.{prefix_end, new_top}
 use Rattle.summary.specs.Report.{report}
 use Rattle.heap_commands.specs.Command.{Command}
 
--- the ends of the dense prefix and of the compacted heap, and then the table of the regions
+-- the ends of the dense prefix and of the compacted heap, then the table of the regions
 abbrev pub summary_of : HeapImage → List ℕ
 summary_of image =
     codes "prefix " ++ (decimal (prefix_end image) ++ (codes " top " ++ (decimal (new_top image)
@@ -16,7 +16,7 @@ summary_of image =
 abbrev pub IsSummary : List ℕ → Type 0
 IsSummary shown = (image : HeapImage) × IsValid image × (shown ≡ summary_of image)
 
--- what was read is the text of some valid image, and this is its summary
+-- the bytes read are the text of some valid image, and this is its summary
 abbrev pub IsSummaryOf : Option (List ℕ) → Option (List ℕ) → List ℕ → Type 0
 IsSummaryOf before after shown = (image : HeapImage) × IsValid image
     × Consumes before after (text image) × (shown ≡ summary_of image)

@@ -9,7 +9,7 @@ use Rattle.heap_commands.specs.Command.{Command}
 abbrev pub AreLines : List ℕ → Type 0
 AreLines shown = (image : HeapImage) × IsValid image × (shown ≡ text_of image)
 
--- what was read is the text of some valid image, and these are its lines
+-- the bytes read are the text of some valid image, and these are its lines
 abbrev pub AreLinesOf : Option (List ℕ) → Option (List ℕ) → List ℕ → Type 0
 AreLinesOf before after shown = (image : HeapImage) × IsValid image
     × Consumes before after (text image) × (shown ≡ text_of image)

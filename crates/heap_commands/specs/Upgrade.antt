@@ -10,12 +10,12 @@ use Rattle.heap_commands.specs.Command.{Command}
 abbrev pub roots_line : HeapImage → List ℕ
 roots_line image = codes "roots " ++ (decimal (length (roots_of image)) ++ codes "\n")
 
--- all of the input was read, which is the text of some image; the text of the upgraded one was written; and the number of its roots is shown
+-- the whole input was read and is the text of some image, the text of its upgrade was written, and the number of its roots is printed
 abbrev pub IsUpgrading : Option (List ℕ) → Option (List ℕ) → Option (List ℕ) → Option (List ℕ) → List ℕ → Type 0
 IsUpgrading left left' took took' shown = (image : HeapImage) × IsRead image left left'
     × Appends took took' (text (upgraded image)) × (shown ≡ roots_line (upgraded image))
 
--- the line with the number of roots of some valid image, upgraded
+-- the line with the number of roots of some valid image after its upgrade
 abbrev pub IsRootCount : List ℕ → Type 0
 IsRootCount shown = (image : HeapImage) × IsValid image × (shown ≡ roots_line (upgraded image))
 

@@ -1,4 +1,3 @@
-//! The command `board`.
 ghost use Rattle.std.specs.Prelude.{◌≡◌, codes, ℕ, List, MatchResult};
 ghost use Rattle.board_sweep.specs.Report.{IsBoardText};
 ghost use Rattle.command_support.specs.Failure.{out_of_memory};
@@ -7,7 +6,7 @@ use board_sweep::sweep_with_two_workers;
 use command_support::{Trouble, WorkDone};
 use std::thread::Threads;
 
-/// What `board` prints.
+/// Returns what `board` prints.
 pub fn answer<'a, R: AllocGlobal + Threads>(rt: &R) -> Result<WorkDone<'a>, Trouble<'a>>
     ensures { MatchResult result (λ done. IsBoardText done.text.items)
         (λ trouble. trouble.failure ≡ out_of_memory) }

@@ -1,6 +1,5 @@
-//! The command `generate`.
 ghost use Rattle.std.specs.Prelude.{◌≡◌, ◌≢◌, ◌⊎◌, ◌++◌, codes, ℕ, List, IfOk, IfErr, OnOk, OnErr, IsTrue, string_bytes};
-ghost use Rattle.heap_maker.specs.Figures.{figures_text};
+ghost use Rattle.heap_maker.specs.GenerationFigures.{figures_text};
 ghost use Rattle.heap_commands.specs.Generate.{IsGeneration, IsGenerationLine, wanted_of};
 ghost use Rattle.command_support.specs.Failure.{failed_device};
 
@@ -8,59 +7,58 @@ use command_line::Generate;
 use command_support::{
     Failure, FileTarget, FileWord, Late, Role, SystemFile, Trouble, WorkDone, Writing, ended,
 };
-use heap_image::{Outlet, ToWrite, write_image};
-use heap_maker::{Figures, Generated, Wanted, generate};
+use heap_image::{Outlet, ToWrite, write_image_buffered};
+use heap_maker::{Generated, GenerationFigures, Wanted, generate};
 use std::alloc::{AllocError, Global};
 use std::rt::Files;
 
-/// Room for the line with the figures, with each as long as a number can be.
+/// Room for the line with the figures, with 20 digits for each number.
 const LINE_ROOM: usize = 120;
 
-/// Writes the heap that is asked for into a file, and answers what `generate` prints.
+/// Writes the requested heap to a file, and returns what `generate` prints.
 pub fn answer<'a, R: Files + AllocGlobal>(
     rt: &R,
-    asked: Generate<'a>,
+    request: Generate<'a>,
 ) -> Result<WorkDone<'a>, Trouble<'a>>
 where
     R::File: SystemFile,
     ensures { IfOk result (λ done. IsGenerationLine done.text.items) }
 {
-    let image = FileWord::new(Role::Image, asked.image);
+    let image = FileWord::new(Role::Image, request.image);
     let writing = Writing {
-        atomic: asked.atomic,
+        atomic: request.atomic,
         is_private: false,
+        read: None,
     };
-    let found = FileTarget::find(rt, image, writing)?;
-    let mut written = ToWrite::new(Late::new(rt, found));
-    let line = generate_into(rt.alloc(), &mut written, &wanted_by(&asked));
-    let late = written.into_inner();
+    let target = FileTarget::find(rt, image, writing)?;
+    let mut output = ToWrite::new(Late::new(rt, target));
+    let line = generate_into(rt.alloc(), &mut output, &generation_of(&request));
+    let late = output.into_inner();
     match line {
         Ok(line) => ended(rt, line, late.into_output()?),
         Err(failure) => Err(late.failed(Trouble::new(failure))),
     }
 }
 
-/// Which heap is asked for.
-fn wanted_by(asked: &Generate<'_>) -> Wanted
-    ensures { result ≡ wanted_of asked.now }
+/// The heap that the request describes.
+fn generation_of(request: &Generate<'_>) -> Wanted
+    ensures { result ≡ wanted_of request.now }
 {
     Wanted {
-        words: u64::from(asked.words),
-        region_log: asked.region_log,
-        live_percent: asked.live,
-        reference_percent: asked.references,
-        is_rooted: asked.version == 2,
-        allowance: asked.allowance,
-        seed: asked.seed,
+        words: u64::from(request.words),
+        region_log: request.region_log,
+        live_percent: request.live,
+        reference_percent: request.references,
+        is_rooted: request.version == 2,
+        allowance: request.allowance,
+        seed: request.seed,
     }
 }
 
-/// Makes the heap that is wanted, and writes the text of its image. What it answers is for standard
-/// output: the figures of the heap.
+/// Generates a heap and writes its image. Returns the line for standard output, with the figures of the heap.
 ///
-/// Nothing is written before the heap is made, and nothing takes memory once a byte is. Fault 13 says
-/// that the device has failed, fault 11 that memory was refused, and any other failure what
-/// `heap_maker` says of what is wanted.
+/// Nothing is written before the heap is generated, and nothing is allocated once a byte is written. Fault 13 says that
+/// the device failed, fault 11 that memory ran out, and any other failure is that of `heap_maker::generate`.
 pub fn generate_into<O: Outlet>(
     alloc: Global,
     output: &mut O,
@@ -75,13 +73,13 @@ pub fn generate_into<O: Outlet>(
 {
     let mut line = String::with_capacity(alloc, LINE_ROOM)?;
     let Generated { image, figures } = generate(alloc, wanted)?;
-    tell_generation(figures, &mut line)?;
-    write_image(&image, output)?;
+    push_generation_line(figures, &mut line)?;
+    write_image_buffered(alloc, &image, output)?;
     Ok(line)
 }
 
-/// Adds the line with the figures of a heap.
-fn tell_generation(figures: Figures, line: &mut String) -> Result<(), AllocError>
+/// Appends the figures of a heap to a line.
+fn push_generation_line(figures: GenerationFigures, line: &mut String) -> Result<(), AllocError>
     ensures { OnOk result (string_bytes line.new
         ≡ string_bytes line.old ++ (figures_text figures ++ codes "\n")) }
 {

@@ -1,7 +1,6 @@
-//! The command `import`.
 ghost use Rattle.std.specs.Prelude.{◌≡◌, ◌≢◌, ◌⊎◌, ◌++◌, codes, ℕ, List, IfOk, IfErr, OnOk, OnErr, IsTrue, string_bytes};
 ghost use Rattle.std.specs.Io.KnownBytes.{IsAtEnd};
-ghost use Rattle.heap_dump.specs.Figures.{figures_text};
+ghost use Rattle.heap_dump.specs.ImportFigures.{figures_text};
 ghost use Rattle.heap_commands.specs.Import.{IsImport, IsImportLine};
 ghost use Rattle.command_support.specs.Failure.{failed_device};
 
@@ -10,35 +9,35 @@ use command_support::{
     Failure, FileTarget, FileWord, Late, Role, SystemFile, Trouble, Watched, WorkDone, ended,
     must_differ, not_regular, target_beside,
 };
-use heap_dump::{Figures, Imported, Options, import};
-use heap_image::{FromRead, Intake, Outlet, ToWrite, write_image};
+use heap_dump::{ImportFigures, Imported, Options, import};
+use heap_image::{FromRead, Intake, Outlet, ToWrite, write_image_buffered};
 use std::alloc::{AllocError, Global};
 use std::fs::Metadata;
 use std::rt::Files;
 
-/// Room for the line with the figures, with each as long as a number can be.
+/// Room for the line with the figures, with 20 digits for each number.
 const LINE_ROOM: usize = 240;
 
-/// Imports the dump of one file as the image of another, and answers what `import` prints.
+/// Imports the dump in one file as the image of another, and returns what `import` prints.
 pub fn answer<'a, R: Files + AllocGlobal>(
     rt: &R,
-    asked: Import<'a>,
+    request: Import<'a>,
 ) -> Result<WorkDone<'a>, Trouble<'a>>
 where
     R::File: SystemFile,
     ensures { IfOk result (λ done. IsImportLine done.text.items) }
 {
     let options = Options {
-        region_log: asked.region_log,
-        allowance: asked.allowance,
-        live_only: asked.live_only,
+        region_log: request.region_log,
+        allowance: request.allowance,
+        live_only: request.live_only,
     };
-    let Opened { dump, again, image } = open(rt, &asked)?;
+    let Opened { dump, again, image } = open(rt, &request)?;
     let mut dump = FromRead::new(dump);
     let mut again = FromRead::new(again);
-    let mut written = ToWrite::new(Late::new(rt, image));
-    let line = import_into(rt.alloc(), &mut dump, &mut again, &mut written, options);
-    let late = written.into_inner();
+    let mut output = ToWrite::new(Late::new(rt, image));
+    let line = import_into(rt.alloc(), &mut dump, &mut again, &mut output, options);
+    let late = output.into_inner();
     match line {
         Ok(line) => ended(rt, line, late.into_output()?),
         Err(failure) => {
@@ -53,31 +52,28 @@ where
 struct Opened<'a, F: Drop> {
     /// The dump.
     dump: Watched<'a, F>,
-    /// The dump once more, for its second reading.
+    /// The dump, opened again for its second reading.
     again: Watched<'a, F>,
-    /// The file for the image, as it was found.
+    /// The file for the image.
     image: FileTarget<'a, F>,
 }
 
-/// Opens the dump twice, and finds the file for the image. Both may be one file only where that is
-/// replaced.
-///
-/// A dump that is no regular file can't be read twice, and is refused.
+/// Opens the dump twice, and finds the file for the image. Both may be one file only with `--atomic`.
 fn open<'a, H: Files + AllocGlobal>(
     host: &H,
-    asked: &Import<'a>,
+    request: &Import<'a>,
 ) -> Result<Opened<'a, H::File>, Trouble<'a>> {
-    let word = FileWord::new(Role::Dump, asked.dump);
-    let image = FileWord::new(Role::Image, asked.image);
-    if !asked.atomic {
+    let word = FileWord::new(Role::Dump, request.dump);
+    let image = FileWord::new(Role::Image, request.image);
+    if !request.atomic {
         must_differ(host.alloc(), word, image)?;
     }
     let (dump, again) = open_dump(host, word)?;
-    let image = target_beside(host, &dump, image, asked.atomic)?;
+    let image = target_beside(host, &dump, image, request.atomic)?;
     Ok(Opened { dump, again, image })
 }
 
-/// Opens a dump twice. It is refused where it is no regular file.
+/// Opens a dump twice. Only a regular file can be read twice; any other is refused.
 fn open_dump<'a, H: Files + AllocGlobal>(
     host: &H,
     word: FileWord<'a>,
@@ -90,12 +86,11 @@ fn open_dump<'a, H: Files + AllocGlobal>(
     Ok((dump, again))
 }
 
-/// Makes an image of the dump that both inputs are, and writes its text. What it answers is for
-/// standard output: the figures of the image.
+/// Makes an image of the dump that both devices give, and writes it. Returns the line for standard output, with the
+/// figures of the image.
 ///
-/// The dump is read to its end, twice, before a byte is written, and nothing takes memory once one is.
-/// Fault 13 says that a device has failed, fault 11 that memory was refused, and any other failure what
-/// `heap_dump` says of the dump.
+/// Both devices are read to their ends before a byte is written, and nothing is allocated once one is. Fault 13 says
+/// that a device failed, fault 11 that memory ran out, and any other failure is that of `heap_dump::import`.
 pub fn import_into<R: Intake, O: Outlet>(
     alloc: Global,
     first: &mut R,
@@ -115,13 +110,13 @@ pub fn import_into<R: Intake, O: Outlet>(
 {
     let mut line = String::with_capacity(alloc, LINE_ROOM)?;
     let Imported { image, figures } = import(alloc, first, second, options)?;
-    tell_import(figures, &mut line)?;
-    write_image(&image, output)?;
+    push_import_line(figures, &mut line)?;
+    write_image_buffered(alloc, &image, output)?;
     Ok(line)
 }
 
-/// Adds the line with the figures of an imported image.
-fn tell_import(figures: Figures, line: &mut String) -> Result<(), AllocError>
+/// Appends the figures of an imported image to a line.
+fn push_import_line(figures: ImportFigures, line: &mut String) -> Result<(), AllocError>
     ensures { OnOk result (string_bytes line.new
         ≡ string_bytes line.old ++ (figures_text figures ++ codes "\n")) }
 {

@@ -1,16 +1,14 @@
-//! The commands of the program that collect no heap. They stand beside the chain of crates that a collection needs, and are
-//! proved beside it.
+//! The commands that don't run a collection. This crate doesn't depend on the collector, and is proved beside it.
 //!
-//! A command is a module. Its `answer` takes what the words of the command ask for, does the work over files, and gives what
-//! the command prints with the files that are to take their places ([`command_support::WorkDone`]), or why it fails
-//! ([`command_support::Trouble`]). The work itself stands in a call over any devices, so that its contract can speak of
-//! their bytes. The words are read in `command_line`, and the program shows what is printed.
+//! Each command is a module. Its `answer` takes a parsed request, works on files, and returns what the command prints
+//! and the files that are still to be renamed into place ([`command_support::WorkDone`]), or why it failed
+//! ([`command_support::Trouble`]). The work itself is a function over any devices, so that its contract can speak of
+//! their bytes. `command_line` parses the requests, and `pcompact` prints the results.
 //!
 //! # What is proved
 //!
-//! - What each command prints: `specs/NAME.antt` says it, and the contract of `answer` has it, of some valid image.
-//! - Over devices that tell their bytes, of the image or the schedule whose text these are: the contract of the call over
-//!   devices.
+//! - The contract of `answer`: the text that a command prints, as `specs/NAME.antt` defines it, of some valid image.
+//! - The contract of the function over devices: that image, or schedule, is the one whose text was read.
 //! - Nothing here reads out of bounds, overflows or stops the process, and every loop ends.
 //!
 //! # What is only tested

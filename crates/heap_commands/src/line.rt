@@ -1,10 +1,10 @@
-//! Lines for standard output, whose room is taken before anything is written: to add to them can't fail.
+//! Lines for standard output. Their room is allocated before anything is written, so that appending to them can't fail.
 ghost use Rattle.std.specs.Prelude.{◌≡◌, ◌≤◌, ◌+◌, ◌++◌, length, decimal, string_bytes};
 ghost use Rattle.std_alloc.specs.String.{string_len, string_capacity};
 
 use itoa::Buffer;
 
-/// Adds text for which the line has room.
+/// Appends text for which the line has room.
 pub fn push_text(line: &mut String, text: &str)
     requires room { string_len line.old + length text.now ≤ string_capacity line.old }
     ensures bytes { string_bytes line.new ≡ string_bytes line.old ++ text.now }
@@ -14,7 +14,7 @@ pub fn push_text(line: &mut String, text: &str)
     line.push_str(text).unwrap();
 }
 
-/// Adds a number, for whose 20 digits at most the line has room.
+/// Appends a number. The line has room for 20 digits.
 pub fn push_number(line: &mut String, number: u64)
     requires room { string_len line.old + 20 ≤ string_capacity line.old }
     ensures bytes { string_bytes line.new ≡ string_bytes line.old ++ decimal number }

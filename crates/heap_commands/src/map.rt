@@ -1,59 +1,59 @@
-//! The command `map`.
 ghost use Rattle.std.specs.Prelude.{◌≡◌, ◌≢◌, ◌⊎◌, ◌++◌, codes, option_map, ℕ, List, IfOk, IfErr, IfSome, OnErr, IsTrue, string_bytes};
+ghost use Rattle.std.specs.Io.KnownBytes.{Appends};
 ghost use Rattle.heap_image.specs.Refusals.{IsReason};
 ghost use Rattle.heap_map.specs.Cells.{cells_before};
-ghost use Rattle.heap_map.specs.Figures.{AreFiguresOf, figures_text};
+ghost use Rattle.heap_map.specs.MapFigures.{AreFiguresOf, figures_text};
 ghost use Rattle.heap_commands.specs.Map.{IsDrawing, IsMap, IsMapLine, IsPicture, IsPrinted, after_shown, cells_shown};
 
 use crate::screen::Screen;
 use command_line::{Look, Map};
 use command_support::{
-    FileTarget, FileWord, Late, Role, SystemFile, Trouble, Watched, WorkDone, apart_from, ended,
-    must_differ,
+    FileTarget, FileWord, Late, Role, SystemFile, Trouble, Watched, WorkDone, ended, must_differ,
+    reject_same_file,
 };
 use heap_image::{
     Fault, FromRead, Image, Intake, Outlet, ToWrite, give_all, read_image_by_threads,
 };
-use heap_map::{Figures, Glyphs, MAX_CELLS, Picture, Style};
+use heap_map::{Glyphs, MAX_CELLS, MapFigures, Picture, Style};
 use std::alloc::{AllocError, Global};
 use std::rt::Files;
 use std::thread::Threads;
 use summary::Survey;
 
-/// What `map` prints of the image in a file. Where a file for a drawing is given, the picture goes there.
+/// Returns what `map` prints of the image in a file. The picture goes to another file where the request names one.
 pub fn answer<'a, R: Files + AllocGlobal + Threads + Sync>(
     rt: &R,
     screen: Screen,
-    asked: Map<'a>,
+    request: Map<'a>,
 ) -> Result<WorkDone<'a>, Trouble<'a>>
 where
     R::File: SystemFile,
     ensures { IfOk result (λ done. IsMap done.text.items) }
 {
-    let image = FileWord::new(Role::Image, asked.image);
+    let image = FileWord::new(Role::Image, request.image);
     let cut = Cut {
-        cells: asked.width,
-        after: asked.after,
+        cells: request.width,
+        after: request.after,
     };
-    match asked.svg {
+    match request.svg {
         Some(svg) => {
             let svg = FileWord::new(Role::Drawing, svg);
-            drawn(rt, image, svg, cut, asked.atomic)
+            draw(rt, image, svg, cut, request.atomic)
         }
-        None => printed(rt, image, cut, style_on(screen, asked.look)),
+        None => print(rt, image, cut, style_on(screen, request.look)),
     }
 }
 
 /// How a heap is cut into cells.
 #[derive(Clone, Copy)]
 pub struct Cut {
-    /// How many cells there are. None is taken for one, and more than a map has for as many.
+    /// The number of cells. 0 counts as 1, and more than [`MAX_CELLS`] count as that many.
     pub cells: u32,
-    /// Whether the heap after its collection is shown too.
+    /// Whether the heap after its collection is shown as well.
     pub after: bool,
 }
 
-/// How a picture is printed on what standard output shows.
+/// The style of a picture on standard output.
 pub fn style_on(screen: Screen, look: Look) -> Style {
     Style {
         glyphs: if screen.is_utf8 && !look.letters {
@@ -66,7 +66,7 @@ pub fn style_on(screen: Screen, look: Look) -> Style {
 }
 
 /// Prints the picture of the image in a file.
-fn printed<'a, R: Files + AllocGlobal + Threads + Sync>(
+fn print<'a, R: Files + AllocGlobal + Threads + Sync>(
     rt: &R,
     image: FileWord<'a>,
     cut: Cut,
@@ -81,8 +81,8 @@ fn printed<'a, R: Files + AllocGlobal + Threads + Sync>(
     }
 }
 
-/// Draws the picture of the image in a file into another file, and prints the figures.
-fn drawn<'a, R: Files + AllocGlobal + Threads + Sync>(
+/// Draws the picture of the image in a file to another file, and prints the figures.
+fn draw<'a, R: Files + AllocGlobal + Threads + Sync>(
     rt: &R,
     image: FileWord<'a>,
     svg: FileWord<'a>,
@@ -94,27 +94,27 @@ where
     ensures { IfOk result (λ done. IsMap done.text.items) }
 {
     let image = Watched::open(rt, image)?;
-    let found = found_beside(rt, &image, svg, atomic)?;
-    drawn_to(rt, image, cut, found)
+    let target = drawing_target(rt, &image, svg, atomic)?;
+    draw_to(rt, image, cut, target)
 }
 
-/// Draws the picture of the image in a file into the file that was found for it, and prints the figures.
-fn drawn_to<'a, R: Files + AllocGlobal + Threads + Sync>(
+/// Draws the picture of the image in a file to this file, and prints the figures.
+fn draw_to<'a, R: Files + AllocGlobal + Threads + Sync>(
     rt: &R,
     image: Watched<'a, R::File>,
     cut: Cut,
-    found: FileTarget<'a, R::File>,
+    target: FileTarget<'a, R::File>,
 ) -> Result<WorkDone<'a>, Trouble<'a>>
 where
     R::File: SystemFile,
     ensures { IfOk result (λ done. IsMap done.text.items) }
 {
     let mut image = FromRead::new(image);
-    let mut drawing = ToWrite::new(Late::new(rt, found));
-    let line = draw_into(rt.alloc(), &mut image, &mut drawing, cut, rt);
-    let late = drawing.into_inner();
-    match line {
-        Ok(line) => ended(rt, line, late.into_output()?),
+    let mut output = ToWrite::new(Late::new(rt, target));
+    let drawing = draw_into(rt.alloc(), &mut image, &mut output, cut, rt);
+    let late = output.into_inner();
+    match drawing {
+        Ok(MapDrawing { line, .. }) => ended(rt, line, late.into_output()?),
         Err(fault) => {
             let trouble = Trouble::from(fault).if_image(&image.into_inner());
             Err(late.failed(trouble))
@@ -122,20 +122,20 @@ where
     }
 }
 
-/// The file for a drawing, as it was found. It is never the file of the image.
-fn found_beside<'a, H: Files + AllocGlobal>(
+/// The file for a drawing. It must not be the file of the image.
+pub(crate) fn drawing_target<'a, H: Files + AllocGlobal>(
     host: &H,
     image: &Watched<'a, H::File>,
-    svg: FileWord<'a>,
+    file: FileWord<'a>,
     atomic: bool,
 ) -> Result<FileTarget<'a, H::File>, Trouble<'a>> {
-    must_differ(host.alloc(), image.word(), svg)?;
+    must_differ(host.alloc(), image.word(), file)?;
     let (id, writing) = (image.id()?, image.writing(atomic)?);
-    let found = FileTarget::find(host, svg, writing)?;
-    apart_from(host, found, image.word(), id)
+    let target = FileTarget::find(host, file, writing)?;
+    reject_same_file(host, target, image.word(), id)
 }
 
-/// The picture of the image that the input is, as text.
+/// Reads an image and returns its picture as text.
 pub fn map<R: Intake, T: Threads + Sync>(
     alloc: Global,
     input: &mut R,
@@ -151,7 +151,7 @@ pub fn map<R: Intake, T: Threads + Sync>(
     text_of_image(alloc, &image, cut, style, threads)
 }
 
-/// The picture of an image, as text. The only fault is want of memory.
+/// Makes the picture of an image, as text. The only fault is that memory runs out.
 fn text_of_image(
     alloc: Global,
     image: &Image,
@@ -166,52 +166,57 @@ fn text_of_image(
     Ok(picture.text(alloc, style)?)
 }
 
-/// Draws the picture of the image that the input is. What it answers is for standard output: the figures.
+/// Reads an image and draws its picture to a device. Returns the drawing, whose bytes were written, with the line of
+/// its figures.
 ///
-/// Nothing is written before the drawing is made, and nothing takes memory once a byte is.
+/// Nothing is written before the drawing is made, and nothing is allocated once a byte is written.
 pub fn draw_into<R: Intake, O: Outlet, T: Threads + Sync>(
     alloc: Global,
     input: &mut R,
     output: &mut O,
     cut: Cut,
     threads: &T,
-) -> Result<String, Fault>
-    ensures drawing { IfOk result (λ line. IsDrawing (R.left input.old) (R.left input.new) (string_bytes line)) }
+) -> Result<MapDrawing, Fault>
+    ensures drawing { IfOk result (λ drawing. IsDrawing (R.left input.old) (R.left input.new) (string_bytes drawing.line)) }
+    ensures svg { IfOk result (λ drawing. Appends (O.took output.old) (O.took output.new) (string_bytes drawing.svg)) }
     // Only the device stops it once it writes.
     ensures nothing_yet { IfErr result (λ fault. fault ≢ Fault.Io → output.new ≡ output.old) }
     ensures written { OnErr result ((output.new ≡ output.old) ⊎ IsTrue (O.has_failed output.new)) }
+    ensures fault { IfErr result (λ fault. IfSome (R.left input.old) (λ bytes. IsReason bytes fault)) }
 {
     let image = read_image_by_threads(alloc, input, threads)?;
-    let Drawing { line, svg } = drawing_of(alloc, &image, cut, threads)?;
-    give_all(output, svg.as_bytes())?;
-    Ok(line)
+    let drawing = drawing_of(alloc, &image, cut, threads)?;
+    give_all(output, drawing.svg.as_bytes())?;
+    Ok(drawing)
 }
 
 /// A drawing, and the line with its figures.
 #[derive(Drop)]
-struct Drawing {
-    line: String,
-    svg: String,
+pub struct MapDrawing {
+    /// The figures, for standard output.
+    pub line: String,
+    /// The drawing.
+    pub svg: String,
 }
 
-/// The drawing of an image. The only fault is want of memory.
+/// Draws an image. The only fault is that memory runs out.
 fn drawing_of(
     alloc: Global,
     image: &Image,
     cut: Cut,
     threads: &(impl Threads + Sync),
-) -> Result<Drawing, Fault>
+) -> Result<MapDrawing, Fault>
     ensures line { IfOk result (λ drawing. IsMapLine image.now (string_bytes drawing.line)) }
     ensures fault { IfErr result (λ fault. fault ≡ Fault.Memory) }
 {
     let picture = picture_of_image(alloc, image, cut, threads)?;
-    Ok(Drawing {
+    Ok(MapDrawing {
         line: text_of_figures(alloc, picture.figures)?,
         svg: picture.svg(alloc)?,
     })
 }
 
-/// The picture of an image, cut so. The only fault is want of memory.
+/// Surveys an image and makes its picture. The only fault is that memory runs out.
 fn picture_of_image(
     alloc: Global,
     image: &Image,
@@ -227,7 +232,7 @@ fn picture_of_image(
     Ok(picture_of(alloc, image, &survey, cut)?)
 }
 
-/// The picture of an image that was surveyed, cut so.
+/// Makes the picture of an image that was surveyed.
 fn picture_of(
     alloc: Global,
     image: &Image,
@@ -248,7 +253,7 @@ fn picture_of(
 }
 
 /// The line with the figures of a heap.
-fn text_of_figures(alloc: Global, figures: Figures) -> Result<String, AllocError>
+fn text_of_figures(alloc: Global, figures: MapFigures) -> Result<String, AllocError>
     ensures { IfOk result (λ text. string_bytes text ≡ figures_text figures ++ codes "\n") }
 {
     let mut line = String::new(alloc);

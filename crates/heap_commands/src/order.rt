@@ -1,4 +1,3 @@
-//! The command `order`.
 ghost use Rattle.std.specs.Prelude.{◌≡◌, ◌++◌, codes, ℕ, List, IfOk, IfErr, IfSome, string_bytes};
 ghost use Rattle.heap_image.specs.Refusals.{IsReason};
 ghost use Rattle.summary.specs.NewAddresses.{new_top};
@@ -15,14 +14,14 @@ use std::thread::Threads;
 use summary::Survey;
 use work_order::WorkOrder;
 
-/// What `order` prints of the image in a file.
+/// Returns what `order` prints of the image in a file.
 pub fn answer<'a, R: Files + AllocGlobal + Threads + Sync>(
     rt: &R,
-    asked: Order<'a>,
+    request: Order<'a>,
 ) -> Result<WorkDone<'a>, Trouble<'a>>
     ensures { IfOk result (λ done. IsOrder done.text.items) }
 {
-    let image = Watched::open(rt, FileWord::new(Role::Image, asked.image))?;
+    let image = Watched::open(rt, FileWord::new(Role::Image, request.image))?;
     let mut image = FromRead::new(image);
     match order(rt.alloc(), &mut image, rt) {
         Ok(text) => Ok(WorkDone::printing(text.into_bytes())),
@@ -30,7 +29,7 @@ pub fn answer<'a, R: Files + AllocGlobal + Threads + Sync>(
     }
 }
 
-/// What parallelism the order of work allows in the collection of the image that the input is.
+/// Reads an image, and returns the line that says how much parallelism the order of work in its collection allows.
 pub fn order<R: Intake, T: Threads + Sync>(
     alloc: Global,
     input: &mut R,
@@ -44,7 +43,7 @@ pub fn order<R: Intake, T: Threads + Sync>(
     text_of_image(alloc, &image, threads)
 }
 
-/// The line of the order of work of an image. The only fault is want of memory.
+/// The line for the order of work of an image. The only fault is that memory runs out.
 fn text_of_image(
     alloc: Global,
     image: &Image,
@@ -57,7 +56,7 @@ fn text_of_image(
     Ok(text_of(alloc, order)?)
 }
 
-/// The order of work of an image. The only fault is want of memory.
+/// The order of work of an image. The only fault is that memory runs out.
 fn order_of(
     alloc: Global,
     image: &Image,
@@ -71,7 +70,7 @@ fn order_of(
     Ok(WorkOrder::of(alloc, survey.plan())?)
 }
 
-/// The line of an order of work.
+/// The line for an order of work.
 fn text_of(alloc: Global, order: WorkOrder) -> Result<String, AllocError>
     ensures { IfOk result (λ text. string_bytes text
         ≡ order_text order.words order.chain ++ codes "\n") }

@@ -1,32 +1,33 @@
-//! The command `replay`.
-ghost use Rattle.std.specs.Prelude.{◌≡◌, ◌++◌, ℕ, List, IfOk, IfSome, codes};
+ghost use Rattle.std.specs.Prelude.{◌≡◌, ◌++◌, ℕ, List, IfOk, IfErr, IfSome, codes};
+ghost use Rattle.heap_image.specs.declared.fault.Fault.TheVariants.{Memory};
 ghost use Rattle.history.specs.ScheduleText.{schedule_text};
-ghost use Rattle.heap_commands.specs.Replay.{IsReplayShown, IsReplayText, IsReplayOf, end_line};
+ghost use Rattle.history.specs.Replayed.{IsReplayed};
+ghost use Rattle.heap_commands.specs.Replay.{IsReplayText, IsReplayOf, end_line};
+ghost use Rattle.heap_commands.specs.Unreplayed.{IsReplayRefused, IsScheduleUnread, IsUnreplayed};
 
 use command_line::Replay;
 use command_support::{FileWord, LineReason, Role, Trouble, WorkDone, two_different_inputs};
 use heap_image::{Fault, FromRead, Image, Intake, read_image_by_threads};
-use history::{End, Replayed, Schedule, explain, read_schedule, replay, write_schedule};
+use history::{End, Replayed, Schedule, explain, read_schedule_from, replay, write_schedule};
 use std::alloc::{AllocError, Global};
-use std::io::{ErrorKind, Read};
 use std::rt::Files;
 use std::thread::Threads;
 use summary::{Plan, Survey};
 
-/// Replays the schedule in a file on the image in another, and answers what `replay` prints.
+/// Replays the schedule of one file on the image of another, and returns what `replay` prints.
 pub fn answer<'a, R: Files + AllocGlobal + Threads + Sync>(
     rt: &R,
-    asked: Replay<'a>,
+    request: Replay<'a>,
 ) -> Result<WorkDone<'a>, Trouble<'a>>
     ensures { IfOk result (λ done. IsReplayText done.text.items) }
 {
-    let image = FileWord::new(Role::Image, asked.image);
-    let schedule = FileWord::new(Role::Schedule, asked.schedule);
+    let image = FileWord::new(Role::Image, request.image);
+    let schedule = FileWord::new(Role::Schedule, request.schedule);
     let (mut image, mut schedule) = two_different_inputs(rt, image, schedule)?;
     match replay_text(
         rt.alloc(),
         &mut FromRead::new(&mut image),
-        &mut schedule,
+        &mut FromRead::new(&mut schedule),
         rt,
     ) {
         Ok(text) => Ok(WorkDone::printing(text)),
@@ -38,55 +39,63 @@ pub fn answer<'a, R: Files + AllocGlobal + Threads + Sync>(
     }
 }
 
-/// A fault of a replay.
+/// Why a schedule isn't replayed.
 #[derive(Debug, Clone, Copy, PartialEq, Eq)]
 pub struct Unreplayed {
     pub fault: Fault,
-    /// Of fault 14, why the line isn't taken, where there was memory to find it out.
+    /// Of fault 14, why the line is refused. None if memory ran out before the reason was known.
     pub line: Option<LineReason>,
 }
 
 impl From<Fault> for Unreplayed {
+    ghost from_gives = { λ fault unreplayed. unreplayed.fault ≡ fault };
+
     fn from(fault: Fault) -> Unreplayed {
         Unreplayed { fault, line: None }
     }
 }
 
 impl From<AllocError> for Unreplayed {
+    ghost from_gives = { λ _ unreplayed. unreplayed.fault ≡ Memory };
+
     fn from(_refused: AllocError) -> Unreplayed {
         Unreplayed::from(Fault::Memory)
     }
 }
 
-/// Replays a schedule on a copy of the image, and answers its lines, each with its reply, and
-/// whether the collection was finished.
-pub fn replay_text<R: Intake, S: Read, T: Threads + Sync>(
+/// Replays a schedule on a copy of the image that is read from `input`. Returns the lines of the schedule, each with
+/// its reply, and whether the collection is finished.
+pub fn replay_text<R: Intake, S: Intake, T: Threads + Sync>(
     alloc: Global,
     input: &mut R,
-    schedule: &mut S,
+    source: &mut S,
     threads: &T,
 ) -> Result<Vec<u8>, Unreplayed>
-    ensures { IfOk result (λ shown. IsReplayOf (R.left input.old) (R.left input.new)
-        (S.remaining schedule.old) shown.items) }
+    ensures replay { IfOk result (λ shown. IsReplayOf (R.left input.old) (R.left input.new)
+        (S.left source.old) shown.items) }
+    ensures fault { IfErr result (λ unreplayed. IsUnreplayed (R.left input.old) (R.left input.new)
+        (S.left source.old) unreplayed.fault) }
 {
     let image = read_image_by_threads(alloc, input, threads)?;
-    let asked = schedule_in(alloc, schedule)?;
-    text_on(alloc, &image, &asked, threads)
+    let schedule = schedule_in(alloc, source)?;
+    let replayed = replay_on(alloc, &image, schedule, threads)?;
+    Ok(text_of(alloc, &replayed)?)
 }
 
-/// The replay of a schedule on an image, as text.
-fn text_on(
+/// Replays a schedule on an image. The schedule is dropped once its replay, which has its own copy, is made.
+fn replay_on(
     alloc: Global,
     image: &Image,
-    asked: &Schedule,
+    schedule: Schedule,
     threads: &(impl Threads + Sync),
-) -> Result<Vec<u8>, Unreplayed>
-    ensures { IfOk result (λ shown. IsReplayShown image.now asked.now shown.items) }
+) -> Result<Replayed, Unreplayed>
+    ensures replay { IfOk result (IsReplayed image.now schedule) }
+    ensures fault { IfErr result (λ unreplayed. IsReplayRefused image.now schedule unreplayed.fault) }
 {
     let survey = Survey::of(alloc, image, threads)?;
-    match replay(alloc, image, &survey, asked) {
-        Ok(replayed) => Ok(text_of(alloc, &replayed)?),
-        Err(fault) => Err(refused(alloc, survey.plan(), asked, fault)),
+    match replay(alloc, image, &survey, &schedule) {
+        Ok(replayed) => Ok(replayed),
+        Err(fault) => Err(refused(alloc, survey.plan(), &schedule, fault)),
     }
 }
 
@@ -100,22 +109,21 @@ fn text_of(alloc: Global, replayed: &Replayed) -> Result<Vec<u8>, AllocError>
     Ok(text)
 }
 
-/// The schedule that a file has the text of.
-pub fn schedule_in<S: Read>(alloc: Global, file: &mut S) -> Result<Schedule, Unreplayed>
-    ensures { IfOk result (λ schedule. IfSome (S.remaining file.old) (λ bytes. bytes ≡ schedule_text schedule)) }
+/// Reads a schedule to the end of the device, line by line.
+pub fn schedule_in<S: Intake>(alloc: Global, source: &mut S) -> Result<Schedule, Unreplayed>
+    ensures text { IfOk result (λ schedule. IfSome (S.left source.old) (λ bytes. bytes ≡ schedule_text schedule)) }
+    ensures fault { IfErr result (λ unreplayed. IsScheduleUnread (S.left source.old) unreplayed.fault) }
 {
-    let mut text = Vec::new(alloc);
-    match file.read_to_end(&mut text) {
-        Ok(_) => read_schedule(alloc, text.as_slice()).map_err(malformed),
-        Err(error) if error.kind() == ErrorKind::OutOfMemory => Err(Unreplayed::from(
-            Fault::Memory,
-        )),
-        Err(_) => Err(Unreplayed::from(Fault::Io)),
+    match read_schedule_from(alloc, source) {
+        Ok(schedule) => Ok(schedule),
+        Err(fault) => Err(malformed(fault)),
     }
 }
 
-/// A fault of the text of a schedule.
-fn malformed(fault: Fault) -> Unreplayed {
+/// A fault of reading a schedule. Fault 14 has its reason: the line is malformed.
+fn malformed(fault: Fault) -> Unreplayed
+    ensures { result.fault ≡ fault }
+{
     let line = match fault {
         Fault::Schedule(_) => Some(LineReason::Malformed),
         _ => None,
@@ -123,9 +131,11 @@ fn malformed(fault: Fault) -> Unreplayed {
     Unreplayed { fault, line }
 }
 
-/// A fault of the replay of a schedule.
-pub fn refused(alloc: Global, plan: &Plan, asked: &Schedule, fault: Fault) -> Unreplayed {
-    let line = match explain(alloc, plan, asked) {
+/// A fault of replaying a schedule. Fault 14 has its reason where memory is left to find it.
+pub fn refused(alloc: Global, plan: &Plan, schedule: &Schedule, fault: Fault) -> Unreplayed
+    ensures { result.fault ≡ fault }
+{
+    let line = match explain(alloc, plan, schedule) {
         Ok(Some(refused)) if fault == Fault::Schedule(refused.number) => {
             Some(LineReason::Refused(refused.cause))
         }

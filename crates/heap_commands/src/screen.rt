@@ -1,22 +1,21 @@
-//! `Screen`.
 ghost use Rattle.std.specs.Prelude.{◌≡◌};
 
 use std::env::{Env, FillError};
 
-/// Room for the name of a locale. A longer one is none that is known.
+/// Room for the name of a locale. A longer name counts as unknown.
 const NAME_ROOM: usize = 128;
 
-/// What standard output shows.
+/// What standard output can show.
 #[derive(Debug, Clone, Copy, PartialEq, Eq)]
 pub struct Screen {
-    /// It is a terminal.
+    /// Whether it is a terminal.
     pub is_terminal: bool,
-    /// Its characters are those of Unicode, as far as the locale says.
+    /// Whether the locale is a UTF-8 one.
     pub is_utf8: bool,
 }
 
 impl Screen {
-    /// What is known of it: whether it is a terminal, and what the environment says of the locale.
+    /// The screen of a standard output that is a terminal or not, with the locale of this environment.
     pub fn of<E: Env>(env: &E, is_terminal: bool) -> Screen {
         Screen {
             is_terminal,
@@ -25,7 +24,7 @@ impl Screen {
     }
 }
 
-/// Whether the locale's characters are in UTF-8: the first of these names that is set tells it.
+/// Whether the locale is a UTF-8 one. The first of these variables that is set decides.
 fn is_utf8<E: Env>(env: &E) -> bool {
     for name in ["LC_ALL", "LC_CTYPE", "LANG"] {
         let mut value = [0; NAME_ROOM];
@@ -38,7 +37,7 @@ fn is_utf8<E: Env>(env: &E) -> bool {
     false
 }
 
-/// Whether the name of a locale says that its characters are in UTF-8.
+/// Whether the name of a locale contains `utf-8` or `utf8`, in any case.
 fn names_utf8(locale: &[u8]) -> bool {
     locale
         .windows(5)

@@ -1,4 +1,4 @@
-//! The command `summary`. (A module of that name would hide the crate `summary`.)
+//! The command `summary`. A module of that name would hide the crate `summary`.
 ghost use Rattle.std.specs.Prelude.{◌≡◌, codes, ℕ, List, IfOk, IfErr, IfSome, string_bytes};
 ghost use Rattle.heap_image.specs.Refusals.{IsReason};
 ghost use Rattle.heap_commands.specs.Summarize.{IsSummary, IsSummaryOf, summary_of};
@@ -11,14 +11,14 @@ use std::rt::Files;
 use std::thread::Threads;
 use summary::{Plan, Survey};
 
-/// What `summary` prints of the image in a file.
+/// Returns what `summary` prints of the image in a file.
 pub fn answer<'a, R: Files + AllocGlobal + Threads + Sync>(
     rt: &R,
-    asked: Summary<'a>,
+    request: Summary<'a>,
 ) -> Result<WorkDone<'a>, Trouble<'a>>
     ensures { IfOk result (λ done. IsSummary done.text.items) }
 {
-    let image = Watched::open(rt, FileWord::new(Role::Image, asked.image))?;
+    let image = Watched::open(rt, FileWord::new(Role::Image, request.image))?;
     let mut image = FromRead::new(image);
     match summarize(rt.alloc(), &mut image, rt) {
         Ok(text) => Ok(WorkDone::printing(text.into_bytes())),
@@ -26,7 +26,7 @@ pub fn answer<'a, R: Files + AllocGlobal + Threads + Sync>(
     }
 }
 
-/// What the plan says of the image that the input is.
+/// Reads an image, and returns the summary of its regions.
 pub fn summarize<R: Intake, T: Threads + Sync>(
     alloc: Global,
     input: &mut R,
@@ -40,7 +40,7 @@ pub fn summarize<R: Intake, T: Threads + Sync>(
     summary_text(alloc, &image, threads)
 }
 
-/// What the plan of an image says. The only fault is want of memory.
+/// The summary of an image. The only fault is that memory runs out.
 fn summary_text(
     alloc: Global,
     image: &Image,
@@ -53,7 +53,7 @@ fn summary_text(
     Ok(text_of(alloc, survey.plan())?)
 }
 
-/// The ends of the dense prefix and of the compacted heap, and then a line for each region.
+/// The ends of the dense prefix and of the compacted heap, then a line for each region.
 fn text_of(alloc: Global, plan: &Plan) -> Result<String, AllocError>
     ensures { IfOk result (λ text. string_bytes text ≡ summary_of plan.now) }
 {

@@ -1,4 +1,3 @@
-//! The command `text`.
 ghost use Rattle.std.specs.Prelude.{◌≡◌, codes, ℕ, List, IfOk, IfErr, IfSome};
 ghost use Rattle.heap_image.specs.Refusals.{IsReason};
 ghost use Rattle.heap_commands.specs.Text.{AreLines, AreLinesOf};
@@ -11,14 +10,14 @@ use std::alloc::Global;
 use std::rt::Files;
 use std::thread::Threads;
 
-/// What `text` prints of the image in a file.
+/// Returns what `text` prints of the image in a file.
 pub fn answer<'a, R: Files + AllocGlobal + Threads + Sync>(
     rt: &R,
-    asked: Text<'a>,
+    request: Text<'a>,
 ) -> Result<WorkDone<'a>, Trouble<'a>>
     ensures { IfOk result (λ done. AreLines done.text.items) }
 {
-    let image = Watched::open(rt, FileWord::new(Role::Image, asked.image))?;
+    let image = Watched::open(rt, FileWord::new(Role::Image, request.image))?;
     let mut image = FromRead::new(image);
     match lines_of(rt.alloc(), &mut image, rt) {
         Ok(lines) => Ok(WorkDone::printing(lines)),
@@ -26,7 +25,7 @@ pub fn answer<'a, R: Files + AllocGlobal + Threads + Sync>(
     }
 }
 
-/// The lines of the image that the input is.
+/// Reads an image and returns its text.
 pub fn lines_of<R: Intake, T: Threads + Sync>(
     alloc: Global,
     input: &mut R,

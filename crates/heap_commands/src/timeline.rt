@@ -1,17 +1,19 @@
-//! The command `timeline`.
 ghost use Rattle.std.specs.Prelude.{◌≡◌, ◌≢◌, ◌⊎◌, codes, ℕ, List, IfOk, IfErr, OnErr, IsTrue, string_bytes};
+ghost use Rattle.std.specs.Io.KnownBytes.{Appends};
 ghost use Rattle.heap_image.specs.declared.fault.Fault.{Fault};
-ghost use Rattle.schedule_timeline.specs.Figures.{BeginsWithFigures, IsFiguresLine};
+ghost use Rattle.history.specs.ScheduleText.{schedule_text};
+ghost use Rattle.schedule_timeline.specs.Page.{Has};
 ghost use Rattle.schedule_timeline.specs.Timeline.{IsTimelineOf};
-ghost use Rattle.heap_commands.specs.Timeline.{HasFigures, HasLanes, IsFollowed, IsTimeline};
+ghost use Rattle.heap_commands.specs.Timeline.{HasLanes, HasPicture, IsFollowed, IsPictureOf, IsTimeline};
+ghost use Rattle.heap_commands.specs.Unreplayed.{IsReplayRefused, IsUnreplayed};
 
-use crate::map::style_on;
+use crate::map::{drawing_target, style_on};
 use crate::replay::{Unreplayed, refused, schedule_in};
 use crate::screen::Screen;
 use command_line::Timeline;
 use command_support::{
-    Failure, FileTarget, FileWord, Late, Role, SystemFile, Trouble, Watched, WorkDone, apart_from,
-    ended, must_differ, two_different_inputs,
+    Failure, FileTarget, FileWord, Late, Role, SystemFile, Trouble, Watched, WorkDone, ended,
+    must_differ, reject_same_file, two_different_inputs,
 };
 use heap_image::{
     Fault, FromRead, Image, Intake, Outlet, ToWrite, give_all, read_image_by_threads,
@@ -19,38 +21,37 @@ use heap_image::{
 use heap_map::Style;
 use history::Schedule;
 use std::alloc::{AllocError, Global};
-use std::io::Read;
 use std::rt::Files;
 use std::thread::Threads;
 use summary::Survey;
 
-/// What `timeline` prints of the image and the schedule in two files. Where a third is given, a drawing or a page goes
-/// there.
+/// Follows the schedule of one file on the image of another, and returns what `timeline` prints. A drawing or a page
+/// goes to a third file where the request names one.
 pub fn answer<'a, R: Files + AllocGlobal + Threads + Sync>(
     rt: &R,
     screen: Screen,
-    asked: Timeline<'a>,
+    request: Timeline<'a>,
 ) -> Result<WorkDone<'a>, Trouble<'a>>
 where
     R::File: SystemFile,
     ensures { IfOk result (λ done. IsTimeline done.text.items) }
 {
     let inputs = Inputs {
-        image: FileWord::new(Role::Image, asked.image),
-        schedule: FileWord::new(Role::Schedule, asked.schedule),
+        image: FileWord::new(Role::Image, request.image),
+        schedule: FileWord::new(Role::Schedule, request.schedule),
     };
     let lanes = Lanes {
-        style: style_on(screen, asked.look),
-        width: asked.width,
+        style: style_on(screen, request.look),
+        width: request.width,
     };
-    let (form, file) = match (asked.svg, asked.html) {
+    let (form, file) = match (request.svg, request.html) {
         (Some(_), Some(_)) => return Err(two_pictures(rt.alloc())?),
-        (None, None) => return printed(rt, inputs, lanes),
+        (None, None) => return print_lanes(rt, inputs, lanes),
         (Some(svg), None) => (Form::Drawing, svg),
         (None, Some(html)) => (Form::Page, html),
     };
     let file = FileWord::new(Role::Drawing, file);
-    written(rt, inputs, form, file, asked.atomic)
+    write_picture(rt, inputs, form, file, request.atomic)
 }
 
 /// The two files to read.
@@ -70,13 +71,13 @@ struct Opened<'a, F: Drop> {
 /// How lanes are printed.
 #[derive(Clone, Copy)]
 pub struct Lanes {
-    /// Their characters.
+    /// The characters of the lanes, and whether they are coloured.
     pub style: Style,
-    /// How many cells a lane has at most.
+    /// The largest number of cells of a lane.
     pub width: u32,
 }
 
-/// What a file is written as.
+/// The form of a picture.
 #[derive(Debug, Clone, Copy, PartialEq, Eq)]
 pub enum Form {
     /// SVG.
@@ -85,14 +86,14 @@ pub enum Form {
     Page,
 }
 
-/// The failure of words that ask for a drawing and a page in one call.
+/// The failure of a request for both a drawing and a page.
 fn two_pictures<'a>(alloc: Global) -> Result<Trouble<'a>, AllocError> {
-    let text = "pcompact: --svg and --html are not taken together\n";
+    let text = "pcompact: --svg and --html cannot be used together\n";
     Ok(Trouble::new(Failure::usage(alloc, text)?))
 }
 
 /// Prints the lanes of the schedule in a file.
-fn printed<'a, R: Files + AllocGlobal + Threads + Sync>(
+fn print_lanes<'a, R: Files + AllocGlobal + Threads + Sync>(
     rt: &R,
     inputs: Inputs<'a>,
     lanes: Lanes,
@@ -103,14 +104,19 @@ fn printed<'a, R: Files + AllocGlobal + Threads + Sync>(
         mut image,
         mut schedule,
     } = open(rt, inputs)?;
-    match lanes_text(rt, &mut FromRead::new(&mut image), &mut schedule, lanes) {
+    match lanes_text(
+        rt,
+        &mut FromRead::new(&mut image),
+        &mut FromRead::new(&mut schedule),
+        lanes,
+    ) {
         Ok(text) => Ok(WorkDone::printing(text.into_bytes())),
         Err(unreplayed) => Err(trouble_of(unreplayed, &image, &schedule)),
     }
 }
 
-/// Writes a drawing or a page of the schedule in a file into another file, and prints the figures.
-fn written<'a, R: Files + AllocGlobal + Threads + Sync>(
+/// Writes a drawing or a page of the schedule in a file to another file, and prints the figures.
+fn write_picture<'a, R: Files + AllocGlobal + Threads + Sync>(
     rt: &R,
     inputs: Inputs<'a>,
     form: Form,
@@ -122,16 +128,16 @@ where
     ensures { IfOk result (λ done. IsTimeline done.text.items) }
 {
     let opened = open(rt, inputs)?;
-    let found = found_beside(rt, &opened, file, atomic)?;
-    written_to(rt, opened, form, found)
+    let target = picture_target(rt, &opened, file, atomic)?;
+    write_picture_to(rt, opened, form, target)
 }
 
-/// Writes a drawing or a page of the schedule in a file into the file that was found for it, and prints the figures.
-fn written_to<'a, R: Files + AllocGlobal + Threads + Sync>(
+/// Writes a drawing or a page of the schedule in a file to this file, and prints the figures.
+fn write_picture_to<'a, R: Files + AllocGlobal + Threads + Sync>(
     rt: &R,
     opened: Opened<'a, R::File>,
     form: Form,
-    found: FileTarget<'a, R::File>,
+    target: FileTarget<'a, R::File>,
 ) -> Result<WorkDone<'a>, Trouble<'a>>
 where
     R::File: SystemFile,
@@ -141,17 +147,17 @@ where
         mut image,
         mut schedule,
     } = opened;
-    let mut output = ToWrite::new(Late::new(rt, found));
-    let line = write_into(
+    let mut output = ToWrite::new(Late::new(rt, target));
+    let written = write_into(
         rt,
         &mut FromRead::new(&mut image),
-        &mut schedule,
+        &mut FromRead::new(&mut schedule),
         &mut output,
         form,
     );
     let late = output.into_inner();
-    match line {
-        Ok(line) => ended(rt, line, late.into_output()?),
+    match written {
+        Ok(TimelinePicture { line, .. }) => ended(rt, line, late.into_output()?),
         Err(unreplayed) => Err(late.failed(trouble_of(unreplayed, &image, &schedule))),
     }
 }
@@ -165,32 +171,21 @@ fn open<'a, H: Files + AllocGlobal>(
     Ok(Opened { image, schedule })
 }
 
-/// The file to write, as it was found. It is never one of those that are read.
-fn found_beside<'a, H: Files + AllocGlobal>(
+/// The file for a picture, which must be neither of the files that are read.
+fn picture_target<'a, H: Files + AllocGlobal>(
     host: &H,
     opened: &Opened<'a, H::File>,
     file: FileWord<'a>,
     atomic: bool,
 ) -> Result<FileTarget<'a, H::File>, Trouble<'a>> {
-    must_be_another(host.alloc(), opened, file)?;
     let Opened { image, schedule } = opened;
-    let (image_id, schedule_id) = (image.id()?, schedule.id()?);
-    let found = FileTarget::find(host, file, image.writing(atomic)?)?;
-    let found = apart_from(host, found, image.word(), image_id)?;
-    apart_from(host, found, schedule.word(), schedule_id)
+    must_differ(host.alloc(), schedule.word(), file)?;
+    let id = schedule.id()?;
+    let target = drawing_target(host, image, file, atomic)?;
+    reject_same_file(host, target, schedule.word(), id)
 }
 
-/// The file to write must have another name than those that are read.
-fn must_be_another<'a, F: Drop>(
-    alloc: Global,
-    opened: &Opened<'a, F>,
-    file: FileWord<'a>,
-) -> Result<(), Trouble<'a>> {
-    must_differ(alloc, opened.image.word(), file)?;
-    must_differ(alloc, opened.schedule.word(), file)
-}
-
-/// Why the command fails that met this fault.
+/// Says which file a fault is about, and which line of the schedule.
 fn trouble_of<'a, F: Drop>(
     unreplayed: Unreplayed,
     image: &Watched<'a, F>,
@@ -200,80 +195,89 @@ fn trouble_of<'a, F: Drop>(
     Trouble::from(fault).if_image(image).if_line(schedule, line)
 }
 
-/// The lanes of the schedule that one input is, on the image that the other is, as text.
-pub fn lanes_text<R: Intake, S: Read, T: AllocGlobal + Threads + Sync>(
+/// Reads an image from `input` and a schedule from `source`, and returns the lanes of the schedule as text.
+pub fn lanes_text<R: Intake, S: Intake, T: AllocGlobal + Threads + Sync>(
     rt: &T,
     input: &mut R,
-    schedule: &mut S,
+    source: &mut S,
     lanes: Lanes,
 ) -> Result<String, Unreplayed>
-    ensures { IfOk result (λ text. HasLanes (R.left input.old) (R.left input.new)
-        (S.remaining schedule.old) (string_bytes text)) }
+    ensures lanes { IfOk result (λ text. HasLanes (R.left input.old) (R.left input.new)
+        (S.left source.old) (string_bytes text)) }
+    ensures fault { IfErr result (λ unreplayed. IsUnreplayed (R.left input.old) (R.left input.new)
+        (S.left source.old) unreplayed.fault) }
 {
-    let followed = follow(rt, input, schedule)?;
+    let followed = follow(rt, input, source)?;
     let Lanes { style, width } = lanes;
     Ok(followed.timeline.text(rt.alloc(), style, width)?)
 }
 
-/// Writes a drawing or a page of the schedule that one input is, on the image that the other is. What it answers is for
-/// standard output: the figures.
+/// Reads an image from `input` and a schedule from `source`, and writes a drawing or a page of the schedule. Returns
+/// the picture, whose bytes were written, with the line of its figures.
 ///
-/// Nothing is written before all of it is made, and nothing takes memory once a byte is.
-pub fn write_into<R: Intake, S: Read, O: Outlet, T: AllocGlobal + Threads + Sync>(
+/// Nothing is written before the whole picture is made, and nothing is allocated once a byte is written.
+pub fn write_into<R: Intake, S: Intake, O: Outlet, T: AllocGlobal + Threads + Sync>(
     rt: &T,
     input: &mut R,
-    schedule: &mut S,
+    source: &mut S,
     output: &mut O,
     form: Form,
-) -> Result<String, Unreplayed>
-    ensures line { IfOk result (λ line. HasFigures (R.left input.old) (R.left input.new)
-        (S.remaining schedule.old) (string_bytes line)) }
+) -> Result<TimelinePicture, Unreplayed>
+    ensures picture { IfOk result (λ picture. HasPicture form (R.left input.old) (R.left input.new)
+        (S.left source.old) (string_bytes picture.line) picture.bytes.items) }
+    ensures bytes { IfOk result (λ picture. Appends (O.took output.old) (O.took output.new) picture.bytes.items) }
     // Only the device stops it once it writes.
     ensures nothing_yet { IfErr result (λ unreplayed. unreplayed.fault ≢ Fault.Io → output.new ≡ output.old) }
     ensures written { OnErr result ((output.new ≡ output.old) ⊎ IsTrue (O.has_failed output.new)) }
+    ensures fault { IfErr result (λ unreplayed. IsUnreplayed (R.left input.old) (R.left input.new)
+        (S.left source.old) unreplayed.fault
+        ⊎ ((unreplayed.fault ≡ Fault.Io) × IsTrue (O.has_failed output.new))) }
 {
-    let Picture { line, bytes } = make_picture(rt, input, schedule, form)?;
-    match give_all(output, &bytes) {
-        Ok(()) => Ok(line),
-        Err(failed) => Err(Unreplayed {
-            fault: Fault::from(failed),
-            line: None,
-        }),
+    let picture = make_picture(rt, input, source, form)?;
+    match give_all(output, &picture.bytes) {
+        Ok(()) => Ok(picture),
+        Err(failed) => Err(Unreplayed::from(Fault::from(failed))),
     }
 }
 
 /// A drawing or a page, and the line with its figures.
 #[derive(Drop)]
-struct Picture {
-    line: String,
-    bytes: Vec<u8>,
+pub struct TimelinePicture {
+    /// The figures, for standard output.
+    pub line: String,
+    /// The drawing or the page.
+    pub bytes: Vec<u8>,
 }
 
-/// The picture of the schedule that one input is, on the image that the other is.
-fn make_picture<R: Intake, S: Read, T: AllocGlobal + Threads + Sync>(
+/// Reads an image and a schedule, and makes the picture of the schedule.
+fn make_picture<R: Intake, S: Intake, T: AllocGlobal + Threads + Sync>(
     rt: &T,
     input: &mut R,
-    schedule: &mut S,
+    source: &mut S,
     form: Form,
-) -> Result<Picture, Unreplayed>
-    ensures { IfOk result (λ picture. HasFigures (R.left input.old) (R.left input.new)
-        (S.remaining schedule.old) (string_bytes picture.line)) }
+) -> Result<TimelinePicture, Unreplayed>
+    ensures picture { IfOk result (λ picture. HasPicture form (R.left input.old) (R.left input.new)
+        (S.left source.old) (string_bytes picture.line) picture.bytes.items) }
+    ensures fault { IfErr result (λ unreplayed. IsUnreplayed (R.left input.old) (R.left input.new)
+        (S.left source.old) unreplayed.fault) }
 {
-    let followed = follow(rt, input, schedule)?;
+    let followed = follow(rt, input, source)?;
     Ok(picture_of(rt.alloc(), &followed, form)?)
 }
 
-/// The picture of a schedule on its image.
-fn picture_of(alloc: Global, followed: &Followed, form: Form) -> Result<Picture, AllocError>
-    ensures { IfOk result (λ picture. IsFiguresLine followed.now.timeline (string_bytes picture.line)) }
+/// Makes the picture of a schedule on its image.
+fn picture_of(alloc: Global, followed: &Followed, form: Form) -> Result<TimelinePicture, AllocError>
+    ensures { IfOk result (λ picture. IsPictureOf form followed.now.timeline (string_bytes picture.line) picture.bytes.items) }
 {
     let line = followed.timeline.line(alloc)?;
     let bytes = bytes_of(alloc, followed, form)?;
-    Ok(Picture { line, bytes })
+    Ok(TimelinePicture { line, bytes })
 }
 
-/// A drawing or a page of a schedule.
-fn bytes_of(alloc: Global, followed: &Followed, form: Form) -> Result<Vec<u8>, AllocError> {
+/// Makes a drawing or a page of a schedule.
+fn bytes_of(alloc: Global, followed: &Followed, form: Form) -> Result<Vec<u8>, AllocError>
+    ensures { IfOk result (λ bytes. form ≡ Form.Page → Has (schedule_text followed.now.timeline.schedule) bytes.items) }
+{
     match form {
         Form::Drawing => Ok(followed.timeline.svg(alloc)?.into_bytes()),
         Form::Page => followed.timeline.page(alloc, followed.survey.plan()),
@@ -283,39 +287,42 @@ fn bytes_of(alloc: Global, followed: &Followed, form: Form) -> Result<Vec<u8>, A
 /// A schedule on its image.
 #[derive(Drop)]
 struct Followed {
-    /// What the image's collection will do.
+    /// The plan of the image's collection.
     survey: Survey,
     /// The schedule with its bars and marks.
     timeline: schedule_timeline::Timeline,
 }
 
-/// Follows the schedule that one input is, on the image that the other is.
-fn follow<R: Intake, S: Read, T: AllocGlobal + Threads + Sync>(
+/// Reads an image and a schedule, and follows the schedule on the image.
+fn follow<R: Intake, S: Intake, T: AllocGlobal + Threads + Sync>(
     rt: &T,
     input: &mut R,
-    schedule: &mut S,
+    source: &mut S,
 ) -> Result<Followed, Unreplayed>
-    ensures { IfOk result (λ followed. IsFollowed (R.left input.old) (R.left input.new)
-        (S.remaining schedule.old) followed.timeline) }
+    ensures timeline { IfOk result (λ followed. IsFollowed (R.left input.old) (R.left input.new)
+        (S.left source.old) followed.timeline) }
+    ensures fault { IfErr result (λ unreplayed. IsUnreplayed (R.left input.old) (R.left input.new)
+        (S.left source.old) unreplayed.fault) }
 {
     let alloc = rt.alloc();
     let image = read_image_by_threads(alloc, input, rt)?;
-    let asked = schedule_in(alloc, schedule)?;
-    follow_on(alloc, &image, &asked, rt)
+    let schedule = schedule_in(alloc, source)?;
+    follow_on(alloc, &image, &schedule, rt)
 }
 
 /// Follows a schedule on an image.
 fn follow_on(
     alloc: Global,
     image: &Image,
-    asked: &Schedule,
+    schedule: &Schedule,
     threads: &(impl Threads + Sync),
 ) -> Result<Followed, Unreplayed>
-    ensures { IfOk result (λ followed. IsTimelineOf image.now asked.now followed.timeline) }
+    ensures timeline { IfOk result (λ followed. IsTimelineOf image.now schedule.now followed.timeline) }
+    ensures fault { IfErr result (λ unreplayed. IsReplayRefused image.now schedule.now unreplayed.fault) }
 {
     let survey = Survey::of(alloc, image, threads)?;
-    match schedule_timeline::Timeline::of(alloc, image, &survey, asked) {
+    match schedule_timeline::Timeline::of(alloc, image, &survey, schedule) {
         Ok(timeline) => Ok(Followed { survey, timeline }),
-        Err(fault) => Err(refused(alloc, survey.plan(), asked, fault)),
+        Err(fault) => Err(refused(alloc, survey.plan(), schedule, fault)),
     }
 }

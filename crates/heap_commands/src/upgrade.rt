@@ -1,4 +1,3 @@
-//! The command `upgrade`.
 ghost use Rattle.std.specs.Prelude.{◌≡◌, ◌≢◌, ◌≤◌, ◌⊎◌, ◌++◌, [], codes, decimal, ℕ, List, IfOk, IfErr, OnErr, IfSome, string_bytes};
 ghost use Rattle.std_alloc.specs.String.{string_capacity};
 ghost use Rattle.heap_image.specs.declared.fault.Fault.{Fault};
@@ -13,19 +12,19 @@ use heap_image::{Fault, FromRead, Intake, Outlet, ToWrite, upgrade_stream};
 use std::alloc::Global;
 use std::rt::Files;
 
-/// Room for a line with the number of roots, as long as a number can be.
+/// Room for the line with the number of roots, with 20 digits for it.
 const LINE_ROOM: usize = 27;
 
-/// Upgrades the image of one file into another, and answers what `upgrade` prints.
+/// Upgrades the image in one file to another file, and returns what `upgrade` prints.
 pub fn answer<'a, R: Files + AllocGlobal>(
     rt: &R,
-    asked: Upgrade<'a>,
+    request: Upgrade<'a>,
 ) -> Result<WorkDone<'a>, Trouble<'a>>
 where
     R::File: SystemFile,
     ensures { IfOk result (λ done. IsRootCount done.text.items) }
 {
-    let (mut image, mut out) = image_and_out(rt, asked.image, asked.out, asked.atomic)?;
+    let (mut image, mut out) = image_and_out(rt, request.image, request.out, request.atomic)?;
     let line = upgrade_into(
         rt.alloc(),
         &mut FromRead::new(&mut image),
@@ -37,10 +36,9 @@ where
     }
 }
 
-/// Reads the image that the input is the text of, and writes the text of the upgraded one. What it
-/// answers is for standard output: the number of roots.
+/// Reads an image and writes its upgrade. Returns the line for standard output, with the number of roots.
 ///
-/// Nothing takes memory once a byte is written.
+/// Nothing is allocated once a byte is written.
 pub fn upgrade_into<R: Intake, O: Outlet>(
     alloc: Global,
     input: &mut R,
@@ -60,7 +58,7 @@ pub fn upgrade_into<R: Intake, O: Outlet>(
     Ok(roots_line(roots, line))
 }
 
-/// The line with the number of roots, in a text that has room for it and is empty.
+/// Writes the line with the number of roots to an empty text that has room for it.
 fn roots_line(roots: u32, mut line: String) -> String
     requires room { 27 ≤ string_capacity line }
     requires empty { string_bytes line ≡ [] }

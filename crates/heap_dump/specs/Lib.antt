@@ -1,3 +1,3 @@
 pub mod Window
-pub mod Figures
-pub mod Asked
+pub mod ImportFigures
+pub mod Requested

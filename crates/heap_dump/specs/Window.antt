@@ -1,7 +1,7 @@
--- What a window holds.
+-- The buffered bytes of a window.
 use Rattle.std.specs.Prelude.{ℕ, ◌-◌}
 use Rattle.heap_dump.specs.declared.window.Window.{Window}
 
--- how many bytes have come and were not read
-abbrev pub held : Window → ℕ
-held w = w.end - w.start
+-- the number of buffered bytes that are unread
+abbrev pub unread : Window → ℕ
+unread w = w.end - w.start

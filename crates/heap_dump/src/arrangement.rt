@@ -1,23 +1,23 @@
-//! `Arrangement`: where the objects of a dump stand in the heap of an image.
+//! Assigns addresses to the objects of a dump.
 
-/// The widest gap between objects, in words, that stays.
+/// The widest gap between objects, in words, that is kept.
 const WIDEST_GAP: u64 = 512;
 
-/// The places of objects, in the order of their ids.
+/// Assigns addresses to objects in the order of their ids.
 #[derive(Clone, Copy)]
 pub(crate) struct Arrangement {
-    /// Whether gaps stay.
+    /// Whether gaps between objects are kept.
     keeps_gaps: bool,
-    /// The address behind the last object.
+    /// The end of the last object.
     next: u64,
-    /// The id that an object right behind the last one would have, at its size in the image.
+    /// The id that an object directly after the last one would have, by the size of the last one in the image.
     next_id: Option<u64>,
-    /// How many gaps were left out since they are too wide.
+    /// How many gaps were dropped because they are too wide.
     dropped_gaps: u64,
 }
 
 impl Arrangement {
-    /// No object has a place yet.
+    /// Before the first object.
     pub(crate) fn new(keeps_gaps: bool) -> Arrangement {
         Arrangement {
             keeps_gaps,
@@ -27,7 +27,7 @@ impl Arrangement {
         }
     }
 
-    /// The address of the next object, which has this id and so many words.
+    /// Returns the address of the next object, which has this id and `words` words.
     pub(crate) fn place(&mut self, id: u64, words: u64) -> u64 {
         if self.keeps_gaps {
             let gap = self.gap_before(id);
@@ -43,7 +43,7 @@ impl Arrangement {
         address
     }
 
-    /// How many words there are between the last object and one with this id.
+    /// How many words lie between the last object and one with this id.
     fn gap_before(&self, id: u64) -> u64 {
         match self.next_id {
             Some(next_id) => id.saturating_sub(next_id) / 8,
@@ -51,12 +51,12 @@ impl Arrangement {
         }
     }
 
-    /// How many words the objects and the gaps between them have.
+    /// The number of words of the objects and the gaps between them.
     pub(crate) fn words(&self) -> u64 {
         self.next
     }
 
-    /// How many gaps were left out since they are too wide.
+    /// How many gaps were dropped because they are too wide.
     pub(crate) fn dropped_gaps(&self) -> u64 {
         self.dropped_gaps
     }

@@ -1,10 +1,8 @@
-//! `ClassHead`: what a class refers to besides its static fields.
-
-/// What a class refers to besides its static fields, by ids.
+/// The ids to which a class refers besides its static fields.
 #[derive(Clone, Copy)]
 pub(crate) struct ClassHead {
-    /// Its super class.
+    /// The superclass.
     pub(crate) parent: u64,
-    /// Its loader, signers and domain.
+    /// The loader, signers and domain.
     pub(crate) owners: [u64; 3],
 }

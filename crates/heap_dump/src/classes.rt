@@ -1,4 +1,4 @@
-//! `Classes`: the classes of a dump, and the fields of their instances.
+//! The classes of a dump, and the fields of their instances.
 ghost use Rattle.std.specs.Prelude.{◌≢◌};
 
 use crate::contents::Contents;
@@ -7,45 +7,45 @@ use crate::field_type::{FieldType, IdSize};
 use crate::objects::Objects;
 use std::alloc::{AllocError, Global};
 
-/// What is known of the fields of a class together with those of the classes above it.
+/// What is known of the fields of a class and its superclasses.
 #[derive(Clone, Copy)]
-enum Above {
-    /// It was not looked for yet.
+enum Ancestry {
+    /// Not determined yet.
     Unknown,
-    /// A class on the way up is not in the dump, or comes twice; or it is being looked for.
+    /// A superclass is missing from the dump, or the chain of superclasses is a cycle; also while it is being
+    /// determined.
     Broken,
-    /// The contents of all these fields, and the number of the next class above that has fields, or 0.
+    /// The contents of all these fields, and the number of the next superclass that has fields, or 0.
     Known { next: u32, all: Contents },
 }
 
-/// A class.
 #[derive(Clone, Copy)]
 struct Class {
     id: u64,
-    /// The id of the class above it.
+    /// The id of the superclass.
     parent: u64,
-    /// How many fields the classes before it add to instances.
+    /// How many instance fields the classes before it declare.
     fields_before: usize,
-    /// Its references to other objects, and the bytes of its static fields.
+    /// The references of the class object, and the data bytes of its static fields.
     references: u32,
     data_bytes: u32,
-    above: Above,
+    ancestry: Ancestry,
 }
 
-/// The classes of a dump. A class has a number, in the order of the dump, from 1 on. Number 0 stands for a class that is
-/// not in the dump.
+/// The classes of a dump, numbered from 1 in the order of the dump. Number 0 stands for a class that is missing from
+/// the dump.
 #[derive(Drop)]
 pub(crate) struct Classes {
     list: Vec<Class>,
-    /// The fields that the classes add to instances, class after class, in the order of the dump.
+    /// The instance fields that the classes declare, class by class, in the order of the dump.
     fields: Vec<FieldType>,
-    /// How many bytes an id has in the dump.
+    /// The size of ids in the dump.
     ids: IdSize,
     alloc: Global,
 }
 
 impl Classes {
-    /// There is no class yet, in a dump with ids of this size.
+    /// No classes, in a dump with ids of this size.
     pub(crate) fn new(alloc: Global, ids: IdSize) -> Classes {
         Classes {
             list: Vec::new(alloc),
@@ -55,7 +55,7 @@ impl Classes {
         }
     }
 
-    /// Adds a class with this parent, references and static fields, and answers its number.
+    /// Adds a class, and returns its number. `own` counts its references and static fields.
     pub(crate) fn add(&mut self, id: u64, parent: u64, own: Contents) -> Result<u32, ImportError>
         ensures { result ≢ Err ImportError.Input }
     {
@@ -65,24 +65,22 @@ impl Classes {
             fields_before: self.fields.len(),
             references: u32::try_from(own.references).unwrap_or(u32::MAX),
             data_bytes: u32::try_from(own.data_bytes).unwrap_or(u32::MAX),
-            above: Above::Unknown,
+            ancestry: Ancestry::Unknown,
         };
         self.list.push(class)?;
         u32::try_from(self.list.len()).map_err(|_| ImportError::Memory)
     }
 
-    /// Adds a field that the last class adds to instances.
+    /// Adds an instance field of the last class.
     pub(crate) fn add_field(&mut self, field: FieldType) -> Result<(), AllocError> {
         self.fields.push(field)?;
         Ok(())
     }
 
-    /// How many classes there are.
     pub(crate) fn len(&self) -> usize {
         self.list.len()
     }
 
-    /// The class with this number.
     fn get(&self, number: u32) -> Option<&Class> {
         self.list.get((number as usize).checked_sub(1)?)
     }
@@ -95,41 +93,40 @@ impl Classes {
         }
     }
 
-    /// The fields that the class with this number adds to instances.
+    /// The instance fields that the class with this number declares.
     pub(crate) fn fields(&self, number: u32) -> &[FieldType] {
         let (from, to) = self.fields_range(number);
         self.fields.get(from..to).unwrap_or(&[])
     }
 
-    /// Where the fields of the class with this number begin and end.
+    /// The range of the instance fields of the class with this number.
     fn fields_range(&self, number: u32) -> (usize, usize) {
         let Some(class) = self.get(number) else {
             return (0, 0);
         };
         let end = match self.get(number.saturating_add(1)) {
-            Some(behind) => behind.fields_before,
+            Some(next) => next.fields_before,
             None => self.fields.len(),
         };
         (class.fields_before, end)
     }
 
-    /// The number of the next class above this one that has fields, or 0.
+    /// The number of the next superclass that has fields, or 0.
     pub(crate) fn next(&self, number: u32) -> u32 {
-        match self.above(number) {
-            Above::Known { next, .. } => next,
+        match self.ancestry(number) {
+            Ancestry::Known { next, .. } => next,
             _ => 0,
         }
     }
 
-    /// What is known of the fields of the class with this number.
-    fn above(&self, number: u32) -> Above {
+    fn ancestry(&self, number: u32) -> Ancestry {
         match self.get(number) {
-            Some(class) => class.above,
-            None => Above::Broken,
+            Some(class) => class.ancestry,
+            None => Ancestry::Broken,
         }
     }
 
-    /// The references and static fields of the class with this number, if it has this id.
+    /// The references and static fields of the class with this number, if this is its id.
     pub(crate) fn own_contents(&self, number: u32, id: u64) -> Option<Contents> {
         let class = self.get(number)?;
         if class.id != id {
@@ -141,15 +138,15 @@ impl Classes {
         })
     }
 
-    /// The contents of an instance of this class, if the dump has the class and all those above it.
+    /// The contents of an instance of this class, if the dump has the class and all its superclasses.
     pub(crate) fn instance_contents(&self, number: u32) -> Option<Contents> {
-        match self.above(number) {
-            Above::Known { all, .. } => Some(all),
+        match self.ancestry(number) {
+            Ancestry::Known { all, .. } => Some(all),
             _ => None,
         }
     }
 
-    /// The same, if the fields have so many bytes in the dump.
+    /// As [`instance_contents`](Classes::instance_contents), if the fields have `bytes` bytes in the dump.
     pub(crate) fn fitting_contents(&self, number: u32, bytes: u32) -> Option<Contents> {
         let contents = self.instance_contents(number)?;
         if contents.bytes(self.ids) == u64::from(bytes) {
@@ -159,8 +156,8 @@ impl Classes {
         }
     }
 
-    /// How many words an instance of this class has in an image, whose fields have so many bytes in the dump. One that does
-    /// not fit its class has one: it is refused once it is read again.
+    /// The number of words in an image of an instance of this class whose fields have `bytes` bytes in the dump. An
+    /// instance that does not fit its class counts as one word; the second reading rejects it.
     pub(crate) fn instance_words(&self, number: u32, bytes: u32) -> u64 {
         match self.fitting_contents(number, bytes) {
             Some(contents) => contents.words(),
@@ -168,22 +165,22 @@ impl Classes {
         }
     }
 
-    /// Finds the contents of the instances of each class.
-    pub(crate) fn settle(&mut self, objects: &Objects) -> Result<(), AllocError> {
+    /// Determines the contents of the instances of each class.
+    pub(crate) fn resolve(&mut self, objects: &Objects) -> Result<(), AllocError> {
         let mut path = Vec::new(self.alloc);
         for index in 0..self.list.len() {
             let number = u32::try_from(index.saturating_add(1)).map_err(|_| AllocError)?;
             self.climb(objects, number, &mut path)?;
             while let Some(below) = path.pop() {
-                let above = self.find_above(objects, below);
-                self.set_above(below, above);
+                let ancestry = self.find_ancestry(objects, below);
+                self.set_ancestry(below, ancestry);
             }
         }
         Ok(())
     }
 
-    /// Puts a class and those above it on the path, up to one that is settled. Until it is settled too, each is broken, so that
-    /// a way up that comes back ends there.
+    /// Pushes a class and its superclasses onto the path, up to one that is resolved. Each counts as broken until it is
+    /// resolved, so a cycle ends there.
     fn climb(
         &mut self,
         objects: &Objects,
@@ -195,7 +192,7 @@ impl Classes {
             let Some(
                 Class {
                     parent,
-                    above: Above::Unknown,
+                    ancestry: Ancestry::Unknown,
                     ..
                 },
             ) = self.get(number)
@@ -204,32 +201,32 @@ impl Classes {
             };
             let parent = *parent;
             path.push(number)?;
-            self.set_above(number, Above::Broken);
+            self.set_ancestry(number, Ancestry::Broken);
             number = objects.class_number(self, parent);
         }
         Ok(())
     }
 
-    fn set_above(&mut self, number: u32, above: Above) {
+    fn set_ancestry(&mut self, number: u32, ancestry: Ancestry) {
         let index = (number as usize).saturating_sub(1);
         if let Some(class) = self.list.get_mut(index) {
-            class.above = above;
+            class.ancestry = ancestry;
         }
     }
 
-    /// What is known of the fields of a class and of those above it, from what is known of its parent. A class whose parent
-    /// isn't settled is above itself.
-    fn find_above(&self, objects: &Objects, number: u32) -> Above {
+    /// Determines the fields of a class and its superclasses from those of its parent. A class whose parent isn't
+    /// resolved is on a cycle.
+    fn find_ancestry(&self, objects: &Objects, number: u32) -> Ancestry {
         let Some(class) = self.get(number) else {
-            return Above::Broken;
+            return Ancestry::Broken;
         };
         let own = self.field_contents(number);
         if class.parent == 0 {
-            return Above::Known { next: 0, all: own };
+            return Ancestry::Known { next: 0, all: own };
         }
         let parent = objects.class_number(self, class.parent);
-        match self.above(parent) {
-            Above::Known { next, all } => Above::Known {
+        match self.ancestry(parent) {
+            Ancestry::Known { next, all } => Ancestry::Known {
                 next: if self.fields(parent).is_empty() {
                     next
                 } else {
@@ -237,11 +234,11 @@ impl Classes {
                 },
                 all: own.plus(all),
             },
-            _ => Above::Broken,
+            _ => Ancestry::Broken,
         }
     }
 
-    /// The contents of the fields that a class adds to instances.
+    /// The contents of the instance fields that a class declares.
     fn field_contents(&self, number: u32) -> Contents {
         let mut contents = Contents::EMPTY;
         for field in self.fields(number) {

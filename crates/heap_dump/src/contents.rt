@@ -1,7 +1,7 @@
-//! `Contents`: what an object has besides its header.
+//! The size of an object without its header.
 use crate::field_type::{FieldType, IdSize};
 
-/// How many references and how many bytes of primitive data an object has.
+/// The number of references and of bytes of primitive data of an object.
 #[derive(Clone, Copy)]
 pub(crate) struct Contents {
     pub(crate) references: u64,
@@ -14,7 +14,7 @@ impl Contents {
         data_bytes: 0,
     };
 
-    /// The contents of an array of so many references.
+    /// The contents of an array of `count` references.
     pub(crate) fn of_references(count: u32) -> Contents {
         Contents {
             references: u64::from(count),
@@ -22,7 +22,7 @@ impl Contents {
         }
     }
 
-    /// The contents of an array of so many primitive values of this type.
+    /// The contents of an array of `count` primitive values of this type.
     pub(crate) fn of_data(count: u32, element: FieldType) -> Contents {
         Contents {
             data_bytes: u64::from(count) * element.data_bytes() as u64,
@@ -30,7 +30,7 @@ impl Contents {
         }
     }
 
-    /// With a value of this type more.
+    /// The contents with one more value of this type.
     pub(crate) fn with(self, field: FieldType) -> Contents {
         match field {
             FieldType::Reference => Contents {
@@ -44,7 +44,7 @@ impl Contents {
         }
     }
 
-    /// Both together.
+    /// The sum of both.
     pub(crate) fn plus(self, other: Contents) -> Contents {
         Contents {
             references: self.references.saturating_add(other.references),
@@ -52,14 +52,15 @@ impl Contents {
         }
     }
 
-    /// How many words an object of these contents has in an image: its header, its references, and its data.
+    /// The number of words of the object in an image: its header, its references, and its data, rounded up to whole
+    /// words.
     pub(crate) fn words(self) -> u64 {
         self.references
             .saturating_add(self.data_bytes.div_ceil(8))
             .saturating_add(1)
     }
 
-    /// How many bytes the values have in a dump with ids of this size.
+    /// The number of bytes of the values in a dump with ids of this size.
     pub(crate) fn bytes(self, ids: IdSize) -> u64 {
         self.references
             .saturating_mul(ids.bytes() as u64)

@@ -1,11 +1,11 @@
-//! `Draft`: the heap of an image, before its live objects are found.
+//! The heap of an image before its live objects are marked.
 ghost use Rattle.std.specs.Prelude.{◌≡◌, IfOk, ◌≢◌};
 ghost use Rattle.std.specs.List.Sorted.{IsStrictlyIncreasing};
 ghost use Rattle.heap_image.specs.HeapImage.{IsValid, roots_of, version_of};
-ghost use Rattle.heap_dump.specs.Figures.{AreFiguresOf};
+ghost use Rattle.heap_dump.specs.ImportFigures.{AreFiguresOf};
 
 use crate::error::ImportError;
-use crate::figures::Figures;
+use crate::figures::ImportFigures;
 use crate::heap::UnsealedHeap;
 use crate::limits::words_within_limits;
 use crate::options::Regions;
@@ -13,40 +13,39 @@ use crate::roots::roots_to;
 use heap_image::{Fault, Image, mark_from_roots, marked_parts_are_valid};
 use std::alloc::Global;
 
-/// The heap of an image, with its headers.
+/// A heap whose objects have their headers, and its roots.
 #[derive(Drop)]
 pub(crate) struct Draft {
     pub(crate) heap: UnsealedHeap,
-    /// The addresses to which roots lead.
+    /// The addresses of the objects to which roots lead.
     pub(crate) roots: Vec<u64>,
-    /// How many objects the heap has.
     pub(crate) objects: u64,
-    /// How many gaps were left out since they are too wide.
+    /// How many gaps were dropped because they are too wide.
     pub(crate) dropped_gaps: u64,
-    /// How many references and roots lead to no object of the dump.
+    /// How many references and roots lead to objects that are missing from the dump.
     pub(crate) unresolved: u64,
 }
 
-/// An image that was made from a dump.
+/// An imported heap.
 #[derive(Drop)]
 pub struct Imported {
     /// The image, of version 2.
     pub image: Image,
-    /// What it was made of.
-    pub figures: Figures,
+    /// Its counts.
+    pub figures: ImportFigures,
 }
 
 impl Draft {
-    /// The image with this heap, which has such regions.
+    /// Marks the heap from its roots, and returns the image. A heap that has other regions than requested is rejected.
     pub(crate) fn into_image(
         self,
         alloc: Global,
-        asked: Regions,
+        requested: Regions,
         allowance: u64,
     ) -> Result<Imported, ImportError>
         ensures valid { IfOk result (λ imported. IsValid imported.image) }
         ensures rooted { IfOk result (λ imported. version_of imported.image ≡ 2) }
-        ensures region_log { IfOk result (λ imported. imported.image.region_log ≡ asked.log) }
+        ensures region_log { IfOk result (λ imported. imported.image.region_log ≡ requested.log) }
         ensures roots { IfOk result (λ imported. IsStrictlyIncreasing (roots_of imported.image)) }
         ensures allowance { IfOk result (λ imported. imported.image.allowance ≡ allowance) }
         ensures figures { IfOk result (λ imported. AreFiguresOf imported.image imported.figures) }
@@ -60,7 +59,7 @@ impl Draft {
             unresolved,
         } = self;
         let (region_log, regions) = heap.into_parts();
-        if region_log != asked.log {
+        if region_log != requested.log {
             return Err(ImportError::NoHeap(Fault::RegionLog));
         }
         let words = words_within_limits(region_log, regions.as_slice())?;
@@ -70,7 +69,7 @@ impl Draft {
             Err(Fault::Memory) => return Err(ImportError::Memory),
             Err(fault) => return Err(ImportError::NoHeap(fault)),
         };
-        let figures = Figures {
+        let figures = ImportFigures {
             words,
             objects,
             roots: roots.len() as u64,

@@ -1,4 +1,4 @@
-//! `Dump`: a heap dump, record by record.
+//! Reads a heap dump record by record.
 ghost use Rattle.std.specs.Prelude.{◌≡◌, None, true, OnOk, IsTrue, ◌≢◌};
 ghost use Rattle.std.specs.Io.KnownBytes.{IsAtEnd};
 
@@ -11,25 +11,25 @@ use crate::record_visitor::RecordVisitor;
 use crate::window::Window;
 use heap_image::Intake;
 
-/// How many bytes stand before the first record: the name of the format, the size of ids, and the time.
+/// The number of bytes before the first record: the name of the format, the size of ids, and the time.
 const HEAD_BYTES: u64 = 31;
 
-/// How many bytes stand before the body of a record: its tag, its time and its length.
+/// The number of bytes before the body of a record: its tag, its time and its length.
 const RECORD_HEAD_BYTES: u64 = 9;
 
-/// What the dump has told so far of a heap and its end.
+/// How far the heap of the dump has been read.
 #[derive(Clone, Copy, PartialEq, Eq)]
 enum Stage {
-    /// No heap yet.
+    /// Before the heap.
     Before,
-    /// Segments of a heap, whose end is still to come.
+    /// In a heap of segments, before its end record.
     Segments,
-    /// A heap in one record, or with its end.
+    /// After a complete heap: one record, or segments and the end record.
     Whole,
 }
 
 impl Stage {
-    /// The stage behind a record with this tag. An end without a heap before it ends nothing.
+    /// The stage after a record with this tag. An end record without segments before it changes nothing.
     fn after(self, tag: u8) -> Stage {
         match (self, tag) {
             (_, 0x1C) => Stage::Segments,
@@ -39,21 +39,19 @@ impl Stage {
     }
 }
 
-/// A heap dump while it is read.
 #[derive(Drop)]
 pub(crate) struct Dump {
-    /// The bytes that come next.
     pub(crate) window: Window,
     ids: IdSize,
     stage: Stage,
-    /// Whether the record that is being read is a heap or a segment of one.
+    /// Whether the current record is a heap or a segment of one.
     in_heap: bool,
-    /// How many bytes stand before the record of the heap that was read last.
+    /// The offset in the dump of the last record of the heap, in bytes.
     at: u64,
 }
 
 impl Dump {
-    /// Reads what stands before the first record.
+    /// Reads the head of a dump, before the first record.
     pub(crate) fn open<R: Intake>(source: &mut R) -> Result<Dump, ImportError>
         ensures input { result ≡ Err ImportError.Input → IsTrue (R.has_failed source.new) }
     {
@@ -88,12 +86,12 @@ impl Dump {
         })
     }
 
-    /// How many bytes an id has.
+    /// The size of ids.
     pub(crate) fn ids(&self) -> IdSize {
         self.ids
     }
 
-    /// What is wrong with the record of the heap that was read last.
+    /// An error at the last record of the heap.
     pub(crate) fn problem(&self, problem: Problem) -> ImportError
         ensures { result ≢ ImportError.Input }
     {
@@ -103,7 +101,7 @@ impl Dump {
         }
     }
 
-    /// Has each record of the heap visited, up to the end of the dump.
+    /// Passes each record of the heap to the visitor, up to the end of the dump.
     pub(crate) fn visit_records<R: Intake, V: RecordVisitor>(
         &mut self,
         source: &mut R,
@@ -121,8 +119,8 @@ impl Dump {
         Err(self.problem(Problem::NoEnd))
     }
 
-    /// The next record of the heap, up to its body, or None at the end of the dump. The body of the record before it was
-    /// read.
+    /// Reads the next record of the heap up to its body, or returns None at the end of the dump. The body of the record
+    /// before must have been read.
     fn next<R: Intake>(&mut self, source: &mut R) -> Result<Option<Record>, ImportError>
         ensures end { result ≡ Ok None → IsAtEnd (R.left source.new) }
         ensures input { result ≡ Err ImportError.Input → IsTrue (R.has_failed source.new) }
@@ -139,7 +137,7 @@ impl Dump {
         Err(self.window.problem(Problem::NoEnd))
     }
 
-    /// Whether the dump ends before the next record. It is wrong where it may not end here.
+    /// Whether the dump ends before the next record. An end that is not allowed here is an error.
     fn is_at_end<R: Intake>(&mut self, source: &mut R) -> Result<bool, ImportError>
         ensures end { result ≡ Ok true → IsAtEnd (R.left source.new) }
         ensures input { result ≡ Err ImportError.Input → IsTrue (R.has_failed source.new) }
@@ -151,7 +149,7 @@ impl Dump {
         Ok(false)
     }
 
-    /// Whether the dump may end here.
+    /// Rejects an end of the dump without a complete heap.
     fn check_end(&self) -> Result<(), ImportError>
         ensures { result ≢ Err ImportError.Input }
     {
@@ -162,7 +160,7 @@ impl Dump {
         }
     }
 
-    /// Enters the next heap or segment of one, or goes on behind a record of another kind.
+    /// Enters the next heap or segment, or skips a record of any other kind.
     fn enter<R: Intake>(&mut self, source: &mut R) -> Result<(), ImportError>
         ensures input { result ≡ Err ImportError.Input → IsTrue (R.has_failed source.new) }
     {
@@ -231,7 +229,7 @@ impl Dump {
         Ok(Record::Array { id, contents })
     }
 
-    /// Reads a root with this tag.
+    /// Reads a root of the kind that the tag names.
     fn root<R: Intake>(&mut self, source: &mut R, tag: u8) -> Result<Record, ImportError>
         ensures input { result ≡ Err ImportError.Input → IsTrue (R.has_failed source.new) }
     {
@@ -247,7 +245,7 @@ impl Dump {
         Ok(Record::Root { id })
     }
 
-    /// Reads the head of the class whose body comes next, and goes on behind its constants.
+    /// Reads the head of the current class, and skips its constants.
     pub(crate) fn class_head<R: Intake>(&mut self, source: &mut R) -> Result<ClassHead, ImportError>
         ensures input { result ≡ Err ImportError.Input → IsTrue (R.has_failed source.new) }
     {
@@ -258,8 +256,7 @@ impl Dump {
         Ok(ClassHead { parent, owners })
     }
 
-    /// Reads the loader, signers and domain of a class, and goes on behind two ids that are reserved and the size of
-    /// instances.
+    /// Reads the loader, signers and domain of a class, and skips two reserved ids and the size of instances.
     fn class_owners<R: Intake>(&mut self, source: &mut R) -> Result<[u64; 3], ImportError>
         ensures input { result ≡ Err ImportError.Input → IsTrue (R.has_failed source.new) }
     {
@@ -271,7 +268,7 @@ impl Dump {
         Ok([loader, signers, domain])
     }
 
-    /// Goes on behind the constants of a class.
+    /// Skips the constants of a class.
     fn skip_constants<R: Intake>(&mut self, source: &mut R) -> Result<(), ImportError>
         ensures input { result ≡ Err ImportError.Input → IsTrue (R.has_failed source.new) }
     {
@@ -284,7 +281,6 @@ impl Dump {
         Ok(())
     }
 
-    /// Reads an id.
     pub(crate) fn id<R: Intake>(&mut self, source: &mut R) -> Result<u64, ImportError>
         ensures input { result ≡ Err ImportError.Input → IsTrue (R.has_failed source.new) }
     {
@@ -294,14 +290,12 @@ impl Dump {
         }
     }
 
-    /// Reads a number of two bytes.
     pub(crate) fn u16<R: Intake>(&mut self, source: &mut R) -> Result<u16, ImportError>
         ensures input { result ≡ Err ImportError.Input → IsTrue (R.has_failed source.new) }
     {
         self.window.u16(source)
     }
 
-    /// Reads a type.
     fn field_type<R: Intake>(&mut self, source: &mut R) -> Result<FieldType, ImportError>
         ensures input { result ≡ Err ImportError.Input → IsTrue (R.has_failed source.new) }
     {
@@ -313,7 +307,7 @@ impl Dump {
         })
     }
 
-    /// Goes on behind the name of a field and reads its type.
+    /// Skips the name of a field, and reads its type.
     pub(crate) fn field<R: Intake>(&mut self, source: &mut R) -> Result<FieldType, ImportError>
         ensures input { result ≡ Err ImportError.Input → IsTrue (R.has_failed source.new) }
     {
@@ -321,7 +315,7 @@ impl Dump {
         self.field_type(source)
     }
 
-    /// Goes on behind a value of this type.
+    /// Skips a value of this type.
     pub(crate) fn skip_value<R: Intake>(
         &mut self,
         source: &mut R,
@@ -332,7 +326,7 @@ impl Dump {
         self.skip(source, value.bytes(self.ids) as u64)
     }
 
-    /// Goes on behind the fields that a class adds to instances.
+    /// Skips the instance fields of a class.
     pub(crate) fn skip_fields<R: Intake>(&mut self, source: &mut R) -> Result<(), ImportError>
         ensures input { result ≡ Err ImportError.Input → IsTrue (R.has_failed source.new) }
     {
@@ -340,7 +334,7 @@ impl Dump {
         self.skip(source, count * (self.ids.bytes() as u64 + 1))
     }
 
-    /// Goes on behind so many bytes.
+    /// Skips `count` bytes of the record.
     pub(crate) fn skip<R: Intake>(&mut self, source: &mut R, count: u64) -> Result<(), ImportError>
         ensures input { result ≡ Err ImportError.Input → IsTrue (R.has_failed source.new) }
     {

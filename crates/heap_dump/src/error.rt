@@ -1,4 +1,4 @@
-//! `ImportError`: why a dump gives no image.
+//! The errors of an import.
 ghost use Rattle.std.specs.Prelude.{◌≡◌};
 ghost use Rattle.heap_dump.specs.declared.error.ImportError.TheVariants.{Input, Memory};
 
@@ -6,83 +6,82 @@ use heap_image::{Failed, Fault};
 use std::alloc::{AllocError, AllocFailed};
 use thiserror::Error;
 
-/// What is wrong with a dump at some byte of it.
+/// What is wrong at some byte of a dump.
 #[derive(Debug, Clone, Copy, PartialEq, Eq, Error)]
 pub enum Problem {
-    /// The first bytes are not those of a heap dump, or of one of another version.
+    /// The dump begins with the name of no supported version of the format.
     #[error("this is no heap dump of version 1.0.1 or 1.0.2")]
     Name,
-    /// Ids have neither 4 nor 8 bytes.
+    /// The size of ids is neither 4 nor 8 bytes.
     #[error("ids of {0} bytes, where 4 or 8 are read")]
     IdSize(u32),
     /// The dump ends inside a record, or in its head.
     #[error("the dump ends here, inside a record")]
     Cut,
-    /// What is read goes beyond the length that its record tells.
+    /// A value extends past the end of its record.
     #[error("this goes beyond the length of its record")]
     PastRecord,
-    /// A record of the heap has a tag that is none of the format's.
+    /// The tag of a record of the heap is unknown.
     #[error("tag {0} is that of no record of a heap")]
     HeapTag(u8),
-    /// A field or an array has a type that is none of the format's.
+    /// The type of a field or an array is unknown.
     #[error("type {0} is none of the format's")]
     Type(u8),
-    /// An array of references is told as one of primitive values.
+    /// An array of primitive values has references as elements.
     #[error("an array of references is told as one of primitive values")]
     NotPrimitive,
     /// An object has id 0, which is null.
     #[error("an object with id 0, which is null")]
     NullObject,
-    /// An object has an id that an earlier one has.
+    /// An object has the id of an earlier one.
     #[error("a second object with id {0}")]
     SecondObject(u64),
-    /// An object's class, or one above it, is not in the dump or is above itself.
+    /// The class of an object or one of its superclasses is missing from the dump, or the superclasses form a cycle.
     #[error("the class of this object, or one above it, is not in the dump or is above itself")]
     NoClass,
-    /// An instance has another number of bytes than the fields of its class.
+    /// The number of bytes of an instance differs from that of the fields of its class.
     #[error("an instance of {0} bytes, where the fields of its class have another number")]
     InstanceSize(u32),
-    /// The dump ends before a record of a heap.
+    /// The dump has no heap.
     #[error("the dump ends without a heap")]
     NoHeap,
-    /// The dump ends after a segment of the heap, without the record that ends the heap.
+    /// The dump has segments of a heap, but not the record that ends the heap.
     #[error("the dump ends without the end of its heap")]
     NoEnd,
-    /// The second reading of the dump gave something else than the first.
+    /// The second reading of the dump differs from the first.
     #[error("the dump changed while it was read")]
     Changed,
 }
 
-/// Why a dump gives no image.
+/// Why [`import`](crate::import) returns no image.
 #[derive(Debug, Clone, Copy, PartialEq, Eq, Error)]
 pub enum ImportError {
-    /// Something is wrong with the dump, at so many bytes from its beginning.
+    /// The dump is malformed.
     #[error("byte {offset}: {problem}")]
     Malformed {
-        /// How many bytes stand before the place.
+        /// The offset in bytes.
         offset: u64,
-        /// What is wrong there.
         problem: Problem,
     },
-    /// The heap has more words than an image may have; and so many with its live objects alone.
+    /// The heap has more words than an image may have.
     #[error("the heap has {words} words, and {most} are the most; with --live-only it has {live_words}")]
     TooManyWords {
-        /// The words of the heap.
+        /// The number of words of the heap.
         words: u64,
-        /// The most that an image may have, with regions of the size that was asked for.
+        /// The most words that an image may have with regions of the requested size.
         most: u64,
-        /// The words that reachable objects have.
+        /// The number of words of the reachable objects.
         live_words: u64,
     },
     /// The reachable objects have more words than an image may have.
     #[error("the reachable objects have {words} words, and {most} are the most")]
     TooManyLiveWords {
-        /// The words of the reachable objects.
+        /// The number of words of the reachable objects.
         words: u64,
-        /// The most that an image may have, with regions of the size that was asked for.
+        /// The most words that an image may have with regions of the requested size.
         most: u64,
     },
-    /// The region log that was asked for is not 3 to 16.
+    /// The requested region log is not 3 to 16.
     #[error("region log {0}, where 3 to 16 are allowed")]
     RegionLog(u32),
     /// The dump could not be read.
@@ -91,7 +90,7 @@ pub enum ImportError {
     /// Memory was refused.
     #[error("memory was refused")]
     Memory,
-    /// What was read is no heap. This comes only where the two readings of the dump differ.
+    /// The result is no valid heap. This comes only if the two readings of the dump differ.
     #[error("what was read is no heap: {0}")]
     NoHeap(Fault),
 }

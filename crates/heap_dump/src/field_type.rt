@@ -1,7 +1,7 @@
-//! `FieldType`: the types of fields and of array elements, and `IdSize`: how many bytes a reference has.
+//! The types of fields and of array elements, and the size of references.
 ghost use Rattle.std.specs.Prelude.{◌≤◌};
 
-/// How many bytes an id has in a dump, and so a reference.
+/// The number of bytes of an id, and so of a reference, in a dump.
 #[derive(Clone, Copy)]
 pub(crate) enum IdSize {
     Four,
@@ -19,7 +19,7 @@ impl IdSize {
     }
 }
 
-/// The type of a field or of an array's elements: a reference, or primitive data of so many bytes.
+/// The type of a field or of an array's elements: a reference, or primitive data of 1, 2, 4 or 8 bytes.
 #[derive(Clone, Copy)]
 pub(crate) enum FieldType {
     Reference,
@@ -30,7 +30,7 @@ pub(crate) enum FieldType {
 }
 
 impl FieldType {
-    /// The type of this code of the format.
+    /// The type with this code in the format.
     pub(crate) fn of_code(code: u8) -> Option<FieldType> {
         match code {
             2 => Some(FieldType::Reference),
@@ -42,7 +42,7 @@ impl FieldType {
         }
     }
 
-    /// How many bytes of primitive data a value has. A reference has none.
+    /// The number of bytes of primitive data of a value: 0 for a reference.
     pub(crate) fn data_bytes(self) -> usize
         ensures { result ≤ 8 }
     {
@@ -55,7 +55,7 @@ impl FieldType {
         }
     }
 
-    /// How many bytes a value has in a dump with ids of this size.
+    /// The number of bytes of a value in a dump with ids of this size.
     pub(crate) fn bytes(self, ids: IdSize) -> usize
         ensures { result ≤ 8 }
     {

@@ -1,33 +1,33 @@
-//! `Figures`: what an image was made of.
+//! The figures of an import.
 use std::fmt;
 
-/// What an image was made of.
+/// The counts that [`import`](crate::import) returns with an image.
 #[derive(Debug, Clone, Copy, PartialEq, Eq)]
-pub struct Figures {
-    /// The words of the image.
+pub struct ImportFigures {
+    /// Words.
     pub words: u64,
-    /// The objects in it.
+    /// All objects.
     pub objects: u64,
-    /// Its roots.
+    /// Roots.
     pub roots: u64,
-    /// The objects that are reached from the roots.
+    /// Objects that are reachable from the roots.
     pub live: u64,
-    /// The objects that are not.
+    /// Objects that are not.
     pub dead: u64,
-    /// The gaps between objects that are left out, since they are too wide.
+    /// Gaps between objects that were dropped because they are too wide.
     pub dropped_gaps: u64,
-    /// The references and roots that lead to no object of the dump.
+    /// References and roots that lead to objects that are missing from the dump.
     pub unresolved: u64,
 }
 
-impl fmt::Display for Figures {
+impl fmt::Display for ImportFigures {
     ghost use Rattle.std.specs.Prelude.{Some};
-    ghost use Rattle.heap_dump.specs.Figures.{figures_text};
+    ghost use Rattle.heap_dump.specs.ImportFigures.{figures_text};
 
     ghost output = { λ figures. Some (figures_text figures) };
 
     fn fmt<W: fmt::Write>(&self, f: &mut fmt::Formatter<W>) -> fmt::Result {
-        let Figures {
+        let ImportFigures {
             words,
             objects,
             roots,

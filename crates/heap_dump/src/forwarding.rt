@@ -1,20 +1,20 @@
-//! `Forwarding`: where the survivors of a heap go.
+//! The new addresses of the survivors of a heap.
 use crate::heap::{UnsealedHeap, header, references, size};
 use std::alloc::{AllocError, Global};
 
-/// Where the survivors of a heap go when they stand without gaps.
+/// The new addresses of the survivors of a heap, without gaps between them.
 #[derive(Drop)]
 pub(crate) struct Forwarding {
-    /// One bit for each old address: whether a survivor begins there.
+    /// One bit per address: whether a survivor begins there.
     begins: Vec<u64>,
-    /// For each 64 addresses in a row, how many survivors begin before them.
+    /// For each 64 addresses, how many survivors begin before them.
     before: Vec<usize>,
-    /// The new address of each survivor, in their order.
+    /// The new address of each survivor, in the order of old addresses.
     to: Vec<u64>,
 }
 
 impl Forwarding {
-    /// Where the survivors at these addresses, which ascend, go.
+    /// Assigns new addresses to the survivors at these addresses, which ascend.
     pub(crate) fn of(
         alloc: Global,
         heap: &UnsealedHeap,
@@ -34,12 +34,11 @@ impl Forwarding {
         Ok(forwarding)
     }
 
-    /// The new addresses, in the order of the survivors.
     pub(crate) fn addresses(&self) -> &[u64] {
         self.to.as_slice()
     }
 
-    /// Adds the next survivor, which goes from an address to another.
+    /// Adds the next survivor, which moves from `from` to `to`.
     fn add(&mut self, from: u64, to: u64) -> Result<(), AllocError> {
         let row = (from / 64) as usize;
         if row < self.begins.len() && row < self.before.len() {
@@ -65,8 +64,8 @@ impl Forwarding {
         self.to.get(index).copied()
     }
 
-    /// Where a reference leads in the new heap.
-    fn redirected(&self, reference: u64) -> u64 {
+    /// The reference in the new heap to the same object, or null if that is no survivor.
+    fn redirect(&self, reference: u64) -> u64 {
         if reference == 0 {
             return 0;
         }
@@ -76,14 +75,14 @@ impl Forwarding {
         }
     }
 
-    /// Copies the object at `from` to `to`.
+    /// Copies the object at `from` to `to`, with its references redirect.
     pub(crate) fn copy(&self, old: &UnsealedHeap, new: &mut UnsealedHeap, from: u64, to: u64) {
         let first = old.word(from);
         new.put(to, header(first));
         for index in 1..size(first) {
             let word = old.word(from.saturating_add(index));
             let word = if index <= references(first) {
-                self.redirected(word)
+                self.redirect(word)
             } else {
                 word
             };

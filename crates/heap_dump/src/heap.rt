@@ -1,4 +1,4 @@
-//! `UnsealedHeap`: the words of an image while it is made.
+//! The words of an image under construction.
 ghost use Rattle.std.specs.Prelude.{◌<◌, ◌≤◌, ◌^◌};
 ghost use Rattle.heap_image.specs.HeapImage.{AreBlocks};
 
@@ -7,8 +7,8 @@ use std::alloc::{AllocError, Global};
 
 /// The words of a heap, in regions of `2 ^ region_log` words.
 ///
-/// Until [`seal`](UnsealedHeap::seal), the first word of an object has its size in bits 0 to 31 and its number of references in
-/// bits 32 to 63, and the first word of one that was not filled in has its size alone.
+/// Its objects have first words in place of headers: the size in bits 0 to 31 and, once the object is filled in, the
+/// number of references in bits 32 to 63. `Objects::seal` makes headers of them.
 #[derive(Drop)]
 pub(crate) struct UnsealedHeap {
     region_log: u32,
@@ -19,7 +19,7 @@ pub(crate) struct UnsealedHeap {
 }
 
 impl UnsealedHeap {
-    /// A heap of at least so many words and at least one region, all of them 0.
+    /// Allocates a heap of at least `words` words and at least one region, all zero.
     pub(crate) fn new(
         alloc: Global,
         region_log: u32,
@@ -39,7 +39,7 @@ impl UnsealedHeap {
         })
     }
 
-    /// How many words it has.
+    /// The number of words.
     pub(crate) fn len(&self) -> u64 {
         (self.regions.len() as u64) << self.region_log
     }
@@ -53,7 +53,7 @@ impl UnsealedHeap {
         self.regions[index].get(self.place(address))
     }
 
-    /// Puts a word at an address. One outside the heap is left alone.
+    /// Sets the word at an address. An address outside the heap is ignored.
     pub(crate) fn put(&mut self, address: u64, word: u64) {
         let index = (address >> self.region_log) as usize;
         let place = self.place(address);
@@ -62,14 +62,14 @@ impl UnsealedHeap {
         }
     }
 
-    /// The place of an address in its region.
+    /// The index of an address in its region.
     fn place(&self, address: u64) -> usize
         ensures { result < 2 ^ self.now.region_log }
     {
         (address & ((1 << self.region_log) - 1)) as usize
     }
 
-    /// The region log and the regions.
+    /// Returns the region log and the regions.
     pub(crate) fn into_parts(self) -> (u32, Vec<Region>)
         ensures low { 3 ≤ result.0 }
         ensures high { result.0 ≤ 16 }
@@ -83,22 +83,22 @@ impl UnsealedHeap {
     }
 }
 
-/// The first word of an object while its heap is made.
+/// The first word of an object of this size.
 pub(crate) fn first_word(size: u64, references: u64) -> u64 {
     ((references & 0xFFFF_FFFF) << 32) | (size & 0xFFFF_FFFF)
 }
 
-/// The size that a first word tells.
+/// The size in a first word.
 pub(crate) fn size(first: u64) -> u64 {
     first & 0xFFFF_FFFF
 }
 
-/// The number of references that a first word tells.
+/// The number of references in a first word.
 pub(crate) fn references(first: u64) -> u64 {
     first >> 32
 }
 
-/// The header of an object with this first word.
+/// The header for a first word.
 pub(crate) fn header(first: u64) -> u64 {
     first | 1 << 56
 }

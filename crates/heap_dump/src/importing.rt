@@ -1,10 +1,10 @@
-//! `import`: a heap dump as an image.
+//! Imports a heap dump as an image.
 ghost use Rattle.std.specs.Prelude.{◌≡◌, IfOk, OnOk, IsTrue, ◌⊎◌};
 ghost use Rattle.std.specs.Io.KnownBytes.{IsAtEnd};
 ghost use Rattle.std.specs.List.Sorted.{IsStrictlyIncreasing};
 ghost use Rattle.heap_image.specs.HeapImage.{IsValid, roots_of, version_of};
-ghost use Rattle.heap_dump.specs.Asked.{asked_log};
-ghost use Rattle.heap_dump.specs.Figures.{AreFiguresOf};
+ghost use Rattle.heap_dump.specs.Requested.{requested_log};
+ghost use Rattle.heap_dump.specs.ImportFigures.{AreFiguresOf};
 
 use crate::draft::{Draft, Imported};
 use crate::error::ImportError;
@@ -16,9 +16,9 @@ use crate::transcribed::Transcribed;
 use heap_image::Intake;
 use std::alloc::Global;
 
-/// Makes an image from a heap dump, which is read twice: `first` and `second` give the same bytes, from the beginning.
+/// Makes an image of a heap dump. The dump is read twice: `first` and `second` both give it from its beginning.
 ///
-/// `docs/DUMPS.md` says what is read and what stands where in the image. Both readings go to the end of the dump at Ok.
+/// `docs/DUMPS.md` says what is read and where it is in the image. At Ok, both readings are at the end of the dump.
 pub fn import<R: Intake>(
     alloc: Global,
     first: &mut R,
@@ -27,14 +27,13 @@ pub fn import<R: Intake>(
 ) -> Result<Imported, ImportError>
     ensures valid { IfOk result (λ imported. IsValid imported.image) }
     ensures rooted { IfOk result (λ imported. version_of imported.image ≡ 2) }
-    ensures region_log { IfOk result (λ imported. imported.image.region_log ≡ asked_log options) }
+    ensures region_log { IfOk result (λ imported. imported.image.region_log ≡ requested_log options) }
     ensures roots { IfOk result (λ imported. IsStrictlyIncreasing (roots_of imported.image)) }
     ensures allowance { IfOk result (λ imported. imported.image.allowance ≡ options.allowance) }
     ensures figures { IfOk result (λ imported. AreFiguresOf imported.image imported.figures) }
-    // No byte of the dump stands behind what was read.
+    // The whole dump is read.
     ensures first_end { OnOk result (IsAtEnd (R.left first.new)) }
     ensures second_end { OnOk result (IsAtEnd (R.left second.new)) }
-    // A device failed.
     ensures input { result ≡ Err ImportError.Input
         → IsTrue (R.has_failed first.new) ⊎ IsTrue (R.has_failed second.new) }
 {
@@ -45,12 +44,12 @@ pub fn import<R: Intake>(
     } else if inventory.measure(true).words() <= regions.most_words() {
         whole_heap(alloc, inventory, second, regions)?
     } else {
-        return Err(refusal(alloc, inventory, second, regions));
+        return Err(too_many_words(alloc, inventory, second, regions));
     };
     draft.into_image(alloc, regions, options.allowance)
 }
 
-/// The heap with all objects of a dump, and the gaps between them.
+/// Builds the heap with all objects of a dump, and the gaps between them.
 fn whole_heap<R: Intake>(
     alloc: Global,
     mut inventory: Inventory,
@@ -76,7 +75,7 @@ fn whole_heap<R: Intake>(
     })
 }
 
-/// The heap with the reachable objects of a dump, without gaps.
+/// Builds the heap with the reachable objects of a dump, without gaps.
 fn live_heap<R: Intake>(
     alloc: Global,
     inventory: Inventory,
@@ -86,30 +85,30 @@ fn live_heap<R: Intake>(
     ensures end { OnOk result (IsAtEnd (R.left source.new)) }
     ensures input { result ≡ Err ImportError.Input → IsTrue (R.has_failed source.new) }
 {
-    let packed = Packed::of(alloc, inventory, source)?;
-    let (words, most) = (packed.survivors.words, regions.most_words());
+    let Packed {
+        heap,
+        survivors,
+        roots,
+        unresolved,
+    } = Packed::of(alloc, inventory, source)?;
+    let (words, most) = (survivors.words, regions.most_words());
     if words > most {
         return Err(ImportError::TooManyLiveWords { words, most });
     }
-    let objects = packed.survivors.addresses.len() as u64;
-    let alone = SurvivorHeap::of(
-        alloc,
-        &packed.heap,
-        &packed.survivors,
-        regions,
-        packed.roots.as_slice(),
-    )?;
+    let objects = survivors.addresses.len() as u64;
+    let alone = SurvivorHeap::of(alloc, &heap, &survivors, regions, roots)?;
     Ok(Draft {
         heap: alone.heap,
         roots: alone.roots,
         objects,
         dropped_gaps: 0,
-        unresolved: packed.unresolved,
+        unresolved,
     })
 }
 
-/// Why a dump with too many words gives no image.
-fn refusal<R: Intake>(
+/// Returns the error for a dump with too many words. It names the words of the reachable objects, so the dump is read
+/// again.
+fn too_many_words<R: Intake>(
     alloc: Global,
     inventory: Inventory,
     source: &mut R,

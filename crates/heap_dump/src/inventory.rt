@@ -1,4 +1,4 @@
-//! `Inventory`: what the first reading of a dump finds in it.
+//! The first reading of a dump.
 ghost use Rattle.std.specs.Prelude.{◌≤◌, OnOk, ◌≡◌, IsTrue, ◌⊎◌};
 ghost use Rattle.std.specs.Io.KnownBytes.{IsAtEnd};
 
@@ -20,12 +20,13 @@ use std::alloc::{AllocError, Global};
 pub(crate) struct Inventory {
     pub(crate) classes: Classes,
     pub(crate) objects: Objects,
-    /// The ids that roots name, in the order of the dump; once objects have their places, the addresses to which roots lead.
+    /// The ids of the roots, in the order of the dump; once objects have addresses, the addresses to which the roots
+    /// lead.
     pub(crate) roots: Vec<u64>,
 }
 
 impl Inventory {
-    /// Reads a dump to its end. Where two objects have one id, it is read again up to the second of them.
+    /// Reads a dump to its end. If two objects have one id, `again` is read up to the second of them.
     pub(crate) fn of<R: Intake>(
         alloc: Global,
         source: &mut R,
@@ -46,24 +47,25 @@ impl Inventory {
             return Err(second_object(alloc, inventory.objects, again));
         }
         read?;
-        inventory.settle()?;
+        inventory.resolve_instances()?;
         Ok(inventory)
     }
 
-    /// Finds the class and the size of each instance, once all objects are in order.
-    fn settle(&mut self) -> Result<(), AllocError> {
+    /// Determines the class and the size of each instance, once all objects are sorted.
+    fn resolve_instances(&mut self) -> Result<(), AllocError> {
         self.objects.divide()?;
-        self.classes.settle(&self.objects)?;
+        self.classes.resolve(&self.objects)?;
         self.objects.size_instances(&self.classes);
         Ok(())
     }
 
-    /// Lays the objects out and answers how far they reach.
+    /// Computes the layout of the objects without a heap.
     pub(crate) fn measure(&self, keeps_gaps: bool) -> Arrangement {
         self.objects.measure(keeps_gaps)
     }
 
-    /// Gives each object its place in a new heap with regions of `2 ^ region_log` words, and notes its size there.
+    /// Assigns addresses to the objects, in a new heap with regions of `2 ^ region_log` words, and writes their first
+    /// words.
     pub(crate) fn place(
         &mut self,
         alloc: Global,
@@ -79,8 +81,8 @@ impl Inventory {
         Ok((heap, arrangement))
     }
 
-    /// Has roots tell the addresses to which they lead, once the objects have their places, and answers how many lead to no
-    /// object.
+    /// Replaces the ids of roots by addresses, once the objects have addresses, and drops the roots that lead to no
+    /// object. Returns how many those are.
     pub(crate) fn place_roots(&mut self) -> u64 {
         let objects = &self.objects;
         let count = self.roots.len();
@@ -94,16 +96,16 @@ impl Inventory {
         count.saturating_sub(self.roots.len()) as u64
     }
 
-    /// Notes a root, unless it is null.
-    fn note_root(&mut self, id: u64) -> Result<(), AllocError> {
+    /// Adds a root, unless it is null.
+    fn add_root(&mut self, id: u64) -> Result<(), AllocError> {
         if id != 0 {
             self.roots.push(id)?;
         }
         Ok(())
     }
 
-    /// Notes the class whose body comes next.
-    fn note_class<R: Intake>(
+    /// Reads and adds the current class.
+    fn add_class<R: Intake>(
         &mut self,
         dump: &mut Dump,
         source: &mut R,
@@ -115,12 +117,12 @@ impl Inventory {
         let own = contents_of_statics(dump, source)?;
         let class = self.classes.add(id, head.parent, own)?;
         let words = own.words();
-        self.objects.note(dump, id, Object::Sized { class, words })?;
-        self.note_fields(dump, source)
+        self.objects.add(dump, id, Object::Sized { class, words })?;
+        self.add_fields(dump, source)
     }
 
-    /// Notes the fields that the last class adds to instances.
-    fn note_fields<R: Intake>(&mut self, dump: &mut Dump, source: &mut R) -> Result<(), ImportError>
+    /// Reads and adds the instance fields of the last class.
+    fn add_fields<R: Intake>(&mut self, dump: &mut Dump, source: &mut R) -> Result<(), ImportError>
         ensures input { result ≡ Err ImportError.Input → IsTrue (R.has_failed source.new) }
     {
         let count = dump.u16(source)?;
@@ -130,8 +132,8 @@ impl Inventory {
         Ok(())
     }
 
-    /// Notes an instance, and goes on behind it.
-    fn note_instance<R: Intake>(
+    /// Adds an instance, and skips its fields.
+    fn add_instance<R: Intake>(
         &mut self,
         dump: &mut Dump,
         source: &mut R,
@@ -141,12 +143,12 @@ impl Inventory {
     {
         let Instance { id, class, bytes } = instance;
         self.objects
-            .note(dump, id, Object::Instance { bytes, class })?;
+            .add(dump, id, Object::Instance { bytes, class })?;
         dump.skip(source, u64::from(bytes))
     }
 
-    /// Notes an array of these contents, and goes on behind it.
-    fn note_array<R: Intake>(
+    /// Adds an array, and skips its elements.
+    fn add_array<R: Intake>(
         &mut self,
         dump: &mut Dump,
         source: &mut R,
@@ -157,7 +159,7 @@ impl Inventory {
     {
         let words = contents.words();
         self.objects
-            .note(dump, id, Object::Sized { class: 0, words })?;
+            .add(dump, id, Object::Sized { class: 0, words })?;
         dump.skip(source, contents.bytes(dump.ids()))
     }
 }
@@ -170,15 +172,16 @@ impl RecordVisitor for Inventory {
         record: Record,
     ) -> Result<(), ImportError> {
         match record {
-            Record::Root { id } => Ok(self.note_root(id)?),
-            Record::Class { id } => self.note_class(dump, source, id),
-            Record::Instance(instance) => self.note_instance(dump, source, instance),
-            Record::Array { id, contents } => self.note_array(dump, source, id, contents),
+            Record::Root { id } => Ok(self.add_root(id)?),
+            Record::Class { id } => self.add_class(dump, source, id),
+            Record::Instance(instance) => self.add_instance(dump, source, instance),
+            Record::Array { id, contents } => self.add_array(dump, source, id, contents),
         }
     }
 }
 
-/// The contents of a class, whose static fields come next. It refers to its super class, loader, signers and domain too.
+/// Reads the static fields of the current class, and returns the contents of the class object. It also refers to its
+/// superclass, loader, signers and domain.
 pub(crate) fn contents_of_statics<R: Intake>(
     dump: &mut Dump,
     source: &mut R,

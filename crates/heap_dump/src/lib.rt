@@ -1,11 +1,12 @@
 //! Heap dumps of Java virtual machines as images.
 //!
-//! [`import`] reads a dump of the public form HPROF, versions 1.0.1 and 1.0.2, twice, and makes an image of version 2 of it.
-//! What is read and what stands where in the image is said in `docs/DUMPS.md`.
+//! [`import`] reads a dump in the HPROF format, version 1.0.1 or 1.0.2, twice, and makes an image of version 2 of it.
+//! `docs/DUMPS.md` says what is read and where it is in the image.
 //!
-//! **Proved**, for all inputs: the image is valid; at Ok both readings are at the end of the dump; an error of input comes
-//! only where a device failed; no call indexes out of range, overflows or runs forever. **Only tested**: that the objects,
-//! references, roots and figures are those of the dump. See the README.
+//! **Proved**, for all inputs: the image is valid and has the requested region log and allowance, and its roots ascend;
+//! at Ok both readings are at the end of the dump; an input error comes only where a device has failed; no call indexes
+//! out of range, overflows or runs forever. **Only tested**: that the objects, references and roots are those of the
+//! dump. See the README.
 #![tactic(auto)]
 
 mod arrangement;
@@ -22,10 +23,10 @@ mod heap;
 mod importing;
 mod inventory;
 mod limits;
+mod marking;
 mod objects;
 mod options;
 mod packed;
-mod reaching;
 mod record;
 mod record_visitor;
 mod repeats;
@@ -40,6 +41,6 @@ mod window;
 
 pub use draft::Imported;
 pub use error::{ImportError, Problem};
-pub use figures::Figures;
+pub use figures::ImportFigures;
 pub use importing::import;
 pub use options::Options;

@@ -8,7 +8,7 @@ use heap_image::Fault;
 use heap_image::limits::{MAX_HEAP_WORDS, MAX_REGIONS};
 use raw_region::Region;
 
-/// How many words these regions of `2 ^ region_log` words have, where an image may have so many.
+/// The number of words of these regions of `2 ^ region_log` words, if an image may have as many.
 pub(crate) fn words_within_limits(region_log: u32, regions: &[Region]) -> Result<u64, ImportError>
     requires low { 3 ≤ region_log }
     requires high { region_log ≤ 16 }
@@ -28,7 +28,7 @@ pub(crate) fn words_within_limits(region_log: u32, regions: &[Region]) -> Result
     Ok(words)
 }
 
-/// How many words these regions have.
+/// The number of words of these regions.
 fn words_of(regions: &[Region]) -> u64
     requires { length regions.now ≤ 16384 }
     ensures count { result ≡ length (concat regions.now) }
@@ -41,7 +41,7 @@ fn words_of(regions: &[Region]) -> u64
     words
 }
 
-/// How many words these are.
+/// The number of words.
 fn length_of(words: &[u64]) -> u64
     ensures count { result ≡ length words.now }
     ensures fit { All (λ w. w < 2 ^ 64) words.now }

@@ -1,4 +1,4 @@
-//! `Objects`: the objects of a dump by their ids.
+//! The objects of a dump by their ids.
 ghost use Rattle.std.specs.Prelude.{◌≢◌};
 
 use crate::arrangement::Arrangement;
@@ -10,50 +10,50 @@ use crate::sections::Sections;
 use std::alloc::{AllocError, Global};
 use std::mem::size_of;
 
-/// How many objects come before it is first looked whether two have one id.
+/// The number of objects after which ids are first checked for repetition.
 const FIRST_LOOK: usize = 65_536;
 
-/// What is known of an object.
+/// What is known of an object at each step of the import.
 #[derive(Clone, Copy)]
 pub(crate) enum Object {
-    /// An instance of the class with this id, whose fields have so many bytes.
+    /// An instance of the class with this id, whose fields have this number of bytes.
     Instance { bytes: u32, class: u64 },
-    /// It has so many words. A class has its own number, an instance that of its class, and an array 0.
+    /// An object of this number of words. `class` is the number of a class itself, of an instance's class, or 0 for an
+    /// array.
     Sized { class: u32, words: u64 },
-    /// It stands at this address.
+    /// An object at this address.
     Placed { class: u32, address: u64 },
 }
 
-/// An object of a dump.
 #[derive(Clone, Copy)]
 struct Entry {
     id: u64,
     object: Object,
 }
 
-// A dump of empty arrays has 14 bytes for each, and may take three times as many in memory.
+// An empty array has 14 bytes in a dump, and an import may use three times the size of its dump.
 const _: () = prove!(size_of::<Entry>() == 24);
 
-/// Where an object stands.
+/// The place of an object.
 #[derive(Clone, Copy)]
 pub(crate) struct Place {
-    /// Where it is in the order of ids.
+    /// Its index in the order of ids.
     pub(crate) index: usize,
     pub(crate) address: u64,
-    /// The number of the class, or of that of the instance.
+    /// The number of the class itself or of the instance's class, else 0.
     pub(crate) class: u32,
 }
 
 /// The objects of a dump.
 ///
-/// They are kept sorted and nothing is hashed, so that no choice of ids makes an import slow.
+/// They are sorted rather than hashed, so no choice of ids makes an import slow.
 #[derive(Drop)]
 pub(crate) struct Objects {
-    /// In the order of the dump while it is read, and then of ids.
+    /// In the order of the dump while it is read, then of ids.
     entries: Vec<Entry>,
-    /// Where the ids are, once they are in order.
+    /// Where to search for an id, once the ids are sorted.
     sections: Sections,
-    /// How many objects come before it is looked again whether two have one id.
+    /// The number of objects after which ids are next checked for repetition.
     next_look: usize,
     alloc: Global,
 }
@@ -68,15 +68,15 @@ impl Objects {
         }
     }
 
-    /// How many there are.
     pub(crate) fn len(&self) -> usize {
         self.entries.len()
     }
 
-    /// Notes the object of the record that the dump has told last.
+    /// Adds the object of the last record.
     ///
-    /// Two objects with one id are an error, but not always at once: `sort` tells them, and then this error doesn't count.
-    pub(crate) fn note(&mut self, dump: &Dump, id: u64, object: Object) -> Result<(), ImportError>
+    /// A repeated id is not always an error at once. Once all are added, [`sort`](Objects::sort) reports whether one is
+    /// repeated; its position is found by reading the dump again, so the error here is only a reason to stop.
+    pub(crate) fn add(&mut self, dump: &Dump, id: u64, object: Object) -> Result<(), ImportError>
         ensures { result ≢ Err ImportError.Input }
     {
         if id == 0 {
@@ -93,7 +93,7 @@ impl Objects {
         Ok(())
     }
 
-    /// Puts the objects in the order of their ids, and answers whether two have one id.
+    /// Sorts the objects by their ids, and returns whether two have one id.
     pub(crate) fn sort(&mut self) -> bool {
         self.entries.sort_unstable_by_key(|entry| entry.id);
         // No object has id 0.
@@ -107,7 +107,7 @@ impl Objects {
         false
     }
 
-    /// Has objects in the order of their ids found soon.
+    /// Divides the sorted ids into sections, for quick search.
     pub(crate) fn divide(&mut self) -> Result<(), AllocError> {
         let entries = self.entries.as_slice();
         let (Some(first), Some(last)) = (entries.first(), entries.last()) else {
@@ -122,7 +122,7 @@ impl Objects {
         Ok(())
     }
 
-    /// Finds the class and the words of each instance.
+    /// Determines the class and the number of words of each instance.
     pub(crate) fn size_instances(&mut self, classes: &Classes) {
         for index in 0..self.entries.len() {
             let Some(entry) = self.entries.get(index) else {
@@ -139,7 +139,7 @@ impl Objects {
         }
     }
 
-    /// The number of the class with this id, or 0 where the dump has none.
+    /// The number of the class with this id, or 0 if the dump has none.
     pub(crate) fn class_number(&self, classes: &Classes, id: u64) -> u32 {
         let Some(index) = self.index_of(id) else {
             return 0;
@@ -155,7 +155,7 @@ impl Objects {
         }
     }
 
-    /// Lays the objects out and answers how far they reach.
+    /// Computes the layout of the objects without a heap.
     pub(crate) fn measure(&self, keeps_gaps: bool) -> Arrangement {
         let mut arrangement = Arrangement::new(keeps_gaps);
         for entry in self.entries.as_slice() {
@@ -164,7 +164,7 @@ impl Objects {
         arrangement
     }
 
-    /// Gives each object its place, and notes its size there.
+    /// Assigns an address to each object, and writes its first word.
     pub(crate) fn place(&mut self, keeps_gaps: bool, heap: &mut UnsealedHeap) {
         let mut arrangement = Arrangement::new(keeps_gaps);
         for entry in self.entries.as_mut_slice() {
@@ -178,13 +178,13 @@ impl Objects {
         }
     }
 
-    /// The address of the object with this id, once it has its place.
+    /// The address of the object with this id, once it has one.
     pub(crate) fn address_of(&self, id: u64) -> Option<u64> {
         let place = self.place_at(self.index_of(id)?, id)?;
         Some(place.address)
     }
 
-    /// Where the object with this id stands. It is found sooner where it is the one at `guess`.
+    /// The place of the object with this id. It is found without a search if its index is `guess`.
     pub(crate) fn find(&self, id: u64, guess: usize) -> Option<Place> {
         match self.place_at(guess, id) {
             Some(place) => Some(place),
@@ -192,7 +192,7 @@ impl Objects {
         }
     }
 
-    /// Where the object with this id stands, if it is the one at `index`.
+    /// The place of the object with this id, if its index is `index`.
     fn place_at(&self, index: usize, id: u64) -> Option<Place> {
         let entry = self.entries.get(index)?;
         match entry.object {
@@ -205,7 +205,7 @@ impl Objects {
         }
     }
 
-    /// Where the object with this id is in the order of ids.
+    /// The index of the object with this id in the order of ids.
     pub(crate) fn index_of(&self, id: u64) -> Option<usize> {
         let (from, to) = self.sections.around(id)?;
         let near = self.entries.get(from..to)?;
@@ -213,7 +213,7 @@ impl Objects {
         Some(from.saturating_add(index))
     }
 
-    /// Makes the first word of each object a header.
+    /// Turns the first word of each object into a header.
     pub(crate) fn seal(&self, heap: &mut UnsealedHeap) {
         for entry in self.entries.as_slice() {
             if let Object::Placed { address, .. } = entry.object {
@@ -225,7 +225,7 @@ impl Objects {
 }
 
 impl Object {
-    /// How many words it has in an image, once that is known.
+    /// The number of words in an image, or 1 while it is unknown.
     fn words(self) -> u64 {
         match self {
             Object::Sized { words, .. } => words,
@@ -233,7 +233,7 @@ impl Object {
         }
     }
 
-    /// The number of the class, or of that of the instance.
+    /// The number of the class itself or of the instance's class, else 0.
     fn class(self) -> u32 {
         match self {
             Object::Instance { .. } => 0,

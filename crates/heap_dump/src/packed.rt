@@ -1,4 +1,4 @@
-//! `Packed`: all objects of a dump, for what needs more words than an image has.
+//! All objects of a dump without gaps, in a heap that may be larger than an image.
 ghost use Rattle.std.specs.Prelude.{OnOk, ◌≡◌, IsTrue};
 ghost use Rattle.std.specs.Io.KnownBytes.{IsAtEnd};
 
@@ -11,19 +11,19 @@ use heap_image::Intake;
 use heap_image::limits::MAX_REGION_LOG;
 use std::alloc::Global;
 
-/// A heap with all objects of a dump, of any size and without gaps, and its survivors.
+/// A heap of any size with all objects of a dump, without gaps, and its survivors.
 #[derive(Drop)]
 pub(crate) struct Packed {
     pub(crate) heap: UnsealedHeap,
     pub(crate) survivors: Survivors,
-    /// The addresses to which roots lead.
+    /// The addresses of the objects to which roots lead.
     pub(crate) roots: Vec<u64>,
-    /// How many references and roots lead to no object of the dump.
+    /// How many references and roots lead to objects that are missing from the dump.
     pub(crate) unresolved: u64,
 }
 
 impl Packed {
-    /// Reads a dump, whose inventory this is, for the second time.
+    /// Reads the dump of this inventory for the second time.
     pub(crate) fn of<R: Intake>(
         alloc: Global,
         mut inventory: Inventory,
@@ -37,8 +37,14 @@ impl Packed {
             arrangement,
             unresolved,
         } = Transcribed::of(alloc, &mut inventory, source, MAX_REGION_LOG, false)?;
-        // What isn't needed any more is let go before more memory is taken.
-        let Inventory { roots, .. } = inventory;
+        let Inventory {
+            classes,
+            objects,
+            roots,
+        } = inventory;
+        // Freed before more memory is allocated.
+        drop(classes);
+        drop(objects);
         let survivors = Survivors::of(alloc, &heap, arrangement.words(), roots.as_slice())?;
         Ok(Packed {
             heap,

@@ -1,4 +1,3 @@
-//! `RecordVisitor`: what a reading of a dump does with the records of the heap.
 ghost use Rattle.std.specs.Prelude.{◌≡◌, IsTrue};
 
 use crate::dump::Dump;
@@ -6,9 +5,9 @@ use crate::error::ImportError;
 use crate::record::Record;
 use heap_image::Intake;
 
-/// What a reading of a dump does with the records of the heap.
+/// Handles the records of the heap in one reading of a dump.
 pub(crate) trait RecordVisitor {
-    /// Visits a record whose head was read, and reads its body to the end.
+    /// Handles a record whose head has been read, and reads its body to the end.
     fn visit<R: Intake>(
         &mut self,
         dump: &mut Dump,

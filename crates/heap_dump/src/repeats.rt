@@ -1,4 +1,4 @@
-//! `Repeats`: where a dump has a second object with one id.
+//! Finds the first object of a dump that repeats the id of another.
 ghost use Rattle.std.specs.Prelude.{◌≡◌, ◌≢◌, IsTrue};
 
 use crate::dump::Dump;
@@ -10,15 +10,15 @@ use crate::record_visitor::RecordVisitor;
 use heap_image::Intake;
 use std::alloc::Global;
 
-/// Which objects were met.
+/// The objects that have been read again.
 #[derive(Drop)]
 struct Repeats<'a> {
     objects: &'a Objects,
-    /// Of each object in the order of ids, whether it was met.
-    is_met: Vec<bool>,
+    /// One flag per object, in the order of ids.
+    is_seen: Vec<bool>,
 }
 
-/// Reads a dump again in which two of these objects have one id, and answers the error that tells the second of them.
+/// Reads a dump again in which two of these objects have one id, and returns the error at the second of them.
 pub(crate) fn second_object<R: Intake>(
     alloc: Global,
     mut objects: Objects,
@@ -32,7 +32,7 @@ pub(crate) fn second_object<R: Intake>(
     }
 }
 
-/// Reads a dump until an object has an id that another had. It has changed where none does.
+/// Reads a dump up to an object that repeats an id. If none does, the dump has changed.
 fn read_again<R: Intake>(
     alloc: Global,
     objects: &mut Objects,
@@ -44,7 +44,7 @@ fn read_again<R: Intake>(
     objects.divide()?;
     let mut repeats = Repeats {
         objects,
-        is_met: vec![in alloc; false; objects.len()]?,
+        is_seen: vec![in alloc; false; objects.len()]?,
     };
     let mut dump = Dump::open(source)?;
     dump.visit_records(source, &mut repeats)?;
@@ -52,16 +52,16 @@ fn read_again<R: Intake>(
 }
 
 impl Repeats<'_> {
-    /// Notes that the object with this id is met. It is wrong where it was met before.
-    fn meet(&mut self, dump: &Dump, id: u64) -> Result<(), ImportError>
+    /// Sets the flag of the object with this id. It is an error if it was set before.
+    fn see(&mut self, dump: &Dump, id: u64) -> Result<(), ImportError>
         ensures { result ≢ Err ImportError.Input }
     {
         let Some(index) = self.objects.index_of(id) else {
             return Err(dump.problem(Problem::Changed));
         };
-        match self.is_met.get_mut(index) {
-            Some(is_met) if !*is_met => {
-                *is_met = true;
+        match self.is_seen.get_mut(index) {
+            Some(is_seen) if !*is_seen => {
+                *is_seen = true;
                 Ok(())
             }
             _ => Err(dump.problem(Problem::SecondObject(id))),
@@ -79,17 +79,17 @@ impl RecordVisitor for Repeats<'_> {
         match record {
             Record::Root { .. } => Ok(()),
             Record::Class { id } => {
-                self.meet(dump, id)?;
+                self.see(dump, id)?;
                 dump.class_head(source)?;
                 contents_of_statics(dump, source)?;
                 dump.skip_fields(source)
             }
             Record::Instance(instance) => {
-                self.meet(dump, instance.id)?;
+                self.see(dump, instance.id)?;
                 dump.skip(source, u64::from(instance.bytes))
             }
             Record::Array { id, contents } => {
-                self.meet(dump, id)?;
+                self.see(dump, id)?;
                 dump.skip(source, contents.bytes(dump.ids()))
             }
         }

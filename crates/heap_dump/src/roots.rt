@@ -4,8 +4,8 @@ ghost use Rattle.std.specs.List.Sorted.{IsStrictlyIncreasing};
 
 use std::alloc::{AllocError, Global};
 
-/// The roots that lead to these addresses of a heap of so many words, each once, ascending. An address outside the heap is
-/// left out.
+/// Returns the roots that lead to these addresses of a heap of `words` words, each once and ascending. Addresses
+/// outside the heap are ignored.
 pub(crate) fn roots_to(alloc: Global, addresses: &[u64], words: u64) -> Result<Vec<u64>, AllocError>
     ensures few { IfOk result (λ roots. length roots.items ≤ words) }
     ensures inside { IfOk result (λ roots. All (λ root. root ≤ words) roots.items) }
@@ -21,7 +21,7 @@ pub(crate) fn roots_to(alloc: Global, addresses: &[u64], words: u64) -> Result<V
     Ok(roots)
 }
 
-/// Of each address of a heap of so many words, whether it is one of these.
+/// For each address of a heap of `words` words, whether it is one of these.
 fn marks_of(alloc: Global, addresses: &[u64], words: u64) -> Result<Vec<bool>, AllocError>
     ensures { IfOk result (λ marks. length marks.items ≡ words) }
 {

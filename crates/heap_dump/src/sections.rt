@@ -1,27 +1,27 @@
-//! `Sections`: where to look for an id among the ids of a dump, which ascend.
+//! An index that narrows the search for an id among ascending ids.
 ghost use Rattle.std.specs.Prelude.{◌<◌};
 
 use std::alloc::{AllocError, Global};
 
-/// How many ids a section has on average.
+/// The number of ids of a section on average.
 const USUAL_IDS: usize = 4;
 
-/// The range of the ids of a dump in sections of one width.
+/// The range of ids of a dump, divided into sections of equal width.
 ///
-/// Most ids lie evenly, so a section has few. However they lie, those of a section are in order.
+/// Ids are mostly spread evenly, so a section has few. However they are spread, the ids of a section ascend, so it can
+/// be searched by bisection.
 #[derive(Drop)]
 pub(crate) struct Sections {
-    /// The lowest id.
     low: u64,
-    /// The logarithm, to base 2, of the width of a section.
+    /// The base-2 logarithm of the width of a section.
     width_log: u32,
-    /// Of each section, how many ids are below it; and at the end how many there are.
+    /// For each section, how many ids are below it; last, the number of all ids.
     below: Vec<usize>,
     ghost narrow: { width_log < 64 },
 }
 
 impl Sections {
-    /// There is no id yet.
+    /// No ids.
     pub(crate) fn new(alloc: Global) -> Sections {
         Sections {
             low: 0,
@@ -30,7 +30,7 @@ impl Sections {
         }
     }
 
-    /// Sections for so many ids between these two.
+    /// Sections for `count` ids from `low` to `high`.
     pub(crate) fn between(alloc: Global, low: u64, high: u64, count: usize) -> Sections {
         let most = (count / USUAL_IDS) as u64 + 1;
         let widest = high.saturating_sub(low) / most;
@@ -50,13 +50,13 @@ impl Sections {
         Ok(())
     }
 
-    /// Ends the last section, behind so many ids.
+    /// Ends the last section after `count` ids.
     pub(crate) fn end(&mut self, count: usize) -> Result<(), AllocError> {
         self.below.push(count)?;
         Ok(())
     }
 
-    /// From which index to which an id is, if it is there.
+    /// The range of indexes in which an id is, if it is there.
     pub(crate) fn around(&self, id: u64) -> Option<(usize, usize)> {
         let section = (id.checked_sub(self.low)? >> self.width_log) as usize;
         let from = *self.below.get(section)?;

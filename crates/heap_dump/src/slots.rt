@@ -1,31 +1,30 @@
-//! `Slots`: the words of one object, while they are filled in.
+//! Fills in the words of one object.
 ghost use Rattle.std.specs.Prelude.{◌<◌};
 
 use crate::heap::UnsealedHeap;
 use byteorder::{ByteOrder, LittleEndian};
 
-/// Where the next reference and the next primitive data of an object go.
+/// The addresses of the next reference and the next primitive data of an object.
 ///
-/// The data's bytes stand in the image's text as they stand in the dump, with zeros behind them up to the end of the last
-/// word.
+/// The bytes of an image have the data as the dump has them, padded with zeros up to the end of the last word.
 #[derive(Drop)]
 pub(crate) struct Slots {
     /// The address of the next reference.
     reference: u64,
-    /// The address behind the last reference.
+    /// The end of the references.
     references_end: u64,
     /// The address of the next word of data.
     data: u64,
-    /// The address behind the object.
+    /// The end of the object.
     end: u64,
-    /// The bytes of the next word of data that have come.
+    /// The bytes of the next word of data, as far as they are read.
     held: [u8; 8],
     held_count: usize,
     ghost few_held: { held_count < 8 },
 }
 
 impl Slots {
-    /// The slots of an object at this address with so many references and words.
+    /// The slots of an object at this address with this number of references and words.
     pub(crate) fn new(address: u64, references: u64, words: u64) -> Slots {
         let first = address.saturating_add(1);
         let data = first.saturating_add(references);
@@ -39,7 +38,7 @@ impl Slots {
         }
     }
 
-    /// Puts the next reference, and answers whether there was room.
+    /// Puts the next reference, and returns whether there was room.
     pub(crate) fn put_reference(&mut self, heap: &mut UnsealedHeap, reference: u64) -> bool {
         if self.reference >= self.references_end {
             return false;
@@ -49,16 +48,16 @@ impl Slots {
         true
     }
 
-    /// Puts the next bytes of data, and answers whether there was room.
+    /// Puts the next bytes of data, and returns whether there was room.
     pub(crate) fn put_data(&mut self, heap: &mut UnsealedHeap, bytes: &[u8]) -> bool {
         let mut rest = bytes;
         while let Some((first, more)) = rest.split_first() {
             if self.held_count == 0 && rest.len() >= 8 {
-                let (word, behind) = rest.split_at(8);
+                let (word, after) = rest.split_at(8);
                 if !self.put_word(heap, LittleEndian::read_u64(word)) {
                     return false;
                 }
-                rest = behind;
+                rest = after;
             } else {
                 if !self.put_byte(heap, *first) {
                     return false;
@@ -78,7 +77,7 @@ impl Slots {
         self.put_held(heap)
     }
 
-    /// Puts the word of which bytes are held.
+    /// Puts the word whose bytes are held.
     fn put_held(&mut self, heap: &mut UnsealedHeap) -> bool {
         let word = LittleEndian::read_u64(&self.held);
         self.held = [0; 8];
@@ -95,7 +94,7 @@ impl Slots {
         true
     }
 
-    /// Puts what is still held, and answers whether the object is full.
+    /// Puts the bytes that are still held, and returns whether the object is full.
     pub(crate) fn close(mut self, heap: &mut UnsealedHeap) -> bool {
         if self.held_count > 0 && !self.put_held(heap) {
             return false;

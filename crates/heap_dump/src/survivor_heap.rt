@@ -1,42 +1,40 @@
-//! `SurvivorHeap`: the survivors of a heap, moved together.
+//! Copies the survivors of a heap into a new one, without gaps.
 use crate::forwarding::Forwarding;
 use crate::heap::UnsealedHeap;
 use crate::options::Regions;
 use crate::survivors::Survivors;
 use std::alloc::{AllocError, Global};
 
-/// The survivors of a heap alone.
+/// A heap of survivors only.
 #[derive(Drop)]
 pub(crate) struct SurvivorHeap {
     pub(crate) heap: UnsealedHeap,
-    /// The new addresses of what roots lead to.
+    /// The new addresses of the objects to which roots lead.
     pub(crate) roots: Vec<u64>,
 }
 
 impl SurvivorHeap {
-    /// A heap with the survivors of this one, in their order and without gaps, in such regions. The roots lead to these
-    /// addresses.
+    /// Copies the survivors of a heap in their order and without gaps into a new one with these regions. `roots` are
+    /// old addresses.
     pub(crate) fn of(
         alloc: Global,
         old: &UnsealedHeap,
         survivors: &Survivors,
         regions: Regions,
-        roots: &[u64],
+        mut roots: Vec<u64>,
     ) -> Result<SurvivorHeap, AllocError> {
         let forwarding = Forwarding::of(alloc, old, survivors.addresses.as_slice())?;
         let mut heap = UnsealedHeap::new(alloc, regions.log, survivors.words)?;
         for (from, to) in survivors.addresses.iter().zip(forwarding.addresses()) {
             forwarding.copy(old, &mut heap, *from, *to);
         }
-        let mut new_roots = Vec::new(alloc);
-        for root in roots {
-            if let Some(address) = forwarding.find(*root) {
-                new_roots.push(address)?;
+        roots.retain_mut(|root| match forwarding.find(*root) {
+            Some(address) => {
+                *root = address;
+                true
             }
-        }
-        Ok(SurvivorHeap {
-            heap,
-            roots: new_roots,
-        })
+            None => false,
+        });
+        Ok(SurvivorHeap { heap, roots })
     }
 }

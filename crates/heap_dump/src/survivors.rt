@@ -1,35 +1,36 @@
-//! `Survivors`: the objects of a heap that are reached from roots, for heaps that are larger than an image may be.
+//! The reachable objects of a heap that may be larger than an image. `mark_from_roots` serves only heaps within the
+//! limits.
 use crate::heap::{UnsealedHeap, size};
-use crate::reaching::Reaching;
+use crate::marking::Marking;
 use std::alloc::{AllocError, Global};
 
-/// The objects that are reached from the roots of a heap without gaps.
+/// The objects of a heap without gaps that are reachable from its roots.
 #[derive(Drop)]
 pub(crate) struct Survivors {
     /// Their addresses, ascending.
     pub(crate) addresses: Vec<u64>,
-    /// How many words they have.
+    /// The number of their words.
     pub(crate) words: u64,
 }
 
 impl Survivors {
-    /// What is reached from objects at these addresses, in a heap whose objects stand without gaps up to an address.
+    /// Finds the objects that are reachable from the objects at `roots`. The objects of the heap end at `end`.
     pub(crate) fn of(
         alloc: Global,
         heap: &UnsealedHeap,
         end: u64,
         roots: &[u64],
     ) -> Result<Survivors, AllocError> {
-        let reaching = Reaching::from_roots(alloc, heap, roots)?;
-        Survivors::reached(alloc, heap, end, &reaching)
+        let marking = Marking::from_roots(alloc, heap, roots)?;
+        Survivors::list(alloc, heap, end, &marking)
     }
 
-    /// The objects that were reached, in the order of their addresses.
-    fn reached(
+    /// Lists the marked objects in the order of their addresses.
+    fn list(
         alloc: Global,
         heap: &UnsealedHeap,
         end: u64,
-        reaching: &Reaching,
+        marking: &Marking,
     ) -> Result<Survivors, AllocError> {
         let mut survivors = Survivors {
             addresses: Vec::new(alloc),
@@ -38,7 +39,7 @@ impl Survivors {
         let mut at = 0u64;
         while at < end {
             let words = size(heap.word(at)).max(1);
-            if reaching.is_reached(at) {
+            if marking.is_marked(at) {
                 survivors.addresses.push(at)?;
                 survivors.words = survivors.words.saturating_add(words);
             }

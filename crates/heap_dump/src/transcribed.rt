@@ -1,4 +1,4 @@
-//! `Transcribed`: a heap with all objects of a dump.
+//! A heap with all objects of a dump.
 ghost use Rattle.std.specs.Prelude.{◌≤◌, OnOk, ◌≡◌, IsTrue};
 ghost use Rattle.std.specs.Io.KnownBytes.{IsAtEnd};
 
@@ -14,15 +14,14 @@ use std::alloc::Global;
 #[derive(Drop)]
 pub(crate) struct Transcribed {
     pub(crate) heap: UnsealedHeap,
-    /// Where the objects stand.
     pub(crate) arrangement: Arrangement,
-    /// How many references and roots lead to no object of the dump.
+    /// How many references and roots lead to objects that are missing from the dump.
     pub(crate) unresolved: u64,
 }
 
 impl Transcribed {
-    /// Gives the objects of a dump their places in regions of `2 ^ region_log` words, reads the dump to its end, and has the
-    /// roots of the inventory lead to addresses.
+    /// Assigns addresses to the objects of a dump, in regions of `2 ^ region_log` words, reads the dump to its end to
+    /// fill them in, and replaces the ids of the inventory's roots by addresses.
     pub(crate) fn of<R: Intake>(
         alloc: Global,
         inventory: &mut Inventory,

@@ -1,4 +1,4 @@
-//! `Transcription`: the second reading of a dump, which puts the values of the objects into their words.
+//! The second reading of a dump, which copies the values of the objects into their words.
 ghost use Rattle.std.specs.Prelude.{◌<◌, ◌≤◌, OnOk, ◌≡◌, IsTrue, ◌≢◌};
 ghost use Rattle.std.specs.Io.KnownBytes.{IsAtEnd};
 
@@ -15,22 +15,21 @@ use crate::record_visitor::RecordVisitor;
 use crate::slots::Slots;
 use heap_image::Intake;
 
-/// A heap into which the values of the objects are being put.
+/// A heap into which the values of the objects are copied.
 #[derive(Drop)]
 pub(crate) struct Transcription<'a> {
     inventory: &'a Inventory,
     heap: UnsealedHeap,
-    /// The place behind the last object in the order of ids, where the next one often is.
+    /// The index after the last object in the order of ids, where the next one often is.
     next: usize,
-    /// How many objects are done.
     done: usize,
-    /// How many references lead to no object of the dump.
+    /// How many references lead to objects that are missing from the dump.
     unresolved: u64,
 }
 
 impl Transcription<'_> {
-    /// Reads a dump to its end and puts the values of its objects, which have their places in this heap. Answers the heap
-    /// and how many references lead to no object of the dump.
+    /// Reads a dump to its end and copies the values of its objects to their addresses in this heap. Returns the heap,
+    /// and how many references lead to objects that are missing from the dump.
     pub(crate) fn of<R: Intake>(
         inventory: &Inventory,
         heap: UnsealedHeap,
@@ -51,7 +50,7 @@ impl Transcription<'_> {
         transcription.finish(&dump)
     }
 
-    /// The heap, once all objects are done.
+    /// Returns the heap. It is an error if objects of the first reading are missing.
     fn finish(self, dump: &Dump) -> Result<(UnsealedHeap, u64), ImportError>
         ensures { result ≢ Err ImportError.Input }
     {
@@ -68,7 +67,7 @@ impl Transcription<'_> {
         Ok((heap, unresolved))
     }
 
-    /// Where the object with this id stands.
+    /// Finds the object with this id.
     fn find(&mut self, dump: &Dump, id: u64) -> Result<Place, ImportError>
         ensures { result ≢ Err ImportError.Input }
     {
@@ -79,7 +78,7 @@ impl Transcription<'_> {
         Ok(place)
     }
 
-    /// Begins the object at this address, which has these contents.
+    /// Begins the object at this address. It is an error if it has another size than in the first reading.
     fn begin(&mut self, dump: &Dump, address: u64, contents: Contents) -> Result<Slots, ImportError>
         ensures { result ≢ Err ImportError.Input }
     {
@@ -91,7 +90,7 @@ impl Transcription<'_> {
         Ok(Slots::new(address, contents.references, contents.words()))
     }
 
-    /// Ends an object, all of whose values were put.
+    /// Ends an object. It is an error if a value is missing.
     fn end(&mut self, dump: &Dump, slots: Slots) -> Result<(), ImportError>
         ensures { result ≢ Err ImportError.Input }
     {
@@ -102,7 +101,7 @@ impl Transcription<'_> {
         Ok(())
     }
 
-    /// Puts the reference to the object with the id that comes next.
+    /// Reads an id, and puts the reference to its object.
     fn copy_reference<R: Intake>(
         &mut self,
         dump: &mut Dump,
@@ -115,7 +114,7 @@ impl Transcription<'_> {
         self.put_reference(dump, id, slots)
     }
 
-    /// Puts the reference to the object with this id. One that leads to no object of the dump becomes null.
+    /// Puts the reference to the object with this id, or null if the dump has no such object.
     fn put_reference(&mut self, dump: &Dump, id: u64, slots: &mut Slots) -> Result<(), ImportError>
         ensures { result ≢ Err ImportError.Input }
     {
@@ -132,7 +131,7 @@ impl Transcription<'_> {
         Ok(())
     }
 
-    /// Puts a value of this type, which comes next.
+    /// Reads and puts a value of this type.
     fn copy_value<R: Intake>(
         &mut self,
         dump: &mut Dump,
@@ -154,7 +153,7 @@ impl Transcription<'_> {
         Ok(())
     }
 
-    /// Puts so many bytes of data, which come next.
+    /// Reads and puts `count` bytes of data.
     fn copy_data<R: Intake>(
         &mut self,
         dump: &mut Dump,
@@ -176,7 +175,7 @@ impl Transcription<'_> {
         Ok(())
     }
 
-    /// Copies the class whose body comes next.
+    /// Reads and copies the current class.
     fn copy_class<R: Intake>(
         &mut self,
         dump: &mut Dump,
@@ -197,7 +196,7 @@ impl Transcription<'_> {
         self.end(dump, slots)
     }
 
-    /// Puts the references to a class's super class, loader, signers and domain.
+    /// Puts the references to a class's superclass, loader, signers and domain.
     fn put_head(
         &mut self,
         dump: &Dump,
@@ -213,7 +212,7 @@ impl Transcription<'_> {
         Ok(())
     }
 
-    /// Puts the static fields of a class, which come next.
+    /// Reads and puts the static fields of a class.
     fn copy_statics<R: Intake>(
         &mut self,
         dump: &mut Dump,
@@ -230,7 +229,7 @@ impl Transcription<'_> {
         Ok(())
     }
 
-    /// Copies an instance, whose fields come next.
+    /// Reads and copies the fields of an instance.
     fn copy_instance<R: Intake>(
         &mut self,
         dump: &mut Dump,
@@ -246,7 +245,7 @@ impl Transcription<'_> {
         self.end(dump, slots)
     }
 
-    /// The contents of the fields of an instance, whose class has this number if the dump has not changed.
+    /// The contents of the fields of an instance. Its class has the number `class`, unless the dump has changed.
     fn contents_of(
         &self,
         dump: &Dump,
@@ -276,7 +275,7 @@ impl Transcription<'_> {
             .ok_or(dump.problem(Problem::InstanceSize(instance.bytes)))
     }
 
-    /// Puts the fields of the class with this number, which come next, and then those of the classes above it.
+    /// Reads and puts the instance fields of the class with this number, then those of its superclasses.
     fn copy_fields<R: Intake>(
         &mut self,
         dump: &mut Dump,
@@ -298,7 +297,7 @@ impl Transcription<'_> {
         Ok(())
     }
 
-    /// Puts values of these types, which come next.
+    /// Reads and puts values of these types.
     fn copy_values<R: Intake>(
         &mut self,
         dump: &mut Dump,
@@ -314,7 +313,7 @@ impl Transcription<'_> {
         Ok(())
     }
 
-    /// Copies an array of these contents, whose elements come next.
+    /// Reads and copies the elements of an array.
     fn copy_array<R: Intake>(
         &mut self,
         dump: &mut Dump,
@@ -350,7 +349,7 @@ impl RecordVisitor for Transcription<'_> {
     }
 }
 
-/// Of how many bytes the next pieces of so many are: whole words, as long as there are.
+/// The unit in which `rest` bytes are copied: whole words while there are any, then bytes.
 fn unit_of(rest: u64) -> usize
     requires { 0 < rest }
     ensures some { 1 ≤ result }

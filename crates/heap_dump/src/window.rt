@@ -1,4 +1,4 @@
-//! `Window`: the bytes of a dump, as they come.
+//! Buffers the bytes of a dump.
 ghost use Rattle.std.specs.Prelude.{◌≡◌, ◌<◌, ◌≤◌, ◌+◌, ◌-◌, ◌*◌, length, true, false, IfOk, OnOk, IsTrue, ◌≢◌};
 ghost use Rattle.std.specs.Io.KnownBytes.{IsAtEnd};
 
@@ -6,28 +6,28 @@ use crate::error::{ImportError, Problem};
 use byteorder::{BigEndian, ByteOrder};
 use heap_image::Intake;
 
-/// How many bytes are asked for at a time, at most.
+/// The size of the buffer, and the most bytes that are requested at a time.
 const ROOM: usize = 8192;
 
-/// The next bytes of a dump, and how many of them belong to the record that is being read.
+/// The next bytes of a dump, and how many of them belong to the current record.
 #[derive(Drop)]
 pub(crate) struct Window {
     bytes: [u8; ROOM],
-    /// The bytes from `start` to `end` have come and were not read.
+    /// The bytes from `start` to `end` are buffered and unread.
     start: usize,
     end: usize,
-    /// How many bytes of the dump were read.
+    /// The offset of the next unread byte in the dump.
     offset: u64,
-    /// How many bytes the record still has.
+    /// How many bytes of the record are unread.
     left: u64,
     ghost ordered: { start ≤ end },
     ghost within: { end ≤ 8192 },
 }
 
 impl Window {
-    ghost use Rattle.heap_dump.specs.Window.{held};
+    ghost use Rattle.heap_dump.specs.Window.{unread};
 
-    /// No byte has come yet, and no record was begun.
+    /// Before the first byte.
     pub(crate) fn new() -> Window {
         Window {
             bytes: [0; ROOM],
@@ -38,22 +38,22 @@ impl Window {
         }
     }
 
-    /// How many bytes of the dump were read.
+    /// The offset of the next unread byte in the dump.
     pub(crate) fn offset(&self) -> u64 {
         self.offset
     }
 
-    /// How many bytes the record still has.
+    /// How many bytes of the record are unread.
     pub(crate) fn left(&self) -> u64 {
         self.left
     }
 
-    /// Begins a record that has so many bytes.
+    /// Begins a record of `length` bytes.
     pub(crate) fn begin(&mut self, length: u64) {
         self.left = length;
     }
 
-    /// What is wrong with the byte that comes next.
+    /// An error at the next byte.
     pub(crate) fn problem(&self, problem: Problem) -> ImportError
         ensures { result ≢ ImportError.Input }
     {
@@ -68,13 +68,13 @@ impl Window {
         ensures end { result ≡ Ok true → IsAtEnd (R.left source.new) }
         ensures input { result ≡ Err ImportError.Input → IsTrue (R.has_failed source.new) }
     {
-        Ok(!self.hold(source, 1)?)
+        Ok(!self.buffer(source, 1)?)
     }
 
-    /// Brings up so many bytes, and says whether the dump has them.
-    fn hold<R: Intake>(&mut self, source: &mut R, count: usize) -> Result<bool, ImportError>
+    /// Buffers at least `count` unread bytes, and returns whether the dump has as many.
+    fn buffer<R: Intake>(&mut self, source: &mut R, count: usize) -> Result<bool, ImportError>
         requires { count ≤ 8192 }
-        ensures held { result ≡ Ok true → count ≤ held self.new }
+        ensures unread { result ≡ Ok true → count ≤ unread self.new }
         ensures left { self.new.left ≡ self.old.left }
         ensures end { result ≡ Ok false → IsAtEnd (R.left source.new) }
         ensures input { result ≡ Err ImportError.Input → IsTrue (R.has_failed source.new) }
@@ -93,7 +93,7 @@ impl Window {
         Ok(true)
     }
 
-    /// Moves what has come and was not read to the front.
+    /// Moves the unread bytes to the front of the buffer.
     fn make_room(&mut self)
         ensures start { self.new.start ≡ 0 }
         ensures end { self.new.end ≡ self.old.end - self.old.start }
@@ -104,51 +104,51 @@ impl Window {
         self.start = 0;
     }
 
-    /// Brings up so many bytes of the record, or says what is wrong where it has fewer.
+    /// Buffers at least `count` unread bytes. It is an error if the record or the dump has fewer.
     pub(crate) fn need<R: Intake>(
         &mut self,
         source: &mut R,
         count: usize,
     ) -> Result<(), ImportError>
         requires { count ≤ 8192 }
-        ensures held { OnOk result (count ≤ held self.new) }
+        ensures unread { OnOk result (count ≤ unread self.new) }
         ensures left { OnOk result (count ≤ self.new.left) }
         ensures input { result ≡ Err ImportError.Input → IsTrue (R.has_failed source.new) }
     {
         if self.left < count as u64 {
             return Err(self.problem(Problem::PastRecord));
         }
-        if self.hold(source, count)? {
+        if self.buffer(source, count)? {
             return Ok(());
         }
-        let held = (self.end - self.start) as u64;
+        let unread = (self.end - self.start) as u64;
         Err(ImportError::Malformed {
-            offset: self.offset.saturating_add(held),
+            offset: self.offset.saturating_add(unread),
             problem: Problem::Cut,
         })
     }
 
-    /// The first of the bytes that have come.
+    /// The first `count` unread bytes.
     pub(crate) fn front(&self, count: usize) -> &[u8]
-        requires { count ≤ held self.now }
+        requires { count ≤ unread self.now }
         ensures { length result.now ≡ count }
     {
-        let (held, _) = self.bytes.split_at(self.end);
-        let (_, unread) = held.split_at(self.start);
+        let (buffered, _) = self.bytes.split_at(self.end);
+        let (_, unread) = buffered.split_at(self.start);
         &unread[..count]
     }
 
-    /// Goes on behind so many bytes that have come.
+    /// Consumes `count` buffered bytes.
     pub(crate) fn pass(&mut self, count: usize)
-        requires { count ≤ held self.old }
+        requires { count ≤ unread self.old }
     {
         self.start += count;
         self.offset = self.offset.saturating_add(count as u64);
         self.left = self.left.saturating_sub(count as u64);
     }
 
-    /// Brings up whole units of so many bytes, as many as have come and at most so many bytes, and answers how many bytes
-    /// these are. At least one unit comes.
+    /// Buffers at least one unit of `unit` bytes, and returns the number of bytes of whole units that are buffered,
+    /// `most` at most.
     pub(crate) fn piece<R: Intake>(
         &mut self,
         source: &mut R,
@@ -158,18 +158,17 @@ impl Window {
         requires some { 1 ≤ unit }
         requires small { unit ≤ 8192 }
         requires room { unit ≤ most }
-        ensures held { IfOk result (λ count. count ≤ held self.new) }
+        ensures unread { IfOk result (λ count. count ≤ unread self.new) }
         ensures some { IfOk result (λ count. 1 ≤ count) }
         ensures within { IfOk result (λ count. count ≤ most) }
         ensures input { result ≡ Err ImportError.Input → IsTrue (R.has_failed source.new) }
     {
         self.need(source, unit)?;
-        let held = (self.end - self.start) as u64;
-        let bytes = held.min(most).min(self.left) as usize;
+        let unread = (self.end - self.start) as u64;
+        let bytes = unread.min(most).min(self.left) as usize;
         Ok(bytes - bytes % unit)
     }
 
-    /// Reads a number of one byte.
     pub(crate) fn u8<R: Intake>(&mut self, source: &mut R) -> Result<u8, ImportError>
         ensures input { result ≡ Err ImportError.Input → IsTrue (R.has_failed source.new) }
     {
@@ -179,7 +178,6 @@ impl Window {
         Ok(number)
     }
 
-    /// Reads a number of two bytes.
     pub(crate) fn u16<R: Intake>(&mut self, source: &mut R) -> Result<u16, ImportError>
         ensures input { result ≡ Err ImportError.Input → IsTrue (R.has_failed source.new) }
     {
@@ -189,7 +187,6 @@ impl Window {
         Ok(number)
     }
 
-    /// Reads a number of four bytes.
     pub(crate) fn u32<R: Intake>(&mut self, source: &mut R) -> Result<u32, ImportError>
         ensures input { result ≡ Err ImportError.Input → IsTrue (R.has_failed source.new) }
     {
@@ -199,7 +196,6 @@ impl Window {
         Ok(number)
     }
 
-    /// Reads a number of eight bytes.
     pub(crate) fn u64<R: Intake>(&mut self, source: &mut R) -> Result<u64, ImportError>
         ensures input { result ≡ Err ImportError.Input → IsTrue (R.has_failed source.new) }
     {
@@ -209,7 +205,7 @@ impl Window {
         Ok(number)
     }
 
-    /// Goes on behind so many bytes of the record, which need not have come.
+    /// Skips `count` bytes of the record, whether buffered or not.
     pub(crate) fn skip<R: Intake>(&mut self, source: &mut R, count: u64) -> Result<(), ImportError>
         ensures input { result ≡ Err ImportError.Input → IsTrue (R.has_failed source.new) }
     {

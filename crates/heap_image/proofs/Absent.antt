@@ -16,7 +16,7 @@ use Rattle.heap_image.proofs.Masks.{low_mask, low_mask-bit}
 abbrev pub absent : List ℕ → ℕ → Bool
 absent words k = not (has words k)
 
--- rest has a bit for each bit of the word with index i that is not set and lies at `from` or behind it
+-- rest has a bit for each bit of the word with index i that is not set and lies at `from` or after it
 abbrev pub IsLack : List ℕ → ℕ → ℕ → ℕ → Type 0
 IsLack words from i rest = (j : ℕ) → j < 64 → eqb (bit_at rest j) 1 ≡ (absent words (64 * i + j) && leb from (64 * i + j))
 
@@ -77,7 +77,7 @@ lack-first words from word back turn is j l =
         (λ h. let a : from % 64 ≤ j = leb-true (from % 64) j h in le-leb from (64 * (from / 64) + j) (omega arith))
         (λ h. let a : from ≤ 64 * (from / 64) + j = leb-true from (64 * (from / 64) + j) h in le-leb (from % 64) j (omega arith))
 
--- a word behind the first
+-- a word after the first
 pub lack-behind : (words : List ℕ) (from i word back : ℕ) → IsBack word back → from / 64 < i → word ≡ get_or words i 0 → IsLack words from i back
 lack-behind words from i word back turn behind is j l =
     let e : (64 * i + j) / 64 ≡ i = omega arith in
@@ -137,6 +137,6 @@ found-lack words i h =
     let is = position-Some not_full words i 0 h in
     (eqb-false (get_or words i 0) 18446744073709551615 (not-true (eqb (get_or words i 0) 18446744073709551615) is.1), is.0)
 
--- from a place behind the words on, none is set
+-- from a place after the words on, none is set
 pub first-past : (words : List ℕ) (from to : ℕ) → length words ≤ to / 64 → from ≤ to → ((k : ℕ) → from ≤ k → k < to → absent words k ≡ false) → IsFirstFrom (absent words) from to
 first-past words from to long up all = record { behind = up; passes = absent-past words to long; least = all }

@@ -57,7 +57,7 @@ module _ (r : ℕ) where
     pub word_by_block : (a : ℕ) → a < length (concat blocks) → get_or (concat blocks) a 0 ≡ get_or (get_or blocks (a / r) []) (a % r) 0
     word_by_block a l = ap (λ n. get_or (concat blocks) n 0) (sym (div-add-mod' a r)) ∙ concat_at blocks same (a / r) (a % r) (block_below a l) (mod_below a r some)
 
-    -- the words behind it in its block
+    -- the words after it in its block
     pub word_behind : (a i : ℕ) → a < length (concat blocks) → a % r + i < r → get_or (concat blocks) (a + i) 0 ≡ get_or (get_or blocks (a / r) []) (a % r + i) 0
     word_behind a i l m =
         let whole = div-add-mod' a r in

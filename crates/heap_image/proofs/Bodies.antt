@@ -9,7 +9,7 @@ use Rattle.heap_image.specs.declared.body_size.BodySize.{BodySize}
 use Rattle.heap_image.proofs.BlockWords.{length-concat}
 use Rattle.heap_image.proofs.TextLaws.{length-numbers}
 
--- so many blocks have so many words
+-- the number of words of these blocks
 pub length-blocks : (log many : ℕ) (regions : List (List ℕ)) → AreBlocks log regions → length regions ≡ many → length (concat regions) ≡ many * 2 ^ log
 length-blocks log many regions blocks count = length-concat (2 ^ log) regions blocks ∙ ap (λ n. n * 2 ^ log) count
 

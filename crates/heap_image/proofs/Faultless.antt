@@ -12,11 +12,11 @@ use Rattle.std.proofs.lemmas.List.Folds.{find-append}
 use Rattle.heap_image.specs.Reading.{HasFittingNumbers}
 use Rattle.heap_image.specs.declared.fault.Fault.TheVariants.{TruncatedHeader, RegionLog, Length, TruncatedBody, LiveOrder, Header, Overlap, Reference, Trailing, Magic, Root}
 use Rattle.heap_image.specs.HeapImage.{HeapImage, IsValid, IsWithinLimits, HasLiveList, heap_words, end_of, size_at, references_at, kind_at, reference_at, is_null_or_live, AreRoots, roots_or}
-use Rattle.heap_image.specs.ImageText.{front, numbers, text, listed_text, with_tail, from_tail, magic, is_rooted, misplaced_root, told_image, front_faults, layout_faults, live_list_faults, told_words, told_count, told_region_log, told_length, told_region_words, first_fault, first_some, fault_if, is_misplaced, misplaced_index, unsound_header, overlapping, dangling, object_faults, first_object_fault}
+use Rattle.heap_image.specs.ImageText.{front, numbers, text, listed_text, with_tail, from_tail, magic, is_rooted, misplaced_root, encoded_image, front_faults, layout_faults, live_list_faults, encoded_words, encoded_count, encoded_region_log, encoded_length, encoded_region_words, first_fault, first_some, fault_if, is_misplaced, misplaced_index, unsound_header, overlapping, dangling, object_faults, first_object_fault}
 use Rattle.heap_image.specs.declared.fault.Fault.{Fault}
 use Rattle.heap_image.proofs.Spans.{Apart}
 use Rattle.heap_image.proofs.LiveWords.{live_apart, live_end-le}
-use Rattle.heap_image.proofs.TextLaws.{valid_numbers, told_image-append, from_tail-with_tail, length_told, fronted, front_log, front_live, front_words, front_length}
+use Rattle.heap_image.proofs.TextLaws.{valid_numbers, encoded_image-append, from_tail-with_tail, length_told, fronted, front_log, front_live, front_words, front_length}
 
 pub find_none : {X : Type 0} (t : X → Bool) (xs : List X) (d : X) → ((i : ℕ) → i < length xs → t (get_or xs i d) ≡ false) → find t xs ≡ None
 find_none t [] d h = refl
@@ -110,15 +110,15 @@ known_magic : (rooted : Bool) → not (bytes_eq (magic rooted) (magic false) || 
 known_magic true = refl
 known_magic false = refl
 
--- a front within the limits is without a fault, whatever stands behind it
+-- a front within the limits is without a fault, whatever follows it
 module _ (rooted : Bool) (log live_count words allowance : ℕ) (limits : IsWithinLimits log words live_count) (behind : List ℕ) where
   abbrev whole : List ℕ
   whole = fronted rooted log live_count words allowance limits behind
 
-  region_words_told : told_region_words whole ≡ 2 ^ log
+  region_words_told : encoded_region_words whole ≡ 2 ^ log
   region_words_told = ap (λ n. 2 ^ n) (front_log rooted log live_count words allowance limits behind)
 
-  lengths : (eqb (told_words whole) 0 || not (eqb (told_words whole % told_region_words whole) 0) || ltb 4194304 (told_words whole) || ltb 16384 (told_words whole / told_region_words whole) || ltb (told_words whole) (told_count whole)) ≡ false
+  lengths : (eqb (encoded_words whole) 0 || not (eqb (encoded_words whole % encoded_region_words whole) 0) || ltb 4194304 (encoded_words whole) || ltb 16384 (encoded_words whole / encoded_region_words whole) || ltb (encoded_words whole) (encoded_count whole)) ≡ false
   lengths =
       let one : eqb words 0 ≡ false = ne_eqb words 0 (λ z. let s = limits.not_empty in omega arith) in
       let two : not (eqb (words % 2 ^ log) 0) ≡ false = ap not (eq-eqb (words % 2 ^ log) 0 limits.whole_regions) in
@@ -130,30 +130,30 @@ module _ (rooted : Bool) (log live_count words allowance : ℕ) (limits : IsWith
   pub front_faults-None : first_some (front_faults whole) ≡ None
   front_faults-None =
       let long : length whole ≡ 32 + length behind = length-append (front rooted log live_count words allowance) behind in
-      let logs : (ltb (told_region_log whole) 3 || ltb 16 (told_region_log whole)) ≡ false = rw (front_log rooted log live_count words allowance limits behind) (or_from (ltb log 3) (ltb 16 log) (le-ltb log 3 limits.region_log_low) (le-ltb 16 log limits.region_log_high)) in
+      let logs : (ltb (encoded_region_log whole) 3 || ltb 16 (encoded_region_log whole)) ≡ false = rw (front_log rooted log live_count words allowance limits behind) (or_from (ltb log 3) (ltb 16 log) (le-ltb log 3 limits.region_log_low) (le-ltb 16 log limits.region_log_high)) in
       first_some-None (front_faults whole) (
         fault_if-None (ltb (length whole) 32) TruncatedHeader (le-ltb (length whole) 32 (omega arith)),
         (
           fault_if-None (not (bytes_eq (take 8 whole) (magic false) || is_rooted whole)) Magic (known_magic rooted),
           (
-            fault_if-None (ltb (told_region_log whole) 3 || ltb 16 (told_region_log whole)) RegionLog logs,
-            (fault_if-None (eqb (told_words whole) 0 || not (eqb (told_words whole % told_region_words whole) 0) || ltb 4194304 (told_words whole) || ltb 16384 (told_words whole / told_region_words whole) || ltb (told_words whole) (told_count whole)) Length lengths, tt),
+            fault_if-None (ltb (encoded_region_log whole) 3 || ltb 16 (encoded_region_log whole)) RegionLog logs,
+            (fault_if-None (eqb (encoded_words whole) 0 || not (eqb (encoded_words whole % encoded_region_words whole) 0) || ltb 4194304 (encoded_words whole) || ltb 16384 (encoded_words whole / encoded_region_words whole) || ltb (encoded_words whole) (encoded_count whole)) Length lengths, tt),
           ),
         ),
       )
 
-  -- too few bytes stand behind it
+  -- too few bytes come after it
   pub layout_fault-truncated : length behind < 8 * (words + live_count) → first_some (layout_faults whole) ≡ Some TruncatedBody
   layout_fault-truncated few =
       let long : length whole ≡ 32 + length behind = length-append (front rooted log live_count words allowance) behind in
       let told = front_length rooted log live_count words allowance limits behind in
-      let short : ltb (length whole) (told_length whole) ≡ true = lt-ltb (length whole) (told_length whole) (omega arith) in
-      first_some_past (front_faults whole) (fault_if (ltb (length whole) (told_length whole)) TruncatedBody ∷ []) front_faults-None
+      let short : ltb (length whole) (encoded_length whole) ≡ true = lt-ltb (length whole) (encoded_length whole) (omega arith) in
+      first_some_past (front_faults whole) (fault_if (ltb (length whole) (encoded_length whole)) TruncatedBody ∷ []) front_faults-None
       ∙ ap (λ b. first_some (fault_if b TruncatedBody ∷ [])) short
 
   pub first_fault-truncated : length behind < 8 * (words + live_count) → first_fault whole ≡ Some TruncatedBody
   first_fault-truncated few =
-      first_some-append (layout_faults whole) (live_list_faults (told_image whole) ++ (fault_if (ltb (told_length whole) (length whole)) Trailing ∷ [])) TruncatedBody (layout_fault-truncated few)
+      first_some-append (layout_faults whole) (live_list_faults (encoded_image whole) ++ (fault_if (ltb (encoded_length whole) (length whole)) Trailing ∷ [])) TruncatedBody (layout_fault-truncated few)
 
 -- of the text of an image, and what follows it
 module _ (rooted : Bool) (image : HeapImage) (fits : HasFittingNumbers image) (rest : List ℕ) where
@@ -164,14 +164,14 @@ module _ (rooted : Bool) (image : HeapImage) (fits : HasFittingNumbers image) (r
   layout_faults-None =
       let whole = length-append (listed_text rooted image) rest in
       let told = length_told rooted image fits rest in
-      first_some_past (front_faults said) (fault_if (ltb (length said) (told_length said)) TruncatedBody ∷ []) (front_faults-None rooted image.region_log (length image.live) (heap_words image) image.allowance fits.limits ((numbers image.words ++ numbers image.live) ++ rest))
-      ∙ first_some-None (fault_if (ltb (length said) (told_length said)) TruncatedBody ∷ []) (fault_if-None (ltb (length said) (told_length said)) TruncatedBody (le-ltb (length said) (told_length said) (omega arith)), tt)
+      first_some_past (front_faults said) (fault_if (ltb (length said) (encoded_length said)) TruncatedBody ∷ []) (front_faults-None rooted image.region_log (length image.live) (heap_words image) image.allowance fits.limits ((numbers image.words ++ numbers image.live) ++ rest))
+      ∙ first_some-None (fault_if (ltb (length said) (encoded_length said)) TruncatedBody ∷ []) (fault_if-None (ltb (length said) (encoded_length said)) TruncatedBody (le-ltb (length said) (encoded_length said) (omega arith)), tt)
 
   -- what is first wrong is what is wrong with the live list, and else the rest
   pub first_fault-append : first_fault said ≡ first_some (live_list_faults (from_tail rooted image) ++ (fault_if (ltb (length (listed_text rooted image)) (length said)) Trailing ∷ []))
   first_fault-append =
-      first_some_past (layout_faults said) (live_list_faults (told_image said) ++ (fault_if (ltb (told_length said) (length said)) Trailing ∷ [])) layout_faults-None
-      ∙ ap (λ i. first_some (live_list_faults i ++ (fault_if (ltb (told_length said) (length said)) Trailing ∷ []))) (told_image-append rooted image fits rest)
+      first_some_past (layout_faults said) (live_list_faults (encoded_image said) ++ (fault_if (ltb (encoded_length said) (length said)) Trailing ∷ [])) layout_faults-None
+      ∙ ap (λ i. first_some (live_list_faults i ++ (fault_if (ltb (encoded_length said) (length said)) Trailing ∷ []))) (encoded_image-append rooted image fits rest)
       ∙ ap (λ n. first_some (live_list_faults (from_tail rooted image) ++ (fault_if (ltb n (length said)) Trailing ∷ []))) (length_told rooted image fits rest)
 
 -- sound objects have no fault

@@ -12,7 +12,7 @@ use Rattle.heap_image.specs.Bits.{has, NoneFrom, IsFirstFrom}
 use Rattle.heap_image.proofs.Places.{same_tests, min-is_one}
 use Rattle.heap_image.proofs.Masks.{low_mask, low_mask-bit}
 
--- rest has those bits of the word with index i that lie at `from` or behind it
+-- rest has those bits of the word with index i that lie at `from` or after it
 abbrev pub IsRest : List ℕ → ℕ → ℕ → ℕ → Type 0
 IsRest words from i rest = (j : ℕ) → j < 64 → eqb (bit_at rest j) 1 ≡ (has words (64 * i + j) && leb from (64 * i + j))
 
@@ -59,7 +59,7 @@ IsRest-first words from word is j l =
         (λ h. let a : from % 64 ≤ j = leb-true (from % 64) j h in le-leb from (64 * (from / 64) + j) (omega arith))
         (λ h. let a : from ≤ 64 * (from / 64) + j = leb-true from (64 * (from / 64) + j) h in le-leb (from % 64) j (omega arith))
 
--- a word behind the first
+-- a word after the first
 pub IsRest-behind : (words : List ℕ) (from i word : ℕ) → from / 64 < i → word ≡ get_or words i 0 → IsRest words from i word
 IsRest-behind words from i word behind is j l =
     let e : (64 * i + j) / 64 ≡ i = omega arith in
@@ -121,7 +121,7 @@ words_behind items words n is =
 pub NoneBefore-behind : (words : List ℕ) (from n m : ℕ) → NoneBefore words from n → ((j : ℕ) → j < m → get_or (drop n words) j 0 ≡ 0) → NoneBefore words from (n + m)
 NoneBefore-behind words from n m none zeros = NoneBefore-more words from n m none (λ j l. sym (get_or-drop n words j 0) ∙ zeros j l)
 
--- the first word behind this one that is not zero is not
+-- the first word after this one that is not zero is not
 pub found-some : (words : List ℕ) (i : ℕ) → position nonzero words ≡ Some i → 0 < get_or words i 0
 found-some words i h =
     let is = position-Some nonzero words i 0 h in

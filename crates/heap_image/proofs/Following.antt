@@ -112,7 +112,7 @@ module _ (image : HeapImage) (words a : ℕ) (are : words ≡ heap_words image) 
         },
       )
 
-  -- a row that begins at an address behind the header
+  -- a row that begins at an address after the header
   abbrev pub IsRowAt : ℕ → List ℕ → Type 0
   IsRowAt next row = (i : ℕ) → i < length row → get_or row i 0 ≡ get_or image.words (next + i) 0
 

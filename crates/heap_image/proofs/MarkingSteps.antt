@@ -185,7 +185,7 @@ pub clear_bits : (bits : List ℕ) (n : ℕ) → bits ≡ replicate n 0 → (a :
 clear_bits bits n e a =
     ap (λ xs. has xs a) e ∙ ap (λ w. eqb (bit_at w (a % 64)) 1) (get_or-zeros n (a / 64)) ∙ ap (λ b. eqb b 1) (bit_at-zero (a % 64))
 
--- ---- a batch of the waiting_addresses that wait
+-- ---- a batch of the addresses that wait
 
 module _ (image : HeapImage) (roots : List ℕ) where
   -- it does not matter where an address waits
@@ -238,11 +238,11 @@ module _ (image : HeapImage) (roots : List ℕ) where
       (grown_beside (heap_words image) (refers_to image a) bits new_bits stack new_stack rest (subst (λ n. IsGrown n (refers_to image a) bits new_bits stack new_stack) are grown))
       noted
 
--- the waiting_addresses of a batch with one object more
+-- the addresses of a batch with one object more
 pub addresses_push : (batch rest : List Waiting) (w : Waiting) → batch ≡ rest ++ w ∷ [] → waiting_addresses batch ≡ waiting_addresses rest ++ w.address ∷ []
 addresses_push batch rest w e = ap waiting_addresses e ∙ map-append (λ (x : Waiting). x.address) rest (w ∷ [])
 
--- the waiting_addresses of a batch are below the number of words
+-- the addresses of a batch are below the number of words
 pub batch_inside : (image : HeapImage) (roots : List ℕ) (words : ℕ) → words ≡ heap_words image → (bits stack batch : List ℕ) (well_formed : Bool) → IsMarking image roots bits (stack ++ batch) well_formed → All (λ a. a < words) batch
 batch_inside image roots words are bits stack batch well_formed marking = λ k d l.
     let low = (all_right (λ a. (a < heap_words image) × (has bits a ≡ true)) stack batch marking.inside k d l).0 in

@@ -9,7 +9,7 @@ take_past (x ∷ xs) ys a n h =
     let e : a + n ≡ suc (length xs + n) = omega arith in
     rw e (ap (λ l. x ∷ l) (take_past xs ys (length xs) n refl))
 
--- the first n of ys went behind the first a of xs
+-- the first n of ys were put after the first a of xs
 pub take_put_back : (xs ys : List ℕ) (a k n : ℕ) → a ≤ length xs → n ≤ length ys → take (a + n) (put_mid a k xs ys) ≡ take a xs ++ take n ys
 take_put_back xs ys a k n h l =
     let at : length (take a xs) ≡ a = let t = length-take a xs in omega arith in

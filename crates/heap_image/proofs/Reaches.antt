@@ -11,7 +11,7 @@ module _ (image : HeapImage) (roots : List ℕ) where
   abbrev N : ℕ
   N = heap_words image
 
-  -- the test by which the addresses are kept that are reached in so many steps
+  -- the test by which the addresses are kept that are reached in n steps
   abbrev kept : ℕ → ℕ → Bool
   kept zero b = list_any (λ w. leads_to w b) roots
   kept (suc n) b = list_any (λ a. eqb b a || refers_to image a b) (reached_in image roots n)
@@ -40,7 +40,7 @@ module _ (image : HeapImage) (roots : List ℕ) where
   grows : (n : ℕ) → (reached_in image roots n ≡ reached_in image roots (suc n)) ⊎ (length (reached_in image roots n) < length (reached_in image roots (suc n)))
   grows n = subst (λ xs. (xs ≡ reached_in image roots (suc n)) ⊎ (length xs < length (reached_in image roots (suc n)))) (sym (reached_is n)) (filter_grows (kept n) (kept (suc n)) 0 N (λ a l m h. kept_stays n a (omega arith) h))
 
-  -- nothing more is reached, or there are more than so many
+  -- nothing more is reached, or there are more than n of them
   settled : (n : ℕ) → (reached_in image roots n ≡ reached_in image roots (suc n)) ⊎ (n < length (reached_in image roots (suc n)))
   settled zero = elim (grows zero) [
     | inl same ↦ inl same

@@ -1,4 +1,4 @@
--- A text without a fault is that of the image which it tells, and that image is valid.
+-- A text without a fault is that of the image that it encodes, and that image is valid.
 use Rattle.std.proofs.Common.{◌≡◌, ℕ, zero, suc, ◌+◌, ◌-◌, ◌*◌, ◌/◌, ◌%◌, ◌≤◌, ◌<◌, ◌^◌, inl, inr, Bool, true, false, ◌||◌, ◌&&◌, List, [], ◌++◌, length, get_or, take, drop, refl, sym, ◌∙◌, ap, subst, arith, ltb, eqb, add-zero, length-take, length-drop}
 use Rattle.std.proofs.lemmas.Bool.{cases_lt, ltb-false, eqb-true, eqb-false, or_parts, or_cases, not-false, true≢false}
 use Rattle.std.proofs.lemmas.Nat.{le_bytes_4, le_bytes_8}
@@ -13,7 +13,7 @@ use Rattle.std.specs.List.{range_with_len}
 use Rattle.std.specs.Int.{w32, w64, to_le_bytes}
 use Rattle.heap_image.specs.Reading.{HasFittingNumbers}
 use Rattle.heap_image.specs.HeapImage.{HeapImage, IsValid}
-use Rattle.heap_image.specs.ImageText.{numbers, front, text, is_rooted, live_list_faults, first_some, told_image, told_numbers, told_words, told_count, told_region_log, told_length, told_region_words, u32_at, u64_at, faults, first_fault, magic}
+use Rattle.heap_image.specs.ImageText.{numbers, front, text, is_rooted, live_list_faults, first_some, encoded_image, encoded_numbers, encoded_words, encoded_count, encoded_region_log, encoded_length, encoded_region_words, u32_at, u64_at, faults, first_fault, magic}
 use Rattle.heap_image.specs.declared.fault.Fault.TheVariants.{TruncatedHeader, Magic, RegionLog, Length, TruncatedBody, Trailing}
 use Rattle.heap_image.proofs.Faultless.{AllNone, first_some-None}
 use Rattle.heap_image.proofs.FromTail.{text-from_tail, from_tail-IsValid}
@@ -61,7 +61,7 @@ module _ (bytes : List ℕ) (fit : All (λ b. b < 256) bytes) where
       ∙ ap (λ xs. xs ++ drop (o + 8 * b + 8) bytes) (u64_back (o + 8 * b) (omega arith))
       ∙ sym (drop_split bytes (o + 8 * b) (o + 8 * b + 8) (omega arith))
 
-  -- the front that the first 32 bytes tell, and the bytes behind it
+  -- the front that the first 32 bytes encode, and the bytes after it
   pub front-back : (rooted : Bool) → 32 ≤ length bytes → take 8 bytes ≡ magic rooted → front rooted (u32_at bytes 8) (u32_at bytes 12) (u64_at bytes 16) (u64_at bytes 24) ++ drop 32 bytes ≡ bytes
   front-back rooted long magic_is =
       let from_24 : to_le_bytes w64 (u64_at bytes 24) ++ drop 32 bytes ≡ drop 24 bytes = ap (λ xs. xs ++ drop 32 bytes) (u64_back 24 (omega arith)) ∙ sym (drop_split bytes 24 32 (omega arith)) in
@@ -81,9 +81,9 @@ module _ (bytes : List ℕ) (fit : All (λ b. b < 256) bytes) where
     abbrev rooted : Bool
     rooted = is_rooted bytes
 
-    -- with the numbers behind the words for its live list
+    -- with the numbers after the words for its live list
     abbrev image : HeapImage
-    image = told_numbers bytes
+    image = encoded_numbers bytes
 
     abbrev ok : AllNone (faults bytes)
     ok = AllNone-from_first_some (faults bytes) none
@@ -94,22 +94,22 @@ module _ (bytes : List ℕ) (fit : All (λ b. b < 256) bytes) where
     magic_is : take 8 bytes ≡ magic rooted
     magic_is = either_magic bytes (no_fault (not (bytes_eq (take 8 bytes) (magic false) || is_rooted bytes)) Magic ok.1.0)
 
-    body : told_length bytes ≤ length bytes
-    body = ltb-false (length bytes) (told_length bytes) (no_fault (ltb (length bytes) (told_length bytes)) TruncatedBody ok.1.1.1.1.0)
+    body : encoded_length bytes ≤ length bytes
+    body = ltb-false (length bytes) (encoded_length bytes) (no_fault (ltb (length bytes) (encoded_length bytes)) TruncatedBody ok.1.1.1.1.0)
 
-    no_more : length bytes ≤ told_length bytes
-    no_more = ltb-false (told_length bytes) (length bytes) (no_fault (ltb (told_length bytes) (length bytes)) Trailing ok.1.1.1.1.1.1.1.1.1.1.0)
+    no_more : length bytes ≤ encoded_length bytes
+    no_more = ltb-false (encoded_length bytes) (length bytes) (no_fault (ltb (encoded_length bytes) (length bytes)) Trailing ok.1.1.1.1.1.1.1.1.1.1.0)
 
-    count_of : length image.live ≡ told_count bytes
-    count_of = length-map-range_with_len (λ i. u64_at bytes (32 + 8 * told_words bytes + 8 * i)) 0 (told_count bytes)
+    count_of : length image.live ≡ encoded_count bytes
+    count_of = length-map-range_with_len (λ i. u64_at bytes (32 + 8 * encoded_words bytes + 8 * i)) 0 (encoded_count bytes)
 
-    words_of : length image.words ≡ told_words bytes
-    words_of = length-map-range_with_len (λ a. u64_at bytes (32 + 8 * a)) 0 (told_words bytes)
+    words_of : length image.words ≡ encoded_words bytes
+    words_of = length-map-range_with_len (λ a. u64_at bytes (32 + 8 * a)) 0 (encoded_words bytes)
 
-    live_back : numbers image.live ≡ drop (32 + 8 * told_words bytes) bytes
+    live_back : numbers image.live ≡ drop (32 + 8 * encoded_words bytes) bytes
     live_back =
-        let n : ℕ = told_words bytes in
-        let l : ℕ = told_count bytes in
+        let n : ℕ = encoded_words bytes in
+        let l : ℕ = encoded_count bytes in
         let top = no_more in
         let all = body in
         let zero' : 32 + 8 * n + 8 * 0 ≡ 32 + 8 * n = omega arith in
@@ -118,44 +118,44 @@ module _ (bytes : List ℕ) (fit : All (λ b. b < 256) bytes) where
 
     numbers_are : numbers image.words ++ numbers image.live ≡ drop 32 bytes
     numbers_are =
-        let n : ℕ = told_words bytes in
+        let n : ℕ = encoded_words bytes in
         let all = body in
         let e : 32 + 8 * n ≡ 32 + 8 * (0 + n) = omega arith in
         ap (λ xs. numbers image.words ++ xs) (live_back ∙ ap (λ c. drop c bytes) e) ∙ numbers_back 32 0 n (omega arith)
 
-    pub text-told : text (told_image bytes) ≡ bytes
-    text-told = text-from_tail rooted image refl ∙ joined (length image.live) (told_count bytes) (length image.words) (told_words bytes) count_of words_of ∙ ap (λ xs. front rooted (u32_at bytes 8) (u32_at bytes 12) (u64_at bytes 16) (u64_at bytes 24) ++ xs) numbers_are ∙ front-back rooted header magic_is
+    pub text-told : text (encoded_image bytes) ≡ bytes
+    text-told = text-from_tail rooted image refl ∙ joined (length image.live) (encoded_count bytes) (length image.words) (encoded_words bytes) count_of words_of ∙ ap (λ xs. front rooted (u32_at bytes 8) (u32_at bytes 12) (u64_at bytes 16) (u64_at bytes 24) ++ xs) numbers_are ∙ front-back rooted header magic_is
       where
         joined : (l l' n n' : ℕ) → l ≡ l' → n ≡ n'
             → front rooted (u32_at bytes 8) l n (u64_at bytes 24) ++ numbers image.words ++ numbers image.live
             ≡ front rooted (u32_at bytes 8) l' n' (u64_at bytes 24) ++ (numbers image.words ++ numbers image.live)
         joined l l' n n' e h = rw (e, h) refl
 
-    logs : (ltb (told_region_log bytes) 3 ≡ false) × (ltb 16 (told_region_log bytes) ≡ false)
-    logs = or_parts (ltb (told_region_log bytes) 3) (ltb 16 (told_region_log bytes)) (no_fault (ltb (told_region_log bytes) 3 || ltb 16 (told_region_log bytes)) RegionLog ok.1.1.0)
+    logs : (ltb (encoded_region_log bytes) 3 ≡ false) × (ltb 16 (encoded_region_log bytes) ≡ false)
+    logs = or_parts (ltb (encoded_region_log bytes) 3) (ltb 16 (encoded_region_log bytes)) (no_fault (ltb (encoded_region_log bytes) 3 || ltb 16 (encoded_region_log bytes)) RegionLog ok.1.1.0)
 
     abbrev n : ℕ
-    n = told_words bytes
+    n = encoded_words bytes
 
     abbrev r : ℕ
-    r = told_region_words bytes
+    r = encoded_region_words bytes
 
-    lengths : (((((eqb n 0 ≡ false) × (not (eqb (n % r) 0) ≡ false)) × (ltb 4194304 n ≡ false)) × (ltb 16384 (n / r) ≡ false)) × (ltb n (told_count bytes) ≡ false))
+    lengths : (((((eqb n 0 ≡ false) × (not (eqb (n % r) 0) ≡ false)) × (ltb 4194304 n ≡ false)) × (ltb 16384 (n / r) ≡ false)) × (ltb n (encoded_count bytes) ≡ false))
     lengths =
         let a : Bool = eqb n 0 in
         let b : Bool = not (eqb (n % r) 0) in
         let c : Bool = ltb 4194304 n in
         let d : Bool = ltb 16384 (n / r) in
-        let e : Bool = ltb n (told_count bytes) in
+        let e : Bool = ltb n (encoded_count bytes) in
         let five = or_parts (a || b || c || d) e (no_fault (a || b || c || d || e) Length ok.1.1.1.0) in
         let four = or_parts (a || b || c) d five.0 in
         let three = or_parts (a || b) c four.0 in
         (((or_parts a b three.0, three.1), four.1), five.1)
 
-    nothing_wrong : first_some (live_list_faults (told_image bytes)) ≡ None
+    nothing_wrong : first_some (live_list_faults (encoded_image bytes)) ≡ None
     nothing_wrong =
         let objects = ok.1.1.1.1.1 in
-        first_some-None (live_list_faults (told_image bytes)) (objects.0, (objects.1.0, (objects.1.1.0, (objects.1.1.1.0, (objects.1.1.1.1.0, tt)))))
+        first_some-None (live_list_faults (encoded_image bytes)) (objects.0, (objects.1.0, (objects.1.1.0, (objects.1.1.1.0, (objects.1.1.1.1.0, tt)))))
 
     numbers_fit : HasFittingNumbers image
     numbers_fit =
@@ -163,13 +163,13 @@ module _ (bytes : List ℕ) (fit : All (λ b. b < 256) bytes) where
         let whole : n % r ≡ 0 = eqb-true (n % r) 0 (not-false (eqb (n % r) 0) lengths.0.0.0.1) in
         let few : n ≤ 4194304 = ltb-false 4194304 n lengths.0.0.1 in
         let regions : n / r ≤ 16384 = ltb-false 16384 (n / r) lengths.0.1 in
-        let live : told_count bytes ≤ n = ltb-false n (told_count bytes) lengths.1 in
+        let live : encoded_count bytes ≤ n = ltb-false n (encoded_count bytes) lengths.1 in
         let words = words_of in
         let counted = count_of in
         record {
           limits = record {
-            region_log_low = ltb-false (told_region_log bytes) 3 logs.0;
-            region_log_high = ltb-false 16 (told_region_log bytes) logs.1;
+            region_log_low = ltb-false (encoded_region_log bytes) 3 logs.0;
+            region_log_high = ltb-false 16 (encoded_region_log bytes) logs.1;
             not_empty = omega arith;
             whole_regions = subst (λ m. m % r ≡ 0) (sym words_of) whole;
             few_words = omega arith;
@@ -178,11 +178,11 @@ module _ (bytes : List ℕ) (fit : All (λ b. b < 256) bytes) where
           };
           allowance = u64_fits 24;
           words = All-map (λ w. w < 2 ^ 64) (λ a. u64_at bytes (32 + 8 * a)) (range_with_len 0 n) (λ k d l. u64_fits (32 + 8 * get_or (range_with_len 0 n) k d));
-          live = All-map (λ w. w < 2 ^ 64) (λ i. u64_at bytes (32 + 8 * n + 8 * i)) (range_with_len 0 (told_count bytes)) (λ k d l. u64_fits (32 + 8 * n + 8 * get_or (range_with_len 0 (told_count bytes)) k d));
+          live = All-map (λ w. w < 2 ^ 64) (λ i. u64_at bytes (32 + 8 * n + 8 * i)) (range_with_len 0 (encoded_count bytes)) (λ k d l. u64_fits (32 + 8 * n + 8 * get_or (range_with_len 0 (encoded_count bytes)) k d));
           plain = refl;
         }
 
-    pub told-IsValid : IsValid (told_image bytes)
+    pub told-IsValid : IsValid (encoded_image bytes)
     told-IsValid = from_tail-IsValid rooted image numbers_fit nothing_wrong
 
 -- 32 bytes that begin with the magic are the front that they tell

@@ -45,7 +45,7 @@ slice_split bytes low mid high a b =
     ap (λ n. take n (drop low bytes)) e ∙ take_more (drop low bytes) (mid - low) (high - mid)
     ∙ ap (λ q. take (mid - low) (drop low bytes) ++ take (high - mid) q) (drop-drop (mid - low) low bytes ∙ ap (λ n. drop n bytes) m)
 
--- where too few bytes are left behind these numbers, too few were left before them
+-- where too few bytes are left after these numbers, too few were left before them
 pub still_short : (before after : Option (List ℕ)) (words : List ℕ) (wanted more : ℕ) → Consumes before after (numbers words) → more + length words ≡ wanted → IfSome after (λ rest. length rest < 8 * more) → IfSome before (λ rest. length rest < 8 * wanted)
 still_short None after words wanted more h e short = tt
 still_short (Some xs) None words wanted more h e short = absurd h

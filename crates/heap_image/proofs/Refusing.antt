@@ -9,7 +9,7 @@ use Rattle.std.specs.Io.KnownBytes.{Consumes, IsAtEnd}
 use Rattle.heap_image.specs.Reading.{HasFittingNumbers}
 use Rattle.heap_image.specs.declared.fault.Fault.{Fault}
 use Rattle.heap_image.specs.declared.fault.Fault.TheVariants.{TruncatedHeader, Magic, RegionLog, Length, TruncatedBody, LiveOrder, Header, Overlap, Reference, Trailing, Memory, Io, Workers, Schedule, Overwritten, Gate, Root}
-use Rattle.heap_image.specs.ImageText.{magic, fault_if, first_some, first_fault, front_faults, front, numbers, listed_text, from_tail, misplaced_root, told_length, live_list_faults, misplaced_index, unsound_header, overlapping, dangling, first_object_fault}
+use Rattle.heap_image.specs.ImageText.{magic, fault_if, first_some, first_fault, front_faults, front, numbers, listed_text, from_tail, misplaced_root, encoded_length, live_list_faults, misplaced_index, unsound_header, overlapping, dangling, first_object_fault}
 use Rattle.heap_image.specs.HeapImage.{HeapImage, IsWithinLimits, heap_words, image_of, rooted_image_of, with_live, reachable, roots_or}
 use Rattle.heap_image.specs.Device.{is_io}
 use Rattle.heap_image.proofs.Known.{consumes_more}
@@ -89,7 +89,7 @@ front_leaves bytes long before after h (Ok x) of = tt
 front_leaves bytes long None after h (Err fault) of = tt
 front_leaves bytes long (Some input) after h (Err fault) of = leaves_front fault input after of (exact_rest (Some input) after bytes 32 long h)
 
--- ---- too few bytes behind a front
+-- ---- too few bytes after a front
 
 pub truncated_reason : (rooted : Bool) (log live_count words allowance : ℕ) (limits : IsWithinLimits log words live_count) (before after : Option (List ℕ)) → Consumes before after (front rooted log live_count words allowance) → IfSome after (λ rest. length rest < 8 * (words + live_count)) → IfSome before (λ input. IsReason input TruncatedBody)
 truncated_reason rooted log live_count words allowance limits None after h few = tt
@@ -102,12 +102,12 @@ nothing_left None after came h e = tt
 nothing_left (Some input) None came h e = absurd h
 nothing_left (Some input) (Some rest) came h e = ap Some e
 
--- ---- a fault of the live list, or bytes behind it
+-- ---- a fault of the live list, or bytes after it
 
 -- every fault that the list can give leaves what the first of its kind does
 leaves_live : (root order header overlap : Option ℕ) (reference : Option (ℕ × ℕ)) (fault : Fault) (input : List ℕ) (left : Option (List ℕ))
     → first_some (option_map Root root ∷ option_map LiveOrder order ∷ option_map Header header ∷ option_map Overlap overlap ∷ option_map (λ (p : ℕ × ℕ). Reference p.0 p.1) reference ∷ []) ≡ Some fault
-    → left ≡ Some (drop (told_length input) input) → LeavesRest fault input left
+    → left ≡ Some (drop (encoded_length input) input) → LeavesRest fault input left
 leaves_live (Some i) order header overlap reference fault input left h q = let e : Root i ≡ fault = cc in subst (λ f. LeavesRest f input left) e q
 leaves_live None (Some i) header overlap reference fault input left h q = let e : LiveOrder i ≡ fault = cc in subst (λ f. LeavesRest f input left) e q
 leaves_live None None (Some a) overlap reference fault input left h q = let e : Header a ≡ fault = cc in subst (λ f. LeavesRest f input left) e q
@@ -131,8 +131,8 @@ module _ (rooted : Bool) (image : HeapImage) (fits : HasFittingNumbers image) (b
       by None after h = tt
       by (Some input) None h = absurd h
       by (Some input) (Some rest) h =
-          let told : told_length input ≡ length (listed_text rooted image) = ap told_length h ∙ length_told rooted image fits rest in
-          let all = from_tail rooted image in leaves_live (misplaced_root all) (misplaced_index (heap_words all) all.live) (unsound_header all) (overlapping all) (dangling all) fault input (Some rest) first (ap Some (sym (drop_at (listed_text rooted image) rest (told_length input) (sym told)) ∙ ap (drop (told_length input)) (sym h)))
+          let told : encoded_length input ≡ length (listed_text rooted image) = ap encoded_length h ∙ length_told rooted image fits rest in
+          let all = from_tail rooted image in leaves_live (misplaced_root all) (misplaced_index (heap_words all) all.live) (unsound_header all) (overlapping all) (dangling all) fault input (Some rest) first (ap Some (sym (drop_at (listed_text rooted image) rest (encoded_length input) (sym told)) ∙ ap (drop (encoded_length input)) (sym h)))
 
   module _ (sound : first_some (live_list_faults (from_tail rooted image)) ≡ None) (more : List ℕ) (last : Option (List ℕ)) (then : Consumes after last more) (one : length more ≡ 1) where
     pub trailing_reason : IfSome before (λ input. IsReason input Trailing)
@@ -148,20 +148,20 @@ module _ (rooted : Bool) (image : HeapImage) (fits : HasFittingNumbers image) (b
             let behind : ltb (length (listed_text rooted image)) (length (listed_text rooted image ++ rest)) ≡ true = lt-ltb (length (listed_text rooted image)) (length (listed_text rooted image ++ rest)) (omega arith) in
             inr (inr (ap first_fault h ∙ first_fault-append rooted image fits rest ∙ first_some_past (live_list_faults (from_tail rooted image)) (fault_if (ltb (length (listed_text rooted image)) (length (listed_text rooted image ++ rest))) Trailing ∷ []) sound ∙ ap (λ b. first_some (fault_if b Trailing ∷ [])) behind))
 
-    pub trailing_leaves : IfSome before (λ input. last ≡ Some (drop (told_length input + 1) input))
+    pub trailing_leaves : IfSome before (λ input. last ≡ Some (drop (encoded_length input + 1) input))
     trailing_leaves = by before after last read then
       where
-        by : (before after last : Option (List ℕ)) → Consumes before after (listed_text rooted image) → Consumes after last more → IfSome before (λ input. last ≡ Some (drop (told_length input + 1) input))
+        by : (before after last : Option (List ℕ)) → Consumes before after (listed_text rooted image) → Consumes after last more → IfSome before (λ input. last ≡ Some (drop (encoded_length input + 1) input))
         by None after last h k = tt
         by (Some input) None last h k = absurd h
         by (Some input) (Some rest) None h k = absurd k
         by (Some input) (Some rest) (Some end) h k =
-            let told : told_length input ≡ length (listed_text rooted image) = ap told_length h ∙ length_told rooted image fits rest in
+            let told : encoded_length input ≡ length (listed_text rooted image) = ap encoded_length h ∙ length_told rooted image fits rest in
             let both = length-append (listed_text rooted image) more in
             let joined : input ≡ (listed_text rooted image ++ more) ++ end = h ∙ ap (λ l. listed_text rooted image ++ l) k ∙ sym (append_assoc (listed_text rooted image) more end) in
-            ap Some (sym (drop_at (listed_text rooted image ++ more) end (told_length input + 1) (omega arith)) ∙ ap (drop (told_length input + 1)) (sym joined))
+            ap Some (sym (drop_at (listed_text rooted image ++ more) end (encoded_length input + 1) (omega arith)) ∙ ap (drop (encoded_length input + 1)) (sym joined))
 
--- some memory was taken, so some byte behind the front had come
+-- memory was allocated, so some byte after the front had come
 pub memory_behind : (front : List ℕ) (before after : Option (List ℕ)) → length front ≡ 32 → Consumes before after front → IfSome after (λ rest. 0 < length rest) → IfSome before (λ input. 32 < length input)
 memory_behind front None after l h some = tt
 memory_behind front (Some input) None l h some = absurd h
@@ -177,7 +177,7 @@ memory_behind_front rooted log live_count words allowance limits (Some input) (S
   ap (λ b. first_some (front_faults b)) h ∙ front_faults-None rooted log live_count words allowance limits rest,
 )
 
--- a fault of the live list is one that reading may answer, and neither want of memory nor the device's
+-- a fault of the live list is one that reading may return, and neither fault 11 nor the device's
 list_kind : (root order header overlap : Option ℕ) (reference : Option (ℕ × ℕ)) (fault : Fault) → first_some (option_map Root root ∷ option_map LiveOrder order ∷ option_map Header header ∷ option_map Overlap overlap ∷ option_map (λ (p : ℕ × ℕ). Reference p.0 p.1) reference ∷ []) ≡ Some fault
     → IsOfReading fault × (fault ≡ Memory → ⊥) × ((A : Type 0) → is_io {A = A} (Err fault) ≡ false)
 list_kind (Some i) order header overlap reference fault h = let e : fault ≡ Root i = cc in (subst IsOfReading (sym e) tt, λ m. cc, λ A. ap (λ f. is_io {A = A} (Err f)) e)
@@ -190,7 +190,7 @@ list_kind None None None None None fault h = cc
 pub object_kind : (image : HeapImage) (fault : Fault) → first_object_fault image ≡ Some fault → IsOfReading fault × (fault ≡ Memory → ⊥) × ((A : Type 0) → is_io {A = A} (Err fault) ≡ false)
 object_kind image fault h = list_kind None None (unsound_header image) (overlapping image) (dangling image) fault h
 
--- so is what ends the search for live objects, but for want of memory
+-- so is what ends the search for live objects, unless memory runs out
 pub search_kind : (image : HeapImage) (fault : Fault) → (fault ≡ Memory) ⊎ (first_some (live_list_faults image) ≡ Some fault) → IsOfReading fault × ((A : Type 0) → is_io {A = A} (Err fault) ≡ false)
 search_kind image fault (inl memory) = (subst IsOfReading (sym memory) tt, λ A. ap (λ f. is_io {A = A} (Err f)) memory)
 search_kind image fault (inr first) = let k = list_kind (misplaced_root image) (misplaced_index (heap_words image) image.live) (unsound_header image) (overlapping image) (dangling image) fault first in (k.0, k.2)
@@ -234,7 +234,7 @@ fitting_parts log allowance blocks live words live_count limits w l a fit live_f
   plain = refl;
 }
 
--- the front and the numbers behind it are the text
+-- the front and the numbers after it are the text
 pub read_parts : (rooted : Bool) (log allowance : ℕ) (blocks : List (List ℕ)) (live : List ℕ) (words live_count : ℕ) → length (concat blocks) ≡ words → length live ≡ live_count → (before middle after : Option (List ℕ))
     → Consumes before middle (front rooted log live_count words allowance) → Consumes middle after (numbers (concat blocks) ++ numbers live) → Consumes before after (listed_text rooted (image_of log allowance blocks live))
 read_parts rooted log allowance blocks live words live_count w l before middle after h k =
@@ -333,7 +333,7 @@ parts_are rooted log allowance blocks blocks' tail live roots b l r =
     whole true = refl
     whole false = refl
 
--- the numbers behind the words are the roots, or else the live list
+-- the numbers after the words are the roots, or else the live list
 pub tail_is : (rooted : Bool) (heap : HeapImage) (tail live : List ℕ) (roots : Option (List ℕ)) → live ≡ (from_tail rooted (with_live heap tail)).live → roots ≡ (from_tail rooted (with_live heap tail)).roots → roots_or live roots ≡ tail
 tail_is true heap tail live roots l r = ap (roots_or live) r
 tail_is false heap tail live roots l r = ap (roots_or live) r ∙ l

@@ -73,7 +73,7 @@ pub all_sent : (a b c : Option (List ℕ)) (held x : List ℕ) → Sends a b [] 
 all_sent a b c held x s h = subst (λ bytes. Appends a c bytes) s.2 (appends_more a b c s.0 held s.1 h)
 
 module _ (image : HeapImage) where
-  -- the numbers behind the words
+  -- the numbers after the words
   abbrev pub tail : List ℕ
   tail = (with_tail image).live
 
@@ -87,7 +87,7 @@ module _ (image : HeapImage) where
       ∙ ap (λ l. first ++ l) (sym (append_assoc (numbers (take k image.words)) (numbers (drop k image.words)) (numbers tail)) ∙ ap (λ l. l ++ numbers tail) (sym (numbers_split image.words k)))
       ∙ sym (append_assoc first (numbers image.words) (numbers tail))
 
-  -- the words from a region on are its block and what is behind it
+  -- the words from a region on are its block and what is after it
   pub block_first : (r : ℕ) → numbers (drop (r * region_words image) image.words) ≡ numbers (block_of image r) ++ numbers (drop (region_words image) (drop (r * region_words image) image.words))
   block_first r = numbers_split (drop (r * region_words image) image.words) (region_words image)
 

@@ -1,4 +1,4 @@
--- The text of a valid image tells that image.
+-- The text of a valid image encodes that image.
 use Rattle.std.proofs.Common.{◌≡◌, ℕ, zero, suc, ◌+◌, ◌-◌, ◌*◌, ◌≤◌, ◌<◌, ◌^◌, Bool, true, false, List, [], ◌∷◌, ◌++◌, length, get_or, take, drop, refl, sym, ◌∙◌, ap, subst, arith, append_assoc, length-append, Option, Some, None}
 use Rattle.std.proofs.lemmas.Nat.{from_le_bytes-to_le_bytes_4, from_le_bytes-to_le_bytes_8}
 use Rattle.std.proofs.lemmas.List.{drop-drop, drop_at, append-nil}
@@ -10,7 +10,7 @@ use Rattle.std.specs.List.{range_with_len}
 use Rattle.std.specs.Int.{w64, to_le_bytes, from_le_bytes}
 use Rattle.heap_image.specs.HeapImage.{HeapImage, IsValid, IsWithinLimits, AreRoots, heap_words, reachable, roots_or}
 use Rattle.heap_image.specs.Reading.{HasFittingNumbers}
-use Rattle.heap_image.specs.ImageText.{front, numbers, text, listed_text, with_tail, from_tail, is_rooted, told_image, told_numbers, told_words, told_count, told_region_log, told_length, u64_at}
+use Rattle.heap_image.specs.ImageText.{front, numbers, text, listed_text, with_tail, from_tail, is_rooted, encoded_image, encoded_numbers, encoded_words, encoded_count, encoded_region_log, encoded_length, u64_at}
 use Rattle.heap_image.proofs.LiveWords.{live_end-le}
 
 pub length-numbers : (xs : List ℕ) → length (numbers xs) ≡ 8 * length xs
@@ -26,7 +26,7 @@ number_bytes (x ∷ xs) ys (suc i) l =
     ∙ ap (take 8) (sym (drop-drop (8 * i) 8 (numbers (x ∷ xs) ++ ys)))
     ∙ number_bytes xs ys i (omega arith)
 
--- a number that stands behind the first bytes
+-- a number after the first bytes
 u64_at-behind : (bytes rest : List ℕ) (n i x : ℕ) → drop n bytes ≡ rest → take 8 (drop (8 * i) rest) ≡ to_le_bytes w64 x → x < 2 ^ 64 → u64_at bytes (n + 8 * i) ≡ x
 u64_at-behind bytes rest n i x e at fits =
     let width : n + 8 * i + 8 - (n + 8 * i) ≡ 8 = omega arith in
@@ -35,24 +35,24 @@ u64_at-behind bytes rest n i x e at fits =
     ∙ ap (from_le_bytes w64) at
     ∙ from_le_bytes-to_le_bytes_8 x fits
 
--- what a front tells, whatever stands behind it
+-- what a front encodes, whatever follows it
 module _ (rooted : Bool) (log live_count words allowance : ℕ) (limits : IsWithinLimits log words live_count) (behind : List ℕ) where
   abbrev pub fronted : List ℕ
   fronted = front rooted log live_count words allowance ++ behind
 
-  pub front_log : told_region_log fronted ≡ log
+  pub front_log : encoded_region_log fronted ≡ log
   front_log = let low = limits.region_log_high in from_le_bytes-to_le_bytes_4 log (omega arith)
 
-  pub front_live : told_count fronted ≡ live_count
+  pub front_live : encoded_count fronted ≡ live_count
   front_live = let few = limits.few_live in let less = limits.few_words in from_le_bytes-to_le_bytes_4 live_count (omega arith)
 
-  pub front_words : told_words fronted ≡ words
+  pub front_words : encoded_words fronted ≡ words
   front_words = let less = limits.few_words in from_le_bytes-to_le_bytes_8 words (omega arith)
 
-  pub front_length : told_length fronted ≡ 32 + 8 * words + 8 * live_count
+  pub front_length : encoded_length fronted ≡ 32 + 8 * words + 8 * live_count
   front_length = let w = front_words in let l = front_live in omega arith
 
--- the numbers behind the words are no more than the words, and fit
+-- the numbers after the words are no more than the words, and fit
 tail_fits : (image : HeapImage) → IsValid image → (roots : Option (List ℕ)) → image.roots ≡ roots
     → (length (roots_or image.live roots) ≤ heap_words image) × All (λ a. a < 2 ^ 64) (roots_or image.live roots)
 tail_fits image valid None e = (
@@ -87,7 +87,7 @@ pub reachable-words : (image : HeapImage) (live : List ℕ) (other : Option (Lis
 unfolding reachable
 reachable-words image live other roots = refl
 
--- a valid image is told by its words and the numbers behind them
+-- a valid image is determined by its words and the numbers after them
 from_tail-of : (image : HeapImage) → IsValid image → (roots : Option (List ℕ)) → image.roots ≡ roots → from_tail (is_some roots) (record image { live = roots_or image.live roots; roots = None }) ≡ image
 from_tail-of image valid None e = λ i. record { region_log = image.region_log; allowance = image.allowance; words = image.words; live = image.live; roots = sym e i }
 from_tail-of image valid (Some roots) e =
@@ -112,13 +112,13 @@ module _ (rooted : Bool) (image : HeapImage) (fits : HasFittingNumbers image) (r
       ∙ ap (drop (8 * heap_words image)) (append_assoc (numbers image.words) (numbers image.live) rest)
       ∙ drop_at (numbers image.words) (numbers image.live ++ rest) (8 * heap_words image) (length-numbers image.words)
 
-  pub log_told : told_region_log bytes ≡ image.region_log
+  pub log_told : encoded_region_log bytes ≡ image.region_log
   log_told = front_log rooted image.region_log (length image.live) (heap_words image) image.allowance fits.limits ((numbers image.words ++ numbers image.live) ++ rest)
 
-  pub live_told : told_count bytes ≡ length image.live
+  pub live_told : encoded_count bytes ≡ length image.live
   live_told = front_live rooted image.region_log (length image.live) (heap_words image) image.allowance fits.limits ((numbers image.words ++ numbers image.live) ++ rest)
 
-  pub words_told : told_words bytes ≡ heap_words image
+  pub words_told : encoded_words bytes ≡ heap_words image
   words_told = front_words rooted image.region_log (length image.live) (heap_words image) image.allowance fits.limits ((numbers image.words ++ numbers image.live) ++ rest)
 
   allowance_told : u64_at bytes 24 ≡ image.allowance
@@ -130,16 +130,16 @@ module _ (rooted : Bool) (image : HeapImage) (fits : HasFittingNumbers image) (r
   address_told : (i : ℕ) → i < length image.live → get_or image.live i 0 ≡ u64_at bytes (32 + 8 * heap_words image + 8 * i)
   address_told i l = sym (u64_at-behind bytes (numbers image.live ++ rest) (32 + 8 * heap_words image) i (get_or image.live i 0) behind_words (number_bytes image.live rest i l) (fits.live i 0 l))
 
-  pub told_numbers-append : told_numbers bytes ≡ image
-  told_numbers-append =
-      let ws : (told_numbers bytes).words ≡ image.words = ap (λ n. map (λ a. u64_at bytes (32 + 8 * a)) (range_with_len 0 n)) words_told ∙ sym (fill_by_all (λ a. u64_at bytes (32 + 8 * a)) image.words (heap_words image) 0 refl word_told) in
-      let ls : (told_numbers bytes).live ≡ image.live =
-      ap (λ n. map (λ i. u64_at bytes (32 + 8 * n + 8 * i)) (range_with_len 0 (told_count bytes))) words_told
+  pub encoded_numbers-append : encoded_numbers bytes ≡ image
+  encoded_numbers-append =
+      let ws : (encoded_numbers bytes).words ≡ image.words = ap (λ n. map (λ a. u64_at bytes (32 + 8 * a)) (range_with_len 0 n)) words_told ∙ sym (fill_by_all (λ a. u64_at bytes (32 + 8 * a)) image.words (heap_words image) 0 refl word_told) in
+      let ls : (encoded_numbers bytes).live ≡ image.live =
+      ap (λ n. map (λ i. u64_at bytes (32 + 8 * n + 8 * i)) (range_with_len 0 (encoded_count bytes))) words_told
       ∙ ap (λ n. map (λ i. u64_at bytes (32 + 8 * heap_words image + 8 * i)) (range_with_len 0 n)) live_told
       ∙ sym (fill_by_all (λ i. u64_at bytes (32 + 8 * heap_words image + 8 * i)) image.live (length image.live) 0 refl address_told) in
       λ i. record { region_log = log_told i; allowance = allowance_told i; words = ws i; live = ls i; roots = sym fits.plain i }
 
-  pub length_told : told_length bytes ≡ length (listed_text rooted image)
+  pub length_told : encoded_length bytes ≡ length (listed_text rooted image)
   length_told =
       let both = length-append (numbers image.words) (numbers image.live) in
       let ws = length-numbers image.words in
@@ -149,7 +149,7 @@ module _ (rooted : Bool) (image : HeapImage) (fits : HasFittingNumbers image) (r
       let l = live_told in
       omega arith
 
-  -- the magic tells the version
+  -- the magic determines the version
   pub rooted_told : is_rooted bytes ≡ rooted
   rooted_told = by rooted
     where
@@ -157,15 +157,15 @@ module _ (rooted : Bool) (image : HeapImage) (fits : HasFittingNumbers image) (r
       by true = refl
       by false = refl
 
-  pub told_image-append : told_image bytes ≡ from_tail rooted image
-  told_image-append = ap (λ b. from_tail b (told_numbers bytes)) rooted_told ∙ ap (from_tail rooted) told_numbers-append
+  pub encoded_image-append : encoded_image bytes ≡ from_tail rooted image
+  encoded_image-append = ap (λ b. from_tail b (encoded_numbers bytes)) rooted_told ∙ ap (from_tail rooted) encoded_numbers-append
 
-pub told_image-text : (image : HeapImage) → IsValid image → told_image (text image) ≡ image
-told_image-text image valid =
-    ap told_image (sym (append-nil (text image)))
-    ∙ told_image-append (is_some image.roots) (with_tail image) (valid_numbers image valid) []
+pub encoded_image-text : (image : HeapImage) → IsValid image → encoded_image (text image) ≡ image
+encoded_image-text image valid =
+    ap encoded_image (sym (append-nil (text image)))
+    ∙ encoded_image-append (is_some image.roots) (with_tail image) (valid_numbers image valid) []
     ∙ from_tail-with_tail image valid
 
 -- two valid images with one text are equal
 pub text-injective : (image other : HeapImage) → IsValid image → IsValid other → text image ≡ text other → image ≡ other
-text-injective image other v w e = sym (told_image-text image v) ∙ ap told_image e ∙ told_image-text other w
+text-injective image other v w e = sym (encoded_image-text image v) ∙ ap encoded_image e ∙ encoded_image-text other w

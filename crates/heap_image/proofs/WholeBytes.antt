@@ -8,7 +8,7 @@ use Rattle.heap_image.specs.declared.fault.Fault.{Fault}
 use Rattle.heap_image.specs.declared.fault.Fault.TheVariants.{TruncatedBody, Memory}
 use Rattle.heap_image.specs.Device.{is_io}
 use Rattle.heap_image.specs.HeapImage.{HeapImage, IsValid, IsWithinLimits}
-use Rattle.heap_image.specs.ImageText.{front, text, fault_if, first_some, first_fault, front_faults, layout_faults, told_length}
+use Rattle.heap_image.specs.ImageText.{front, text, fault_if, first_some, first_fault, front_faults, layout_faults, encoded_length}
 use Rattle.heap_image.specs.Refusals.{IsReason}
 use Rattle.heap_image.proofs.Faultless.{first_some-append, first_some_past, first_some-None, fault_if-None, front_faults-None, layout_fault-truncated, first_fault-text}
 use Rattle.heap_image.proofs.Refusing.{front_faults-append}
@@ -39,8 +39,8 @@ module _ (bytes : List ℕ) (rooted : Bool) (log live_count words allowance : �
       let long = ap length whole in
       let tells = front_length rooted log live_count words allowance limits (drop 32 bytes) in
       ap (λ b. first_some (layout_faults b)) (sym whole)
-      ∙ first_some_past (front_faults said) (fault_if (ltb (length said) (told_length said)) TruncatedBody ∷ []) (front_faults-None rooted log live_count words allowance limits (drop 32 bytes))
-      ∙ first_some-None (fault_if (ltb (length said) (told_length said)) TruncatedBody ∷ []) (fault_if-None (ltb (length said) (told_length said)) TruncatedBody (le-ltb (length said) (told_length said) (omega arith)), tt)
+      ∙ first_some_past (front_faults said) (fault_if (ltb (length said) (encoded_length said)) TruncatedBody ∷ []) (front_faults-None rooted log live_count words allowance limits (drop 32 bytes))
+      ∙ first_some-None (fault_if (ltb (length said) (encoded_length said)) TruncatedBody ∷ []) (fault_if-None (ltb (length said) (encoded_length said)) TruncatedBody (le-ltb (length said) (encoded_length said) (omega arith)), tt)
 
 -- a text of a valid image is not refused as such
 pub no_refusal : (bytes : List ℕ) (image : HeapImage) (fault : Fault) → IsValid image → bytes ≡ text image → first_fault bytes ≡ Some fault → ⊥

@@ -3,7 +3,7 @@ use Rattle.std.specs.Prelude.{◌≡◌, ℕ, ◌+◌, ◌*◌, ◌/◌, ◌%◌
 use Rattle.std.specs.List.{list_any, range_with_len}
 use Rattle.std.specs.Int.{bit_at}
 
--- how many bits the words have
+-- the number of bits of the words
 abbrev pub room : List ℕ → ℕ
 room words = 64 * length words
 
@@ -30,11 +30,11 @@ pub record IsFirstBetween (test : ℕ → Bool) (from to a : ℕ) : Type 0 where
   pub first : IsFirstFrom test from a
   pub below : a < to
 
--- the addresses of the list, which are below words, have their bit set and no others
+-- the set bits are those of the addresses of the list, which are below words
 pub record MarkBegins (live : List ℕ) (words : ℕ) (bits : List ℕ) : Type 0 where
   pub room : length bits ≡ words / 64 + 1
   pub marked : (a : ℕ) → has bits a ≡ list_any (λ b. b == a) live
 
--- the places of the bits that are set in a word of 64 bits, ascending
+-- the indices of the bits that are set in a word of 64 bits, ascending
 abbrev pub ones_of : ℕ → List ℕ
 ones_of word = filter (λ j. bit_at word j == 1) (range_with_len 0 64)

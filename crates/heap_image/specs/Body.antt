@@ -1,4 +1,4 @@
--- What stands behind the front of an image.
+-- The body of an image: what follows its front.
 use Rattle.std.specs.Prelude.{◌≡◌, ℕ, ◌+◌, ◌*◌, ◌^◌, ◌<◌, ◌++◌, All, Option, List, length}
 use Rattle.std.specs.List.{concat}
 use Rattle.std.specs.Io.KnownBytes.{Consumes}
@@ -7,11 +7,11 @@ use Rattle.heap_image.specs.ImageText.{numbers}
 use Rattle.heap_image.specs.declared.body.Body.{Body}
 use Rattle.heap_image.specs.declared.body_size.BodySize.{BodySize}
 
--- how many words the regions and the numbers behind them are
+-- the number of words of the regions and the numbers after them
 abbrev pub body_words : BodySize → ℕ
 body_words size = size.regions * 2 ^ size.region_log + size.numbers
 
--- a body of this size, whose words are the bytes that were known to be left before, and no longer are after
+-- a body of this size, whose words are the known bytes that were left before and aren't left after
 pub record IsBody (size : BodySize) (before after : Option (List ℕ)) (body : Body) : Type 0 where
   pub regions : AreBlocks size.region_log body.regions.items
   pub count : length body.regions.items ≡ size.regions

@@ -1,9 +1,9 @@
--- When a device has failed, and what an answer says of it.
+-- What a result says about the failure of a device.
 use Rattle.std.specs.Prelude.{Bool, true, false, Result, Ok, Err}
 use Rattle.heap_image.specs.declared.fault.Fault.{Fault}
 use Rattle.heap_image.specs.declared.fault.Fault.TheVariants.{Io}
 
--- whether the answer is the fault of a device
+-- whether the result is the fault of a device
 abbrev pub is_io : {A : Type 0} → Result A Fault → Bool
 is_io (Ok _) = false
 is_io (Err Io) = true

@@ -1,18 +1,18 @@
--- Bytes that lie at places, and the bodies of images among these.
+-- Bytes at offsets, and the bodies of images among them.
 use Rattle.std.specs.Prelude.{◌≡◌, ℕ, ◌+◌, ◌*◌, ◌^◌, ◌<◌, ◌≤◌, List, Option, drop, option_map}
 use Rattle.heap_image.specs.Body.{IsBody, body_words}
 use Rattle.heap_image.specs.declared.body.Body.{Body}
 use Rattle.heap_image.specs.declared.side_by_side.Extent.{Extent}
 
--- the known bytes from a place on
+-- the known bytes from an offset on
 abbrev pub from_place : Option (List ℕ) → ℕ → Option (List ℕ)
 from_place known at = option_map (drop at) known
 
--- the place behind an extent
+-- the offset after an extent
 abbrev pub extent_end : Extent → ℕ
 extent_end extent = extent.at + 8 * body_words extent.size
 
--- the regions are not too large, and their places are numbers of 64 bits
+-- the regions are not too large, and all offsets fit in 64 bits
 pub record IsExtent (extent : Extent) : Type 0 where
   pub log : extent.size.region_log ≤ 16
   pub inside : extent_end extent < 2 ^ 64
@@ -28,6 +28,6 @@ pub record AreTwoParts (extent low high : Extent) : Type 0 where
   pub numbers : high.size.numbers ≡ extent.size.numbers
   pub end : extent_end high ≡ extent_end extent
 
--- this is what lies in an extent of these bytes, as far as the bytes are known
+-- this is the body in an extent of these bytes, if the bytes are known
 abbrev pub IsBodyOf : Option (List ℕ) → Extent → Body → Type 0
 IsBodyOf known extent body = IsBody extent.size (from_place known extent.at) (from_place known (extent_end extent)) body

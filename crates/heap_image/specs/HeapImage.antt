@@ -4,8 +4,8 @@ use Rattle.std.specs.List.{concat, list_any, range_with_len, AllAdjacentBelow}
 use Rattle.std.specs.Option.{is_some}
 use Rattle.heap_image.specs.Header.{size_of, references_of, kind_of}
 
--- Address a is the a-th word. A region is 2 ^ region_log words in a row. The allowance is the number of dead words that
--- the dense prefix may keep. The live list has the address of each live object. An image of version 2 has roots.
+-- Address a is the a-th word. A region is 2 ^ region_log consecutive words. The allowance is the number of dead words
+-- that the dense prefix may keep. The live list has the address of each live object. An image of version 2 has roots.
 pub record HeapImage : Type 0 where
   pub region_log : ℕ
   pub allowance : ℕ
@@ -13,7 +13,7 @@ pub record HeapImage : Type 0 where
   pub live : List ℕ
   pub roots : Option (List ℕ)
 
--- roots, or where there are none other numbers
+-- roots, or other numbers if there are none
 abbrev pub roots_or : List ℕ → Option (List ℕ) → List ℕ
 roots_or others None = others
 roots_or others (Some roots) = roots
@@ -31,7 +31,7 @@ module _ (image : HeapImage) where
   abbrev pub heap_words : ℕ
   heap_words = length image.words
 
-  -- how many regions the heap has
+  -- the number of regions
   abbrev pub region_count : ℕ
   region_count = heap_words / region_words
 
@@ -48,7 +48,7 @@ module _ (image : HeapImage) where
   abbrev pub block_of : ℕ → List ℕ
   block_of r = take region_words (drop (start_of r) image.words)
 
-  -- of the object at a: its size, its number of references, its kind, and the address behind its last word
+  -- of the object at a: its size, its number of references, its kind, and the address after its last word
   abbrev pub size_at : ℕ → ℕ
   size_at a = size_of (word_at a)
 
@@ -61,7 +61,7 @@ module _ (image : HeapImage) where
   abbrev pub end_of : ℕ → ℕ
   end_of a = a + size_at a
 
-  -- the f-th reference of the object at a, from 0: the references stand behind the header
+  -- the f-th reference of the object at a, from 0: the references follow the header
   abbrev pub reference_at : ℕ → ℕ → ℕ
   reference_at a f = word_at (a + 1 + f)
 
@@ -80,7 +80,7 @@ module _ (image : HeapImage) where
   abbrev pub is_dead_word : ℕ → Bool
   is_dead_word q = not (is_live_word q)
 
-  -- how many live words there are from one address up to another
+  -- the number of live words from one address up to another
   abbrev pub live_words : ℕ → ℕ → ℕ
   live_words from to = count_by is_live_word (range_with_len from (to - from))
 
@@ -88,7 +88,7 @@ module _ (image : HeapImage) where
   abbrev pub is_unsound : ℕ → Bool
   is_unsound a = not (kind_at a == 1) || (size_at a == 0) || nat_le (size_at a) (references_at a) || nat_lt heap_words (end_of a)
 
-  -- the end of the last live object, or 0 where there is none
+  -- the end of the last live object, or 0 if there is none
   abbrev pub last_end : ℕ
   last_end = fold (λ _ a. end_of a) 0 image.live
 
@@ -99,8 +99,8 @@ pub record HasSoundHeader (image : HeapImage) (a : ℕ) : Type 0 where
   pub references : references_at image a < size_at image a
   pub inside : end_of image a ≤ heap_words image
 
--- The live list names sound objects in ascending order that do not overlap, and the references of each lead to listed
--- objects or nowhere.
+-- The live list names sound objects in ascending order that do not overlap, and each of their references is null or
+-- leads to a listed object.
 pub record HasLiveList (image : HeapImage) : Type 0 where
   pub sound : All (λ a. HasSoundHeader image a) image.live
   pub apart : AllAdjacentBelow (λ a b. end_of image a ≤ b) image.live (length image.live)
@@ -120,16 +120,17 @@ module _ (image : HeapImage) where
   abbrev pub with_referred : List ℕ → List ℕ
   with_referred xs = filter (λ b. list_any (λ a. (b == a) || refers_to a b) xs) (range_with_len 0 (heap_words image))
 
-  -- the addresses of the heap that are reached from these roots by so many references or fewer
+  -- the addresses of the heap that are reached from these roots by at most this number of references
   abbrev pub reached_in : List ℕ → ℕ → List ℕ
   reached_in roots zero = filter (λ b. list_any (λ w. leads_to w b) roots) (range_with_len 0 (heap_words image))
   reached_in roots (suc n) = with_referred (reached_in roots n)
 
-  -- The addresses that are reached from these roots, ascending. No way to one needs more references than there are words.
+  -- The addresses that are reachable from these roots, ascending. No path to one needs more references than the heap
+  -- has words.
   unfoldable pub reachable : List ℕ → List ℕ
   reachable roots = reached_in roots (heap_words image)
 
--- roots lead into the heap or nowhere, and the live objects are those that are reached from them
+-- each root is null or leads into the heap, and the live objects are those reachable from the roots
 pub record AreRoots (image : HeapImage) (roots : List ℕ) : Type 0 where
   pub few : length roots ≤ heap_words image
   pub inside : All (λ w. w ≤ heap_words image) roots
@@ -165,7 +166,7 @@ image_of region_log allowance blocks live =
 abbrev pub with_live : HeapImage → List ℕ → HeapImage
 with_live heap live = record heap { live = live; roots = None }
 
--- the heap of an image, without what is told of its words
+-- the heap of an image, without live objects and roots
 abbrev pub words_alone : HeapImage → HeapImage
 words_alone image = record image { allowance = 0; live = []; roots = None }
 

@@ -24,26 +24,26 @@ front rooted region_log count words allowance = magic rooted
 abbrev pub numbers : List ℕ → List ℕ
 numbers xs = flat_map (to_le_bytes w64) xs
 
--- the front, then the words, and then the numbers behind them, which here are the live list's
+-- the front, the words, and the numbers after them, here those of the live list
 abbrev pub listed_text : Bool → HeapImage → List ℕ
 listed_text rooted image = front rooted image.region_log (length image.live) (heap_words image) image.allowance
     ++ numbers image.words
     ++ numbers image.live
 
--- the image whose live list are the numbers behind the words of a text: those of the live list, or of the roots
+-- the image whose live list are the numbers after the words of a text: those of the live list, or of the roots
 abbrev pub with_tail : HeapImage → HeapImage
 with_tail image = record image { live = roots_or image.live image.roots; roots = None }
 
 abbrev pub text : HeapImage → List ℕ
 text image = listed_text (is_some image.roots) (with_tail image)
 
--- The image of a text of this version with these numbers behind the words: in version 2 they are roots, and the live
--- objects are what is reached from them.
+-- The image of a text of this version with these numbers after the words: in version 2 they are roots, and the live
+-- objects are those reachable from them.
 abbrev pub from_tail : Bool → HeapImage → HeapImage
 from_tail false image = image
 from_tail true image = record image { live = reachable image image.live; roots = Some image.live }
 
--- What the numbers of a byte list say, whether or not the bytes are an image's text.
+-- The fields of a byte list, whether or not the bytes are an image's text.
 module _ (bytes : List ℕ) where
   abbrev pub u32_at : ℕ → ℕ
   u32_at offset = from_le_bytes w32 (slice_range bytes offset (offset + 4))
@@ -51,38 +51,38 @@ module _ (bytes : List ℕ) where
   abbrev pub u64_at : ℕ → ℕ
   u64_at offset = from_le_bytes w64 (slice_range bytes offset (offset + 8))
 
-  abbrev pub told_region_log : ℕ
-  told_region_log = u32_at 8
+  abbrev pub encoded_region_log : ℕ
+  encoded_region_log = u32_at 8
 
-  abbrev pub told_count : ℕ
-  told_count = u32_at 12
+  abbrev pub encoded_count : ℕ
+  encoded_count = u32_at 12
 
   -- the magic is that of version 2
   abbrev pub is_rooted : Bool
   is_rooted = bytes_eq (take 8 bytes) (magic true)
 
-  abbrev pub told_words : ℕ
-  told_words = u64_at 16
+  abbrev pub encoded_words : ℕ
+  encoded_words = u64_at 16
 
-  abbrev pub told_region_words : ℕ
-  told_region_words = 2 ^ told_region_log
+  abbrev pub encoded_region_words : ℕ
+  encoded_region_words = 2 ^ encoded_region_log
 
-  abbrev pub told_length : ℕ
-  told_length = 32 + 8 * told_words + 8 * told_count
+  abbrev pub encoded_length : ℕ
+  encoded_length = 32 + 8 * encoded_words + 8 * encoded_count
 
-  abbrev pub told_numbers : HeapImage
-  told_numbers = record {
-    region_log = told_region_log;
+  abbrev pub encoded_numbers : HeapImage
+  encoded_numbers = record {
+    region_log = encoded_region_log;
     allowance = u64_at 24;
-    words = map (λ a. u64_at (32 + 8 * a)) (range_with_len 0 told_words);
-    live = map (λ i. u64_at (32 + 8 * told_words + 8 * i)) (range_with_len 0 told_count);
+    words = map (λ a. u64_at (32 + 8 * a)) (range_with_len 0 encoded_words);
+    live = map (λ i. u64_at (32 + 8 * encoded_words + 8 * i)) (range_with_len 0 encoded_count);
     roots = None;
   }
 
-  abbrev pub told_image : HeapImage
-  told_image = from_tail is_rooted told_numbers
+  abbrev pub encoded_image : HeapImage
+  encoded_image = from_tail is_rooted encoded_numbers
 
--- the i-th address is outside a heap of so many words or not above the one before it
+-- the i-th address is outside a heap of this number of words or not above the one before it
 abbrev pub is_misplaced : ℕ → List ℕ → ℕ → Bool
 is_misplaced words live i = nat_le words (slice_index live i)
     || (nat_lt 0 i && nat_le (slice_index live i) (slice_index live (i - 1)))
@@ -91,7 +91,7 @@ is_misplaced words live i = nat_le words (slice_index live i)
 abbrev pub misplaced_index : ℕ → List ℕ → Option ℕ
 misplaced_index words live = find (is_misplaced words live) (range_with_len 0 (length live))
 
--- What is wrong with the objects of an image.
+-- Faults of the objects of an image.
 module _ (image : HeapImage) where
   -- the least index of a root that is above the number of words
   abbrev pub misplaced_root : Option ℕ
@@ -126,22 +126,22 @@ first_some [] = None
 first_some (None ∷ more) = first_some more
 first_some (Some x ∷ more) = Some x
 
--- what can be wrong with the front, each fault if its condition holds
+-- the faults of the front, each if its condition holds
 abbrev pub front_faults : List ℕ → List (Option Fault)
 front_faults bytes =
     fault_if (nat_lt (length bytes) 32) TruncatedHeader
     ∷ fault_if (not (bytes_eq (take 8 bytes) (magic false) || is_rooted bytes)) Magic
-    ∷ fault_if (nat_lt (told_region_log bytes) 3 || nat_lt 16 (told_region_log bytes)) RegionLog
-    ∷ fault_if ((told_words bytes == 0) || not (told_words bytes % told_region_words bytes == 0)
-    || nat_lt 4194304 (told_words bytes) || nat_lt 16384 (told_words bytes / told_region_words bytes)
-    || nat_lt (told_words bytes) (told_count bytes)) Length
+    ∷ fault_if (nat_lt (encoded_region_log bytes) 3 || nat_lt 16 (encoded_region_log bytes)) RegionLog
+    ∷ fault_if ((encoded_words bytes == 0) || not (encoded_words bytes % encoded_region_words bytes == 0)
+    || nat_lt 4194304 (encoded_words bytes) || nat_lt 16384 (encoded_words bytes / encoded_region_words bytes)
+    || nat_lt (encoded_words bytes) (encoded_count bytes)) Length
     ∷ []
 
--- what can be wrong before a word is looked at: the front, and too few bytes behind it
+-- the faults that need no word of the heap: those of the front, and too few bytes after it
 abbrev pub layout_faults : List ℕ → List (Option Fault)
-layout_faults bytes = front_faults bytes ++ (fault_if (nat_lt (length bytes) (told_length bytes)) TruncatedBody ∷ [])
+layout_faults bytes = front_faults bytes ++ (fault_if (nat_lt (length bytes) (encoded_length bytes)) TruncatedBody ∷ [])
 
--- what can be wrong with the objects of a live list that is in order
+-- the faults of the objects of a live list that is in order
 abbrev pub object_faults : HeapImage → List (Option Fault)
 object_faults image =
     option_map Header (unsound_header image)
@@ -152,8 +152,8 @@ object_faults image =
 abbrev pub first_object_fault : HeapImage → Option Fault
 first_object_fault image = first_some (object_faults image)
 
--- What can be wrong with the roots and the live list. In version 1 there are no roots, and in version 2 the live list
--- is in order.
+-- The faults of the roots and the live list. In version 1 there are no roots, and in version 2 the live list is in
+-- order.
 abbrev pub live_list_faults : HeapImage → List (Option Fault)
 live_list_faults image =
     option_map Root (misplaced_root image)
@@ -164,18 +164,18 @@ live_list_faults image =
 abbrev pub faults : List ℕ → List (Option Fault)
 faults bytes =
     layout_faults bytes
-    ++ live_list_faults (told_image bytes)
-    ++ (fault_if (nat_lt (told_length bytes) (length bytes)) Trailing ∷ [])
+    ++ live_list_faults (encoded_image bytes)
+    ++ (fault_if (nat_lt (encoded_length bytes) (length bytes)) Trailing ∷ [])
 
 abbrev pub first_fault : List ℕ → Option Fault
 first_fault bytes = first_some (faults bytes)
 
--- A text without a fault is that of a valid image, and the image is the one that the bytes tell.
+-- A text without a fault is that of a valid image, and the image is the one that the bytes encode.
 abbrev pub FaultlessIsText : Type 0
 FaultlessIsText = (bytes : List ℕ) → All (λ b. b < 256) bytes → first_fault bytes ≡ None
-    → IsValid (told_image bytes) × (bytes ≡ text (told_image bytes))
+    → IsValid (encoded_image bytes) × (bytes ≡ text (encoded_image bytes))
 
--- The text of a valid image has no fault, and tells that image.
+-- The text of a valid image has no fault, and encodes that image.
 abbrev pub TextIsFaultless : Type 0
 TextIsFaultless = (image : HeapImage) → IsValid image
-    → (first_fault (text image) ≡ None) × (told_image (text image) ≡ image)
+    → (first_fault (text image) ≡ None) × (encoded_image (text image) ≡ image)

@@ -1,11 +1,11 @@
--- What an image keeps of its live objects besides their list.
+-- What an image keeps about its live objects besides their list.
 use Rattle.std.specs.Prelude.{ℕ, List, Option, length, IfSome}
 use Rattle.std.specs.List.{concat}
 use Rattle.heap_image.specs.Bits.{MarkBegins}
 use Rattle.heap_image.specs.HeapImage.{AreValidParts, image_of}
 use Rattle.heap_image.specs.Sizes.{AreSizes}
 
--- the parts are those of a valid image; the bits, if there are any, those of its live objects; and so are the sizes
+-- the parts are those of a valid image, and the bits and the sizes, if there are any, are those of its live objects
 pub record AreKept (region_log allowance : ℕ) (blocks : List (List ℕ)) (live : List ℕ) (roots : Option (List ℕ)) (begins : Option (List ℕ)) (sizes : Option (List (List ℕ))) : Type 0 where
   pub parts : AreValidParts region_log allowance blocks live roots
   pub marked : IfSome begins (MarkBegins live (length (concat blocks)))

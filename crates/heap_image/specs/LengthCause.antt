@@ -1,6 +1,6 @@
 -- The conditions of fault 4, one by one.
 use Rattle.std.specs.Prelude.{ℕ, ◌/◌, ◌%◌, ◌^◌, Bool, true, false, not, nat_lt, ◌==◌, List, [], ◌∷◌, Option, None, Some}
-use Rattle.heap_image.specs.ImageText.{first_some, told_region_log, told_count, told_words}
+use Rattle.heap_image.specs.ImageText.{first_some, encoded_region_log, encoded_count, encoded_words}
 use Rattle.heap_image.specs.declared.length_cause.LengthCause.{LengthCause}
 use Rattle.heap_image.specs.declared.length_cause.LengthCause.TheVariants.{NoWords, PartialRegion, TooManyWords, TooManyRegions, CountAboveWords}
 
@@ -18,6 +18,6 @@ length_causes region_log count words =
     ∷ cause_if (nat_lt words count) CountAboveWords
     ∷ []
 
--- the first of these causes, of what the front of a byte list tells
+-- the first of these causes for the front of a byte list
 abbrev pub first_length_cause : List ℕ → Option LengthCause
-first_length_cause bytes = first_some (length_causes (told_region_log bytes) (told_count bytes) (told_words bytes))
+first_length_cause bytes = first_some (length_causes (encoded_region_log bytes) (encoded_count bytes) (encoded_words bytes))

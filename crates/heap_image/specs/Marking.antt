@@ -1,4 +1,4 @@
--- Marks while they grow, and the waiting_addresses whose references are still to be followed.
+-- Marks while they grow, and the addresses whose references are still to be followed.
 use Rattle.std.specs.Prelude.{◌≡◌, ◌⊎◌, ℕ, ◌+◌, ◌/◌, ◌<◌, ◌≤◌, Bool, true, false, not, IsTrue, List, All, Contains, length, count_by, map}
 use Rattle.std.specs.List.{list_any, range_with_len}
 use Rattle.heap_image.specs.HeapImage.{HeapImage, heap_words, references_at, reference_at, is_unsound, leads_to, refers_to, reachable}
@@ -6,19 +6,19 @@ use Rattle.heap_image.specs.Bits.{has}
 use Rattle.heap_image.specs.Reachable.{is_listed}
 use Rattle.heap_image.specs.declared.marking.Waiting.{Waiting}
 
--- how many of the waiting_addresses below a number are not marked
+-- the number of addresses below `words` that are not marked
 abbrev pub unmarked : ℕ → List ℕ → ℕ
 unmarked words bits = count_by (λ a. not (has bits a)) (range_with_len 0 words)
 
--- the waiting_addresses of objects that wait
+-- the addresses of the objects that wait
 abbrev pub waiting_addresses : List Waiting → List ℕ
 waiting_addresses batch = map (λ w. w.address) batch
 
--- the waiting_addresses on the stack are below the number of words, and marked
+-- the addresses on the stack are below the number of words, and marked
 abbrev pub AreStacked : ℕ → List ℕ → List ℕ → Type 0
 AreStacked words bits stack = All (λ a. (a < words) × (has bits a ≡ true)) stack
 
--- The targets are marked, and no other address that was not. Those that were not are put on the stack.
+-- The targets become marked, and no other address does. Those that weren't marked before are pushed on the stack.
 pub record IsGrown (words : ℕ) (targets : ℕ → Bool) (bits new_bits stack new_stack : List ℕ) : Type 0 where
   pub room : length new_bits ≡ length bits
   pub kept : (a : ℕ) → a < words → has bits a ≡ true → has new_bits a ≡ true
@@ -30,13 +30,13 @@ pub record IsGrown (words : ℕ) (targets : ℕ → Bool) (bits new_bits stack n
   pub total : length new_stack + unmarked words new_bits ≡ length stack + unmarked words bits
   pub inside : AreStacked words bits stack → AreStacked words new_bits new_stack
 
--- the object at a has a sound header, and no reference of it leads out of the heap
+-- the object at a has a sound header, and none of its references leads out of the heap
 pub record IsWellFormed (image : HeapImage) (a : ℕ) : Type 0 where
   pub sound : is_unsound image a ≡ false
   pub inside : (f : ℕ) → f < references_at image a → reference_at image a f ≤ heap_words image
 
--- What is marked is reached, the roots are marked, and what is marked and does not wait on the stack has its references
--- followed. Those that were followed are well-formed, if that is said.
+-- All marked addresses are reachable, the roots are marked, and the references of each marked object that isn't on the
+-- stack are followed. If the flag is set, all followed objects are well-formed.
 pub record IsMarking (image : HeapImage) (roots bits stack : List ℕ) (well_formed : Bool) : Type 0 where
   pub room : length bits ≡ heap_words image / 64 + 1
   pub inside : AreStacked (heap_words image) bits stack
@@ -47,12 +47,12 @@ pub record IsMarking (image : HeapImage) (roots bits stack : List ℕ) (well_for
       → Contains stack a ⊎ ((b : ℕ) → b < heap_words image → refers_to image a b ≡ true → has bits b ≡ true)
   pub formed : IsTrue well_formed → (a : ℕ) → a < heap_words image → has bits a ≡ true → Contains stack a ⊎ IsWellFormed image a
 
--- the marked waiting_addresses are the reachable ones
+-- the marked addresses are the reachable ones
 pub record AreReached (image : HeapImage) (roots bits : List ℕ) : Type 0 where
   pub room : length bits ≡ heap_words image / 64 + 1
   pub marked : (a : ℕ) → a < heap_words image → has bits a ≡ is_listed (reachable image roots) a
   pub outside : (a : ℕ) → heap_words image ≤ a → has bits a ≡ false
 
--- the reachable objects have sound headers, and no reference of them leads out of the heap
+-- the reachable objects have sound headers, and none of their references leads out of the heap
 abbrev pub AreReachedWell : HeapImage → List ℕ → Type 0
 AreReachedWell image roots = (a : ℕ) → a < heap_words image → is_listed (reachable image roots) a ≡ true → IsWellFormed image a

@@ -1,4 +1,4 @@
--- What is reached from roots through references, and what can be wrong with it.
+-- The objects that are reachable from roots, and their faults.
 use Rattle.std.specs.Prelude.{◌≡◌, ℕ, ◌<◌, Bool, true, ◌==◌, nat_lt, List, Option, find, flat_map}
 use Rattle.std.specs.List.{list_any}
 use Rattle.heap_image.specs.HeapImage.{HeapImage, heap_words, reference_at, leads_to, refers_to}
@@ -9,7 +9,7 @@ abbrev pub is_listed : List ℕ → ℕ → Bool
 is_listed xs a = list_any (λ b. a == b) xs
 
 module _ (image : HeapImage) where
-  -- The addresses that pass are closed: they have all to which the roots lead, and all to which a sound object among
+  -- The addresses that pass are closed: they include all to which the roots lead, and all to which a sound object among
   -- them refers.
   pub record IsClosed (roots : List ℕ) (passes : ℕ → Bool) : Type 0 where
     pub from_roots : (b : ℕ) → b < heap_words image → list_any (λ w. leads_to w b) roots ≡ true → passes b ≡ true

@@ -1,4 +1,4 @@
--- An image that was read, and what was read of it before it is checked.
+-- An image that was read, before and after its check.
 use Rattle.std.specs.Prelude.{◌≡◌, ℕ, ◌<◌, ◌^◌, IsTrue, List, All, Option, None, length, option_map}
 use Rattle.std.specs.List.{concat}
 use Rattle.std.specs.Io.KnownBytes.{Consumes, IsAtEnd}
@@ -22,12 +22,12 @@ pub record HasFittingNumbers (image : HeapImage) : Type 0 where
   pub live : All (λ a. a < 2 ^ 64) image.live
   pub plain : image.roots ≡ None
 
--- the numbers that were read, those behind the words as a live list
+-- the numbers that were read, with those after the words as a live list
 abbrev pub numbers_of : Unchecked → HeapImage
 numbers_of read = image_of read.front.region_log read.front.allowance read.regions.items
     (roots_or read.found.live.items (option_map (λ v. v.items) read.found.roots))
 
--- the live objects and the roots are those that the numbers tell, and only the objects can still be wrong
+-- the live objects and the roots are those of the numbers, and only faults of the objects are left
 pub record IsFound (read : Unchecked) : Type 0 where
   pub live : read.found.live.items ≡ (from_tail read.front.rooted (numbers_of read)).live
   pub roots : option_map (λ v. v.items) read.found.roots ≡ (from_tail read.front.rooted (numbers_of read)).roots

@@ -1,4 +1,4 @@
--- The devices over std's readers and writers: what they stand on, and whether they have failed.
+-- The devices over std's readers and writers: what they wrap, and whether they have failed.
 use Rattle.std.specs.Prelude.{Bool}
 use Rattle.heap_image.specs.declared.intake.FromRead.{FromRead}
 use Rattle.heap_image.specs.declared.outlet.ToWrite.{ToWrite}

@@ -5,11 +5,11 @@ use Rattle.heap_image.specs.ImageText.{text}
 use Rattle.heap_image.specs.Reading.{IsRead}
 use Rattle.heap_image.specs.Outgoing.{TakesBeginning}
 
--- Where there are no roots, one to each live object, in their order. All else stays.
+-- If there are no roots, a root to each live object, in their order. All else stays.
 abbrev pub upgraded : HeapImage → HeapImage
 upgraded image = record image { roots = Some (roots_or (map (λ a. a + 1) image.live) image.roots) }
 
--- all of the input was read, which is the text of some image, and a beginning of the text of the upgraded one was written
+-- the whole input was read, it is the text of some image, and a prefix of the text of the upgraded image was written
 pub record IsUpgradeBegun (left left' took took' : Option (List ℕ)) : Type 0 where
   pub image : HeapImage
   pub read : IsRead image left left'

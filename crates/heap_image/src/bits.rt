@@ -1,4 +1,4 @@
-//! `Bits`: a set of addresses, with one bit for each address.
+//! A set of addresses, as a bitmap.
 ghost use Rattle.std.specs.Prelude.{◌≡◌, ℕ, ◌+◌, ◌-◌, ◌*◌, ◌/◌, ◌%◌, ◌^◌, ◌<◌, ◌≤◌, ◌==◌, ◌||◌, ◌&&◌, nat_le, nat_lt, ◌++◌, length, replicate, take, drop, All, slice_index, slice_set, count_by, count_ones, position, not, IfOk, IsTrue, MatchOption};
 ghost use Rattle.std.specs.Int.{bit_at};
 ghost use Rattle.std.specs.List.{range_with_len, list_any};
@@ -9,7 +9,7 @@ use std::marker::Model;
 
 /// A set of addresses, with one bit for each: address `i` is bit `i % 64` of word `i / 64`.
 ///
-/// A contract sees the words, and asks by `has` whether an address is in the set.
+/// A contract sees the words; `has` says whether an address is in the set.
 #[derive(Drop)]
 pub struct Bits {
     words: Vec<u64>,
@@ -24,7 +24,7 @@ impl Model for Bits {
 }
 
 impl Bits {
-    /// The empty set, with room for the addresses up to `len`, itself included.
+    /// The empty set, with room for the addresses up to and including `len`.
     pub fn new(alloc: Global, len: u64) -> Result<Bits, AllocError>
         ensures { IfOk result (λ bits. bits ≡ replicate (len / 64 + 1) 0) }
     {
@@ -32,14 +32,14 @@ impl Bits {
         Ok(Bits { words })
     }
 
-    /// The set whose bits stand in these words.
+    /// The set with these words as bits.
     pub fn from_words(words: Vec<u64>) -> Bits
         ensures { result ≡ words.items }
     {
         Bits { words }
     }
 
-    /// The set of these addresses, with room for those up to `len`, itself included.
+    /// The set of these addresses, with room for those up to and including `len`.
     pub fn of(alloc: Global, addresses: &[u64], len: u64) -> Result<Bits, AllocError>
         requires { All (λ a. a < len) addresses.now }
         ensures room { IfOk result (λ bits. length bits ≡ len / 64 + 1) }
@@ -50,7 +50,7 @@ impl Bits {
         Ok(bits)
     }
 
-    /// The same set once more.
+    /// Copies the set.
     pub fn copy(&self, alloc: Global) -> Result<Bits, AllocError>
         ensures { IfOk result (λ bits. bits ≡ self.now) }
     {
@@ -59,17 +59,17 @@ impl Bits {
         Ok(Bits { words })
     }
 
-    /// The set of 0 and of each address that is 1 above one of this set. It has room for 64 more.
-    pub(crate) fn raised(&self, alloc: Global) -> Result<Bits, AllocError>
+    /// The set of 0 and of `a + 1` for each address `a` of this set. It has room for 64 more addresses.
+    pub(crate) fn shift_up(&self, alloc: Global) -> Result<Bits, AllocError>
         ensures room { IfOk result (λ bits. length bits ≡ length self.now + 1) }
         ensures zero { IfOk result (λ bits. IsTrue (has bits 0)) }
         ensures above { IfOk result (λ bits. (k : ℕ) → has bits (k + 1) ≡ has self.now k) }
     {
-        let words = raised_by_one(alloc, self.words.as_slice())?;
+        let words = shift_words_up(alloc, self.words.as_slice())?;
         Ok(Bits { words })
     }
 
-    /// Whether address `i` is in the set. One that there is no room for is not.
+    /// Whether address `i` is in the set. An address outside its room is not.
     #[inline]
     pub fn contains(&self, i: u64) -> bool
         ensures { result ≡ has self.now i }
@@ -80,7 +80,7 @@ impl Bits {
         }
     }
 
-    /// Whether address `i`, for which there is room, is in the set.
+    /// Whether address `i`, which is within the room, is in the set.
     #[inline]
     pub(crate) fn has(&self, i: u64) -> bool
         requires { i < room self.now }
@@ -89,7 +89,7 @@ impl Bits {
         (self.words[(i / 64) as usize] >> (i % 64)) & 1 == 1
     }
 
-    /// Puts address `i` into the set.
+    /// Inserts address `i`.
     #[inline]
     pub fn insert(&mut self, i: u64)
         requires { i < room self.old }
@@ -99,7 +99,7 @@ impl Bits {
         self.insert_mask((i / 64) as usize, 1 << (i % 64));
     }
 
-    /// Puts some addresses into the set.
+    /// Inserts these addresses.
     pub fn insert_all(&mut self, addresses: &[u64])
         requires { All (λ a. a < room self.old) addresses.now }
         ensures room { length self.new ≡ length self.old }
@@ -110,7 +110,7 @@ impl Bits {
         }
     }
 
-    /// Sets, in the word with index `i`, the bits of a mask.
+    /// Sets the bits of a mask in the word with index `i`.
     #[inline]
     fn insert_mask(&mut self, i: usize, mask: u64)
         requires { i < length self.old }
@@ -130,7 +130,7 @@ impl Bits {
         words[i]
     }
 
-    /// Puts a word in the place of the one with index `i`.
+    /// Replaces the word with index `i`.
     #[inline]
     pub fn set_word(&mut self, i: usize, word: u64)
         requires { i < length self.old }
@@ -147,7 +147,7 @@ impl Bits {
         first_in(self.words.as_slice(), from)
     }
 
-    /// The least address of the set from `from` on that lies below `to`. No word past `to` is looked at.
+    /// The least address of the set from `from` on that is below `to`. Words after `to` are not read.
     pub fn next_before(&self, from: u64, to: u64) -> Option<u64>
         requires { room self.now < 2 ^ 64 }
         ensures { MatchOption result (NoneBetween (has self.now) from to) (IsFirstBetween (has self.now) from to) }
@@ -156,7 +156,7 @@ impl Bits {
         if first < to { Some(first) } else { None }
     }
 
-    /// The least address from `from` on and below `to` that is not in the set. No word past `to` is looked at.
+    /// The least address from `from` on and below `to` that is not in the set. Words after `to` are not read.
     pub fn next_absent_before(&self, from: u64, to: u64) -> Option<u64>
         requires { room self.now < 2 ^ 64 }
         ensures { MatchOption result (NoneBetween (λ k. not (has self.now k)) from to) (IsFirstBetween (λ k. not (has self.now k)) from to) }
@@ -165,7 +165,7 @@ impl Bits {
         if first < to { Some(first) } else { None }
     }
 
-    /// The words that have the bits of the addresses below `to`.
+    /// The words with the bits of the addresses below `to`.
     #[inline]
     fn words_below(&self, to: u64) -> &[u64]
         ensures { result.now ≡ take ((to + 63) / 64) self.now }
@@ -174,7 +174,7 @@ impl Bits {
         &self.words[..count]
     }
 
-    /// How many addresses from `from` up to `to`, itself not included, are in the set.
+    /// The number of addresses of the set from `from` up to but excluding `to`.
     #[inline]
     pub fn count(&self, from: u64, to: u64) -> u64
         requires ordered { from ≤ to }
@@ -187,7 +187,7 @@ impl Bits {
         whole + self.count_below(to) - self.count_below(from)
     }
 
-    /// How many addresses below `i` that lie in the same word are in the set.
+    /// The number of addresses of the set that are below `i` and in the same word.
     #[inline]
     fn count_below(&self, i: u64) -> u64
         requires { i < room self.now }
@@ -198,8 +198,8 @@ impl Bits {
     }
 }
 
-/// These words with each bit one place higher, and with the lowest bit set.
-fn raised_by_one(alloc: Global, words: &[u64]) -> Result<Vec<u64>, AllocError>
+/// These words shifted up by one bit, with the lowest bit set.
+fn shift_words_up(alloc: Global, words: &[u64]) -> Result<Vec<u64>, AllocError>
     ensures room { IfOk result (λ new. length new.items ≡ length words.now + 1) }
     ensures zero { IfOk result (λ new. IsTrue (has new.items 0)) }
     ensures above { IfOk result (λ new. (k : ℕ) → has new.items (k + 1) ≡ has words.now k) }
@@ -238,18 +238,17 @@ fn first_not_in(words: &[u64], from: u64) -> u64
     let Some(word) = words.get(start) else {
         return from;
     };
-    let rest = lacking(*word) & (u64::MAX << (from % 64));
+    let rest = complement(*word) & (u64::MAX << (from % 64));
     if rest != 0 {
         return 64 * start as u64 + lowest(rest);
     }
     let behind = &words[start + 1..];
     match first_not_full(behind) {
-        Some(i) => 64 * (start + 1 + i) as u64 + lowest(lacking(behind[i])),
+        Some(i) => 64 * (start + 1 + i) as u64 + lowest(complement(behind[i])),
         None => 64 * words.len() as u64,
     }
 }
 
-/// The index of the first word that is not zero.
 fn first_nonzero(words: &[u64]) -> Option<usize>
     ensures { result ≡ position (λ word. not (word == 0)) words.now }
 {
@@ -258,21 +257,21 @@ fn first_nonzero(words: &[u64]) -> Option<usize>
 
 /// The bits that are not set in a word.
 #[inline]
-fn lacking(word: u64) -> u64
+fn complement(word: u64) -> u64
     ensures bits { (j : ℕ) → j < 64 → bit_at result j ≡ 1 - bit_at word j }
     ensures some { (word ≡ 2 ^ 64 - 1 → ⊥) → 0 < result }
 {
     !word
 }
 
-/// The index of the first word that has a bit which is not set.
+/// The index of the first word with a bit that is not set.
 fn first_not_full(words: &[u64]) -> Option<usize>
     ensures { result ≡ position (λ word. not (word == 2 ^ 64 - 1)) words.now }
 {
     words.iter().position(|word| *word != u64::MAX)
 }
 
-/// The place of the lowest bit that is set in a word.
+/// The index of the lowest bit that is set in a word.
 #[inline]
 fn lowest(word: u64) -> u64
     requires { 0 < word }
@@ -283,7 +282,7 @@ fn lowest(word: u64) -> u64
     u64::from(word.trailing_zeros())
 }
 
-/// How many bits of some words are set.
+/// The number of bits that are set in these words.
 fn ones_of(words: &[u64]) -> u64
     requires { length words.now < 2 ^ 58 }
     ensures { result ≡ count_by (has words.now) (range_with_len 0 (64 * length words.now)) }
@@ -295,7 +294,7 @@ fn ones_of(words: &[u64]) -> u64
     count
 }
 
-/// How many bits of a word are set.
+/// The number of bits that are set in a word.
 #[inline]
 fn ones(word: u64) -> u64
     ensures value { result ≡ count_ones (word % 2 ^ 64) }

@@ -1,4 +1,4 @@
-//! `Body`: what stands behind the front of an image.
+//! The body: the part of an image's text after its front.
 ghost use Rattle.std.specs.Prelude.{◌≡◌, ◌≤◌, ◌+◌, ◌||◌, ℕ, List, OnOk, IfOk, IfErr, Err};
 ghost use Rattle.std.specs.Io.KnownBytes.{Consumes};
 ghost use Rattle.heap_image.specs.Body.{IsBody, body_words};
@@ -14,7 +14,8 @@ use crate::read::read_regions;
 use raw_region::Region;
 use std::alloc::Global;
 
-/// What stands behind the front of an image: the regions with the words, and the numbers behind them, live addresses or roots.
+/// The part of an image after its front: the regions with the words, and the numbers after them, live addresses or
+/// roots.
 #[derive(Drop)]
 pub struct Body {
     pub regions: Vec<Region>,
@@ -22,7 +23,7 @@ pub struct Body {
 }
 
 impl Body {
-    /// Reads a body of this size from what comes in.
+    /// Reads a body of this size.
     pub(crate) fn read<R: Intake>(
         alloc: Global,
         incoming: &mut Incoming,

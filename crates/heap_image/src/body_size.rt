@@ -1,19 +1,19 @@
-//! `BodySize`: how much stands behind the front of an image.
+//! The size of the body of an image.
 ghost use Rattle.std.specs.Prelude.{◌≡◌, ◌<◌, ◌≤◌, ◌^◌};
 ghost use Rattle.heap_image.specs.Body.{body_words};
 
-/// How much stands behind the front of an image, or in a part of that.
+/// The size of the body of an image, or of a part of it.
 #[derive(Debug, Clone, Copy, PartialEq, Eq)]
 pub struct BodySize {
     pub region_log: u32,
-    /// How many regions there are.
+    /// The number of regions.
     pub regions: usize,
-    /// How many numbers stand behind them.
+    /// The number of numbers after them.
     pub numbers: usize,
 }
 
 impl BodySize {
-    /// How many words the regions and the numbers are.
+    /// The size in words of 8 bytes.
     pub(crate) fn words(self) -> usize
         requires log { self.region_log ≤ 16 }
         requires fits { body_words self < 2 ^ 64 }

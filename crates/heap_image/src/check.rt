@@ -1,4 +1,4 @@
-//! The checks of a live list.
+//! Checks a live list in one thread, and finds its first fault.
 ghost use Rattle.std.specs.Prelude.{◌≡◌, ◌<◌, ◌≤◌, ◌+◌, ◌/◌, ◌||◌, ◌⊎◌, ◌==◌, nat_le, nat_lt, not, ℕ, Option, Some, None, [], ◌∷◌, List, All, option_map, find, map, OnOk, IfErr, IsTrue, length};
 ghost use Rattle.std.specs.List.{list_any, range_with_len};
 ghost use Rattle.heap_image.specs.Header.{size_of, references_of, kind_of};
@@ -8,10 +8,10 @@ ghost use Rattle.heap_image.specs.Bits.{MarkBegins};
 ghost use Rattle.heap_image.specs.Soundness.{AreWellFormed};
 
 use crate::bits::Bits;
-use crate::heap::Heap;
+use crate::heap::{Heap, is_small};
 use crate::{Fault, header};
 
-/// The least index of an address that is outside the heap or not above the one before it.
+/// The first index of an address that is outside the heap or not above the one before it.
 pub(crate) fn misplaced_index(live: &[u64], words: u64) -> Option<u32>
     requires few { length live.now ≤ words }
     requires fits { words ≤ 4194304 }
@@ -27,7 +27,7 @@ pub(crate) fn misplaced_index(live: &[u64], words: u64) -> Option<u32>
     None
 }
 
-/// Whether this word at `a` is not the header of an object that fits.
+/// Whether this word at address `a` is not the header of an object that fits.
 #[inline]
 pub(crate) fn is_unsound(word: u64, a: u64, words: u64) -> bool
     requires { a ≤ 4194304 }
@@ -41,8 +41,8 @@ pub(crate) fn is_unsound(word: u64, a: u64, words: u64) -> bool
         || a + u64::from(size) > words
 }
 
-/// Whether each live address has the header of an object that fits, no object begins before the end of the one before
-/// it, and each reference is null or to a live object, whose addresses are marked. Each object is visited once.
+/// Checks that each live address has the header of an object that fits, that no two objects overlap, and that each
+/// reference is null or to a live object. `bits` marks the live addresses. Each object is visited once.
 fn check_objects(heap: &Heap<'_>, live: &[u64], bits: &Bits) -> Result<(), Fault>
     requires inside { All (λ a. a < heap_words heap.now) live.now }
     requires bits { MarkBegins live.now (heap_words heap.now) bits.now }
@@ -75,8 +75,8 @@ fn check_objects(heap: &Heap<'_>, live: &[u64], bits: &Bits) -> Result<(), Fault
     }
 }
 
-/// What is first wrong with the live objects of a heap, if anything is. Their addresses are marked, and
-/// may be known to be well-formed. Each object is visited once.
+/// Checks the live objects of a heap and returns their first fault. `bits` marks their addresses; `well_formed` says
+/// that only overlaps are still possible. Each object is visited once.
 pub(crate) fn check_live(
     heap: &Heap<'_>,
     live: &[u64],
@@ -95,14 +95,14 @@ pub(crate) fn check_live(
     check_objects(heap, live, bits)
 }
 
-/// Whether no live object begins before the end of the one before it. All are well-formed.
+/// Checks that no live object begins before the end of the one before it. All are well-formed.
 fn check_overlaps(heap: &Heap<'_>, live: &[u64]) -> Result<(), Fault>
     requires inside { All (λ a. a < heap_words heap.now) live.now }
     requires well_formed { AreWellFormed (with_live heap.now live.now) }
     ensures ok { OnOk result (first_object_fault (with_live heap.now live.now) ≡ None) }
     ensures fault { IfErr result (λ fault. first_object_fault (with_live heap.now live.now) ≡ Some fault) }
 {
-    let _words = heap.len();
+    is_small(heap);
     let mut end = 0;
     let mut overlap = None;
     for a in live {
@@ -115,7 +115,7 @@ fn check_overlaps(heap: &Heap<'_>, live: &[u64]) -> Result<(), Fault>
     }
 }
 
-/// Whether a reference is null or to a live object, whose addresses are marked.
+/// Whether a reference is null or to a live object. `bits` marks the live addresses.
 #[inline]
 fn is_null_or_live(heap: &Heap<'_>, reference: u64, bits: &Bits) -> bool
     requires { heap_words heap.now / 64 < length bits.now }
@@ -125,7 +125,7 @@ fn is_null_or_live(heap: &Heap<'_>, reference: u64, bits: &Bits) -> bool
     reference <= heap.len() && (reference == 0) | bits.has(reference.saturating_sub(1))
 }
 
-/// The least of the first fields of the object at `a` whose reference is neither null nor to a live object.
+/// The first field of the object at `a` whose reference is neither null nor to a live object.
 pub(crate) fn dangling_field(heap: &Heap<'_>, a: u64, references: u32, bits: &Bits) -> Option<u32>
     requires inside { a + references < heap_words heap.now }
     requires bits { heap_words heap.now / 64 < length bits.now }

@@ -1,8 +1,8 @@
-//! `Crowd`: how many threads share some work.
+//! How many threads share some work.
 
 use std::thread::Threads;
 
-/// The leave to start threads, and how many work at most, the caller's among them.
+/// The right to start threads, and how many may work, the caller's included.
 #[derive(Drop)]
 pub(crate) struct Crowd<'a, T: Threads + Sync> {
     pub(crate) threads: &'a T,

@@ -1,10 +1,10 @@
-//! `Cursor`: the bytes of a store, in order.
+//! Reads the bytes of a store in order.
 ghost use Rattle.std.specs.Prelude.{◌≡◌, false};
 
 use crate::intake::{Failed, Intake};
 use crate::store::Store;
 
-/// The bytes of a store from a place on, in order.
+/// An intake that reads a store in order, from an offset on.
 #[derive(Drop)]
 pub(crate) struct Cursor<'a, S: Store> {
     store: &'a S,
@@ -13,7 +13,6 @@ pub(crate) struct Cursor<'a, S: Store> {
 }
 
 impl<'a, S: Store> Cursor<'a, S> {
-    /// Those from this place on.
     pub(crate) fn new(store: &'a S, at: u64) -> Cursor<'a, S>
         ensures store { result.store.now ≡ store.now }
         ensures at { result.at ≡ at }

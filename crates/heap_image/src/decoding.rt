@@ -1,4 +1,4 @@
-//! Decoding the bytes of an image.
+//! Decodes an image from bytes in memory.
 ghost use Rattle.std.specs.Prelude.{◌≡◌, ◌≢◌, ◌⊎◌, ◌≤◌, ◌+◌, ◌*◌, ◌<◌, Some, None, Ok, Err, length, IfOk, OnOk, IfErr};
 ghost use Rattle.heap_image.specs.HeapImage.{HeapImage, IsValid};
 ghost use Rattle.heap_image.specs.ImageText.{text, first_fault, first_some, layout_faults};
@@ -10,11 +10,11 @@ use crate::{Fault, Image};
 use std::alloc::Global;
 use std::thread::Threads;
 
-/// The image of which these bytes are the text, or what is first wrong with them: a fault of 1 to 10 or 17, or fault 11
-/// where memory was refused. Faults 1 to 5 take no memory. One thread does it all.
+/// Decodes the text of an image, or returns the first fault of the bytes: 1 to 10 or 17, or 11 if memory runs out. For
+/// faults 1 to 5 no memory is allocated. Runs in the caller's thread alone.
 pub fn decode(alloc: Global, bytes: &[u8]) -> Result<Image, Fault>
     ensures text { IfOk result (λ image. IsValid image × (bytes.now ≡ text image)) }
-    // No text of a valid image is refused, but for want of memory.
+    // The text of a valid image is rejected only if memory runs out.
     ensures only { (image : HeapImage) → IsValid image → bytes.now ≡ text image
         → (result ≡ Ok image) ⊎ (result ≡ Err Fault.Memory) }
     ensures fault { IfErr result
@@ -26,15 +26,15 @@ pub fn decode(alloc: Global, bytes: &[u8]) -> Result<Image, Fault>
     read_image(alloc, &mut Bytes(bytes))
 }
 
-/// As [`decode`]. As many threads as there are processors check the live objects, and the answer does not depend on how
-/// many.
+/// Like [`decode`], but checks the live objects in as many threads as there are processors. The result does not depend
+/// on their number.
 pub fn decode_by_threads(
     alloc: Global,
     bytes: &[u8],
     threads: &(impl Threads + Sync),
 ) -> Result<Image, Fault>
     ensures text { IfOk result (λ image. IsValid image × (bytes.now ≡ text image)) }
-    // No text of a valid image is refused, but for want of memory.
+    // The text of a valid image is rejected only if memory runs out.
     ensures only { (image : HeapImage) → IsValid image → bytes.now ≡ text image
         → (result ≡ Ok image) ⊎ (result ≡ Err Fault.Memory) }
     ensures fault { IfErr result
@@ -46,7 +46,7 @@ pub fn decode_by_threads(
     read_image_by_threads(alloc, &mut Bytes(bytes), threads)
 }
 
-/// The fault of 1 to 5 that these bytes have, if one holds of them.
+/// The first of the faults 1 to 5 that these bytes have, if any.
 fn layout_fault(bytes: &[u8]) -> Result<(), Fault>
     ensures ok { OnOk result (first_some (layout_faults bytes.now) ≡ None) }
     ensures fault { IfErr result (λ fault. first_some (layout_faults bytes.now) ≡ Some fault) }
@@ -62,7 +62,7 @@ fn layout_fault(bytes: &[u8]) -> Result<(), Fault>
     Ok(())
 }
 
-/// Bytes in memory, which give themselves out and never fail.
+/// An intake from memory, which never fails.
 #[derive(Drop)]
 struct Bytes<'a>(&'a [u8]);
 

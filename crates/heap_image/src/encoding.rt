@@ -1,4 +1,4 @@
-//! Encoding an image as bytes.
+//! Encodes an image as bytes in memory.
 ghost use Rattle.std.specs.Prelude.{◌≡◌, IfOk};
 ghost use Rattle.heap_image.specs.ImageText.{text};
 
@@ -8,7 +8,7 @@ use crate::outlet::Outlet;
 use crate::write::write_image;
 use std::alloc::{AllocError, Global};
 
-/// The text of an image.
+/// The text of an image. The only error is that memory runs out.
 pub fn encode(alloc: Global, image: &Image) -> Result<Vec<u8>, AllocError>
     ensures { IfOk result (λ bytes. bytes.items ≡ text image.now) }
 {
@@ -22,7 +22,7 @@ pub fn encode(alloc: Global, image: &Image) -> Result<Vec<u8>, AllocError>
     }
 }
 
-/// Bytes in memory, which take what they are given and fail where memory is refused.
+/// An outlet into memory, which fails if memory runs out.
 #[derive(Drop)]
 struct Bytes {
     bytes: Vec<u8>,

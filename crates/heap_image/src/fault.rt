@@ -1,14 +1,14 @@
-//! `Fault`: what is wrong with an input, or what a run met.
+//! The numbered errors of all crates.
 ghost use Rattle.std.specs.Prelude.{◌≡◌};
 ghost use Rattle.heap_image.specs.declared.fault.Fault.TheVariants.{Memory};
 
 use std::alloc::{AllocError, AllocFailed};
 use thiserror::Error;
 
-/// What is wrong with an image or a schedule, or what a run met. The number in a text is the fault's own.
+/// An error of an image, of a schedule, or of a collection. Each message begins with the number of the fault.
 ///
-/// Faults 1 to 10 and 17 are those of an image's bytes, tested in the order 1 to 5, 17, 6 to 10. Fault 6 comes in version
-/// 1 alone, and 17 in version 2 alone.
+/// Faults 1 to 10 and 17 are faults of an image's bytes, tested in the order 1 to 5, 17, 6 to 10. Fault 6 comes in
+/// version 1 only, and 17 in version 2 only.
 #[derive(Debug, Clone, Copy, PartialEq, Eq, Error)]
 pub enum Fault {
     /// There are fewer than 32 bytes.
@@ -24,26 +24,27 @@ pub enum Fault {
     /// 16,384 regions, or more live addresses or roots than words.
     #[error("4 length")]
     Length,
-    /// There are fewer bytes than the first 32 tell of.
+    /// There are fewer bytes than the first 32 call for.
     #[error("5 truncated body")]
     TruncatedBody,
-    /// The live address at this index, the least, is outside the heap or not above the one before it.
+    /// This is the first index whose live address is outside the heap or not above the one before it.
     #[error("6 live order at index {0}")]
     LiveOrder(u32),
-    /// The word at this live address, the least, is not the header of an object that fits. In version 2 live means reached
-    /// from the roots, here and in faults 8 and 9.
+    /// This is the first live address without the header of an object that fits. In version 2, here and in faults 8 and
+    /// 9, live means reachable from the roots.
     #[error("7 header at {0}")]
     Header(u64),
-    /// The live object at this address, the least, begins before the end of the one before it.
+    /// This is the address of the first live object that begins before the end of the one before it.
     #[error("8 overlap at {0}")]
     Overlap(u64),
-    /// In the live object at this address, the least, this field, the least, is neither null nor a live object's.
+    /// This is the address of the first live object with a reference that is neither null nor to a live object, and the
+    /// first field with such a reference.
     #[error("9 reference at {0} field {1}")]
     Reference(u64, u32),
     /// There are bytes after the live list or the roots.
     #[error("10 trailing bytes")]
     Trailing,
-    /// Memory was refused.
+    /// Memory ran out.
     #[error("11 memory")]
     Memory,
     /// The number of workers is not 1 to 64.
@@ -58,10 +59,10 @@ pub enum Fault {
     /// A region was written while the schedule says otherwise.
     #[error("15 overwritten region {0}")]
     Overwritten(u32),
-    /// The gate answered no.
+    /// The gate refused a fill.
     #[error("16 gate")]
     Gate,
-    /// The root at this index, the least, is above the number of words.
+    /// This is the first index of a root that is above the number of words.
     #[error("17 root at index {0}")]
     Root(u32),
 }

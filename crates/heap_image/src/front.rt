@@ -1,6 +1,6 @@
-//! `Front`: the first 32 bytes of an image's text.
+//! The front: the first 32 bytes of an image's text.
 ghost use Rattle.std.specs.Prelude.{◌≡◌, ◌≢◌, ◌<◌, ◌≤◌, ◌^◌, ◌+◌, ◌*◌, length, Some, IfOk, IfErr, IfNone, option_map};
-ghost use Rattle.heap_image.specs.ImageText.{front, front_faults, first_some, told_region_log, told_count, told_words};
+ghost use Rattle.heap_image.specs.ImageText.{front, front_faults, first_some, encoded_region_log, encoded_count, encoded_words};
 ghost use Rattle.heap_image.specs.HeapImage.{IsWithinLimits};
 ghost use Rattle.heap_image.specs.LengthCause.{length_causes, first_length_cause};
 ghost use Rattle.heap_image.specs.Refusals.{IsOfFront};
@@ -11,61 +11,61 @@ use crate::numbers::{u32_at, u64_at};
 use crate::{Fault, LengthCause};
 use byteorder::{ByteOrder, LittleEndian};
 
-/// The 8 bytes with which the text of an image of version 1 begins.
+/// The first 8 bytes of an image of version 1.
 const MAGIC: [u8; 8] = *b"PCHEAP01";
 
-/// The 8 bytes with which the text of an image of version 2 begins, which has roots.
+/// The first 8 bytes of an image of version 2, which has roots.
 const ROOTED_MAGIC: [u8; 8] = *b"PCHEAP02";
 
-/// The bytes of a front.
+/// The number of bytes of a front.
 pub const FRONT_BYTES: usize = 32;
 
-/// What the first 32 bytes of a text tell, within the limits of the format.
+/// The fields of the first 32 bytes of a text.
 #[derive(Clone, Copy)]
 pub(crate) struct Front {
     /// Whether the image has roots.
     pub(crate) rooted: bool,
     pub(crate) region_log: u32,
-    /// How many live addresses or roots there are.
+    /// The number of live addresses or, if the image has roots, of roots.
     pub(crate) count: u32,
-    /// How many words the heap has.
+    /// The number of words of the heap.
     pub(crate) words: u64,
     pub(crate) allowance: u64,
 }
 
 impl Front {
-    /// What a front of these bytes tells, or what is first wrong with it.
+    /// Parses a front, or returns its first fault.
     pub(crate) fn parse(bytes: &[u8]) -> Result<Front, Fault>
         requires { length bytes.now ≡ 32 }
-        ensures told { IfOk result
-            (λ told. bytes.now ≡ front told.rooted told.region_log told.count told.words told.allowance) }
+        ensures bytes { IfOk result
+            (λ parsed. bytes.now ≡ front parsed.rooted parsed.region_log parsed.count parsed.words parsed.allowance) }
         ensures limits { IfOk result
-            (λ told. IsWithinLimits told.region_log told.words told.count) }
-        ensures fit { IfOk result (λ told. told.allowance < 2 ^ 64) }
+            (λ parsed. IsWithinLimits parsed.region_log parsed.words parsed.count) }
+        ensures fit { IfOk result (λ parsed. parsed.allowance < 2 ^ 64) }
         ensures fault { IfErr result (λ fault. first_some (front_faults bytes.now) ≡ Some fault) }
         ensures of_front { IfErr result IsOfFront }
     {
-        let told = Front::told(bytes)?;
-        match told.length_cause() {
-            None => Ok(told),
+        let parsed = Front::parse_unvalidated(bytes)?;
+        match parsed.length_cause() {
+            None => Ok(parsed),
             Some(_) => Err(Fault::Length),
         }
     }
 
-    /// What a front of these bytes tells, whether or not the sizes are those that the format allows, or that its magic or
-    /// its region log is wrong.
-    pub(crate) fn told(bytes: &[u8]) -> Result<Front, Fault>
+    /// Parses a front whose sizes may be outside the limits of the format. The faults are a wrong magic and a wrong
+    /// region log.
+    pub(crate) fn parse_unvalidated(bytes: &[u8]) -> Result<Front, Fault>
         requires { length bytes.now ≡ 32 }
-        ensures told { IfOk result
-            (λ told. bytes.now ≡ front told.rooted told.region_log told.count told.words told.allowance) }
-        ensures region_log { IfOk result (λ told. told.region_log ≡ told_region_log bytes.now) }
-        ensures count { IfOk result (λ told. told.count ≡ told_count bytes.now) }
-        ensures words { IfOk result (λ told. told.words ≡ told_words bytes.now) }
-        ensures low { IfOk result (λ told. 3 ≤ told.region_log) }
-        ensures high { IfOk result (λ told. told.region_log ≤ 16) }
-        ensures fit { IfOk result (λ told. told.allowance < 2 ^ 64) }
-        // Of the faults of a front only 4 can come then.
-        ensures length { IfOk result (λ told. first_some (front_faults bytes.now)
+        ensures bytes { IfOk result
+            (λ parsed. bytes.now ≡ front parsed.rooted parsed.region_log parsed.count parsed.words parsed.allowance) }
+        ensures region_log { IfOk result (λ parsed. parsed.region_log ≡ encoded_region_log bytes.now) }
+        ensures count { IfOk result (λ parsed. parsed.count ≡ encoded_count bytes.now) }
+        ensures words { IfOk result (λ parsed. parsed.words ≡ encoded_words bytes.now) }
+        ensures low { IfOk result (λ parsed. 3 ≤ parsed.region_log) }
+        ensures high { IfOk result (λ parsed. parsed.region_log ≤ 16) }
+        ensures fit { IfOk result (λ parsed. parsed.allowance < 2 ^ 64) }
+        // The only fault that such a front can have is 4.
+        ensures length { IfOk result (λ parsed. first_some (front_faults bytes.now)
             ≡ option_map (λ cause. Fault.Length) (first_length_cause bytes.now)) }
         ensures fault { IfErr result (λ fault. first_some (front_faults bytes.now) ≡ Some fault) }
         ensures of_front { IfErr result IsOfFront }
@@ -88,7 +88,7 @@ impl Front {
         })
     }
 
-    /// How much stands behind this front.
+    /// The size of the body that follows this front.
     pub(crate) fn body_size(&self) -> BodySize
         requires { IsWithinLimits self.now.region_log self.now.words self.now.count }
         ensures region_log { result.region_log ≡ self.now.region_log }
@@ -102,7 +102,7 @@ impl Front {
         }
     }
 
-    /// How many bytes the text has that begins with this front.
+    /// The number of bytes of the text, front and body.
     pub(crate) fn text_len(&self) -> usize
         requires { IsWithinLimits self.now.region_log self.now.words self.now.count }
         ensures { result ≡ 32 + 8 * self.now.words + 8 * self.now.count }
@@ -110,7 +110,7 @@ impl Front {
         FRONT_BYTES + 8 * self.words as usize + 8 * self.count as usize
     }
 
-    /// The bytes of this front.
+    /// Encodes the front.
     pub(crate) fn to_bytes(self) -> [u8; FRONT_BYTES]
         ensures { result ≡ front self.rooted self.region_log self.count self.words self.allowance }
     {
@@ -123,7 +123,7 @@ impl Front {
         bytes
     }
 
-    /// Which of the conditions of fault 4 is the first that holds.
+    /// The first condition of fault 4 that holds, if one does.
     #[tactic(auto, using(crate::proofs::Parts::place_by_mask))]
     pub(crate) fn length_cause(&self) -> Option<LengthCause>
         requires low { 3 ≤ self.now.region_log }

@@ -1,7 +1,7 @@
 //! Headers: the first word of an object or of a filler.
 //!
 //! Bits 0 to 31 are the size in words, header included; bits 32 to 55 are the number of references, which are the words
-//! behind the header; bits 56 to 63 are the kind.
+//! after the header; bits 56 to 63 are the kind.
 ghost use Rattle.std.specs.Prelude.{◌≡◌};
 ghost use Rattle.heap_image.specs.Header.{size_of, references_of, kind_of, filler_header};
 
@@ -11,7 +11,7 @@ pub const OBJECT: u8 = 1;
 /// The kind of a filler.
 pub const FILLER: u8 = 2;
 
-/// The size in words that a header tells, header included.
+/// The size of the object in words, header included.
 #[inline]
 pub fn size(header: u64) -> u32
     ensures { result ≡ size_of header }
@@ -19,7 +19,7 @@ pub fn size(header: u64) -> u32
     (header & 0xffff_ffff) as u32
 }
 
-/// The number of references that a header tells.
+/// The number of references of the object.
 #[inline]
 pub fn references(header: u64) -> u32
     ensures { result ≡ references_of header }
@@ -27,7 +27,7 @@ pub fn references(header: u64) -> u32
     (header >> 32 & 0xff_ffff) as u32
 }
 
-/// The kind that a header tells.
+/// The kind: [`OBJECT`], [`FILLER`], or in an unsound header any other number.
 #[inline]
 pub fn kind(header: u64) -> u8
     ensures { result ≡ kind_of header }
@@ -35,7 +35,7 @@ pub fn kind(header: u64) -> u8
     (header >> 56) as u8
 }
 
-/// The header of a filler of this size in words.
+/// The header of a filler of `size` words.
 #[inline]
 pub fn filler(size: u32) -> u64
     ensures { result ≡ filler_header size }

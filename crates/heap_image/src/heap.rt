@@ -1,4 +1,4 @@
-//! `Heap`: the words of a heap that lies in regions.
+//! The words of a heap, without live objects and roots.
 ghost use Rattle.std.specs.Prelude.{◌≡◌, ◌<◌, ◌≤◌, ◌+◌, ℕ, [], length, slice_index};
 ghost use Rattle.heap_image.specs.HeapImage.{FormHeap, image_of, heap_words, word_at, size_at, reference_at};
 
@@ -6,9 +6,9 @@ use crate::header;
 use raw_region::Region;
 use std::marker::Model;
 
-/// The words of a heap that lies in regions, each a block of its own of `2 ^ region_log` words, from address 0 up.
+/// The words of a heap in regions of `2 ^ region_log` words each, from address 0 on.
 ///
-/// A contract sees it as an image without live objects.
+/// A contract sees an image without live objects.
 #[derive(Drop)]
 pub struct Heap<'a> {
     regions: &'a [Region],
@@ -27,7 +27,7 @@ impl<'a> Model for Heap<'a> {
 }
 
 impl<'a> Heap<'a> {
-    /// The heap that lies in these regions.
+    /// The heap in these regions.
     #[inline]
     pub fn new(regions: &'a [Region], region_log: u32) -> Heap<'a>
         requires { FormHeap region_log regions.now }
@@ -59,7 +59,7 @@ impl<'a> Heap<'a> {
         region.get(place as usize)
     }
 
-    /// The size in words of the object at address `a`, as its header tells it.
+    /// The size in words of the object at address `a`, by its header.
     #[inline]
     pub fn size_at(&self, a: u64) -> u64
         requires { a < heap_words self.now }
@@ -74,11 +74,11 @@ impl<'a> Heap<'a> {
         requires { a + 1 + f < heap_words self.now }
         ensures { result ≡ reference_at self.now a f }
     {
-        let _words = self.len();
+        is_small(self);
         self.word(a + 1 + u64::from(f))
     }
 
-    /// The words from address `from` up to `to`, or up to the end of the region in which `from` lies.
+    /// The words from address `from` up to `to`, or up to the end of the region of `from` if that comes first.
     #[inline]
     pub fn row(&self, from: u64, to: u64) -> &[u64]
         requires some { from < to }
@@ -92,4 +92,12 @@ impl<'a> Heap<'a> {
         let (_, behind) = words.split_at(place);
         &behind[..behind.len().min((to - from) as usize)]
     }
+}
+
+/// A heap has at most 4,194,304 words.
+#[inline]
+pub(crate) fn is_small(heap: &Heap<'_>)
+    ensures { heap_words heap.now ≤ 4194304 }
+{
+    heap.len();
 }

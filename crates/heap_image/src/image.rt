@@ -1,4 +1,4 @@
-//! `Image`: a heap with its live objects.
+//! The image: a heap with its live objects, valid by its type.
 ghost use Rattle.std.specs.Prelude.{◌≡◌, ◌<◌, ◌≤◌, All, IsTrue, Option, Some, None, length, map, option_map, IfSome};
 ghost use Rattle.std.specs.List.{concat, range_with_len};
 ghost use Rattle.heap_image.specs.HeapImage.{HeapImage, IsValid, AreBlocks, AreValidParts, image_of, rooted_image_of, is_null_or_live, roots_of, version_of, heap_words, region_count, region_words, word_at, words_alone, block_of};
@@ -12,11 +12,10 @@ use crate::soundness::PIECE;
 use raw_region::Region;
 use std::marker::Model;
 
-/// A heap with its live objects, valid by its type: every value keeps the limits of the format and has a sound live
-/// list.
+/// A heap with its live objects. Every value keeps the limits of the format and has a sound live list.
 ///
-/// The heap has [`len`](Image::len) words at addresses from 0 up. Each `2 ^ region_log` words in a row are a region, a
-/// block of their own.
+/// The heap has [`len`](Image::len) words, at addresses from 0. Each `2 ^ region_log` consecutive words are a region,
+/// in a block of their own.
 #[derive(Drop)]
 pub struct Image {
     region_log: u32,
@@ -28,14 +27,14 @@ pub struct Image {
     sizes: Option<Vec<[u32; PIECE]>>,
 }
 
-/// What an [`Image`] is made of.
+/// The parts of an [`Image`].
 #[derive(Drop)]
 pub struct ImageParts {
     /// The logarithm, to base 2, of the number of words of a region.
     pub region_log: u32,
-    /// How many dead words the dense prefix may keep.
+    /// The largest number of dead words that the dense prefix may keep.
     pub allowance: u64,
-    /// The regions from address 0 up, each a block of `2 ^ region_log` words.
+    /// The regions from address 0 on, each a block of `2 ^ region_log` words.
     pub regions: Vec<Region>,
     /// The addresses of the live objects, ascending.
     pub live: Vec<u64>,
@@ -56,7 +55,7 @@ impl Model for Image {
 }
 
 impl Image {
-    /// The image of these parts: regions of `2 ^ region_log` words each, from address 0 up, and the ascending
+    /// Builds an image of version 1 from regions of `2 ^ region_log` words each, from address 0 on, and the ascending
     /// addresses of the live objects.
     pub fn of_parts(region_log: u32, allowance: u64, regions: Vec<Region>, live: Vec<u64>) -> Image
         requires regions { AreBlocks region_log regions.items }
@@ -74,8 +73,8 @@ impl Image {
         parts.into_image()
     }
 
-    /// The image of version 2 of these parts: as those of [`of_parts`](Image::of_parts), and the roots, from which just
-    /// these live objects are reached.
+    /// Builds an image of version 2 from the parts of [`of_parts`](Image::of_parts) and the roots, from which exactly
+    /// these live objects are reachable.
     pub fn of_rooted_parts(
         region_log: u32,
         allowance: u64,
@@ -98,7 +97,7 @@ impl Image {
         parts.into_image()
     }
 
-    /// The parts of this image, from which [`ImageParts::into_image`] makes it again.
+    /// The parts of this image, from which [`ImageParts::into_image`] rebuilds it.
     pub fn into_parts(self) -> ImageParts
         ensures parts { AreValidParts result.region_log result.allowance result.regions.items result.live.items (option_map (λ v. v.items) result.roots) }
         ensures whole { self ≡ rooted_image_of result.region_log result.allowance result.regions.items result.live.items (option_map (λ v. v.items) result.roots) }
@@ -121,7 +120,7 @@ impl Image {
         }
     }
 
-    /// The logarithm, to base 2, of the number of words of a region: 3 to 16.
+    /// The logarithm, to base 2, of the number of words of a region; it is 3 to 16.
     pub fn region_log(&self) -> u32
         ensures value { result ≡ self.now.region_log }
         ensures valid { IsValid self.now }
@@ -139,7 +138,7 @@ impl Image {
         1 << self.region_log
     }
 
-    /// How many dead words the dense prefix may keep.
+    /// The largest number of dead words that the dense prefix may keep.
     pub fn allowance(&self) -> u64
         ensures { result ≡ self.now.allowance }
     {
@@ -170,7 +169,7 @@ impl Image {
         &self.regions[r as usize]
     }
 
-    /// The words, without what is told of them.
+    /// The words alone, without live objects and roots.
     #[inline]
     pub fn heap(&self) -> Heap<'_>
         ensures { result ≡ words_alone self.now }
@@ -194,15 +193,15 @@ impl Image {
         self.live.as_slice()
     }
 
-    /// The addresses at which live objects begin as bits, where these were seen when the image was read.
+    /// The addresses of the live objects as bits, if reading the image has kept them.
     pub fn begins(&self) -> Option<&Bits>
         ensures { IfSome result (λ bits. MarkBegins self.now.live (heap_words self.now) bits.now) }
     {
         self.begins.as_ref()
     }
 
-    /// The sizes in words of the live objects in their order, in pieces of [`PIECE`], where these were seen when the image
-    /// was read. In the last piece zeros may follow.
+    /// The sizes in words of the live objects in their order, in pieces of [`PIECE`], if reading the image has kept
+    /// them. The last piece may end with zeros.
     pub fn sizes(&self) -> Option<&[[u32; PIECE]]>
         ensures { IfSome result (λ sizes. AreSizes self.now sizes.now) }
     {
@@ -212,8 +211,8 @@ impl Image {
         }
     }
 
-    /// Frees what was seen of the live objects when the image was read: the bits of [`begins`](Image::begins) and the
-    /// [`sizes`](Image::sizes). The image itself stays as it is.
+    /// Frees what reading the image has kept about its live objects: the bits of [`begins`](Image::begins) and the
+    /// [`sizes`](Image::sizes). The image itself doesn't change.
     pub fn forget_seen(&mut self)
         ensures { self.new ≡ self.old }
     {
@@ -221,8 +220,8 @@ impl Image {
         self.sizes = None;
     }
 
-    /// The roots, in any order; none in an image of version 1. Each is 0, which is null, or 1 plus the address of a live
-    /// object.
+    /// The roots, in any order; empty for an image of version 1. Each is 0, which is null, or 1 plus the address of a
+    /// live object.
     pub fn roots(&self) -> &[u64]
         ensures value { result.now ≡ roots_of self.now }
         ensures live { All (λ w. IsTrue (is_null_or_live self.now w)) result.now }
@@ -234,7 +233,7 @@ impl Image {
         }
     }
 
-    /// The numbers that stand behind the words in the text: the roots, or else the live list.
+    /// The numbers that follow the words in the text: the roots in version 2, and the live list in version 1.
     pub(crate) fn tail(&self) -> &[u64]
         ensures value { result.now ≡ (with_tail self.now).live }
         ensures few { length result.now ≤ heap_words self.now }
@@ -246,7 +245,7 @@ impl Image {
         }
     }
 
-    /// The version: 2 where it has roots, and else 1.
+    /// The version: 2 for an image with roots, and otherwise 1.
     pub fn version(&self) -> u32
         ensures { result ≡ version_of self.now }
     {
@@ -255,7 +254,7 @@ impl Image {
 }
 
 impl ImageParts {
-    /// The image of these parts.
+    /// Builds the image of these parts.
     pub fn into_image(self) -> Image
         requires regions { AreBlocks self.region_log self.regions.items }
         requires valid { IsValid (rooted_image_of self.region_log self.allowance self.regions.items self.live.items (option_map (λ v. v.items) self.roots)) }
@@ -264,8 +263,8 @@ impl ImageParts {
         self.with_seen(None, None)
     }
 
-    /// The image of these parts, which keeps the addresses of its live objects as bits, and their sizes, where these were
-    /// seen.
+    /// Builds the image of these parts, which keeps the addresses of its live objects as bits, and their sizes, if they
+    /// are known.
     pub(crate) fn with_seen(self, begins: Option<Bits>, sizes: Option<Vec<[u32; PIECE]>>) -> Image
         requires regions { AreBlocks self.region_log self.regions.items }
         requires valid { IsValid (rooted_image_of self.region_log self.allowance self.regions.items self.live.items (option_map (λ v. v.items) self.roots)) }

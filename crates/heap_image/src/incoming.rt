@@ -1,4 +1,4 @@
-//! `Incoming`: the numbers behind the front of a text, as they come.
+//! A buffer for the numbers of a body while they are read.
 ghost use Rattle.std.specs.Prelude.{◌≡◌, ◌<◌, ◌≤◌, ◌+◌, ◌*◌, ◌^◌, ◌||◌, ◌⊎◌, ◌++◌, ℕ, All, List, [], length, take, OnOk, IfErr, IfSome, IsErrOf};
 ghost use Rattle.std.specs.Io.KnownBytes.{Consumes, IsAtEnd};
 ghost use Rattle.heap_image.specs.ImageText.{numbers};
@@ -8,27 +8,26 @@ use crate::Fault;
 use crate::intake::{Intake, fill};
 use crate::numbers::read_all;
 
-/// How many numbers are asked for at a time, at most.
+/// The most numbers that are requested at a time.
 const ROOM: usize = 2048;
 
 const ROOM_BYTES: usize = 8 * ROOM;
 
-/// The numbers of 64 bits that stand behind the front of a text, while they come in. Their bytes are asked for in large
-/// pieces, and none behind them.
+/// Reads the 64-bit numbers of a body. It requests their bytes in large pieces, and no byte after them.
 #[derive(Drop)]
 pub(crate) struct Incoming {
     bytes: [u8; ROOM_BYTES],
-    /// The numbers from `start` to `end` of `bytes` have come and were not read.
+    /// The buffered numbers are those from `start` to `end` of `bytes`.
     start: usize,
     end: usize,
-    /// How many more numbers there are to ask for.
+    /// The number of numbers that are still to be requested.
     due: usize,
 }
 
 impl Incoming {
     ghost use Rattle.heap_image.specs.Incoming.{IsInRange, FallsShort, expected, unread_bytes, known_rest};
 
-    /// So many numbers will come.
+    /// An empty buffer for `due` numbers.
     pub(crate) fn new(due: usize) -> Incoming
         ensures due { result.due ≡ due }
         ensures none_held { result.start ≡ result.end }
@@ -42,7 +41,7 @@ impl Incoming {
         }
     }
 
-    /// Reads the next numbers. After a fault they hold anything.
+    /// Reads the next numbers into `words`, whose contents are unspecified after a fault.
     pub(crate) fn read<R: Intake>(&mut self, reader: &mut R, words: &mut [u64]) -> Result<(), Fault>
         requires in_range { IsInRange self.old }
         requires enough { length words.old ≤ expected self.old }
@@ -67,7 +66,7 @@ impl Incoming {
         Ok(())
     }
 
-    /// Where no number is held, asks for as many as there is room for.
+    /// If the buffer is empty, requests as many numbers as it has room for.
     pub(crate) fn top_up<R: Intake>(&mut self, reader: &mut R) -> Result<(), Fault>
         requires { IsInRange self.old }
         ensures in_range { OnOk result (IsInRange self.new) }
@@ -100,7 +99,7 @@ impl Incoming {
         Ok(())
     }
 
-    /// Reads as many of the held numbers as there are and as go into `words`, and answers how many.
+    /// Moves as many buffered numbers into `words` as fit, and returns how many.
     fn decode(&mut self, words: &mut [u64]) -> usize
         requires { IsInRange self.old }
         ensures in_range { IsInRange self.new }

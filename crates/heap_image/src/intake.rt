@@ -1,4 +1,4 @@
-//! `Intake`: where the bytes of an image come from.
+//! The devices from which images are read.
 ghost use Rattle.std.specs.Prelude.{◌≡◌, ◌<◌, ◌≤◌, ◌||◌, ◌*◌, ◌^◌, ℕ, List, Bool, Option, None, length, take, IsTrue, IfOk, IfSome, IsErr, is_err};
 ghost use Rattle.std.specs.Io.KnownBytes.{Consumes, IsAtEnd, ReadConsumes};
 ghost use Rattle.heap_image.specs.Body.{IsBody, body_words};
@@ -28,26 +28,26 @@ impl From<Failed> for Fault {
 
 /// A device that gives bytes, in any pieces.
 ///
-/// A contract sees the bytes that are `left`, where they are told, and whether the device `has_failed`.
+/// A contract sees the bytes that are `left`, if they are known, and whether the device `has_failed`.
 pub trait Intake {
     ghost left: { Self → Option (List ℕ) };
 
     ghost has_failed: { Self → Bool };
 
-    /// Takes bytes into the front of the buffer and answers how many. It answers 0 for a buffer with room only where no
-    /// byte is left. A call that answers [`Failed`] takes no byte, and so does each later one.
+    /// Takes bytes into the start of the buffer and returns how many. It returns 0 for a buffer with room only if no
+    /// byte is left. A call that returns [`Failed`] takes no byte, and all later calls do the same.
     fn take(&mut self, buffer: &mut [u8]) -> Result<usize, Failed>
         ensures within { IfOk result (λ n. n ≤ length buffer.new) }
         ensures bytes { ReadConsumes (left self.old) (left self.new) result buffer.new }
         ensures failed { has_failed self.new ≡ is_err result }
         ensures stays_failed { IsTrue (has_failed self.old) → IsErr result };
 
-    /// Whether a call has answered [`Failed`].
+    /// Whether a call has returned [`Failed`].
     fn failed(&self) -> bool
         ensures { result ≡ has_failed self.now };
 
-    /// Takes what stands behind the front of an image, of this size, where it can take that otherwise than in order: so a file
-    /// is read by several threads. A device that can't, as one that leaves this method out, or doesn't succeed, takes nothing.
+    /// Takes a whole body of this size at once, as a file does that several threads read. A device that can't do that,
+    /// which is the default, or doesn't succeed, takes nothing and returns `None`.
     fn take_body(&mut self, _alloc: Global, _size: BodySize) -> Option<Body>
         requires log { _size.region_log ≤ 16 }
         requires few { body_words _size ≤ 8388608 }
@@ -59,7 +59,7 @@ pub trait Intake {
     }
 }
 
-/// Fills the buffer as far as the device has bytes, and answers how many came.
+/// Fills the buffer as far as the device has bytes, and returns how many arrived.
 pub(crate) fn fill<R: Intake>(reader: &mut R, buffer: &mut [u8]) -> Result<usize, Failed>
     ensures within { IfOk result (λ n. n ≤ length buffer.new) }
     ensures bytes { IfOk result
@@ -80,7 +80,7 @@ pub(crate) fn fill<R: Intake>(reader: &mut R, buffer: &mut [u8]) -> Result<usize
     Ok(filled)
 }
 
-/// The bytes of a reader of std. An error of the reader is [`Failed`], and the reader is not read again.
+/// An intake from a reader of std. An error of the reader is [`Failed`], and the reader is not called again.
 #[derive(Drop)]
 pub struct FromRead<R: Read + Drop> {
     reader: R,
@@ -91,7 +91,7 @@ impl<R: Read + Drop> FromRead<R> {
     ghost use Rattle.std.specs.Prelude.{◌≡◌, false};
     ghost use Rattle.heap_image.specs.StdDevices.{reader_of, reader_has_failed};
 
-    /// The bytes of this reader, which has not failed.
+    /// Wraps a reader, which counts as not failed.
     pub fn new(reader: R) -> FromRead<R>
         ensures reader { reader_of result ≡ reader }
         ensures failed { reader_has_failed result ≡ false }
@@ -102,7 +102,7 @@ impl<R: Read + Drop> FromRead<R> {
         }
     }
 
-    /// The reader, where it stands.
+    /// Returns the reader.
     pub fn into_inner(self) -> R
         ensures { result ≡ reader_of self }
     {

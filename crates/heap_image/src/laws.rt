@@ -1,4 +1,4 @@
-//! Laws of the text. The functions do nothing: each promises its law.
+//! Laws of images and their texts, for callers' proofs. The functions do nothing: each one's contract is a law.
 ghost use Rattle.std.specs.Prelude.{◌≡◌, ◌+◌, ℕ, List, Bool, true, [], Some, None, All, IsTrue, filter, map};
 ghost use Rattle.std.specs.List.{range_with_len};
 ghost use Rattle.heap_image.specs.HeapImage.{HeapImage, IsValid, HasLiveList, heap_words, image_of, is_null_or_live, reachable, rooted_image_of, roots_of};
@@ -6,12 +6,21 @@ ghost use Rattle.heap_image.specs.ImageText.{text, from_tail, first_some, live_l
 ghost use Rattle.heap_image.specs.Reading.{HasFittingNumbers};
 ghost use Rattle.heap_image.specs.Reachable.{is_listed, beyond, IsClosed};
 
-/// Bytes without a fault are the text of the valid image that they tell.
+use crate::image::Image;
+
+/// Every image is valid.
+pub fn image_is_valid(image: &Image)
+    ensures { IsValid image.now }
+{
+    image.len();
+}
+
+/// Bytes without a fault are the text of the valid image that they encode.
 pub fn faultless_is_text()
     ensures { FaultlessIsText }
 {}
 
-/// The text of a valid image has no fault, and tells that image.
+/// The text of a valid image has no fault, and encodes that image.
 pub fn text_is_faultless()
     ensures { TextIsFaultless }
 {}
@@ -22,7 +31,7 @@ pub fn one_text()
         → image ≡ other }
 {}
 
-/// The addresses that are reached from roots are the least that are closed, and they ascend.
+/// The addresses that are reachable from roots are the least closed set, and they ascend.
 pub fn reachable_is_the_least_closed()
     ensures closed { (image : HeapImage) (roots : List ℕ) → IsClosed image roots (is_listed (reachable image roots)) }
     ensures least { (image : HeapImage) (roots : List ℕ) (passes : ℕ → Bool) → IsClosed image roots passes
@@ -31,7 +40,7 @@ pub fn reachable_is_the_least_closed()
         ≡ filter (is_listed (reachable image roots)) (range_with_len 0 (heap_words image)) }
 {}
 
-/// In an image with roots the live list is always in order, and where all headers are sound, a reference that is neither
+/// In an image with roots the live list is always in order. If all headers are sound, each reference that is neither
 /// null nor to a live object leads out of the heap.
 pub fn faults_of_roots()
     ensures order { (image : HeapImage) (roots : List ℕ) → misplaced_index (heap_words image) (reachable image roots) ≡ None }
@@ -39,7 +48,7 @@ pub fn faults_of_roots()
         → dangling (from_tail true image) ≡ beyond (from_tail true image) }
 {}
 
-/// The live objects are what is reached from a root to each of them.
+/// With a root to each live object, exactly the live objects are reachable.
 pub fn live_objects_are_reached()
     ensures { (image : HeapImage) → HasLiveList image → image.live ≡ reachable image (map (λ a. a + 1) image.live) }
 {}
@@ -49,8 +58,8 @@ pub fn roots_are_null_or_live()
     ensures { (image : HeapImage) → IsValid image → All (λ w. IsTrue (is_null_or_live image w)) (roots_of image) }
 {}
 
-/// Regions and roots that keep the limits of an image, and in which [`mark_from_roots`](crate::mark_from_roots) finds no
-/// fault, are with the live objects that it answers the parts of a valid image with roots, whatever the allowance.
+/// Regions and roots within the limits of an image, in which [`mark_from_roots`](crate::mark_from_roots) finds no
+/// fault, are the parts of a valid image with the live objects that it returns, whatever the allowance.
 pub fn marked_parts_are_valid()
     ensures { (log allowance : ℕ) (blocks : List (List ℕ)) (roots live : List ℕ)
         → HasFittingNumbers (image_of log allowance blocks roots)

@@ -1,4 +1,4 @@
-//! `LengthCause`: which of the conditions of fault 4 is the first that holds.
+//! The conditions of fault 4, for detailed messages.
 ghost use Rattle.std.specs.Prelude.{◌≡◌, ◌↔◌, Some, IfSome, IsTrue, is_some};
 ghost use Rattle.heap_image.specs.ImageText.{front_faults, first_some};
 ghost use Rattle.heap_image.specs.LengthCause.{first_length_cause};
@@ -7,7 +7,7 @@ use crate::Fault;
 use crate::front::{FRONT_BYTES, Front};
 use thiserror::Error;
 
-/// Why a front has fault 4: the first of its conditions that holds, in the order in which they stand here.
+/// Why a front has fault 4: the first of these conditions that holds.
 #[derive(Debug, Clone, Copy, PartialEq, Eq, Error)]
 pub enum LengthCause {
     /// There are no words.
@@ -28,14 +28,14 @@ pub enum LengthCause {
 }
 
 impl LengthCause {
-    /// The cause of fault 4 of a text that begins with these bytes. None exactly where another fault, or none, is the
-    /// first of this front.
+    /// The cause of fault 4 of a text that begins with these bytes. Returns `None` exactly if the first fault of the
+    /// front is another one, or it has none.
     pub fn of(front: &[u8; FRONT_BYTES]) -> Option<LengthCause>
         ensures cause { IfSome result (λ cause. first_length_cause front.now ≡ Some cause) }
         ensures only { IsTrue (is_some result) ↔ (first_some (front_faults front.now) ≡ Some Fault.Length) }
     {
-        match Front::told(front) {
-            Ok(told) => told.length_cause(),
+        match Front::parse_unvalidated(front) {
+            Ok(parsed) => parsed.length_cause(),
             Err(_) => None,
         }
     }

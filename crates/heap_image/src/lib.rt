@@ -1,26 +1,25 @@
-//! The image of a heap: its type, its text in bytes, and what can be wrong with a text.
+//! Heap images: their type, their encoding in bytes, and the faults of bytes that encode no valid image.
 //!
-//! An [`Image`] is a heap of words in regions, the addresses of its live objects, and an allowance of dead words. It is
-//! valid by its type: whoever holds one knows that the sizes keep the limits of the format, that each live address has
-//! the header of an object that fits, that no object begins before the end of the one before it, and that each
-//! reference is null or leads to a live object. An image of version 1 names its live objects. One of version 2 has roots,
-//! and its live objects are those that are reached from them; [`mark_from_roots`] finds these, and [`upgrade`] makes
-//! version 2 of version 1.
+//! An [`Image`] is a heap of words in regions, the addresses of its live objects, and an allowance of dead words. Every
+//! value of the type is valid: its sizes keep the limits of the format, each live address has the header of an object
+//! that fits, no two live objects overlap, and each reference is null or leads to a live object. An image of version 1
+//! lists its live objects. An image of version 2 has roots, and its live objects are those reachable from the roots;
+//! [`mark_from_roots`] finds these, and [`upgrade`] converts version 1 to version 2.
 //!
-//! Each valid image has exactly one text. [`decode`] and [`encode`] go between the two in memory; [`read_image`] and
-//! [`write_image`] do the same over any [`Intake`] and [`Outlet`], as [`FromRead`] and [`ToWrite`] are over std's. A
-//! text that is none of a valid image is refused with its first [`Fault`]. [`decode_by_threads`] and
-//! [`read_image_by_threads`] give the same answers, and check the live objects by as many threads as there are
-//! processors; [`read_image_by_workers`] by as many as it is told.
+//! Each valid image has exactly one encoding, its text. [`decode`] and [`encode`] work in memory; [`read_image`] and
+//! [`write_image`] work on any [`Intake`] and [`Outlet`]; [`FromRead`] and [`ToWrite`] adapt std's readers and writers.
+//! Bytes that encode no valid image are rejected with their first [`Fault`]. [`decode_by_threads`],
+//! [`read_image_by_threads`] and [`read_image_by_workers`] return the same results, and check the live objects in
+//! parallel.
 //!
-//! A [`Heap`] is the words of a heap without what an image tells of them, and a [`Bits`] is a set of addresses.
+//! A [`Heap`] is the words of a heap alone, and a [`Bits`] is a set of addresses.
 //!
-//! **Proved**, for all inputs: `decode` answers an image exactly where the bytes are its text, unless memory is refused,
-//! and else the first fault; `encode` and `write_image` give the text; `read_image` decides as `decode` does of the
-//! bytes that its device has left, and takes no byte that its answer does not need; two valid images with one text are
-//! equal; a fault 13 comes exactly where the device has failed; `mark_from_roots` gives the least set of addresses that is
-//! closed under the roots and the references of sound objects; an upgraded image has the same live objects. **Only
-//! tested**: the wording of the faults, and that memory is refused only where it is. See the README.
+//! **Proved**, for all inputs: `decode` returns an image exactly when the bytes are its text and memory suffices, and
+//! otherwise the first fault; `encode` and `write_image` produce the text; `read_image` decides as `decode` does for
+//! the bytes left in its device, and takes no byte that its result doesn't need; two valid images with the same text
+//! are equal; fault 13 comes exactly when the device has failed; `mark_from_roots` returns the least set of addresses
+//! that is closed under the roots and the references of sound objects; an upgraded image has the same live objects.
+//! **Only tested**: the wording of the faults, and that fault 11 comes only when memory runs out.
 #![tactic(auto)]
 
 mod bits;
@@ -66,8 +65,9 @@ pub use heap::Heap;
 pub use image::{Image, ImageParts};
 pub use intake::{Failed, FromRead, Intake};
 pub use laws::{
-    faultless_is_text, faults_of_roots, live_objects_are_reached, marked_parts_are_valid, one_text,
-    reachable_is_the_least_closed, roots_are_null_or_live, text_is_faultless,
+    faultless_is_text, faults_of_roots, image_is_valid, live_objects_are_reached,
+    marked_parts_are_valid, one_text, reachable_is_the_least_closed, roots_are_null_or_live,
+    text_is_faultless,
 };
 pub use length_cause::LengthCause;
 pub use outlet::{Outlet, ToWrite, give_all};

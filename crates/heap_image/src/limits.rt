@@ -1,4 +1,4 @@
-//! The limits of an image. Contracts have the numbers themselves.
+//! The limits of an image. Contracts state them as plain numbers.
 
 /// The least logarithm, to base 2, of the number of words of a region.
 pub const MIN_REGION_LOG: u32 = 3;
@@ -6,8 +6,8 @@ pub const MIN_REGION_LOG: u32 = 3;
 /// The greatest logarithm, to base 2, of the number of words of a region.
 pub const MAX_REGION_LOG: u32 = 16;
 
-/// The most words that a heap may have.
+/// The largest number of words of a heap.
 pub const MAX_HEAP_WORDS: u64 = 4_194_304;
 
-/// The most regions that a heap may have.
+/// The largest number of regions of a heap.
 pub const MAX_REGIONS: u64 = 16_384;

@@ -1,4 +1,4 @@
-//! The live list of what is marked.
+//! Makes a live list of mark bits.
 ghost use Rattle.std.specs.Prelude.{◌≡◌, ◌<◌, ◌≤◌, ◌+◌, ◌*◌, ◌/◌, ◌^◌, ◌==◌, ◌++◌, ◌-◌, bit_and, OnOk, IfOk, length, filter, map};
 ghost use Rattle.std.specs.List.{range_with_len};
 ghost use Rattle.heap_image.specs.Bits.{has, ones_of};
@@ -6,7 +6,7 @@ ghost use Rattle.heap_image.specs.Bits.{has, ones_of};
 use crate::bits::Bits;
 use std::alloc::{AllocError, Global};
 
-/// The marked addresses below a number, ascending, found by words of 64 bits.
+/// The marked addresses below `words`, ascending.
 pub(crate) fn marked_addresses(
     alloc: Global,
     bits: &Bits,
@@ -29,7 +29,7 @@ pub(crate) fn marked_addresses(
     Ok(live)
 }
 
-/// A word with all but its lowest `n` bits cleared.
+/// The lowest `n` bits of a word.
 fn low_bits(word: u64, n: u64) -> u64
     requires { n < 64 }
     ensures { result ≡ bit_and word (2 ^ n - 1) }
@@ -37,7 +37,7 @@ fn low_bits(word: u64, n: u64) -> u64
     word & ((1 << n) - 1)
 }
 
-/// Puts the places of the bits that are set in a word behind a list, each with `base` added, ascending.
+/// Appends the indices of the bits that are set in a word, ascending, each plus `base`.
 fn push_ones(live: &mut Vec<u64>, base: u64, word: u64) -> Result<(), AllocError>
     requires { base ≤ 4194304 }
     ensures { OnOk result (live.new.items ≡ live.old.items ++ map (λ j. base + j) (ones_of word)) }

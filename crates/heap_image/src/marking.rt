@@ -1,4 +1,4 @@
-//! `Marking`: which addresses are reached from roots, while it is found out.
+//! Marks the addresses that are reachable from roots, with an explicit stack.
 ghost use Rattle.std.specs.Prelude.{◌≡◌, ◌<◌, ◌≤◌, ◌+◌, ◌/◌, ◌==◌, ◌||◌, ◌++◌, ℕ, List, [], All, false, length, slice_index, IfOk, IsTrue};
 ghost use Rattle.std.specs.List.{list_any};
 ghost use Rattle.std.specs.Vec.{vec_capacity};
@@ -12,42 +12,42 @@ use crate::header;
 use crate::heap::Heap;
 use std::alloc::{AllocError, Global};
 
-/// How many headers are fetched in a row before the first of them is looked at, so that their ways from memory overlap.
+/// The number of headers that are fetched before the first of them is used, so that their cache misses overlap.
 const BATCH: usize = 64;
 
 /// A marked object whose references are still to be followed.
 #[derive(Clone, Copy)]
 pub(crate) struct Waiting {
     pub(crate) address: u64,
-    /// The word that stands there.
+    /// The word at this address.
     pub(crate) header: u64,
 }
 
-/// The addresses of a heap that are marked so far, and those among them whose references are still to be followed.
+/// The addresses that are marked so far, and those among them whose references are still to be followed.
 ///
-/// An address is put on the stack when it is marked, so the stack never has more than there are words: its room is made
-/// once, before the first step.
+/// An address is pushed on the stack only when it becomes marked, so the stack never needs more room than the heap has
+/// words. That room is allocated before the first step.
 #[derive(Drop)]
 pub(crate) struct Marking {
-    /// How many words the heap has.
+    /// The number of words of the heap.
     words: u64,
-    /// One bit for each address: whether it is marked.
+    /// The marked addresses.
     bits: Bits,
     stack: Vec<u64>,
-    /// Whether each object that was followed has a sound header, and no reference that leads out of the heap.
+    /// Whether each object followed so far has a sound header, and no reference out of the heap.
     well_formed: bool,
 }
 
-/// What is reached from the roots of a heap.
+/// The result of marking.
 #[derive(Drop)]
 pub(crate) struct Marked {
-    /// One bit for each address: whether it is reached.
+    /// The reachable addresses.
     pub(crate) bits: Bits,
-    /// Whether each of these objects has a sound header, and no reference that leads out of the heap.
+    /// Whether each object there has a sound header, and no reference out of the heap.
     pub(crate) well_formed: bool,
 }
 
-/// Marks what is reached from the roots in a heap.
+/// Marks the addresses of a heap that are reachable from the roots.
 pub(crate) fn mark(alloc: Global, heap: &Heap<'_>, roots: &[u64]) -> Result<Marked, AllocError>
     ensures reached { IfOk result (λ marked. AreReached heap.now roots.now marked.bits) }
     ensures well_formed { IfOk result
@@ -69,7 +69,7 @@ pub(crate) fn mark(alloc: Global, heap: &Heap<'_>, roots: &[u64]) -> Result<Mark
 }
 
 impl Marking {
-    /// Marks each address that is reached from the roots. Nothing is marked before, and the batch is empty.
+    /// Marks each address that is reachable from the roots. At the start nothing is marked, and the batch is empty.
     fn mark_reached(&mut self, heap: &Heap<'_>, roots: &[u64], batch: &mut Vec<Waiting>)
         requires words { self.old.words ≡ heap_words heap.now }
         requires bits { length self.old.bits ≡ self.old.words / 64 + 1 }
@@ -89,8 +89,8 @@ impl Marking {
         }
     }
 
-    /// Visits what these references lead to, which are the roots or some of an object, and notes whether one leads out of
-    /// the heap.
+    /// Visits the targets of these references (the roots, or some references of an object), and notes whether one leads
+    /// out of the heap.
     fn visit_all(&mut self, references: &[u64])
         requires few { self.old.words ≤ 4194304 }
         requires bits { self.old.words / 64 < length self.old.bits }
@@ -110,7 +110,7 @@ impl Marking {
         self.well_formed &= inside;
     }
 
-    /// Takes up to 64 addresses from the stack and fetches their headers.
+    /// Pops up to 64 addresses from the stack and fetches their headers.
     fn take_batch(&mut self, heap: &Heap<'_>, batch: &mut Vec<Waiting>)
         requires words { self.old.words ≡ heap_words heap.now }
         requires inside { AreStacked self.old.words self.old.bits self.old.stack.items }
@@ -158,7 +158,8 @@ impl Marking {
         }
     }
 
-    /// Visits what an object refers to, if it has a sound header, and notes what is wrong with it.
+    /// Visits the targets of an object's references, if its header is sound, and notes whether the object is
+    /// well-formed.
     fn follow(&mut self, heap: &Heap<'_>, object: Waiting)
         requires words { self.old.words ≡ heap_words heap.now }
         requires inside { object.address < self.old.words }
@@ -185,7 +186,7 @@ impl Marking {
         }
     }
 
-    /// Marks the address to which a reference leads, and puts it on the stack, unless it is marked or outside the heap.
+    /// Marks the target of a reference and pushes it on the stack, unless it is marked already or outside the heap.
     #[inline]
     fn visit(&mut self, reference: u64)
         requires few { self.old.words ≤ 4194304 }

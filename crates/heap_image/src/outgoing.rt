@@ -1,4 +1,4 @@
-//! `Outgoing`: the numbers behind the front of a text, as they go.
+//! A buffer for the numbers of a body while they are written.
 ghost use Rattle.std.specs.Prelude.{◌≡◌, ◌<◌, ◌≤◌, ◌+◌, ◌*◌, ◌++◌, ◌||◌, [], length, take, OnOk, OnErr, is_err};
 ghost use Rattle.std.specs.Io.KnownBytes.{Appends};
 ghost use Rattle.heap_image.specs.ImageText.{numbers};
@@ -8,19 +8,18 @@ use crate::numbers::write_all;
 use crate::outlet::{Outlet, give_all, give_zeros};
 use raw_region::Region;
 
-/// The numbers of 64 bits that stand behind the front of a text, while they go out. Their bytes are given in pieces as large
-/// as the room that was lent for them.
+/// Writes the 64-bit numbers of a body, in pieces as large as the borrowed buffer.
 #[derive(Drop)]
 pub(crate) struct Outgoing<'a> {
     bytes: &'a mut [u8],
-    /// The numbers before `end` of `bytes` were written and are not given yet.
+    /// The buffered numbers are the first `end` of `bytes`.
     end: usize,
 }
 
 impl<'a> Outgoing<'a> {
     ghost use Rattle.heap_image.specs.Outgoing.{HasRoom, unsent_bytes, Sends, TakesBeginning};
 
-    /// With no number written.
+    /// An empty buffer in `bytes`.
     pub(crate) fn new(bytes: &'a mut [u8]) -> Outgoing<'a>
         requires { 8 ≤ length bytes.old }
         ensures held { unsent_bytes result ≡ [] }
@@ -29,7 +28,7 @@ impl<'a> Outgoing<'a> {
         Outgoing { bytes, end: 0 }
     }
 
-    /// Writes numbers, and gives what there is no room for.
+    /// Buffers numbers, and flushes whenever the buffer is full.
     pub(crate) fn write<W: Outlet>(&mut self, writer: &mut W, words: &[u64]) -> Result<(), Failed>
         requires { HasRoom self.old }
         ensures room { OnOk result (HasRoom self.new) }
@@ -44,13 +43,13 @@ impl<'a> Outgoing<'a> {
         let mut done = 0;
         while done < words.len() {
             self.make_room(writer)?;
-            done += self.hold(&words[done..]);
+            done += self.buffer(&words[done..]);
         }
         Ok(())
     }
 
-    /// Writes the words of a region. Those of one that was cleared are not looked at: after what is held, the writer is given
-    /// as many zeros.
+    /// Writes the words of a region. Those of a cleared region are not read: the writer gets zeros instead, after a
+    /// flush.
     pub(crate) fn write_region<W: Outlet>(
         &mut self,
         writer: &mut W,
@@ -73,7 +72,7 @@ impl<'a> Outgoing<'a> {
         give_zeros(writer, 8 * region.len())
     }
 
-    /// Where there is no room left, gives what is held.
+    /// Flushes if the buffer is full.
     fn make_room<W: Outlet>(&mut self, writer: &mut W) -> Result<(), Failed>
         requires { HasRoom self.old }
         ensures room { OnOk result (HasRoom self.new) }
@@ -91,7 +90,7 @@ impl<'a> Outgoing<'a> {
         self.flush(writer)
     }
 
-    /// Gives what is held.
+    /// Gives the buffered numbers to the writer.
     pub(crate) fn flush<W: Outlet>(&mut self, writer: &mut W) -> Result<(), Failed>
         requires { HasRoom self.old }
         ensures room { OnOk result (HasRoom self.new) }
@@ -108,8 +107,8 @@ impl<'a> Outgoing<'a> {
         Ok(())
     }
 
-    /// Holds as many of the numbers as there is room for, and answers how many.
-    fn hold(&mut self, words: &[u64]) -> usize
+    /// Buffers as many of the numbers as there is room for, and returns how many.
+    fn buffer(&mut self, words: &[u64]) -> usize
         requires { HasRoom self.old }
         ensures room { HasRoom self.new }
         ensures within { result ≤ length words.now }

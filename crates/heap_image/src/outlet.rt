@@ -1,4 +1,4 @@
-//! `Outlet`: where the bytes of an image go.
+//! The devices to which images are written.
 ghost use Rattle.std.specs.Prelude.{◌≡◌, ◌<◌, ◌≤◌, ◌||◌, ℕ, List, Bool, Option, length, take, replicate, IsTrue, IfOk, OnOk, IsErr, is_err, false};
 ghost use Rattle.std.specs.Io.KnownBytes.{Appends, WriteAppends};
 
@@ -7,14 +7,14 @@ use std::io::Write;
 
 /// A device that takes bytes, in any pieces.
 ///
-/// A contract sees the bytes that the device `took`, where they are told, and whether it `has_failed`.
+/// A contract sees the bytes that the device `took`, if they are known, and whether it `has_failed`.
 pub trait Outlet {
     ghost took: { Self → Option (List ℕ) };
 
     ghost has_failed: { Self → Bool };
 
-    /// Gives the device bytes and answers how many of them, from the first on, it took: of some bytes at least one. A
-    /// call that answers [`Failed`] gives no byte, and so does each later one.
+    /// Offers bytes to the device and returns how many of the first it took: at least one, unless `bytes` is empty. A
+    /// call that returns [`Failed`] takes no byte, and all later calls do the same.
     fn give(&mut self, bytes: &[u8]) -> Result<usize, Failed>
         ensures within { IfOk result (λ n. n ≤ length bytes.now) }
         ensures some { IfOk result (λ n. 0 < length bytes.now → 0 < n) }
@@ -22,12 +22,12 @@ pub trait Outlet {
         ensures failed { has_failed self.new ≡ is_err result }
         ensures stays_failed { IsTrue (has_failed self.old) → IsErr result };
 
-    /// Whether a call has answered [`Failed`].
+    /// Whether a call has returned [`Failed`].
     fn failed(&self) -> bool
         ensures { result ≡ has_failed self.now };
 
-    /// Takes so many zeros without being given them, where the device can leave them out: a file may have holes. A device
-    /// that can't, as one that leaves this method out, answers false and takes nothing.
+    /// Lets the device skip `_count` zeros, as a file does by a hole. A device that can't do that takes nothing and
+    /// returns false, which is the default.
     fn leave_out_zeros(&mut self, _count: usize) -> bool
         ensures zeros { IsTrue result
             → Appends (took self.old) (took self.new) (replicate _count 0) }
@@ -38,12 +38,12 @@ pub trait Outlet {
     }
 }
 
-/// How many zeros are given at a time, at most.
+/// The most zeros that are given at a time.
 const ROOM: usize = 65_536;
 
 static ZEROS: [u8; ROOM] = [0; ROOM];
 
-/// Gives the device so many zeros, unless it leaves them out. After [`Failed`] it took some of them.
+/// Gives the device `count` zeros, or lets it skip them. After [`Failed`] it has taken some of them.
 pub(crate) fn give_zeros<W: Outlet>(writer: &mut W, count: usize) -> Result<(), Failed>
     ensures zeros { OnOk result
         (Appends (W.took writer.old) (W.took writer.new) (replicate count 0)) }
@@ -57,7 +57,7 @@ pub(crate) fn give_zeros<W: Outlet>(writer: &mut W, count: usize) -> Result<(), 
     give_each_zero(writer, count)
 }
 
-/// Gives the device so many zeros. After [`Failed`] it took some of them.
+/// Gives the device `count` zeros. After [`Failed`] it has taken some of them.
 fn give_each_zero<W: Outlet>(writer: &mut W, count: usize) -> Result<(), Failed>
     ensures zeros { OnOk result
         (Appends (W.took writer.old) (W.took writer.new) (replicate count 0)) }
@@ -72,7 +72,7 @@ fn give_each_zero<W: Outlet>(writer: &mut W, count: usize) -> Result<(), Failed>
     Ok(())
 }
 
-/// Gives the device all of the bytes. After [`Failed`] it took a beginning of them.
+/// Gives the device all of the bytes. After [`Failed`] it has taken a prefix of them.
 pub fn give_all<W: Outlet>(writer: &mut W, bytes: &[u8]) -> Result<(), Failed>
     ensures bytes { OnOk result (Appends (W.took writer.old) (W.took writer.new) bytes.now) }
     ensures beginning { (n : ℕ)
@@ -87,8 +87,8 @@ pub fn give_all<W: Outlet>(writer: &mut W, bytes: &[u8]) -> Result<(), Failed>
     Ok(())
 }
 
-/// The bytes go to a writer of std. An error of the writer, or that it took none of some bytes, is [`Failed`], and the
-/// writer is not written to again.
+/// An outlet to a writer of std. If the writer returns an error, or takes none of some bytes, that is [`Failed`], and
+/// the writer is not called again.
 #[derive(Drop)]
 pub struct ToWrite<W: Write + Drop> {
     writer: W,
@@ -99,7 +99,7 @@ impl<W: Write + Drop> ToWrite<W> {
     ghost use Rattle.std.specs.Prelude.{◌≡◌, false};
     ghost use Rattle.heap_image.specs.StdDevices.{writer_of, writer_has_failed};
 
-    /// The bytes go to this writer, which has not failed.
+    /// Wraps a writer, which counts as not failed.
     pub fn new(writer: W) -> ToWrite<W>
         ensures writer { writer_of result ≡ writer }
         ensures failed { writer_has_failed result ≡ false }
@@ -110,7 +110,7 @@ impl<W: Write + Drop> ToWrite<W> {
         }
     }
 
-    /// The writer, where it stands.
+    /// Returns the writer.
     pub fn into_inner(self) -> W
         ensures { result ≡ writer_of self }
     {

@@ -1,4 +1,4 @@
-//! The live objects of a heap, by what is reached from roots.
+//! Finds the live objects of a heap with roots.
 ghost use Rattle.std.specs.Prelude.{◌≡◌, ◌<◌, ◌≤◌, ◌⊎◌, Some, None, true, [], All, length, find, nat_lt, slice_index, IfOk, OnOk, IfErr, IsTrue};
 ghost use Rattle.std.specs.List.{concat, range_with_len};
 ghost use Rattle.heap_image.specs.HeapImage.{FormHeap, heap_words, image_of, reachable, with_live};
@@ -15,13 +15,12 @@ use crate::marking::mark;
 use raw_region::Region;
 use std::alloc::Global;
 
-/// The live objects of a heap with these roots, or what is first wrong with it: fault 17 where a root is above the number
-/// of words, and 7, 8 or 9 of the objects that are reached.
+/// Returns the addresses of all objects that are reachable from the roots, ascending, or the first fault: 17 if a root
+/// is above the number of words, and 7, 8 or 9 of the reachable objects.
 ///
-/// The heap lies in regions of `2 ^ region_log` words each, from address 0 up. A root is 0, which is null, or 1 plus an
-/// address. The answer has the addresses of all objects that are reached from the roots through references, ascending.
-/// An object without a sound header is reached, and refers to nothing. Fault 11 comes where memory was refused, and
-/// nothing is kept then. One thread does it all, in time that is linear in the words, the roots and the references.
+/// The heap lies in regions of `2 ^ region_log` words each, from address 0 on. A root is 0, which is null, or 1 plus an
+/// address. An object without a sound header is reachable itself, but nothing is through its references. Fault 11 comes
+/// if memory runs out. Runs in the caller's thread alone, in time linear in the words, the roots and the references.
 pub fn mark_from_roots(
     alloc: Global,
     region_log: u32,
@@ -41,24 +40,25 @@ pub fn mark_from_roots(
         live,
         begins,
         well_formed,
-    } = reached_from_roots(alloc, &heap, roots)?;
+    } = find_reachable(alloc, &heap, roots)?;
     check_live(&heap, live.as_slice(), &begins, well_formed)?;
     Ok(live)
 }
 
-/// What is reached from the roots of a heap, before it is checked.
+/// The objects that are reachable from the roots of a heap, before they are checked.
 #[derive(Drop)]
 pub(crate) struct Reached {
-    /// The addresses, ascending.
+    /// Their addresses, ascending.
     pub(crate) live: Vec<u64>,
-    /// The same as bits.
+    /// The same addresses as bits.
     pub(crate) begins: Bits,
-    /// Whether each of these objects is known to have a sound header, and references that are null or to another of them.
+    /// Whether each of these objects is known to have a sound header and only references that are null or to one of
+    /// them.
     pub(crate) well_formed: bool,
 }
 
-/// What is reached from the roots of a heap, if no root is above its number of words.
-pub(crate) fn reached_from_roots(
+/// Finds what is reachable from the roots of a heap. Fault 17 comes if a root is above the number of words.
+pub(crate) fn find_reachable(
     alloc: Global,
     heap: &Heap<'_>,
     roots: &[u64],
@@ -87,7 +87,7 @@ pub(crate) fn reached_from_roots(
     })
 }
 
-/// The least index of a root that is above the number of words.
+/// The first index of a root that is above the number of words.
 fn misplaced_root(roots: &[u64], words: u64) -> Option<u32>
     requires few { length roots.now ≤ words }
     requires fits { words ≤ 4194304 }

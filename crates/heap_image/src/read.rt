@@ -1,4 +1,4 @@
-//! Reading an image.
+//! Reads an image from a device: first its front, then its body, then the check of its live objects.
 ghost use Rattle.std.specs.Prelude.{◌≡◌, ◌≢◌, ◌<◌, ◌≤◌, ◌+◌, ◌*◌, ◌++◌, ◌⊎◌, ◌↔◌, ◌||◌, ◌^◌, ℕ, List, All, Option, Some, None, [], false, length, IfOk, OnOk, IfErr, IfSome, IsErrOf, IsTrue, option_map};
 ghost use Rattle.std.specs.List.{concat};
 ghost use Rattle.std.specs.Io.KnownBytes.{Consumes, IsAtEnd};
@@ -26,25 +26,26 @@ use rayon::current_num_threads;
 use std::alloc::Global;
 use std::thread::Threads;
 
-/// Reads an image up to the end of the input, and decides as [`decode`](crate::decode) does of these bytes.
+/// Reads an image up to the end of the input, and decides as [`decode`](crate::decode) does for these bytes. Runs in
+/// the caller's thread alone.
 ///
-/// Faults 2 to 4 are found before a byte behind the first 32 is asked for, and faults 6 to 9 and 17 before a byte behind
-/// the body is. No memory is taken before the first byte behind the front has come. Fault 13 comes where the device has
-/// failed, which is not asked again. After a fault what was read is gone. One thread does it all.
+/// Faults 2 to 4 come before any byte after the first 32 is requested, and faults 6 to 9 and 17 before any byte after
+/// the body. Memory is allocated only once the first byte after the front has arrived. Fault 13 comes when the device
+/// fails, which is not asked again. After a fault the bytes read so far are lost.
 pub fn read_image<R: Intake>(alloc: Global, reader: &mut R) -> Result<Image, Fault>
     ensures valid { IfOk result (λ image. IsValid image) }
-    // The input is the text of the image, all of it.
+    // The whole input is the text of the image.
     ensures text { IfOk result
         (λ image. Consumes (R.left reader.old) (R.left reader.new) (text image)) }
     ensures end { OnOk result (IsAtEnd (R.left reader.new)) }
-    // Memory was refused, the device failed, or it is the first fault of the input.
+    // Memory ran out, the device failed, or this is the first fault of the input.
     ensures fault { IfErr result
         (λ fault. IfSome (R.left reader.old) (λ input. IsReason input fault)) }
-    // Also of an input that is not told.
+    // This holds even if the input is not known.
     ensures kind { IfErr result IsOfReading }
     ensures left { IfErr result (λ fault. IfSome (R.left reader.old)
         (λ input. LeavesRest fault input (R.left reader.new))) }
-    // Memory is asked for once a byte behind a front without fault has come.
+    // Memory is allocated only once a byte after a front without fault has arrived.
     ensures memory { IfErr result
         (λ fault. fault ≡ Fault.Memory → IfSome (R.left reader.old)
         (λ input. (32 < length input) × (first_some (front_faults input) ≡ None))) }
@@ -55,26 +56,26 @@ pub fn read_image<R: Intake>(alloc: Global, reader: &mut R) -> Result<Image, Fau
     read.finish(reader, checked, None)
 }
 
-/// As [`read_image`]. As many threads as there are processors check the live objects, and the answer does not depend on
-/// how many.
+/// Like [`read_image`], but checks the live objects in as many threads as there are processors. The result does not
+/// depend on their number.
 pub fn read_image_by_threads<R: Intake>(
     alloc: Global,
     reader: &mut R,
     threads: &(impl Threads + Sync),
 ) -> Result<Image, Fault>
     ensures valid { IfOk result (λ image. IsValid image) }
-    // The input is the text of the image, all of it.
+    // The whole input is the text of the image.
     ensures text { IfOk result
         (λ image. Consumes (R.left reader.old) (R.left reader.new) (text image)) }
     ensures end { OnOk result (IsAtEnd (R.left reader.new)) }
-    // Memory was refused, the device failed, or it is the first fault of the input.
+    // Memory ran out, the device failed, or this is the first fault of the input.
     ensures fault { IfErr result
         (λ fault. IfSome (R.left reader.old) (λ input. IsReason input fault)) }
-    // Also of an input that is not told.
+    // This holds even if the input is not known.
     ensures kind { IfErr result IsOfReading }
     ensures left { IfErr result (λ fault. IfSome (R.left reader.old)
         (λ input. LeavesRest fault input (R.left reader.new))) }
-    // Memory is asked for once a byte behind a front without fault has come.
+    // Memory is allocated only once a byte after a front without fault has arrived.
     ensures memory { IfErr result
         (λ fault. fault ≡ Fault.Memory → IfSome (R.left reader.old)
         (λ input. (32 < length input) × (first_some (front_faults input) ≡ None))) }
@@ -83,8 +84,8 @@ pub fn read_image_by_threads<R: Intake>(
     read_image_by_workers(alloc, reader, current_num_threads(threads), threads)
 }
 
-/// As [`read_image`]. So many threads check the live objects at most, the caller's among them; 0 is taken for 1. The answer
-/// does not depend on how many.
+/// Like [`read_image`], but checks the live objects in at most `workers` threads, the caller's included; 0 counts as 1.
+/// The result does not depend on their number.
 pub fn read_image_by_workers<R: Intake>(
     alloc: Global,
     reader: &mut R,
@@ -92,18 +93,18 @@ pub fn read_image_by_workers<R: Intake>(
     threads: &(impl Threads + Sync),
 ) -> Result<Image, Fault>
     ensures valid { IfOk result (λ image. IsValid image) }
-    // The input is the text of the image, all of it.
+    // The whole input is the text of the image.
     ensures text { IfOk result
         (λ image. Consumes (R.left reader.old) (R.left reader.new) (text image)) }
     ensures end { OnOk result (IsAtEnd (R.left reader.new)) }
-    // Memory was refused, the device failed, or it is the first fault of the input.
+    // Memory ran out, the device failed, or this is the first fault of the input.
     ensures fault { IfErr result
         (λ fault. IfSome (R.left reader.old) (λ input. IsReason input fault)) }
-    // Also of an input that is not told.
+    // This holds even if the input is not known.
     ensures kind { IfErr result IsOfReading }
     ensures left { IfErr result (λ fault. IfSome (R.left reader.old)
         (λ input. LeavesRest fault input (R.left reader.new))) }
-    // Memory is asked for once a byte behind a front without fault has come.
+    // Memory is allocated only once a byte after a front without fault has arrived.
     ensures memory { IfErr result
         (λ fault. fault ≡ Fault.Memory → IfSome (R.left reader.old)
         (λ input. (32 < length input) × (first_some (front_faults input) ≡ None))) }
@@ -115,7 +116,7 @@ pub fn read_image_by_workers<R: Intake>(
         most: workers,
     };
     let sizes = read.found.sizes_if_sound(alloc, &read.heap(), &crowd);
-    // Most live objects are sound. Where that wasn't seen, one thread looks for the fault that comes first.
+    // Most images are sound. Otherwise one thread looks for the first fault.
     let checked = match &sizes {
         Some(_) => Ok(()),
         None => read.found.check(&read.heap()),
@@ -123,9 +124,7 @@ pub fn read_image_by_workers<R: Intake>(
     read.finish(reader, checked, sizes)
 }
 
-/// What was read of an image, up to the end of its body.
-///
-/// Contracts see it as the numbers that were told, and know that these fit.
+/// An image that was read up to the end of its body. Its live objects are found, but not checked.
 #[derive(Drop)]
 struct Unchecked {
     front: Front,
@@ -133,7 +132,7 @@ struct Unchecked {
     found: Found,
 }
 
-/// Reads an image up to the end of its body, and finds its live objects, which are not checked yet.
+/// Reads an image up to the end of its body, and finds its live objects.
 fn read_unchecked<R: Intake>(alloc: Global, reader: &mut R) -> Result<Unchecked, Fault>
     ensures fits { IfOk result (λ read. HasFittingNumbers (numbers_of read)) }
     ensures blocks { IfOk result (λ read. AreBlocks read.front.region_log read.regions.items) }
@@ -162,7 +161,7 @@ fn read_unchecked<R: Intake>(alloc: Global, reader: &mut R) -> Result<Unchecked,
 }
 
 impl Unchecked {
-    /// The words that were read.
+    /// The words of the heap.
     fn heap(&self) -> Heap<'_>
         requires { FormHeap self.now.front.region_log self.now.regions.items }
         ensures { result ≡ image_of self.now.front.region_log 0 self.now.regions.items [] }
@@ -170,9 +169,10 @@ impl Unchecked {
         Heap::new(self.regions.as_slice(), self.front.region_log)
     }
 
-    /// The image, if its live objects were found in order and no byte follows. It keeps their sizes, where these were seen.
+    /// Returns the image, if `checked` is no fault and no byte follows. The image keeps `sizes`, the sizes of its live
+    /// objects, if they are known.
     ///
-    /// A clause that asks for `before` speaks of a device that had these bytes left before the image was read.
+    /// In the clauses, `before` is what the device had left before the image was read.
     fn finish<R: Intake>(
         self,
         reader: &mut R,
@@ -221,14 +221,14 @@ impl Unchecked {
     }
 }
 
-/// Reads the first 32 bytes, and no byte behind them.
+/// Reads the first 32 bytes, and no byte after them.
 fn read_front<R: Intake>(reader: &mut R) -> Result<Front, Fault>
-    ensures told { IfOk result
-        (λ told. Consumes (R.left reader.old) (R.left reader.new)
-        (front told.rooted told.region_log told.count told.words told.allowance)) }
+    ensures bytes { IfOk result
+        (λ parsed. Consumes (R.left reader.old) (R.left reader.new)
+        (front parsed.rooted parsed.region_log parsed.count parsed.words parsed.allowance)) }
     ensures limits { IfOk result
-        (λ told. IsWithinLimits told.region_log told.words told.count) }
-    ensures fit { IfOk result (λ told. told.allowance < 2 ^ 64) }
+        (λ parsed. IsWithinLimits parsed.region_log parsed.words parsed.count) }
+    ensures fit { IfOk result (λ parsed. parsed.allowance < 2 ^ 64) }
     ensures fault { IfErr result
         (λ fault. IfSome (R.left reader.old) (λ input. IsReason input fault)) }
     ensures left { IfErr result (λ fault. IfSome (R.left reader.old)
@@ -244,7 +244,8 @@ fn read_front<R: Intake>(reader: &mut R) -> Result<Front, Fault>
     Front::parse(&bytes)
 }
 
-/// Reads what stands behind this front, and no byte behind that. The reader gives it at once where it can, and else in order.
+/// Reads the body that follows this front, and no byte after it: at once if the device can do that, and otherwise in
+/// order.
 fn read_body<R: Intake>(alloc: Global, reader: &mut R, front: Front) -> Result<Body, Fault>
     requires { IsWithinLimits front.region_log front.words front.count }
     ensures bytes { IfOk result
@@ -270,7 +271,7 @@ fn read_body<R: Intake>(alloc: Global, reader: &mut R, front: Front) -> Result<B
     }
 }
 
-/// Reads a body of this size, and no byte behind it. It takes no memory before a byte has come.
+/// Reads a body of this size, and no byte after it. It allocates no memory before a byte has arrived.
 fn read_body_in_order<R: Intake>(
     alloc: Global,
     reader: &mut R,
@@ -293,7 +294,7 @@ fn read_body_in_order<R: Intake>(
     Body::read(alloc, &mut incoming, reader, size)
 }
 
-/// Reads the words of so many regions, each into a block of its own.
+/// Reads the words of `count` regions, each into a block of its own.
 pub(crate) fn read_regions<R: Intake>(
     alloc: Global,
     incoming: &mut Incoming,
@@ -327,7 +328,6 @@ pub(crate) fn read_regions<R: Intake>(
     Ok(regions)
 }
 
-/// Reads the words of one region.
 fn read_region<R: Intake>(
     alloc: Global,
     incoming: &mut Incoming,

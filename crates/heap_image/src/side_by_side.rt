@@ -1,4 +1,4 @@
-//! The body of an image, which several threads read side by side.
+//! Reads the body of an image from a store in several threads.
 ghost use Rattle.std.specs.Prelude.{◌≡◌, ◌++◌, ◌<◌, ◌≤◌, ◌^◌, [], IfSome};
 ghost use Rattle.heap_image.specs.Body.{body_words};
 ghost use Rattle.heap_image.specs.Extents.{IsBodyOf, AreTwoParts, IsExtent, extent_end};
@@ -6,6 +6,7 @@ ghost use Rattle.heap_image.specs.Extents.{IsBodyOf, AreTwoParts, IsExtent, exte
 use crate::body::Body;
 use crate::body_size::BodySize;
 use crate::cursor::Cursor;
+use crate::front::{FRONT_BYTES, Front};
 use crate::incoming::Incoming;
 use crate::store::Store;
 use std::alloc::Global;
@@ -13,19 +14,31 @@ use std::thread;
 use std::thread::Threads;
 use thread_row::behind_an_empty_thread;
 
-/// How many words are worth a thread of their own.
+/// The least number of words that are worth a thread.
 const LEAST_WORDS: usize = 65_536;
 
-/// Where what stands behind the front of an image lies in a store, or a part of it.
+/// The place of the body of an image, or of a part of it, in a store.
 #[derive(Debug, Clone, Copy, PartialEq, Eq)]
 pub struct Extent {
-    /// The place of the first byte.
+    /// The offset of the first byte.
     pub at: u64,
     pub size: BodySize,
 }
 
 impl Extent {
-    /// The place behind the last byte, where it is a number of 64 bits.
+    /// The extent of the body that follows this front of a file, if the front is valid.
+    pub fn after_front(front: &[u8; FRONT_BYTES]) -> Option<Extent>
+        ensures log { IfSome result (λ extent. extent.size.region_log ≤ 16) }
+        ensures few { IfSome result (λ extent. body_words extent.size ≤ 8388608) }
+    {
+        let front = Front::parse(front).ok()?;
+        Some(Extent {
+            at: FRONT_BYTES as u64,
+            size: front.body_size(),
+        })
+    }
+
+    /// The offset after the last byte, if it fits in 64 bits.
     pub fn end(self) -> Option<u64>
         requires log { self.size.region_log ≤ 16 }
         requires few { body_words self.size ≤ 8388608 }
@@ -35,7 +48,7 @@ impl Extent {
         self.at.checked_add(8 * self.size.words() as u64)
     }
 
-    /// The first of so many parts, which has regions alone, and the others.
+    /// Splits off the first of `parts` parts, which has regions only, from the others.
     fn split(self, parts: usize) -> (Extent, Extent)
         requires extent { IsExtent self }
         requires some { 0 < parts }
@@ -64,8 +77,8 @@ impl Extent {
     }
 }
 
-/// What lies in an extent, read by so many threads at most, the caller's among them. None where the store has too few
-/// bytes or fails, or where memory is refused.
+/// Reads the body in an extent in at most `most` threads, the caller's included. Returns `None` if the store has too
+/// few bytes or fails, or if memory runs out.
 pub fn body_at<S: Store>(
     alloc: Global,
     store: &S,
@@ -87,7 +100,8 @@ pub fn body_at<S: Store>(
     behind_an_empty_thread(threads, in_row)
 }
 
-/// What lies in an extent, read by so many threads, of which this one starts the others. None as for [`body_at`].
+/// Reads the body in an extent in `most` threads, of which this one starts the others. Returns `None` as [`body_at`]
+/// does.
 fn body_in_row<S: Store>(
     alloc: Global,
     store: &S,
@@ -112,10 +126,10 @@ fn body_in_row<S: Store>(
         ensures { IfSome result (IsBodyOf (S.bytes store.entry.now) high) }
     { body_in_row(alloc, store, high, others, threads) };
     let (first, second) = thread::join(threads, first, second);
-    both(first?, second?)
+    join_bodies(first?, second?)
 }
 
-/// What lies in an extent, read by one thread. None as for [`body_at`].
+/// Reads the body in an extent in this thread. Returns `None` as [`body_at`] does.
 fn body_in_order<S: Store>(alloc: Global, store: &S, extent: Extent) -> Option<Body>
     requires { IsExtent extent }
     ensures { IfSome result (IsBodyOf (S.bytes store.now) extent) }
@@ -128,8 +142,8 @@ fn body_in_order<S: Store>(alloc: Global, store: &S, extent: Extent) -> Option<B
     }
 }
 
-/// What both have, where no numbers stand behind the first regions. None where memory is refused.
-fn both(first: Body, second: Body) -> Option<Body>
+/// Joins two bodies, of which the first has regions only. Returns `None` if memory runs out.
+fn join_bodies(first: Body, second: Body) -> Option<Body>
     requires { first.tail.items ≡ [] }
     ensures { IfSome result (λ body. (body.regions.items ≡ first.regions.items ++ second.regions.items)
         × (body.tail.items ≡ second.tail.items)) }

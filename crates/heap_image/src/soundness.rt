@@ -1,9 +1,8 @@
-//! The sizes of the objects of a live list, if they are sound, by several threads.
+//! Checks a live list in parallel, and notes the sizes of its objects.
 //!
-//! They are looked at in pieces of 64: first their headers are read in a row, since a header is mostly waited for, and then
-//! their references, a row of words at a time. A reference is looked up as it is in bits that are set at null and at each
-//! reference to a live object. What is wrong is gathered and not told apart: whoever wants to know which object is unsound
-//! looks again.
+//! Threads take the objects in pieces of 64: they first read all headers of a piece, so that the cache misses overlap,
+//! and then the references, a row of words at a time. References are looked up in a bit set with a bit for null and for
+//! each reference to a live object. The result only says whether all objects are sound: `check` finds the first fault.
 ghost use Rattle.std.specs.Prelude.{◌≡◌, ◌<◌, ◌≤◌, ◌+◌, ◌*◌, ◌/◌, ◌%◌, ℕ, All, IfSome, IsTrue, OnOk, IfOk, length, [], min, slice_index, slice_index_or};
 ghost use Rattle.heap_image.specs.HeapImage.{HasLiveList, heap_words, size_at, with_live, word_at};
 ghost use Rattle.heap_image.specs.Bits.{MarkBegins, has, room};
@@ -19,14 +18,14 @@ use std::alloc::{AllocError, Global};
 use std::thread::Threads;
 use thread_row::for_each_mut;
 
-/// How many objects are a piece.
+/// The number of objects of a piece.
 pub const PIECE: usize = 64;
 
-/// How many pieces are worth a thread of their own.
-const LEAST: usize = 16;
+/// The least number of pieces that are worth a thread.
+const LEAST_PIECES: usize = 16;
 
-/// The sizes in words of the live objects, whose addresses are marked, if nothing is wrong with any of them. The
-/// crowd looks at the objects, at each object once. Where memory is refused there is no answer.
+/// The sizes in words of the live objects, if all of them are sound. `begins` marks their addresses. The crowd visits
+/// each object once. Returns `None` also if memory runs out.
 pub(crate) fn sizes_if_sound<T: Threads + Sync>(
     alloc: Global,
     heap: &Heap<'_>,
@@ -39,10 +38,10 @@ pub(crate) fn sizes_if_sound<T: Threads + Sync>(
     ensures sound { IfSome result (λ _. HasLiveList (with_live heap.now live.now)) }
     ensures sizes { IfSome result (λ sizes. AreSizes (with_live heap.now live.now) sizes.items) }
 {
-    let Ok(targets) = begins.raised(alloc) else {
+    let Ok(targets) = begins.shift_up(alloc) else {
         return None;
     };
-    let Ok(sizes) = noted_sizes(alloc, heap, live, &targets, crowd) else {
+    let Ok(sizes) = note_all_sizes(alloc, heap, live, &targets, crowd) else {
         return None;
     };
     if are_all_noted(sizes.as_slice(), live.len()) {
@@ -52,9 +51,9 @@ pub(crate) fn sizes_if_sound<T: Threads + Sync>(
     }
 }
 
-/// The size of each live object that is sound, and 0 for each that isn't. The bits of the references that are null
-/// or lead to a live object are set in `targets`.
-fn noted_sizes<T: Threads + Sync>(
+/// The size of each sound live object, and 0 for each unsound one. `targets` has the bits of null and of the references
+/// to live objects.
+fn note_all_sizes<T: Threads + Sync>(
     alloc: Global,
     heap: &Heap<'_>,
     live: &[u64],
@@ -68,7 +67,7 @@ fn noted_sizes<T: Threads + Sync>(
         → AreNoted (with_live heap.now live.now) p (slice_index_or sizes.items p [])) }
 {
     let mut sizes = vec![in alloc; [0u32; PIECE]; live.len().div_ceil(PIECE)]?;
-    let count = crowd.most.min(sizes.len() / LEAST).max(1);
+    let count = crowd.most.min(sizes.len() / LEAST_PIECES).max(1);
     let note = |piece: usize, sizes: &mut [u32; PIECE]|
         requires { All (λ a. a < heap_words heap.now) live.now
             × AreTargets (with_live heap.now live.now) targets.now × (64 * piece < length live.now) }
@@ -78,7 +77,7 @@ fn noted_sizes<T: Threads + Sync>(
     Ok(sizes)
 }
 
-/// Notes the sizes of the live objects of a piece that are sound.
+/// Notes the sizes of the sound live objects of a piece.
 fn note_sizes(heap: &Heap<'_>, live: &[u64], targets: &Bits, piece: usize, sizes: &mut [u32; PIECE])
     requires inside { All (λ a. a < heap_words heap.now) live.now }
     requires targets { AreTargets (with_live heap.now live.now) targets.now }
@@ -93,7 +92,7 @@ fn note_sizes(heap: &Heap<'_>, live: &[u64], targets: &Bits, piece: usize, sizes
     }
 }
 
-/// Whether as many sizes as there are objects are noted.
+/// Whether the sizes of all objects are noted.
 fn are_all_noted(sizes: &[[u32; PIECE]], objects: usize) -> bool
     requires { objects ≤ 64 * length sizes.now }
     ensures { IsTrue result → (i : ℕ) → i < objects
@@ -108,8 +107,7 @@ fn are_all_noted(sizes: &[[u32; PIECE]], objects: usize) -> bool
     all && (rest == 0 || are_noted(&sizes[whole][..rest]))
 }
 
-/// Whether each of these sizes is noted. It is asked by the least of them, of which a compiler makes a loop over several at
-/// a time.
+/// Whether each of these sizes is noted, that is, above 0. Taking the least of them compiles to vector instructions.
 fn are_noted(sizes: &[u32]) -> bool
     ensures { IsTrue result → (k : ℕ) → k < length sizes.now → 0 < slice_index sizes.now k }
 {
@@ -120,7 +118,7 @@ fn are_noted(sizes: &[u32]) -> bool
     least > 0
 }
 
-/// The size of the live object of this index, which has this header, or 0 where it isn't sound.
+/// The size of the live object with this index and this header, or 0 if it isn't sound.
 #[inline]
 fn size_if_sound(heap: &Heap<'_>, live: &[u64], targets: &Bits, i: usize, header: u64) -> u32
     requires inside { All (λ a. a < heap_words heap.now) live.now }
@@ -137,8 +135,7 @@ fn size_if_sound(heap: &Heap<'_>, live: &[u64], targets: &Bits, i: usize, header
     }
 }
 
-/// The headers of a few objects, and zeros behind them. Nothing is done here but to read them, so that the processor has
-/// many of them under way at once.
+/// The headers of a few objects, and zeros after them. The loop does nothing else, so that the cache misses overlap.
 #[inline]
 fn headers_of(heap: &Heap<'_>, objects: &[u64]) -> [u64; PIECE]
     requires inside { All (λ a. a < heap_words heap.now) objects.now }
@@ -152,8 +149,8 @@ fn headers_of(heap: &Heap<'_>, objects: &[u64]) -> [u64; PIECE]
     headers
 }
 
-/// Whether the live object of this index, which has this header, is an object that fits, ends before the next one begins,
-/// and has no reference but to nothing or to a live object.
+/// Whether the live object with this index and this header fits in the heap, ends before the next one begins, and has
+/// only references that are null or lead to live objects.
 #[inline]
 fn is_sound(heap: &Heap<'_>, live: &[u64], targets: &Bits, i: usize, header: u64) -> bool
     requires inside { All (λ a. a < heap_words heap.now) live.now }
@@ -178,8 +175,8 @@ fn is_sound(heap: &Heap<'_>, live: &[u64], targets: &Bits, i: usize, header: u64
     )
 }
 
-/// Whether each word from `from` up to `to` is one of these references. One that leads out of the heap is cut to the
-/// least that does.
+/// Whether each word from `from` up to `to` is one of these references. A reference that leads out of the heap is
+/// looked up as the least such reference.
 #[inline]
 fn lead_to_targets(heap: &Heap<'_>, targets: &Bits, from: u64, to: u64) -> bool
     requires inside { to ≤ heap_words heap.now }
@@ -198,7 +195,7 @@ fn lead_to_targets(heap: &Heap<'_>, targets: &Bits, from: u64, to: u64) -> bool
     all
 }
 
-/// Whether each of these references, cut to the highest, is in a set.
+/// Whether each of these references, reduced to at most `highest`, is in a set.
 #[inline]
 fn has_all(targets: &Bits, references: &[u64], highest: u64) -> bool
     requires { highest < room targets.now }

@@ -1,4 +1,4 @@
-//! `Store`: where bytes lie at places.
+//! Random access to the bytes of an image.
 ghost use Rattle.std.specs.Prelude.{◌≡◌, ◌<◌, ◌≤◌, ◌+◌, ℕ, List, Option, length, take, IfOk};
 ghost use Rattle.std.specs.Io.KnownBytes.{Consumes, IsAtEnd};
 ghost use Rattle.heap_image.specs.Extents.{from_place};
@@ -6,14 +6,14 @@ ghost use Rattle.heap_image.specs.Extents.{from_place};
 use crate::intake::Failed;
 use std::os::unix::fs::FileExt;
 
-/// Bytes that lie at places from 0 on. Several threads may take some of them at a time.
+/// Bytes at offsets from 0 on, which several threads may read at a time.
 ///
-/// A contract sees the `bytes`, where they are told.
+/// A contract sees the `bytes`, if they are known.
 pub trait Store: Sync {
     ghost bytes: { Self → Option (List ℕ) };
 
-    /// Takes the bytes from the place `at` on into the front of the buffer and answers how many. It answers 0 for a buffer
-    /// with room only where no byte lies there.
+    /// Copies bytes at offset `at` to the start of the buffer and returns how many. It returns 0 for a buffer with room
+    /// only if there is no byte at that offset.
     fn take_at(&self, at: u64, buffer: &mut [u8]) -> Result<usize, Failed>
         ensures within { IfOk result (λ n. n ≤ length buffer.new) }
         ensures bytes { IfOk result
@@ -22,12 +22,11 @@ pub trait Store: Sync {
             (λ n. n ≡ 0 → 0 < length buffer.old → IsAtEnd (from_place (bytes self.now) at)) };
 }
 
-/// The bytes of a file that has places, as a regular one. No contract tells them.
+/// The bytes of a file with offsets, for example a regular one. No contract knows them.
 #[derive(Drop)]
 pub struct FileStore<'a, F: FileExt + Sync>(&'a F);
 
 impl<'a, F: FileExt + Sync> FileStore<'a, F> {
-    /// The bytes of this file.
     pub fn new(file: &'a F) -> FileStore<'a, F> {
         FileStore(file)
     }

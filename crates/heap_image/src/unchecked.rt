@@ -1,4 +1,4 @@
-//! `Unchecked`: what was read of an image, before its live objects are checked.
+//! The live objects of an image that was read, and their check.
 ghost use Rattle.std.specs.Prelude.{◌≡◌, ◌<◌, ◌≤◌, ◌⊎◌, Some, None, All, length, IfOk, IfSome, OnOk, IfErr, IsTrue, option_map};
 ghost use Rattle.heap_image.specs.Bits.{MarkBegins};
 ghost use Rattle.heap_image.specs.Sizes.{AreSizes};
@@ -11,26 +11,27 @@ use crate::bits::Bits;
 use crate::check::{check_live, misplaced_index};
 use crate::crowd::Crowd;
 use crate::heap::Heap;
-use crate::reach::{Reached, reached_from_roots};
+use crate::reach::{Reached, find_reachable};
 use crate::soundness::{PIECE, sizes_if_sound};
 use std::alloc::Global;
 use std::thread::Threads;
 
-/// The live objects of what was read, which are still to be checked.
+/// The live objects of an image that was read, before they are checked.
 #[derive(Drop)]
 pub(crate) struct Found {
     /// Their addresses, ascending.
     pub(crate) live: Vec<u64>,
-    /// The same as bits.
+    /// The same addresses as bits.
     pub(crate) begins: Bits,
-    /// Whether each of these objects is known to have a sound header, and references that are null or to another of them.
+    /// Whether each of these objects is known to have a sound header and only references that are null or to one of
+    /// them.
     pub(crate) well_formed: bool,
     /// The roots, in an image of version 2.
     pub(crate) roots: Option<Vec<u64>>,
 }
 
-/// The live objects of what was read, whose words this heap has. `tail` are the numbers behind the words: the live list,
-/// or in version 2, which is rooted, the roots.
+/// Finds the live objects of a heap. `tail` is what follows the words in the text: the live list, or, if `rooted`, the
+/// roots.
 pub(crate) fn find_live_objects(
     alloc: Global,
     heap: &Heap<'_>,
@@ -47,7 +48,7 @@ pub(crate) fn find_live_objects(
         (λ found. MarkBegins found.live.items (heap_words heap.now) found.begins) }
     ensures well_formed { IfOk result (λ found. IsTrue found.well_formed
         → AreWellFormed (with_live heap.now found.live.items)) }
-    // What is still to be found is wrong with the objects.
+    // Only faults of the objects are left.
     ensures ordered { let image = from_tail rooted (with_live heap.now tail.items) in
         IfOk result (λ found. first_some (live_list_faults image)
         ≡ first_object_fault (with_live heap.now found.live.items)) }
@@ -59,7 +60,7 @@ pub(crate) fn find_live_objects(
             live,
             begins,
             well_formed,
-        } = reached_from_roots(alloc, heap, tail.as_slice())?;
+        } = find_reachable(alloc, heap, tail.as_slice())?;
         let roots = Some(tail);
         return Ok(Found {
             live,
@@ -82,8 +83,7 @@ pub(crate) fn find_live_objects(
 }
 
 impl Found {
-    /// What is first wrong with the live objects of their heap, if anything is. One thread looks at each
-    /// object once.
+    /// Checks the live objects of their heap and returns their first fault. One thread visits each object once.
     pub(crate) fn check(&self, heap: &Heap<'_>) -> Result<(), Fault>
         requires inside { All (λ a. a < heap_words heap.now) self.now.live.items }
         requires begins { MarkBegins self.now.live.items (heap_words heap.now) self.now.begins }
@@ -96,7 +96,8 @@ impl Found {
         check_live(heap, self.live.as_slice(), &self.begins, self.well_formed)
     }
 
-    /// The sizes of the live objects, if it is seen that nothing is wrong with any. The crowd looks at the objects. Nothing is looked at where the objects are known to be well-formed.
+    /// The sizes of the live objects, if the crowd finds all of them sound. If they are known to be well-formed
+    /// already, this returns `None` and visits none.
     pub(crate) fn sizes_if_sound<T: Threads + Sync>(
         &self,
         alloc: Global,

@@ -1,4 +1,4 @@
-//! Images of version 1 as ones of version 2.
+//! Converts images of version 1 to version 2.
 ghost use Rattle.std.specs.Prelude.{◌≡◌, ◌≢◌, ◌<◌, ◌⊎◌, ◌+◌, ◌^◌, None, Some, Err, All, length, map, IfOk, IfErr, OnErr, IfSome, IsTrue};
 ghost use Rattle.std.specs.Io.KnownBytes.{Appends};
 ghost use Rattle.heap_image.specs.HeapImage.{HeapImage, roots_of};
@@ -14,10 +14,8 @@ use crate::write::write_image_buffered;
 use crate::{Fault, Image, ImageParts};
 use std::alloc::{AllocError, Global};
 
-/// The image as one of version 2, with a root to each live object, ascending: the live objects are the same. One of
-/// version 2 comes back as it is.
-///
-/// Where memory is refused the image comes back unchanged.
+/// Converts an image to version 2, with a root to each live object, ascending. The live objects stay the same. An image
+/// of version 2 is returned as it is, and so is, with fault 11, any image if memory runs out.
 pub fn upgrade(alloc: Global, image: Image) -> Result<Image, (Image, Fault)>
     ensures upgraded { IfOk result (λ new. new ≡ upgraded image) }
     ensures refused { IfErr result (λ refused. (refused.0 ≡ image) × (refused.1 ≡ Fault.Memory)) }
@@ -31,7 +29,7 @@ pub fn upgrade(alloc: Global, image: Image) -> Result<Image, (Image, Fault)>
     }
 }
 
-/// A root to each of these objects.
+/// Returns a root to each of these objects.
 fn roots_to(alloc: Global, live: &[u64]) -> Result<Vec<u64>, AllocError>
     requires { All (λ a. a + 1 < 2 ^ 64) live.now }
     ensures { IfOk result (λ roots. roots.items ≡ map (λ a. a + 1) live.now) }
@@ -43,7 +41,7 @@ fn roots_to(alloc: Global, live: &[u64]) -> Result<Vec<u64>, AllocError>
     Ok(roots)
 }
 
-/// An image of version 1 with these roots, one to each live object.
+/// Gives an image of version 1 these roots, one to each live object.
 fn with_roots(image: Image, roots: Vec<u64>) -> Image
     requires none { image.roots ≡ None }
     requires roots { roots.items ≡ map (λ a. a + 1) image.live }
@@ -57,9 +55,9 @@ fn with_roots(image: Image, roots: Vec<u64>) -> Image
     parts.into_image()
 }
 
-/// Reads an image, upgrades it and writes it, and answers how many roots it has.
+/// Reads an image, upgrades it, writes it, and returns its number of roots.
 ///
-/// Nothing is written before the upgrade is made. After fault 13 in writing, a beginning of the text was written.
+/// Nothing is written before the upgrade is complete. After fault 13 of the writer, a prefix of the text is written.
 pub fn upgrade_stream<R: Intake, O: Outlet>(
     alloc: Global,
     reader: &mut R,
@@ -73,9 +71,9 @@ pub fn upgrade_stream<R: Intake, O: Outlet>(
         ⊎ IsUpgradeBegun (R.left reader.old) (R.left reader.new) (O.took writer.old) (O.took writer.new)) }
     ensures fault { IfErr result
         (λ fault. IfSome (R.left reader.old) (λ input. IsReason input fault)) }
-    // Also of an input that is not told.
+    // This holds even if the input is not known.
     ensures kind { IfErr result IsOfReading }
-    // Only the device stops it once it writes.
+    // Once it writes, only the device can stop it.
     ensures nothing_yet { IfErr result (λ fault. fault ≢ Fault.Io → writer.new ≡ writer.old) }
     ensures device { result ≡ Err Fault.Io
         → IsTrue (R.has_failed reader.new) ⊎ IsTrue (O.has_failed writer.new) }

@@ -1,4 +1,4 @@
-//! Writing an image.
+//! Writes the text of an image to a device.
 ghost use Rattle.std.specs.Prelude.{◌≡◌, ◌≢◌, ◌⊎◌, ◌≤◌, IfErr, IfOk, OnOk, OnErr, IsTrue, Err, length, false};
 ghost use Rattle.std.specs.Io.KnownBytes.{Appends};
 ghost use Rattle.heap_image.specs.Device.{is_io};
@@ -11,14 +11,14 @@ use crate::outlet::{Outlet, give_all};
 use crate::{Fault, Image};
 use std::alloc::{AllocError, Global};
 
-/// How many numbers are given at a time where no memory is taken, at most.
-const FEW: usize = 2048;
+/// The most numbers that [`write_image`] gives at a time.
+const PLAIN_NUMBERS: usize = 2048;
 
-/// How many numbers are given at a time otherwise, at most.
-const MANY: usize = 32_768;
+/// The most numbers that [`write_image_buffered`] gives at a time.
+const BUFFERED_NUMBERS: usize = 32_768;
 
-/// Writes the text of an image. It takes no memory, and gives at most 16 KiB at a time. Fault 13 comes where the device
-/// has failed, which is not given to again; it then took a beginning of the text.
+/// Writes the text of an image in pieces of at most 16 KiB, and allocates no memory. Fault 13 comes when the device
+/// fails: it has then taken a prefix of the text, and is not called again.
 pub fn write_image<W: Outlet>(image: &Image, writer: &mut W) -> Result<(), Fault>
     ensures text { OnOk result (Appends (W.took writer.old) (W.took writer.new) (text image.now)) }
     ensures beginning { OnErr result
@@ -26,11 +26,11 @@ pub fn write_image<W: Outlet>(image: &Image, writer: &mut W) -> Result<(), Fault
     ensures fault { IfErr result (λ fault. fault ≡ Fault.Io) }
     ensures io { W.has_failed writer.new ≡ is_io result }
 {
-    write_through(image, writer, &mut [0; 8 * FEW])
+    write_through(image, writer, &mut [0; 8 * PLAIN_NUMBERS])
 }
 
-/// As [`write_image`], and gives up to 256 KiB at a time. The memory for that is taken before a byte is given: fault 11
-/// where it is refused, and then nothing was written.
+/// Like [`write_image`], but in pieces of up to 256 KiB. The memory for them is allocated first: fault 11 comes if it
+/// runs out, and then nothing is written.
 pub fn write_image_buffered<W: Outlet>(
     alloc: Global,
     image: &Image,
@@ -48,15 +48,15 @@ pub fn write_image_buffered<W: Outlet>(
     write_through(image, writer, room.as_mut_slice())
 }
 
-/// Room for as many numbers as the image has words, or for many.
+/// A buffer for at most [`BUFFERED_NUMBERS`] numbers, and for no more than the image has words.
 fn room_for(alloc: Global, image: &Image) -> Result<Vec<u8>, AllocError>
     ensures { IfOk result (λ room. 8 ≤ length room.items) }
 {
-    let numbers = (image.len() as usize).clamp(1, MANY);
+    let numbers = (image.len() as usize).clamp(1, BUFFERED_NUMBERS);
     vec![in alloc; 0u8; 8 * numbers]
 }
 
-/// Writes the text of an image, and all of it but the front through this room.
+/// Writes the text of an image. All of it but the front goes through the buffer `room`.
 fn write_through<W: Outlet>(image: &Image, writer: &mut W, room: &mut [u8]) -> Result<(), Fault>
     requires { 8 ≤ length room.old }
     ensures text { OnOk result (Appends (W.took writer.old) (W.took writer.new) (text image.now)) }

@@ -1,29 +1,27 @@
-//! `Dice`: the random numbers of a heap.
+//! The random numbers of a heap.
 ghost use Rattle.std.specs.Prelude.{◌<◌, ◌≤◌};
 
 use rand_core::{Rng, SeedableRng};
 use rand_xoshiro::Xoshiro256PlusPlus;
 
-/// The random numbers that follow from a seed, the same everywhere.
+/// A generator of random numbers. The same seed gives the same numbers on every machine.
 #[derive(Drop)]
 pub(crate) struct Dice {
     source: Xoshiro256PlusPlus,
 }
 
 impl Dice {
-    /// The numbers of this seed.
     pub(crate) fn new(seed: u64) -> Dice {
         Dice {
             source: Xoshiro256PlusPlus::seed_from_u64(seed),
         }
     }
 
-    /// The next word.
     pub(crate) fn word(&mut self) -> u64 {
         self.source.next_u64()
     }
 
-    /// The next number below this one.
+    /// Draws a number below `end`.
     pub(crate) fn below(&mut self, end: u64) -> u64
         requires { 0 < end }
         ensures { result < end }
@@ -31,7 +29,8 @@ impl Dice {
         self.word() % end
     }
 
-    /// The size of the next object: one in 64 has 41 to 512 words, the others 2 to 40, and more of them are small.
+    /// Draws the size of an object: one in 64 has 41 to 512 words, the others 2 to 40, of which small sizes are more
+    /// frequent.
     pub(crate) fn size(&mut self) -> u64
         ensures some { 1 ≤ result }
         ensures few { result ≤ 512 }

@@ -1,27 +1,27 @@
-//! `Figures`: what a heap has that was made.
+//! The figures of a generation.
 use std::fmt;
 
-/// What a heap has that was made.
+/// The counts that [`generate`](crate::generate) returns with an image.
 #[derive(Debug, Clone, Copy, PartialEq, Eq)]
-pub struct Figures {
-    /// The words of the image.
+pub struct GenerationFigures {
+    /// Words.
     pub words: u64,
-    /// The objects in it, live and dead.
+    /// Objects, live and dead.
     pub objects: u64,
-    /// Its roots: none in version 1.
+    /// Roots: none in version 1.
     pub roots: u64,
-    /// The live objects.
+    /// Live objects.
     pub live: u64,
 }
 
-impl fmt::Display for Figures {
+impl fmt::Display for GenerationFigures {
     ghost use Rattle.std.specs.Prelude.{Some};
-    ghost use Rattle.heap_maker.specs.Figures.{figures_text};
+    ghost use Rattle.heap_maker.specs.GenerationFigures.{figures_text};
 
     ghost output = { λ figures. Some (figures_text figures) };
 
     fn fmt<W: fmt::Write>(&self, f: &mut fmt::Formatter<W>) -> fmt::Result {
-        let Figures {
+        let GenerationFigures {
             words,
             objects,
             roots,

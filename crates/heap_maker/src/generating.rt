@@ -1,13 +1,13 @@
-//! `generate`: a heap as it is wanted, as an image.
+//! Generates heaps.
 ghost use Rattle.std.specs.Prelude.{◌≡◌, ◌<◌, ◌≤◌, ◌^◌, All, IfOk, OnOk, length, if◌then◌else◌};
 ghost use Rattle.std.specs.List.{concat};
 ghost use Rattle.heap_image.specs.HeapImage.{AreBlocks, IsValid, heap_words, live_words, version_of};
-ghost use Rattle.heap_maker.specs.Figures.{AreFiguresOf};
+ghost use Rattle.heap_maker.specs.GenerationFigures.{AreFiguresOf};
 ghost use Rattle.heap_maker.specs.Wanted.{IsAsWanted};
 
 use crate::dice::Dice;
 use crate::error::GenerationError;
-use crate::figures::Figures;
+use crate::figures::GenerationFigures;
 use crate::heap_words::HeapWords;
 use crate::layout::Layout;
 use crate::limits::Limits;
@@ -19,19 +19,19 @@ use mark_bitmap::Marks;
 use raw_region::Region;
 use std::alloc::{AllocError, Global};
 
-/// A heap that was made.
+/// A generated heap.
 #[derive(Drop)]
 pub struct Generated {
-    /// The heap, with its live objects.
+    /// The image.
     pub image: Image,
-    /// What it has.
-    pub figures: Figures,
+    /// Its counts.
+    pub figures: GenerationFigures,
 }
 
-/// Makes the heap that is wanted.
+/// Generates the heap that `wanted` describes.
 ///
-/// One thread does it all, in time that is linear in the words. There is no input besides what is wanted, so the same
-/// image comes of the same wish, everywhere and always; only memory may be refused.
+/// Runs on the calling thread, in time linear in the number of words. The image depends on `wanted` alone. Values of
+/// `wanted` out of range and refused memory are the only errors.
 pub fn generate(alloc: Global, wanted: &Wanted) -> Result<Generated, GenerationError>
     ensures wanted { IfOk result (λ made. IsAsWanted wanted.now made.image) }
     ensures figures { IfOk result (λ made. AreFiguresOf made.image made.figures) }
@@ -40,14 +40,14 @@ pub fn generate(alloc: Global, wanted: &Wanted) -> Result<Generated, GenerationE
     let room = wanted.room(limits)?;
     let mut dice = Dice::new(wanted.seed);
     let layout = Layout::of(alloc, room, wanted.reference_percent, &mut dice)?;
-    let parts = Parts::of(alloc, limits, &layout, dice)?;
-    let image = parts.into_image(alloc, wanted)?;
+    let heap = UnmarkedHeap::of(alloc, limits, &layout, dice)?;
+    let image = heap.into_image(alloc, wanted)?;
     check_live(alloc, &image, room)?;
     let figures = figures_of(&layout, &image);
     Ok(Generated { image, figures })
 }
 
-/// Refuses an image where not just the words that they were to have belong to live objects.
+/// Rejects an image whose live objects have another number of words than planned.
 fn check_live(alloc: Global, image: &Image, room: Room) -> Result<(), GenerationError>
     ensures { OnOk result (live_words image.now 0 (heap_words image.now) ≡ room.live) }
 {
@@ -58,11 +58,11 @@ fn check_live(alloc: Global, image: &Image, room: Room) -> Result<(), Generation
     Ok(())
 }
 
-/// What the image with these objects has.
-fn figures_of(layout: &Layout, image: &Image) -> Figures
+/// The counts of the image with these objects.
+fn figures_of(layout: &Layout, image: &Image) -> GenerationFigures
     ensures { AreFiguresOf image.now result }
 {
-    Figures {
+    GenerationFigures {
         words: image.len(),
         objects: layout.objects.len() as u64,
         roots: image.roots().len() as u64,
@@ -70,9 +70,9 @@ fn figures_of(layout: &Layout, image: &Image) -> Figures
     }
 }
 
-/// The words and the roots of a heap, before its live objects are found.
+/// The regions and roots of a heap before its live objects are marked.
 #[derive(Drop)]
-struct Parts {
+struct UnmarkedHeap {
     limits: Limits,
     regions: Vec<Region>,
     roots: Vec<u64>,
@@ -82,23 +82,29 @@ struct Parts {
     ghost few: { length roots.items ≤ limits.words },
 }
 
-impl Parts {
-    /// Those of a heap with these objects.
-    fn of(alloc: Global, limits: Limits, layout: &Layout, dice: Dice) -> Result<Parts, AllocError>
+impl UnmarkedHeap {
+    /// Fills regions with the objects of a layout.
+    fn of(
+        alloc: Global,
+        limits: Limits,
+        layout: &Layout,
+        dice: Dice,
+    ) -> Result<UnmarkedHeap, AllocError>
         requires few { length layout.now.live.items ≤ limits.words }
-        ensures limits { IfOk result (λ parts. parts.limits ≡ limits) }
+        ensures limits { IfOk result (λ heap. heap.limits ≡ limits) }
     {
         let mut words = HeapWords::new(alloc, layout, limits.words, dice)?;
         let regions = regions_of(alloc, limits, &mut words)?;
-        let roots = layout.roots(alloc, words.is_kept())?;
-        Ok(Parts {
+        let roots = layout.roots(alloc, words.is_referenced())?;
+        Ok(UnmarkedHeap {
             limits,
             regions,
             roots,
         })
     }
 
-    /// The image with these words, and the objects that are reached from the roots as its live ones.
+    /// Marks the heap from its roots, and returns the image. In version 1, the image lists the marked objects and has
+    /// no roots.
     fn into_image(self, alloc: Global, wanted: &Wanted) -> Result<Image, GenerationError>
         ensures valid { IfOk result (λ image. IsValid image) }
         ensures version { IfOk result (λ image. version_of image ≡ (if wanted.now.is_rooted then 2 else 1)) }
@@ -106,7 +112,7 @@ impl Parts {
         ensures words { IfOk result (λ image. heap_words image ≡ self.limits.words) }
         ensures allowance { IfOk result (λ image. image.allowance ≡ wanted.now.allowance) }
     {
-        let Parts {
+        let UnmarkedHeap {
             limits,
             regions,
             roots,

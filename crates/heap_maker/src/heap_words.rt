@@ -1,4 +1,4 @@
-//! `HeapWords`: the words of a heap, one after the other.
+//! The words of a heap in order.
 ghost use Rattle.std.specs.Prelude.{◌≡◌, ◌≤◌, length};
 
 use crate::dice::Dice;
@@ -6,32 +6,32 @@ use crate::layout::Layout;
 use crate::object::Object;
 use std::alloc::{AllocError, Global};
 
-/// The words of a heap, one after the other.
+/// Generates the words of a heap in order.
 ///
-/// A reference of a live object is null one time in four, and else leads to any live object. One of a dead object is null
-/// as often, and else 1 plus any address of the heap.
+/// A reference of a live object is null with probability 1/4, else it leads to a random live object. A reference of a
+/// dead object is null with probability 1/4, else 1 plus a random address of the heap.
 #[derive(Drop)]
 pub(crate) struct HeapWords<'a> {
     layout: &'a Layout,
-    /// The objects that have not begun.
+    /// The objects that come next.
     objects: &'a [Object],
-    /// How many words the heap has.
+    /// The number of words of the heap.
     words: u64,
     dice: Dice,
-    /// The reference that leads to the object that has begun last, and whether that one is live.
+    /// The reference that leads to the current object, and whether that object is live.
     here: u64,
     is_live: bool,
-    /// How many of its references are still to come, and how many of its other words.
+    /// How many references and how many other words of the current object come next.
     references_left: u32,
     others_left: u32,
-    /// Of each live object, whether a live one before it refers to it.
-    is_kept: Vec<bool>,
+    /// For each live object, whether a live object before it refers to it.
+    is_referenced: Vec<bool>,
     ghost some: { 1 ≤ words },
-    ghost all_live: { length is_kept.items ≡ length layout.now.live.items },
+    ghost all_live: { length is_referenced.items ≡ length layout.now.live.items },
 }
 
 impl<'a> HeapWords<'a> {
-    /// The words of these objects.
+    /// The words of the objects of a layout, in a heap of `words` words.
     pub(crate) fn new(
         alloc: Global,
         layout: &'a Layout,
@@ -49,11 +49,11 @@ impl<'a> HeapWords<'a> {
             is_live: false,
             references_left: 0,
             others_left: 0,
-            is_kept: vec![in alloc; false; layout.live.len()]?,
+            is_referenced: vec![in alloc; false; layout.live.len()]?,
         })
     }
 
-    /// The next word, or 0 behind the last object.
+    /// The next word, or 0 after the last object.
     pub(crate) fn next_word(&mut self) -> u64 {
         if self.references_left > 0 {
             self.references_left -= 1;
@@ -72,7 +72,7 @@ impl<'a> HeapWords<'a> {
         }
     }
 
-    /// The header of an object, which begins.
+    /// Begins an object, and returns its header.
     fn begin(&mut self, object: Object) -> u64 {
         self.here = object.reference;
         self.is_live = object.is_live;
@@ -91,7 +91,7 @@ impl<'a> HeapWords<'a> {
         }
     }
 
-    /// A reference to any live object, which keeps that one if it comes later.
+    /// A reference to a random live object, whose flag is set if it comes later.
     fn live_reference(&mut self) -> u64 {
         let live = self.layout.live.as_slice();
         if live.is_empty() {
@@ -99,13 +99,13 @@ impl<'a> HeapWords<'a> {
         }
         let chosen = self.dice.below(live.len() as u64) as usize;
         if live[chosen] > self.here {
-            self.is_kept[chosen] = true;
+            self.is_referenced[chosen] = true;
         }
         live[chosen]
     }
 
-    /// Of each live object, whether a live one before it refers to it.
-    pub(crate) fn is_kept(&self) -> &[bool] {
-        self.is_kept.as_slice()
+    /// For each live object, whether a live object before it refers to it.
+    pub(crate) fn is_referenced(&self) -> &[bool] {
+        self.is_referenced.as_slice()
     }
 }

@@ -1,4 +1,4 @@
-//! `Layout`: which objects a heap has, and where.
+//! The objects of a heap and their addresses.
 ghost use Rattle.std.specs.Prelude.{◌≡◌, ◌+◌, ◌≤◌, IfOk, length};
 
 use crate::dice::Dice;
@@ -9,14 +9,14 @@ use std::alloc::{AllocError, Global};
 /// The objects of a heap.
 #[derive(Drop)]
 pub(crate) struct Layout {
-    /// All of them, one behind the other from address 0 up.
+    /// All objects, without gaps from address 0 up.
     pub(crate) objects: Vec<Object>,
-    /// The reference that leads to each live one, ascending.
+    /// The references that lead to the live objects, ascending.
     pub(crate) live: Vec<u64>,
 }
 
 impl Layout {
-    /// Objects that take these words, live and dead ones in a random order.
+    /// Divides the words among objects, live and dead ones in random order.
     pub(crate) fn of(
         alloc: Global,
         mut room: Room,
@@ -43,16 +43,21 @@ impl Layout {
         }
         Ok(layout)
     }
-    /// The references that lead to the live objects to which no live one before them refers, ascending. `is_kept` tells of
-    /// each live object whether one does.
+
+    /// The references that lead to the live objects to which no live object before them refers, ascending.
+    /// `is_referenced` says for each live object whether one does.
     ///
-    /// From these all live objects are reached: each of the others from one that stands before it.
-    pub(crate) fn roots(&self, alloc: Global, is_kept: &[bool]) -> Result<Vec<u64>, AllocError>
+    /// All live objects are reachable from these: each of the others is referenced by one before it.
+    pub(crate) fn roots(
+        &self,
+        alloc: Global,
+        is_referenced: &[bool],
+    ) -> Result<Vec<u64>, AllocError>
         ensures few { IfOk result (λ roots. length roots.items ≤ length self.now.live.items) }
     {
         let mut roots = Vec::new(alloc);
         for (i, root) in self.live.iter().enumerate() {
-            if !matches!(is_kept.get(i), Some(true)) {
+            if !matches!(is_referenced.get(i), Some(true)) {
                 roots.push(*root)?;
             }
         }

@@ -1,14 +1,14 @@
-//! Heaps that follow from a seed, as images: for benchmarks and experiments.
+//! Random heaps as images, for benchmarks and experiments.
 //!
-//! [`generate`] makes the heap that a [`Wanted`] describes: how many words it has, how many of them live, how many of an
-//! object's words are references, and the seed of its random numbers. Objects are small and varied, live and dead ones
-//! stand in a random order, and references lead anywhere among the live ones. `docs/GENERATE.md` says which words come of
-//! which seed.
+//! [`generate`] makes the heap that a [`Wanted`] describes: its number of words, the percentage of live words, the
+//! percentage of references among an object's words, and the seed of its random numbers. Objects have various sizes,
+//! mostly small; live and dead ones are in random order, and references lead to random live objects. `docs/GENERATE.md`
+//! defines the words of each seed.
 //!
-//! **Proved**, for all inputs: the image is valid, of the version, region log, number of words and allowance that were
-//! asked for; just the share that was asked for of its words is live, rounded down; its figures are counted right; no call
+//! **Proved**, for all inputs: the image is valid and has the requested version, region log, number of words and
+//! allowance; exactly the requested percentage of its words, rounded down, is live; its figures are right; no call
 //! indexes out of range, overflows or runs forever. **Only tested**: that the words are those of `docs/GENERATE.md`, so
-//! the same of one seed everywhere; and that [`GenerationError::Defect`] never comes. See the README.
+//! the same for one seed on every machine; and that [`GenerationError::Defect`] never comes. See the README.
 #![tactic(auto)]
 
 mod dice;
@@ -24,6 +24,6 @@ mod room;
 mod wanted;
 
 pub use error::GenerationError;
-pub use figures::Figures;
+pub use figures::GenerationFigures;
 pub use generating::{Generated, generate};
 pub use wanted::Wanted;

@@ -1,15 +1,15 @@
-//! `Limits`: the sizes of an image that may be.
+//! The sizes of an image.
 ghost use Rattle.std.specs.Prelude.{◌≡◌, ◌≤◌, ◌*◌, ◌/◌, ◌^◌};
 ghost use Rattle.heap_image.specs.HeapImage.{IsWithinLimits};
 
-/// The sizes of an image that may be.
+/// Sizes that are within the limits of an image.
 #[derive(Clone, Copy)]
 pub(crate) struct Limits {
-    /// The logarithm, to base 2, of the number of words of a region.
+    /// The base-2 logarithm of the number of words of a region.
     pub(crate) region_log: u32,
-    /// How many regions there are.
+    /// The number of regions.
     pub(crate) regions: u64,
-    /// How many words there are.
+    /// The number of words.
     pub(crate) words: u64,
     ghost allowed: { IsWithinLimits region_log words 0 },
     ghost whole: { words ≡ regions * 2 ^ region_log },

@@ -1,26 +1,26 @@
-//! `Object`: an object of a heap that is made.
+//! An object of a generated heap.
 ghost use Rattle.std.specs.Prelude.{◌<◌, ◌≤◌};
 
 use crate::dice::Dice;
 use crate::room::Allotment;
 
-/// An object of a heap that is made.
+/// An object of a generated heap.
 #[derive(Clone, Copy)]
 pub(crate) struct Object {
-    /// How many words it has, its header included.
+    /// The number of its words, header included.
     pub(crate) size: u32,
-    /// How many of them are references.
+    /// The number of its references.
     pub(crate) references: u32,
     /// The reference that leads to it.
     pub(crate) reference: u64,
-    /// Whether it is to be reached.
+    /// Whether it is to be reachable.
     pub(crate) is_live: bool,
     ghost few: { size ≤ 512 },
     ghost header: { references < size },
 }
 
 impl Object {
-    /// An object to which this reference leads. Of its words behind the header so many in a hundred are references,
+    /// An object to which this reference leads. `reference_percent` of its words after the header are references,
     /// rounded up or down at random.
     pub(crate) fn new(
         allotment: Allotment,
@@ -40,7 +40,6 @@ impl Object {
         }
     }
 
-    /// Its header.
     pub(crate) fn header(self) -> u64 {
         1 << 56 | u64::from(self.references) << 32 | u64::from(self.size)
     }

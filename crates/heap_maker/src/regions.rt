@@ -8,7 +8,7 @@ use crate::limits::Limits;
 use raw_region::Region;
 use std::alloc::{AllocError, Global};
 
-/// Regions of these sizes with the words that come next.
+/// Fills all regions with the next words.
 pub(crate) fn regions_of(
     alloc: Global,
     limits: Limits,
@@ -26,7 +26,7 @@ pub(crate) fn regions_of(
     Ok(regions)
 }
 
-/// A region with the words that come next.
+/// Fills a region with the next words.
 fn region_of(
     alloc: Global,
     region_log: u32,
@@ -48,5 +48,5 @@ fn region_of(
 pub(crate) fn all_fit(words: &[u64])
     ensures { All (λ w. w < 2 ^ 64) words.now }
 {
-    let _count = words.len();
+    words.len();
 }

@@ -1,14 +1,14 @@
-//! `Room`: the words of a heap that no object has yet.
+//! The words of a heap that belong to no object yet.
 ghost use Rattle.std.specs.Prelude.{◌≡◌, ◌+◌, ◌<◌, ◌≤◌};
 
 use crate::dice::Dice;
 
-/// The words of a heap that no object has yet.
+/// The numbers of words of a heap that belong to no object yet.
 #[derive(Clone, Copy)]
 pub(crate) struct Room {
-    /// How many live objects are to have.
+    /// Those for live objects.
     pub(crate) live: u64,
-    /// How many dead ones are to have.
+    /// Those for dead objects.
     pub(crate) dead: u64,
     ghost few: { live + dead ≤ 4194304 },
 }
@@ -23,7 +23,7 @@ pub(crate) struct Allotment {
 }
 
 impl Room {
-    /// How many words these are.
+    /// The number of all these words.
     pub(crate) fn words(&self) -> u64
         ensures value { result ≡ self.now.live + self.now.dead }
         ensures few { result ≤ 4194304 }
@@ -31,8 +31,8 @@ impl Room {
         self.live + self.dead
     }
 
-    /// Gives words to the next object. It is live as often as the words that are left are for live ones, and no larger
-    /// than these words.
+    /// Draws the size of the next object, and whether it is live. The probability of a live one is the share of the
+    /// words that are for live objects. The object is no larger than the words of its kind.
     pub(crate) fn take(&mut self, dice: &mut Dice) -> Allotment
         requires { 0 < self.old.live + self.old.dead }
         ensures { self.old.live + self.old.dead ≡ self.new.live + self.new.dead + result.size }

@@ -1,4 +1,4 @@
-//! `Wanted`: which heap is to be made.
+//! The description of a heap.
 ghost use Rattle.std.specs.Prelude.{◌≡◌, ◌+◌, ◌*◌, ◌/◌, ◌≤◌, ◌≢◌, IfOk, OnOk};
 ghost use Rattle.heap_maker.specs.Wanted.{live_words_wanted};
 
@@ -7,27 +7,27 @@ use crate::limits::Limits;
 use crate::room::Room;
 use heap_image::limits::{MAX_HEAP_WORDS, MAX_REGION_LOG, MAX_REGIONS, MIN_REGION_LOG};
 
-/// Which heap is to be made.
+/// The heap that [`generate`](crate::generate) is to make.
 #[derive(Debug, Clone, Copy, PartialEq, Eq)]
 pub struct Wanted {
-    /// How many words it has: 1 to 4,194,304, and a multiple of the words of a region.
+    /// The number of words: 1 to 4,194,304, and a multiple of the words of a region.
     pub words: u64,
-    /// The logarithm, to base 2, of the number of words of a region: 3 to 16.
+    /// The base-2 logarithm of the number of words of a region: 3 to 16.
     pub region_log: u32,
-    /// How many of a hundred of its words belong to live objects: 0 to 100.
+    /// The percentage of words that belong to live objects: 0 to 100.
     pub live_percent: u32,
-    /// How many of a hundred words of an object are references, its header not counted: 0 to 100.
+    /// The percentage of references among the words of an object, its header not counted: 0 to 100.
     pub reference_percent: u32,
-    /// Whether the image is of version 2, with roots. Else it is of version 1, with a live list.
+    /// Whether the image is of version 2, with roots, rather than of version 1, with a live list.
     pub is_rooted: bool,
     /// How many dead words the dense prefix may keep.
     pub allowance: u64,
-    /// The seed of its random numbers.
+    /// The seed of the random numbers.
     pub seed: u64,
 }
 
 impl Wanted {
-    /// The sizes of the image.
+    /// Checks the sizes against the limits of an image.
     pub(crate) fn limits(&self) -> Result<Limits, GenerationError>
         ensures log { IfOk result (λ limits. limits.region_log ≡ self.now.region_log) }
         ensures words { IfOk result (λ limits. limits.words ≡ self.now.words) }
@@ -59,7 +59,7 @@ impl Wanted {
         })
     }
 
-    /// The words that its live objects take, and those that its dead ones do.
+    /// Divides the words into those of live and of dead objects.
     pub(crate) fn room(&self, limits: Limits) -> Result<Room, GenerationError>
         requires { limits.words ≡ self.now.words }
         ensures live { IfOk result (λ room. room.live ≡ live_words_wanted self.now) }

@@ -1,4 +1,4 @@
--- The objects of a compaction, by those of the heap.
+-- The objects of the compacted heap, by those of the heap.
 use Rattle.std.proofs.Common.{◌≡◌, ◌<◌, ◌≤◌, ◌+◌, ◌*◌, ◌/◌, ℕ, ap₂, arith}
 use Rattle.std.specs.Prelude.{nat_lt}
 use Rattle.std.proofs.lemmas.Bool.{cond-false, cond-true, lt-ltb, le-ltb}
@@ -26,17 +26,17 @@ module _ (image : HeapImage) where
   pub stays-put : (a : ℕ) → a < prefix_end image → new_address image a ≡ a
   stays-put a low = cond-true (stays image a) a (next_at image a) (lt-ltb a (prefix_end image) low)
 
-  -- any other goes to the prefix end or above
+  -- any other moves to the prefix end or above
   pub goes-up : (a : ℕ) → prefix_end image ≤ a → new_address image a + 0 ≡ slid image (a + 0) → prefix_end image ≤ new_address image a
   goes-up a high counted =
       let e : slid image (a + 0) ≡ prefix_end image + live_words image (prefix_end image) (a + 0) = cond-false (nat_lt (a + 0) (prefix_end image)) (a + 0) (prefix_end image + live_words image (prefix_end image) (a + 0)) (le-ltb (a + 0) (prefix_end image) (omega arith)) in
       omega (arith, counted, e)
 
--- a cell begins where the one before it does, or behind that
+-- each cell begins at or after the start of the one before it
 pub starts-ascend : (words n i : ℕ) → 0 < n → i * words / n ≤ (i + 1) * words / n
 starts-ascend words n i some = le-div (i * words / n) ((i + 1) * words) n some (omega (arith, div-mul-le_self (i * words) n))
 
--- a cell by its parts
+-- equal cells, by their parts
 pub cell-same : (heap : HeapImage) (prefix top from to prefix' top' from' to' live : ℕ)
     → prefix ≡ prefix' → top ≡ top' → from ≡ from' → to ≡ to' → live ≡ live_words heap from to
     → record { from = from; to = to; live = live; area = area_of prefix top from to live } ≡ cell_between heap prefix' top' from' to'

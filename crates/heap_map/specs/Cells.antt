@@ -1,4 +1,4 @@
--- The cells of a map: which words they have, how many of these live, and where they lie.
+-- The cells of a map: their words, their live words and their areas.
 use Rattle.std.specs.Prelude.{ℕ, ◌+◌, ◌-◌, ◌*◌, ◌/◌, min, ◌&&◌, nat_le, ◌==◌, if◌then◌else◌, List, map}
 use Rattle.std.specs.List.{range_with_len}
 use Rattle.heap_image.specs.HeapImage.{HeapImage, heap_words, last_end, live_words}
@@ -8,19 +8,19 @@ use Rattle.heap_map.specs.declared.area.Area.{Area}
 use Rattle.heap_map.specs.declared.area.Area.TheVariants.{Prefix, Fillers, Moving, Free, Mixed}
 use Rattle.heap_map.specs.declared.cell.Cell.{Cell}
 
--- the first word of cell i of n, in a heap of so many words; it ends where the next one begins
+-- the first word of cell i of n, in a heap of this size; the cell ends where the next one begins
 abbrev pub cell_start : ℕ → ℕ → ℕ → ℕ
 cell_start words n i = i * words / n
 
--- where the words from one address up to another lie, so many of which live, if the dense prefix ends at one place and
--- the last live object at another
+-- the area of the words from one address up to another, of which some are live, where the dense prefix ends at prefix and
+-- the last live object at top
 abbrev pub area_of : ℕ → ℕ → ℕ → ℕ → ℕ → Area
 area_of prefix top from to live =
     if nat_le to prefix then (if live == to - from then Prefix else Fillers)
     else (if nat_le top from then Free
     else (if nat_le prefix from && nat_le to top then Moving else Mixed))
 
--- the words of a heap from one address up to another, where the dense prefix and the live objects end at these places
+-- the cell of the words from one address up to another
 abbrev pub cell_between : HeapImage → ℕ → ℕ → ℕ → ℕ → Cell
 cell_between heap prefix top from to = record {
   from = from;
@@ -33,19 +33,19 @@ cell_between heap prefix top from to = record {
 abbrev pub cell_at : HeapImage → ℕ → ℕ → ℕ → ℕ → Cell
 cell_at heap prefix top n i = cell_between heap prefix top (cell_start (heap_words heap) n i) (cell_start (heap_words heap) n (i + 1))
 
--- a heap as n cells
+-- the n cells of a heap
 abbrev pub cells_of : HeapImage → ℕ → ℕ → ℕ → List Cell
 cells_of heap prefix top n = map (cell_at heap prefix top n) (range_with_len 0 n)
 
 module _ (image : HeapImage) where
-  -- how many cells a map has of which so many were asked for: no more than there are words
+  -- the number of cells of a map: at most one per word
   abbrev pub cell_count : ℕ → ℕ
-  cell_count asked = min (heap_words image) asked
+  cell_count most = min (heap_words image) most
 
   -- the cells of the heap as it is
   abbrev pub cells_before : ℕ → List Cell
-  cells_before asked = cells_of image (prefix_end image) (last_end image) (cell_count asked)
+  cells_before most = cells_of image (prefix_end image) (last_end image) (cell_count most)
 
-  -- the cells of the heap once it is compacted
+  -- the cells of the compacted heap
   abbrev pub cells_after : ℕ → List Cell
-  cells_after asked = cells_of (compact image) (prefix_end image) (new_top image) (cell_count asked)
+  cells_after most = cells_of (compact image) (prefix_end image) (new_top image) (cell_count most)

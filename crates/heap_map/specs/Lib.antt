@@ -1,3 +1,3 @@
 pub mod Cells
-pub mod Figures
+pub mod MapFigures
 pub mod Text

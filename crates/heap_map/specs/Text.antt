@@ -8,10 +8,10 @@ use Rattle.heap_map.specs.declared.shade.Shade.TheVariants.{Empty, Low, Middle, 
 use Rattle.heap_map.specs.declared.style.Glyphs.{Glyphs}
 use Rattle.heap_map.specs.declared.style.Glyphs.TheVariants.{Letters, Blocks}
 use Rattle.heap_map.specs.declared.style.Style.{Style}
-use Rattle.heap_map.specs.declared.figures.Figures.{Figures}
-use Rattle.heap_map.specs.Figures.{figures_text}
+use Rattle.heap_map.specs.declared.figures.MapFigures.{MapFigures}
+use Rattle.heap_map.specs.MapFigures.{figures_text}
 
--- how much of a cell lives
+-- the shade of a cell, by its share of live words
 abbrev pub shade_of : Cell → Shade
 shade_of cell =
     if cell.live == 0 then Empty
@@ -19,7 +19,7 @@ shade_of cell =
     else (if nat_lt (cell.live * 3) (cell.to - cell.from) then Low
     else (if nat_lt (cell.live * 3) ((cell.to - cell.from) * 2) then Middle else High)))
 
--- the character of a shade
+-- the letter of a shade
 abbrev pub letter_of_shade : Shade → List ℕ
 letter_of_shade Empty = codes "_"
 letter_of_shade Low = codes "."
@@ -27,7 +27,7 @@ letter_of_shade Middle = codes ":"
 letter_of_shade High = codes "+"
 letter_of_shade Full = codes "#"
 
--- the same as a block, in the three bytes of its UTF-8: U+2581, 2591, 2592, 2593 and 2588
+-- the block of a shade, as the three bytes of UTF-8: U+2581, 2591, 2592, 2593 and 2588
 abbrev pub block_of_shade : Shade → List ℕ
 block_of_shade Empty = 226 ∷ 150 ∷ 129 ∷ []
 block_of_shade Low = 226 ∷ 150 ∷ 145 ∷ []
@@ -47,7 +47,7 @@ area_letter Moving = codes "m"
 area_letter Free = codes "-"
 area_letter Mixed = codes "x"
 
--- the number by which terminals know the colour of an area: blue, yellow, green, cyan, magenta
+-- the terminal colour code of an area: blue, yellow, green, cyan, magenta
 abbrev pub colour_of : Area → List ℕ
 colour_of Prefix = codes "34"
 colour_of Fillers = codes "33"
@@ -55,34 +55,34 @@ colour_of Moving = codes "32"
 colour_of Free = codes "36"
 colour_of Mixed = codes "35"
 
--- a character in the colour of an area, where colours are wanted: 27 is escape
+-- a character, in the colour of an area if the style is coloured; 27 is escape
 abbrev pub coloured : Style → Area → List ℕ → List ℕ
 coloured style area glyph = if style.is_coloured
     then 27 ∷ codes "[" ++ (colour_of area ++ (codes "m" ++ (glyph ++ 27 ∷ codes "[0m"))) else glyph
 
--- what a cell is in the row of shades, and in the row of areas
+-- the character of a cell in the row of shades, and in the row of areas
 abbrev pub shade_mark : Style → Cell → List ℕ
 shade_mark style cell = coloured style cell.area (shade_glyph style.glyphs (shade_of cell))
 
 abbrev pub area_mark : Style → Cell → List ℕ
 area_mark style cell = coloured style cell.area (area_letter cell.area)
 
--- the two rows of a strip, of which the first has a name
+-- the two rows of a strip; the first begins with the strip's name
 abbrev pub strip_text : Style → List ℕ → List Cell → List ℕ
 strip_text style name cells =
     name ++ (codes " |" ++ (flat_map (shade_mark style) cells ++ (codes "|\n       |"
     ++ (flat_map (area_mark style) cells ++ codes "|\n"))))
 
--- the strip of the heap after its collection, where that is wanted
+-- the strip of the heap after its collection, if there is one
 abbrev pub after_text : Style → Option (List Cell) → List ℕ
 after_text style None = []
 after_text style (Some cells) = strip_text style (codes "after ") cells
 
--- what a shade means
+-- the legend of one shade
 abbrev pub share_text : Glyphs → Shade → List ℕ → List ℕ
 share_text glyphs shade name = codes " " ++ (shade_glyph glyphs shade ++ (codes " " ++ name))
 
--- what the characters mean
+-- the legend: two lines
 abbrev pub legend_text : Glyphs → List ℕ
 legend_text glyphs =
     codes "live:" ++ (share_text glyphs Empty (codes "none") ++ (share_text glyphs Low (codes "few")
@@ -90,8 +90,8 @@ legend_text glyphs =
     ++ (share_text glyphs Full (codes "all")
     ++ codes "\narea: p prefix f prefix with fillers m moving - free x several\n")))))
 
--- a picture: the figures, the strips and what their characters mean
-abbrev pub picture_text : Style → Figures → List Cell → Option (List Cell) → List ℕ
+-- a picture: the figures, the strips and the legend
+abbrev pub picture_text : Style → MapFigures → List Cell → Option (List Cell) → List ℕ
 picture_text style figures before after =
     figures_text figures ++ (codes "\n" ++ (strip_text style (codes "before") before
     ++ (after_text style after ++ legend_text style.glyphs)))

@@ -1,16 +1,14 @@
-//! `Area`: the part of a heap in which a cell lies.
-
 /// The part of a heap in which a cell lies.
 #[derive(Debug, Clone, Copy, PartialEq, Eq)]
 pub enum Area {
-    /// In the dense prefix, with live words alone.
+    /// In the dense prefix, with live words only.
     Prefix,
-    /// In the dense prefix, with dead words too: fillers stand there after the collection.
+    /// In the dense prefix, with dead words, which become fillers.
     Fillers,
-    /// Above the dense prefix and below the end of all live objects. The live words there move.
+    /// Between the end of the dense prefix and the end of the last live object. Live words here move.
     Moving,
-    /// Above all live objects.
+    /// Above all live objects: no word is live.
     Free,
-    /// In two of the others or more.
+    /// Across two or more of these parts.
     Mixed,
 }

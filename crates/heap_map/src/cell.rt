@@ -1,15 +1,14 @@
-//! `Cell`: a run of words of a heap.
 use crate::area::Area;
 
-/// A run of words of a heap, as a map shows it.
+/// Consecutive words of a heap, which a map shows as one character or rectangle.
 #[derive(Debug, Clone, Copy, PartialEq, Eq)]
 pub struct Cell {
     /// The address of its first word.
     pub from: u64,
-    /// The address behind its last word.
+    /// The address after its last word.
     pub to: u64,
-    /// How many of its words live.
+    /// The number of its live words.
     pub live: u64,
-    /// Where it lies.
+    /// The part of the heap in which it lies.
     pub area: Area,
 }

@@ -1,9 +1,9 @@
-//! A picture as SVG.
+//! Draws a picture as SVG.
 ghost use Rattle.std.specs.Prelude.{◌≤◌, length};
 
 use crate::area::Area;
 use crate::cell::Cell;
-use crate::figures::Figures;
+use crate::figures::MapFigures;
 use crate::map::Map;
 use crate::patterns::{
     AREAS, SHADES, cover_of, digit_of, hatching_colour, hatching_of, key_of, name_of, share_of,
@@ -13,16 +13,15 @@ use crate::picture::Picture;
 use crate::shade::Shade;
 use std::alloc::{AllocError, Global};
 
-/// How wide a strip is at most, where its cells are wider than 1.
+/// The largest width of a strip whose cells are wider than 1.
 const STRIP_WIDTH: u64 = 960;
 
-/// Where the strip of the heap as it is stands.
+/// The y coordinate of the strip of the heap as it is.
 const BEFORE_AT: u64 = 60;
 
-/// Where the strip of the heap after its collection stands.
+/// The y coordinate of the strip of the heap after its collection.
 const AFTER_AT: u64 = 150;
 
-/// The picture as SVG.
 pub(crate) fn draw(alloc: Global, picture: &Picture) -> Result<String, AllocError> {
     let mut svg = String::new(alloc);
     let legend = match &picture.after {
@@ -41,8 +40,8 @@ pub(crate) fn draw(alloc: Global, picture: &Picture) -> Result<String, AllocErro
     Ok(svg)
 }
 
-/// Writes the beginning of the drawing, which is so high, and the figures.
-fn begin(svg: &mut String, figures: Figures, height: u64) -> Result<(), AllocError> {
+/// Writes the head of the document and the figures.
+fn begin(svg: &mut String, figures: MapFigures, height: u64) -> Result<(), AllocError> {
     let words = figures.words;
     writeln!(
         svg,
@@ -55,7 +54,7 @@ fn begin(svg: &mut String, figures: Figures, height: u64) -> Result<(), AllocErr
     )
 }
 
-/// Writes how each shade of each area looks.
+/// Writes a pattern for each shade of each area.
 fn draw_patterns(svg: &mut String) -> Result<(), AllocError> {
     svg.push_str("<defs>\n")?;
     for area in AREAS {
@@ -64,7 +63,7 @@ fn draw_patterns(svg: &mut String) -> Result<(), AllocError> {
     svg.push_str("</defs>\n")
 }
 
-/// Writes how each shade of an area looks.
+/// Writes a pattern for each shade of an area.
 fn draw_patterns_of(svg: &mut String, area: Area) -> Result<(), AllocError> {
     for shade in SHADES {
         draw_pattern(svg, area, shade)?;
@@ -72,7 +71,7 @@ fn draw_patterns_of(svg: &mut String, area: Area) -> Result<(), AllocError> {
     Ok(())
 }
 
-/// Writes how an area looks at a shade.
+/// Writes the pattern of an area at a shade. Its id is the area's letter and the shade's digit.
 fn draw_pattern(svg: &mut String, area: Area, shade: Shade) -> Result<(), AllocError> {
     let (key, tint, path) = (key_of(area), tint_of(area), hatching_of(area));
     let (digit, cover, colour) = (digit_of(shade), cover_of(shade), hatching_colour(shade));
@@ -82,7 +81,7 @@ fn draw_pattern(svg: &mut String, area: Area, shade: Shade) -> Result<(), AllocE
     )
 }
 
-/// Writes a strip with its name, so far below the top.
+/// Writes a strip at height `y`, with its name above it.
 fn draw_strip(svg: &mut String, name: &str, y: u64, map: &Map) -> Result<(), AllocError>
     requires { 6 ≤ y }
 {
@@ -102,7 +101,7 @@ fn draw_strip(svg: &mut String, name: &str, y: u64, map: &Map) -> Result<(), All
     )
 }
 
-/// How wide a cell is where there are so many.
+/// The width of a cell in a strip of this number of cells: at least 1.
 fn width_of(cells: usize) -> u64
     ensures { result ≤ 960 }
 {
@@ -123,7 +122,7 @@ fn draw_cells(svg: &mut String, cells: &[Cell]) -> Result<(), AllocError>
     Ok(())
 }
 
-/// Where cell `i` begins, where cells are so wide.
+/// The x coordinate of cell `i`, within its strip.
 fn left_of(i: u64, width: u64) -> u64
     requires i { i ≤ 1000 }
     requires width { width ≤ 960 }
@@ -131,7 +130,7 @@ fn left_of(i: u64, width: u64) -> u64
     i * width
 }
 
-/// Writes a cell.
+/// Writes a cell, with its words and its area as a title.
 fn draw_cell(svg: &mut String, cell: &Cell, x: u64, width: u64) -> Result<(), AllocError> {
     let (key, digit) = (key_of(cell.area), digit_of(Shade::of(cell)));
     write!(
@@ -146,7 +145,7 @@ fn draw_cell(svg: &mut String, cell: &Cell, x: u64, width: u64) -> Result<(), Al
     )
 }
 
-/// Writes what the hatchings mean, so far below the top.
+/// Writes the legend of the hatchings at height `y`.
 fn draw_areas(svg: &mut String, y: u64) -> Result<(), AllocError>
     requires { y ≤ 1000 }
 {
@@ -157,7 +156,7 @@ fn draw_areas(svg: &mut String, y: u64) -> Result<(), AllocError>
     Ok(())
 }
 
-/// Writes what the shades mean, so far below the top.
+/// Writes the legend of the shades at height `y`.
 fn draw_shades(svg: &mut String, y: u64) -> Result<(), AllocError>
     requires { y ≤ 1000 }
 {
@@ -168,7 +167,7 @@ fn draw_shades(svg: &mut String, y: u64) -> Result<(), AllocError>
     Ok(())
 }
 
-/// Writes how an area looks at a shade, and the beginning of a text beside it.
+/// Writes a sample of an area at a shade, and opens the text beside it.
 fn draw_sample(svg: &mut String, area: Area, shade: Shade, x: u64, y: u64) -> Result<(), AllocError>
     requires x { x ≤ 1000 }
     requires y { y ≤ 1000 }

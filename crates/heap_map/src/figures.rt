@@ -1,38 +1,37 @@
-//! `Figures`: what a map tells in numbers.
 ghost use Rattle.std.specs.Prelude.{◌≡◌};
-ghost use Rattle.heap_map.specs.Figures.{AreFiguresOf};
+ghost use Rattle.heap_map.specs.MapFigures.{AreFiguresOf};
 
 use std::fmt;
 use summary::Survey;
 use summary::laws::dense_prefix::dead_words_by_region;
 
-/// A heap and its collection in numbers.
+/// The figures of a heap and its collection, which a map prints in its first line. Counts and addresses are in words.
 #[derive(Debug, Clone, Copy, PartialEq, Eq)]
-pub struct Figures {
-    /// The words of the heap.
+pub struct MapFigures {
+    /// The size of the heap.
     pub words: u64,
-    /// Those that belong to live objects.
+    /// The words of live objects.
     pub live: u64,
-    /// The others.
+    /// All other words.
     pub dead: u64,
-    /// Where the dense prefix ends.
+    /// The end of the dense prefix.
     pub prefix_end: u64,
     /// The first free address after the collection.
     pub new_top: u64,
-    /// How many regions are to be filled.
+    /// The number of regions to fill.
     pub filled: u32,
 }
 
-impl Figures {
-    /// Those of this heap.
-    pub fn of(survey: &Survey) -> Figures
+impl MapFigures {
+    /// Counts them from the marks and the plan of a survey. It allocates nothing.
+    pub fn of(survey: &Survey) -> MapFigures
         ensures { AreFiguresOf survey.now result }
     {
         dead_words_by_region();
         let plan = survey.plan();
         let words = u64::from(plan.regions()) * plan.region_words();
         let live = survey.marks().live_words(0, words);
-        Figures {
+        MapFigures {
             words,
             live,
             dead: words - live,
@@ -43,14 +42,14 @@ impl Figures {
     }
 }
 
-impl fmt::Display for Figures {
+impl fmt::Display for MapFigures {
     ghost use Rattle.std.specs.Prelude.{Some};
-    ghost use Rattle.heap_map.specs.Figures.{figures_text};
+    ghost use Rattle.heap_map.specs.MapFigures.{figures_text};
 
     ghost output = { λ figures. Some (figures_text figures) };
 
     fn fmt<W: fmt::Write>(&self, f: &mut fmt::Formatter<W>) -> fmt::Result {
-        let Figures {
+        let MapFigures {
             words,
             live,
             dead,

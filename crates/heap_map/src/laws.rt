@@ -1,6 +1,4 @@
-//! Laws about the cells of a map.
-//!
-//! The functions do nothing: each one's contract is a law.
+//! Laws about the cells of a map. The functions have no effect: the contract of each is a law.
 ghost use Rattle.std.specs.Prelude.{◌≡◌, true, false, ℕ, ◌+◌, ◌-◌, ◌*◌, ◌<◌, ◌≤◌, List, flat_map, length, sum_by};
 ghost use Rattle.heap_image.specs.HeapImage.{HeapImage, IsValid, heap_words, is_live_word, live_words};
 ghost use Rattle.summary.specs.Compaction.{compact};
@@ -19,7 +17,8 @@ use summary::laws::new_addresses::{
 };
 use summary::laws::region_data::regions_to_fill;
 
-/// The cells lie in a row, from the first word to the last, and each has a word where there are no more cells than words.
+/// The cells follow each other without gaps, from the first word to the last. No cell is empty unless there are more cells
+/// than words.
 pub fn cells_lie_in_a_row()
     ensures first { (words n : ℕ) → cell_start words n 0 ≡ 0 }
     ensures last { (words n : ℕ) → 0 < n → cell_start words n n ≡ words }
@@ -27,7 +26,7 @@ pub fn cells_lie_in_a_row()
     ensures some { (words n i : ℕ) → 0 < n → n ≤ words → cell_start words n i < cell_start words n (i + 1) }
 {}
 
-/// Each word is in one cell, and in no other.
+/// Each word is in exactly one cell.
 pub fn each_word_is_in_one_cell()
     ensures one { (words n q : ℕ) → 0 < n → q < words
         → (i : ℕ) × (i < n) × (cell_start words n i ≤ q) × (q < cell_start words n (i + 1)) }
@@ -37,7 +36,7 @@ pub fn each_word_is_in_one_cell()
     cells_lie_in_a_row();
 }
 
-/// The live words of all cells are those of the heap.
+/// The live words of the cells add up to those of the heap.
 pub fn live_words_of_cells_add_up()
     ensures { (heap : HeapImage) (prefix top n : ℕ) → 0 < n
         → sum_by (λ cell. cell.live) (cells_of heap prefix top n) ≡ live_words heap 0 (heap_words heap) }
@@ -46,8 +45,8 @@ pub fn live_words_of_cells_add_up()
     cells_lie_in_a_row();
 }
 
-/// Which words live after the collection: below the prefix end those that lived, from there up to the new top all, and
-/// above none.
+/// Which words are live after the collection: below the prefix end those that were live before, from there up to the
+/// new top all, and above it none.
 pub fn live_word_after()
     ensures below { (image : HeapImage) → IsValid image → (p : ℕ) → p < prefix_end image
         → is_live_word (compact image) p ≡ is_live_word image p }
@@ -64,7 +63,7 @@ pub fn live_word_after()
     new_address_by_counting();
 }
 
-/// How many words live after the collection, in each of these three parts and in all: as many as before.
+/// How many words are live after the collection in each of these three parts, and that the total is the same as before.
 pub fn live_words_after()
     ensures below { (image : HeapImage) → IsValid image → (from to : ℕ) → to ≤ prefix_end image
         → live_words (compact image) from to ≡ live_words image from to }
@@ -81,7 +80,7 @@ pub fn live_words_after()
     regions_to_fill();
 }
 
-/// Without colours a row has a character for each cell, of one byte as a letter and of three as a block.
+/// Without colours, a row has one character for each cell: one byte for a letter, three for a block.
 pub fn rows_have_a_character_for_each_cell()
     ensures letters { (cells : List Cell)
         → length (flat_map (shade_mark (record { glyphs = Letters; is_coloured = false })) cells) ≡ length cells }

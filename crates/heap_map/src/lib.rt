@@ -1,16 +1,16 @@
-//! Pictures of a heap, before its collection and after it.
+//! Pictures of a heap before and after its collection.
 //!
-//! A [`Map`] cuts the heap into a strip of cells from its low end up. Of each [`Cell`] it tells how many of its words
-//! live, and in which [`Area`] of the heap it lies: the dense prefix, with or without fillers, the moving part, or free
-//! space. [`Map::after`] tells this of the compaction, without moving a word: it follows from the marks and the plan.
-//! [`Picture`] has both, with the figures; it prints as text, for a terminal, and as SVG.
+//! A [`Map`] divides a heap into cells in address order. A [`Cell`] has the number of its live words and the [`Area`]
+//! in which it lies: the dense prefix with or without fillers, the moving part, or free space. [`Map::after`] computes
+//! this for the compacted heap from the marks and the plan, without moving a word. A [`Picture`] has one or both maps
+//! and the figures; it prints as text for a terminal and as SVG.
 //!
-//! `docs/FORMATS.md`, "Maps", says what is counted and how it is printed.
+//! `docs/COMMANDS.md`, "map", defines cells, shades and areas, and how they are printed.
 //!
-//! **Proved**, for all images: each word is in one cell; the live words and the area of a cell are what
-//! `specs/Cells.antt` says, after the collection of the compaction as `summary` defines it; the counts of all cells add
-//! up to the live words; the figures are those of the image; the text is that of `specs/Text.antt`. **Only tested**: the
-//! SVG, and that memory is enough. See the README.
+//! **Proved**, for all images: each word is in exactly one cell; the live words and the area of a cell are those of
+//! `specs/Cells.antt`, for the heap as it is and for its compaction as `summary` defines it; the counts of all cells
+//! add up to the live words; the figures are those of the image; the text is that of `specs/Text.antt`. **Only
+//! tested**: the SVG, and that allocations succeed when memory is available. See the README.
 #![tactic(auto)]
 
 mod area;
@@ -27,7 +27,7 @@ mod style;
 
 pub use area::Area;
 pub use cell::Cell;
-pub use figures::Figures;
+pub use figures::MapFigures;
 pub use map::{MAX_CELLS, Map};
 pub use picture::Picture;
 pub use shade::Shade;

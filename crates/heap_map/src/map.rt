@@ -1,4 +1,3 @@
-//! `Map`: a heap as a strip of cells.
 ghost use Rattle.std.specs.Prelude.{◌≡◌, ◌+◌, ◌<◌, ◌≤◌, IfOk, vec_len};
 ghost use Rattle.heap_image.specs.HeapImage.{IsValid, heap_words, last_end, live_words};
 ghost use Rattle.summary.specs.Compaction.{compact};
@@ -13,32 +12,31 @@ use std::alloc::{AllocError, Global};
 use summary::Survey;
 use summary::laws::live_words::live_words_by_blocks;
 
-/// How many cells a map has at most.
+/// The largest number of cells of a map.
 pub const MAX_CELLS: u32 = 1000;
 
-/// A heap as a strip of cells, from its low end up. Each word is in one cell.
+/// A heap as a strip of cells in address order. Each word is in exactly one cell.
 #[derive(Drop)]
 pub struct Map {
-    /// The cells.
     pub cells: Vec<Cell>,
     ghost few: { vec_len cells ≤ 1000 },
 }
 
 impl Map {
-    /// The heap as it is, as so many cells, or as many as it has words where these are fewer.
+    /// Maps the heap as it is to `most` cells, or to one per word if it has fewer words.
     pub fn before(
         alloc: Global,
         image: &Image,
         survey: &Survey,
-        asked: u32,
+        most: u32,
     ) -> Result<Map, AllocError>
         requires same { survey.now ≡ image.now }
-        requires some { 1 ≤ asked }
-        requires few { asked ≤ 1000 }
-        ensures { IfOk result (λ map. map.cells.items ≡ cells_before image.now asked) }
+        requires some { 1 ≤ most }
+        requires few { most ≤ 1000 }
+        ensures { IfOk result (λ map. map.cells.items ≡ cells_before image.now most) }
     {
         let sketch = Sketch::before(image, survey);
-        let count = image.len().min(u64::from(asked));
+        let count = image.len().min(u64::from(most));
         let mut cells = Vec::new(alloc);
         for i in 0..count {
             let (from, to) = (start_of(image, count, i), start_of(image, count, i + 1));
@@ -48,20 +46,20 @@ impl Map {
         Ok(Map { cells })
     }
 
-    /// The heap as its collection will leave it, as so many cells, or as many as it has words where these are fewer.
+    /// Maps the heap as its collection will leave it to `most` cells, or to one per word if it has fewer words.
     pub fn after(
         alloc: Global,
         image: &Image,
         survey: &Survey,
-        asked: u32,
+        most: u32,
     ) -> Result<Map, AllocError>
         requires same { survey.now ≡ image.now }
-        requires some { 1 ≤ asked }
-        requires few { asked ≤ 1000 }
-        ensures { IfOk result (λ map. map.cells.items ≡ cells_after image.now asked) }
+        requires some { 1 ≤ most }
+        requires few { most ≤ 1000 }
+        ensures { IfOk result (λ map. map.cells.items ≡ cells_after image.now most) }
     {
         let sketch = Sketch::after(survey);
-        let count = image.len().min(u64::from(asked));
+        let count = image.len().min(u64::from(most));
         let mut cells = Vec::new(alloc);
         for i in 0..count {
             let (from, to) = (start_of(image, count, i), start_of(image, count, i + 1));
@@ -72,17 +70,17 @@ impl Map {
     }
 }
 
-/// Where the parts of a heap end.
+/// The addresses that divide a heap into areas.
 #[derive(Clone, Copy)]
 struct Sketch {
-    /// The dense prefix.
+    /// The end of the dense prefix.
     prefix: u64,
-    /// All live objects.
+    /// The end of the last live object.
     top: u64,
 }
 
 impl Sketch {
-    /// Those of the heap as it is.
+    /// The bounds in the heap as it is.
     fn before(image: &Image, survey: &Survey) -> Sketch
         requires { survey.now ≡ image.now }
         ensures prefix { result.prefix ≡ prefix_end image.now }
@@ -94,7 +92,7 @@ impl Sketch {
         }
     }
 
-    /// Those of the heap once it is compacted.
+    /// The bounds in the compacted heap.
     fn after(survey: &Survey) -> Sketch
         ensures prefix { result.prefix ≡ prefix_end survey.now }
         ensures top { result.top ≡ new_top survey.now }
@@ -105,7 +103,7 @@ impl Sketch {
         }
     }
 
-    /// The words from one address up to another, so many of which live.
+    /// The cell of the words from `from` up to `to`, of which `live` are live.
     fn cell(self, from: u64, to: u64, live: u64) -> Cell
         requires { from ≤ to }
         ensures { result ≡ record { from = from; to = to; live = live; area = area_of self.prefix self.top from to live } }
@@ -118,7 +116,7 @@ impl Sketch {
         }
     }
 
-    /// Where these words lie.
+    /// The area in which the words from `from` up to `to` lie, of which `live` are live.
     fn area(self, from: u64, to: u64, live: u64) -> Area
         requires { from ≤ to }
         ensures { result ≡ area_of self.prefix self.top from to live }
@@ -139,7 +137,7 @@ impl Sketch {
     }
 }
 
-/// The first word of cell `i` of so many.
+/// The first word of cell `i` of `count` cells.
 fn start_of(image: &Image, count: u64, i: u64) -> u64
     requires some { 1 ≤ count }
     requires few { count ≤ 1000 }
@@ -150,8 +148,8 @@ fn start_of(image: &Image, count: u64, i: u64) -> u64
     i * image.len() / count
 }
 
-/// How many words from one address up to another live after the collection: those of the dense prefix that live now, and
-/// all from there up to the new top.
+/// The number of words from `from` up to `to` that are live after the collection: in the dense prefix those that are live
+/// now, from there up to the new top all.
 fn live_after(survey: &Survey, from: u64, to: u64) -> u64
     requires ordered { from ≤ to }
     requires inside { to ≤ heap_words survey.now }
@@ -165,7 +163,7 @@ fn live_after(survey: &Survey, from: u64, to: u64) -> u64
     survey.marks().live_words(from, low) + (high - low)
 }
 
-/// The end of the last live object, or 0 where there is none.
+/// The end of the last live object, or 0 if there is none.
 fn last_end(image: &Image) -> u64
     ensures { result ≡ last_end image.now }
 {

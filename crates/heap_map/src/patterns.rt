@@ -1,8 +1,8 @@
-//! How an area and a shade look in a drawing: by hatching and by darkness, so that colours aren't needed.
+//! How areas and shades are drawn: hatching shows the area and darkness the shade, so a drawing can be read without
+//! colours.
 use crate::area::Area;
 use crate::shade::Shade;
 
-/// All areas.
 pub(crate) const AREAS: [Area; 5] = [
     Area::Prefix,
     Area::Fillers,
@@ -11,7 +11,7 @@ pub(crate) const AREAS: [Area; 5] = [
     Area::Mixed,
 ];
 
-/// All shades.
+/// All shades, from the lightest.
 pub(crate) const SHADES: [Shade; 5] = [
     Shade::Empty,
     Shade::Low,
@@ -20,7 +20,7 @@ pub(crate) const SHADES: [Shade; 5] = [
     Shade::Full,
 ];
 
-/// What an area is called.
+/// The name of an area in titles and in the legend.
 pub(crate) fn name_of(area: Area) -> &'static str {
     match area {
         Area::Prefix => "prefix",
@@ -31,7 +31,7 @@ pub(crate) fn name_of(area: Area) -> &'static str {
     }
 }
 
-/// The first letter of the name of a pattern, which tells the area.
+/// The letter with which the id of an area's patterns begins.
 pub(crate) fn key_of(area: Area) -> &'static str {
     match area {
         Area::Prefix => "p",
@@ -64,7 +64,7 @@ pub(crate) fn tint_of(area: Area) -> &'static str {
     }
 }
 
-/// What a shade is called.
+/// The name of a shade in the legend.
 pub(crate) fn share_of(shade: Shade) -> &'static str {
     match shade {
         Shade::Empty => "none lives",
@@ -75,7 +75,7 @@ pub(crate) fn share_of(shade: Shade) -> &'static str {
     }
 }
 
-/// The digit behind it, which tells the shade.
+/// The digit with which the id of a shade's patterns ends.
 pub(crate) fn digit_of(shade: Shade) -> &'static str {
     match shade {
         Shade::Empty => "0",
@@ -86,7 +86,7 @@ pub(crate) fn digit_of(shade: Shade) -> &'static str {
     }
 }
 
-/// How much of an area's colour covers the white of the page.
+/// The opacity of an area's colour at a shade, over white.
 pub(crate) fn cover_of(shade: Shade) -> &'static str {
     match shade {
         Shade::Empty => "0.05",
@@ -97,7 +97,7 @@ pub(crate) fn cover_of(shade: Shade) -> &'static str {
     }
 }
 
-/// The colour of hatching that is seen on a shade.
+/// The colour of hatching that stands out on a shade.
 pub(crate) fn hatching_colour(shade: Shade) -> &'static str {
     match shade {
         Shade::Empty | Shade::Low | Shade::Middle => "#000",

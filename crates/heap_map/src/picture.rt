@@ -1,11 +1,10 @@
-//! `Picture`: a heap before its collection and after it.
 ghost use Rattle.std.specs.Prelude.{◌≡◌, ◌≤◌, IfOk, None, Some, option_map, string_bytes};
 ghost use Rattle.heap_map.specs.Cells.{cells_after, cells_before};
-ghost use Rattle.heap_map.specs.Figures.{AreFiguresOf};
+ghost use Rattle.heap_map.specs.MapFigures.{AreFiguresOf};
 ghost use Rattle.heap_map.specs.Text.{picture_text};
 
 use crate::drawing::draw;
-use crate::figures::Figures;
+use crate::figures::MapFigures;
 use crate::map::Map;
 use crate::strips::{write_legend, write_strip};
 use crate::style::Style;
@@ -13,19 +12,18 @@ use heap_image::Image;
 use std::alloc::{AllocError, Global};
 use summary::Survey;
 
-/// A heap as its image has it, and as its collection will leave it where that is wanted.
+/// A heap as its image has it and, if requested, as its collection will leave it.
 #[derive(Drop)]
 pub struct Picture {
-    /// What there is to tell in numbers.
-    pub figures: Figures,
+    pub figures: MapFigures,
     /// The heap as it is.
     pub before: Map,
-    /// The heap as its collection will leave it.
+    /// The heap as its collection will leave it, if requested.
     pub after: Option<Map>,
 }
 
 impl Picture {
-    /// That of the heap as it is, in so many cells, or as many as it has words where these are fewer.
+    /// The heap as it is, in `cells` cells, or one per word if it has fewer words.
     pub fn of(
         alloc: Global,
         image: &Image,
@@ -40,13 +38,13 @@ impl Picture {
         ensures after { IfOk result (λ picture. option_map (λ map. map.cells.items) picture.after ≡ None) }
     {
         Ok(Picture {
-            figures: Figures::of(survey),
+            figures: MapFigures::of(survey),
             before: Map::before(alloc, image, survey, cells)?,
             after: None,
         })
     }
 
-    /// That of the heap as it is and as its collection will leave it.
+    /// The heap as it is and as its collection will leave it, each in `cells` cells, or one per word if it has fewer words.
     pub fn of_both(
         alloc: Global,
         image: &Image,
@@ -61,13 +59,13 @@ impl Picture {
         ensures after { IfOk result (λ picture. option_map (λ map. map.cells.items) picture.after ≡ Some (cells_after image.now cells)) }
     {
         Ok(Picture {
-            figures: Figures::of(survey),
+            figures: MapFigures::of(survey),
             before: Map::before(alloc, image, survey, cells)?,
             after: Some(Map::after(alloc, image, survey, cells)?),
         })
     }
 
-    /// The picture as text.
+    /// The picture as text: the figures, two rows for each map, and the legend. It ends with a line feed.
     pub fn text(&self, alloc: Global, style: Style) -> Result<String, AllocError>
         ensures { IfOk result (λ text. string_bytes text
             ≡ picture_text style self.now.figures self.now.before.cells.items (option_map (λ map. map.cells.items) self.now.after)) }
@@ -82,7 +80,7 @@ impl Picture {
         Ok(text)
     }
 
-    /// The picture as SVG, a page's drawing.
+    /// The picture as an SVG document.
     pub fn svg(&self, alloc: Global) -> Result<String, AllocError> {
         draw(alloc, self)
     }

@@ -1,26 +1,25 @@
-//! `Shade`: how much of a cell lives.
 ghost use Rattle.std.specs.Prelude.{◌≡◌};
 ghost use Rattle.heap_map.specs.Text.{shade_of};
 
 use crate::cell::Cell;
 
-/// How much of a cell lives, in thirds of its words.
+/// The share of a cell's words that are live, in thirds.
 #[derive(Debug, Clone, Copy, PartialEq, Eq)]
 pub enum Shade {
-    /// No word.
+    /// None.
     Empty,
-    /// Some, but less than a third.
+    /// Fewer than a third, but some.
     Low,
-    /// A third, but less than two.
+    /// At least one third, but fewer than two.
     Middle,
-    /// Two thirds, but not all.
+    /// At least two thirds, but not all.
     High,
-    /// All words.
+    /// All.
     Full,
 }
 
 impl Shade {
-    /// The shade of a cell.
+    /// The shade of a cell, by its live words.
     pub fn of(cell: &Cell) -> Shade
         ensures { result ≡ shade_of cell.now }
     {

@@ -1,4 +1,4 @@
-//! The strips of a picture, as text.
+//! Prints the strips and the legend of a picture as text.
 ghost use Rattle.std.specs.Prelude.{◌≡◌, ◌++◌, OnOk, codes, flat_map, string_bytes};
 ghost use Rattle.heap_map.specs.Text.{area_letter, area_mark, colour_of, coloured, legend_text, shade_glyph, shade_mark, share_text, strip_text};
 
@@ -8,7 +8,7 @@ use crate::shade::Shade;
 use crate::style::{Glyphs, Style};
 use std::alloc::AllocError;
 
-/// Writes the two rows of a strip, of which the first has this name.
+/// Writes the two rows of a strip, shades and areas. The first row begins with `name`, which has six characters.
 pub(crate) fn write_strip(
     text: &mut String,
     style: Style,
@@ -25,7 +25,7 @@ pub(crate) fn write_strip(
     text.push_str("|\n")
 }
 
-/// Writes what the characters mean.
+/// Writes the two lines of the legend.
 pub(crate) fn write_legend(text: &mut String, glyphs: Glyphs) -> Result<(), AllocError>
     ensures { OnOk result (string_bytes text.new ≡ string_bytes text.old ++ legend_text glyphs) }
 {
@@ -38,7 +38,7 @@ pub(crate) fn write_legend(text: &mut String, glyphs: Glyphs) -> Result<(), Allo
     text.push_str("\narea: p prefix f prefix with fillers m moving - free x several\n")
 }
 
-/// Writes what a shade means.
+/// Writes the legend of one shade.
 fn write_share(
     text: &mut String,
     glyphs: Glyphs,
@@ -53,7 +53,7 @@ fn write_share(
     text.push_str(name)
 }
 
-/// Writes how much of each cell lives.
+/// Writes the row of shades.
 fn write_shades(text: &mut String, style: Style, cells: &[Cell]) -> Result<(), AllocError>
     ensures { OnOk result (string_bytes text.new ≡ string_bytes text.old ++ flat_map (shade_mark style) cells.now) }
 {
@@ -64,7 +64,7 @@ fn write_shades(text: &mut String, style: Style, cells: &[Cell]) -> Result<(), A
     Ok(())
 }
 
-/// Writes where each cell lies.
+/// Writes the row of areas.
 fn write_areas(text: &mut String, style: Style, cells: &[Cell]) -> Result<(), AllocError>
     ensures { OnOk result (string_bytes text.new ≡ string_bytes text.old ++ flat_map (area_mark style) cells.now) }
 {
@@ -74,7 +74,7 @@ fn write_areas(text: &mut String, style: Style, cells: &[Cell]) -> Result<(), Al
     Ok(())
 }
 
-/// Writes a character, in the colour of an area where colours are wanted.
+/// Writes a character, in the colour of an area if the style is coloured.
 fn write_coloured(
     text: &mut String,
     style: Style,
@@ -142,7 +142,7 @@ fn area_letter(area: Area) -> &'static str
     }
 }
 
-/// The number by which terminals know the colour of an area.
+/// The terminal colour code of an area.
 fn colour_of(area: Area) -> &'static str
     ensures { result.now ≡ colour_of area }
 {

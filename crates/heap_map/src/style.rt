@@ -1,19 +1,16 @@
-//! `Style`: how a picture is printed.
-
-/// The characters of which a strip is made.
+/// The characters for shades.
 #[derive(Debug, Clone, Copy, PartialEq, Eq)]
 pub enum Glyphs {
-    /// Those that stand on every terminal and page.
+    /// ASCII characters.
     Letters,
-    /// Blocks, which are characters of Unicode, in UTF-8.
+    /// Unicode block characters, in UTF-8.
     Blocks,
 }
 
 /// How a picture is printed.
 #[derive(Debug, Clone, Copy, PartialEq, Eq)]
 pub struct Style {
-    /// The characters of its strips.
     pub glyphs: Glyphs,
-    /// Whether these are coloured by their area, as terminals are told to.
+    /// Whether characters are coloured, by escape sequences for terminals.
     pub is_coloured: bool,
 }

@@ -1,10 +1,10 @@
-//! The base heap in both versions and its compaction, and the texts and images of heaps.
+//! The base heap in both versions, its compaction, and builders of texts and images.
 use heap_image::{Image, decode, decode_by_threads};
 use std::alloc::{AllocError, Global};
 use std::test::Fail;
 use std::thread::Threads;
 
-/// A word of no live object.
+/// A dead word.
 pub const DEAD: u64 = 999;
 
 /// The words of the base heap, in regions of 8.
@@ -43,10 +43,10 @@ pub const BASE_WORDS: [u64; 32] = [
     DEAD,
 ];
 
-/// Where its live objects begin.
+/// The addresses of its live objects.
 pub const BASE_LIVE: [u64; 4] = [0, 5, 12, 20];
 
-/// The words of the base heap's compaction, with allowance 0.
+/// The words of the base heap after a compaction with allowance 0.
 pub const MOVED_WORDS: [u64; 32] = [
     0x0100_0002_0000_0003,
     4,
@@ -82,22 +82,22 @@ pub const MOVED_WORDS: [u64; 32] = [
     0,
 ];
 
-/// Where its live objects begin.
+/// The addresses of its live objects.
 pub const MOVED_LIVE: [u64; 4] = [0, 3, 7, 9];
 
-/// Roots that reach the same objects.
+/// Roots from which the same objects are reachable.
 pub const BASE_ROOTS: [u64; 2] = [21, 0];
 
-/// The same roots of the compaction.
+/// The same roots after the compaction.
 pub const MOVED_ROOTS: [u64; 2] = [10, 0];
 
-/// The first eight bytes of an image with a live list.
+/// The first 8 bytes of an image with a live list, as a word.
 const MAGIC: u64 = 0x3130_5041_4548_4350;
 
-/// The first eight bytes of an image with roots.
+/// The first 8 bytes of an image with roots, as a word.
 const ROOTED_MAGIC: u64 = 0x3230_5041_4548_4350;
 
-/// What a text tells of its heap beside the words and the numbers behind them.
+/// The numbers in the front of an image that don't follow from its words and live list.
 #[derive(Clone, Copy)]
 pub struct Settings {
     pub region_log: u64,
@@ -105,7 +105,7 @@ pub struct Settings {
 }
 
 impl Settings {
-    /// Regions of 8 words, as the base heap has, with this allowance.
+    /// The settings of the base heap, with this allowance.
     pub fn of_base(allowance: u64) -> Settings {
         Settings {
             region_log: 3,
@@ -117,7 +117,7 @@ impl Settings {
 /// An address and a size in words.
 pub type Object = (u64, u64);
 
-/// The words of a heap whose objects have no references, and only zeros behind their headers.
+/// The words of a heap whose objects have no references, and only zeros after their headers.
 pub fn plain_words(alloc: Global, len: u64, objects: &[Object]) -> Result<Vec<u64>, AllocError> {
     Vec::from_iter(alloc, (0..len).map(|a| plain_word(objects, a)))
 }
@@ -155,7 +155,7 @@ pub fn rooted_text(
     text_of(alloc, ROOTED_MAGIC, settings, words, roots)
 }
 
-/// The image with these words and live addresses, which several threads check.
+/// The image with these words and live addresses.
 pub fn image_of(
     alloc: Global,
     settings: Settings,
@@ -183,7 +183,7 @@ pub enum Base {
 }
 
 impl Base {
-    /// Its text with this allowance.
+    /// The text of the base heap with this allowance.
     pub fn text(self, alloc: Global, allowance: u64) -> Result<Vec<u8>, AllocError> {
         let settings = Settings::of_base(allowance);
         match self {

@@ -1,7 +1,5 @@
-//! What the tests of several crates share: the base heap of docs/HEAP.md, its compaction, and the texts and images of heaps
-//! that a test makes.
-//!
-//! No contract says anything of them: the tests that use them say what they are.
+//! Heaps that the tests of several crates share: the base heap of docs/HEAP.md, its compaction, and builders of texts
+//! and images. They have no contracts.
 #![tactic(auto)]
 
 mod heaps;

@@ -1,4 +1,4 @@
-//! What the calls that read and write images answer of a text.
+//! The results of the calls that read and write images.
 use crate::checks::{equal, holds};
 use crate::devices::Trickle;
 use heap_image::{
@@ -9,40 +9,40 @@ use std::alloc::Global;
 use std::process::Abort;
 use std::thread::Threads;
 
-/// The fault of what was read, which must be refused.
-pub fn refused(rt: &impl Abort, answer: Result<Image, Fault>) -> Fault {
-    match answer {
+/// The fault of a result, which must be one.
+pub fn expect_fault(rt: &impl Abort, outcome: Result<Image, Fault>) -> Fault {
+    match outcome {
         Ok(_) => panic!(rt; "an image"),
         Err(fault) => fault,
     }
 }
 
-/// The fault of these bytes, which is the same where they come one at a time.
+/// The fault of these bytes, which must be the same if they arrive one at a time.
 pub fn fault_of(rt: &(impl Abort + Threads + Sync), alloc: Global, bytes: &[u8]) -> Fault {
-    let fault = refused(rt, decode_by_threads(alloc, bytes, rt));
-    equal(rt, refused(rt, decode(alloc, bytes)), fault);
+    let fault = expect_fault(rt, decode_by_threads(alloc, bytes, rt));
+    equal(rt, expect_fault(rt, decode(alloc, bytes)), fault);
     equal(rt, slow_fault_of(rt, alloc, bytes), fault);
     fault
 }
 
-/// The fault of these bytes where they come one at a time.
+/// The fault of these bytes if they arrive one at a time.
 fn slow_fault_of(rt: &impl Abort, alloc: Global, bytes: &[u8]) -> Fault {
     let mut slow = FromRead::new(Trickle {
         bytes,
         step: 1,
         limit: usize::MAX,
     });
-    let fault = refused(rt, read_image(alloc, &mut slow));
+    let fault = expect_fault(rt, read_image(alloc, &mut slow));
     holds(rt, !slow.failed());
     fault
 }
 
-/// Whether the text of an image is this.
+/// Whether an image has this text.
 pub fn is_text(alloc: Global, image: &Image, text: &[u8]) -> Result<bool, Fault> {
     Ok(encode(alloc, image)?.as_slice() == text)
 }
 
-/// Whether an image comes through each call that takes memory to read or to encode one.
+/// Whether an image comes unchanged through each call that allocates memory to read or to encode one.
 pub fn comes_through(
     alloc: Global,
     threads: &(impl Threads + Sync),
@@ -82,10 +82,9 @@ fn is_read(alloc: Global, text: &[u8]) -> Result<bool, Fault> {
     is_text(alloc, &image, text)
 }
 
-/// Whether each answer is true or out of memory, and one is true.
-pub fn are_right(answers: &[Result<bool, Fault>]) -> bool {
-    let mut all = answers.iter();
-    let is_told = |answer: &Result<bool, Fault>| *answer == Ok(true)
-        || *answer == Err(Fault::Memory);
-    all.all(is_told) && answers.contains(&Ok(true))
+/// Whether each result is true or fault 11, and at least one is true.
+pub fn are_right(results: &[Result<bool, Fault>]) -> bool {
+    let mut all = results.iter();
+    let is_right = |it: &Result<bool, Fault>| *it == Ok(true) || *it == Err(Fault::Memory);
+    all.all(is_right) && results.contains(&Ok(true))
 }

@@ -1,4 +1,4 @@
-//! A set of addresses that has one in its first word and one in its last.
+//! Tests of `Bits`, with an address in the first word and one in the last.
 ghost use Rattle.std.specs.Prelude.{◌≡◌, IfOk, length};
 
 use crate::checks::equal;
@@ -7,7 +7,7 @@ use std::alloc::{AllocError, Global};
 use std::process::Abort;
 use std::test::Fail;
 
-/// A set of three addresses below 131.
+/// A set of three addresses, with room for those below 131.
 fn three_addresses(alloc: Global) -> Result<Bits, AllocError>
     ensures { IfOk result (λ bits. length bits ≡ 3) }
 {
@@ -17,7 +17,7 @@ fn three_addresses(alloc: Global) -> Result<Bits, AllocError>
     Ok(bits)
 }
 
-/// Fails where a query of that set has another answer.
+/// Fails if a query of that set has another result.
 fn check_queries(rt: &impl Abort, bits: &Bits)
     requires { length bits.now ≡ 3 }
 {
@@ -35,7 +35,7 @@ fn check_queries(rt: &impl Abort, bits: &Bits)
 }
 
 #[test]
-fn a_set_has_what_was_put_in(rt: HostRuntime) -> Result<(), Fail> {
+fn a_set_contains_what_was_inserted(rt: HostRuntime) -> Result<(), Fail> {
     let mut bits = three_addresses(rt.alloc())?;
     check_queries(&rt, &bits);
     bits.set_word(1, 0);
@@ -44,7 +44,7 @@ fn a_set_has_what_was_put_in(rt: HostRuntime) -> Result<(), Fail> {
 }
 
 #[test]
-fn a_copy_has_the_same(rt: HostRuntime) -> Result<(), Fail> {
+fn a_copy_has_the_same_addresses(rt: HostRuntime) -> Result<(), Fail> {
     let same = Bits::of(rt.alloc(), &[3, 64, 129], 130)?.copy(rt.alloc())?;
     equal(&rt, same.next(65), Some(129));
     Ok(())

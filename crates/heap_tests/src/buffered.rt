@@ -1,4 +1,4 @@
-//! Images that are written through memory, in large pieces.
+//! Tests of images that are written through a buffer in memory.
 use crate::answers::are_right;
 use crate::checks::{equal, equal_at, equal_bytes, holds};
 use crate::devices::Full;
@@ -11,7 +11,7 @@ use std::io::Write;
 use std::process::Abort;
 use std::test::Fail;
 
-/// A writer that takes all that it is given, and keeps the length of the longest piece.
+/// A writer that takes all bytes, and keeps the length of the longest piece.
 #[derive(Drop)]
 struct Longest(usize);
 
@@ -26,14 +26,14 @@ impl Write for Longest {
     }
 }
 
-/// A heap of 1 MiB, in regions of so many words.
+/// A heap of 1 MiB, with this region log.
 fn large(alloc: Global, region_log: u64) -> Result<Image, Fault> {
     let words = Vec::from_iter(alloc, (0..131_072u64).map(|a| a << 32 | a))?;
     let text = image_text(alloc, regions_of(region_log), words.as_slice(), &[])?;
     decode(alloc, text.as_slice())
 }
 
-/// The longest pieces in which an image is written, without memory and through memory.
+/// The lengths of the longest pieces in which an image is written, without and with a buffer in memory.
 fn longest_pieces(rt: &impl Abort, alloc: Global, image: &Image) -> (usize, usize) {
     let mut plain = ToWrite::new(Longest(0));
     equal(rt, write_image(image, &mut plain), Ok(()));
@@ -47,7 +47,7 @@ fn longest_pieces(rt: &impl Abort, alloc: Global, image: &Image) -> (usize, usiz
 }
 
 #[test]
-fn pieces_have_a_longest_length(rt: HostRuntime) -> Result<(), Fail> {
+fn pieces_are_as_long_as_the_buffer(rt: HostRuntime) -> Result<(), Fail> {
     for region_log in [3, 16] {
         let image = large(rt.alloc(), region_log)?;
         let longest = longest_pieces(&rt, rt.alloc(), &image);
@@ -56,8 +56,8 @@ fn pieces_have_a_longest_length(rt: HostRuntime) -> Result<(), Fail> {
     Ok(())
 }
 
-/// What a writer takes of an image through memory, of so many bytes at most, and what is answered.
-fn taken(alloc: Global, image: &Image, limit: usize) -> (Result<(), Fault>, Vec<u8>) {
+/// Writes an image to a writer that takes at most `limit` bytes, and returns the result and these bytes.
+fn write_limited(alloc: Global, image: &Image, limit: usize) -> (Result<(), Fault>, Vec<u8>) {
     let mut writer = ToWrite::new(Full {
         bytes: Vec::new(alloc),
         step: usize::MAX,
@@ -69,18 +69,18 @@ fn taken(alloc: Global, image: &Image, limit: usize) -> (Result<(), Fault>, Vec<
 }
 
 #[test]
-fn a_writer_is_full_at_each_byte(rt: HostRuntime) -> Result<(), Fail> {
+fn a_writer_fails_at_each_byte(rt: HostRuntime) -> Result<(), Fail> {
     let text = base_text(rt.alloc())?;
     let image = decode(rt.alloc(), text.as_slice())?;
     for limit in 0..=text.len() {
-        let (answer, bytes) = taken(rt.alloc(), &image, limit);
+        let (answer, bytes) = write_limited(rt.alloc(), &image, limit);
         equal_at(&rt, answer.is_ok(), limit == text.len(), limit);
         equal_bytes(&rt, bytes.as_slice(), &text[..limit]);
     }
     Ok(())
 }
 
-/// Whether the right text is written. Where memory is refused, false if anything is written.
+/// Whether the right text is written. Returns false also if memory runs out after something is written.
 fn is_written(alloc: Global) -> Result<bool, Fault> {
     let text = Base::WithRoots.text(alloc, 2)?;
     let image = decode(alloc, text.as_slice())?;
@@ -99,9 +99,9 @@ fn is_written(alloc: Global) -> Result<bool, Fault> {
     }
 }
 
-/// The script tests/crate-allocations runs this with each allocation refused in turn.
+/// A script runs this with each allocation refused in turn.
 #[test]
-fn refused_memory_is_told(rt: HostRuntime) {
+fn refused_memory_is_reported(rt: HostRuntime) {
     let answers = [is_written(rt.alloc()), is_written(rt.alloc())];
     holds(&rt, are_right(&answers));
 }

@@ -1,5 +1,5 @@
-//! Devices that give and take in small pieces or fail at a byte, and images that go through them.
-use crate::answers::refused;
+//! Tests of devices that move small pieces or fail at a byte.
+use crate::answers::expect_fault;
 use crate::checks::{equal, equal_at, equal_bytes, holds};
 use crate::texts::regions_of;
 use heap_image::{
@@ -36,7 +36,7 @@ impl Read for Trickle<'_> {
     }
 }
 
-/// A writer that takes at most `step` bytes at a time, and no more than `limit`: then it fails, or takes none.
+/// A writer that takes at most `step` bytes at a time, and `limit` in all. Then it fails, or takes none.
 #[derive(Drop)]
 pub struct Full {
     pub bytes: Vec<u8>,
@@ -61,8 +61,8 @@ impl Write for Full {
     }
 }
 
-/// What a writer has that takes `limit` bytes of an image's text, which is more.
-fn beginning(rt: &impl Abort, alloc: Global, image: &Image, limit: usize, fails: bool) -> Vec<u8> {
+/// Writes an image to a writer that takes `limit` bytes, which are too few, and returns these bytes.
+fn write_cut(rt: &impl Abort, alloc: Global, image: &Image, limit: usize, fails: bool) -> Vec<u8> {
     let mut full = ToWrite::new(Full {
         bytes: Vec::new(alloc),
         step: 7,
@@ -75,7 +75,7 @@ fn beginning(rt: &impl Abort, alloc: Global, image: &Image, limit: usize, fails:
 }
 
 #[test]
-fn all_bytes_are_given(rt: HostRuntime) -> Result<(), Fail> {
+fn give_all_gives_all_bytes(rt: HostRuntime) -> Result<(), Fail> {
     let mut full = ToWrite::new(Full {
         bytes: Vec::new(rt.alloc()),
         step: 2,
@@ -90,7 +90,7 @@ fn all_bytes_are_given(rt: HostRuntime) -> Result<(), Fail> {
     Ok(())
 }
 
-/// Fails where a reader of this image that fails at any byte, or behind the last one, gives another fault than 13.
+/// Fails if a reader of this image that fails at some byte, or after the last one, gives another fault than 13.
 fn try_failing_readers(rt: &(impl Abort + Threads + Sync), alloc: Global, text: &[u8]) {
     for limit in 0..=text.len() {
         let mut broken = FromRead::new(Trickle {
@@ -98,12 +98,13 @@ fn try_failing_readers(rt: &(impl Abort + Threads + Sync), alloc: Global, text: 
             step: 7,
             limit,
         });
-        let fault = refused(rt, read_image_by_threads(alloc, &mut broken, rt));
+        let fault = expect_fault(rt, read_image_by_threads(alloc, &mut broken, rt));
         equal_at(rt, fault, Fault::Io, limit);
     }
 }
 
-/// Fails where a writer that is full at any byte of this image, and then fails or takes none, has not its beginning.
+/// Fails if a writer that is full at some byte of this image, and then fails or takes none, doesn't have the bytes
+/// before.
 fn try_full_writers(
     rt: &(impl Abort + Threads + Sync),
     alloc: Global,
@@ -111,9 +112,9 @@ fn try_full_writers(
 ) -> Result<(), Fault> {
     let image = decode_by_threads(alloc, text, rt)?;
     for limit in 0..text.len() {
-        let taken = beginning(rt, alloc, &image, limit, false);
+        let taken = write_cut(rt, alloc, &image, limit, false);
         equal_bytes(rt, taken.as_slice(), &text[..limit]);
-        let taken = beginning(rt, alloc, &image, limit, true);
+        let taken = write_cut(rt, alloc, &image, limit, true);
         equal_bytes(rt, taken.as_slice(), &text[..limit]);
     }
     Ok(())
@@ -135,9 +136,9 @@ fn a_writer_is_full_at_each_byte(rt: HostRuntime) -> Result<(), Fail> {
     Ok(())
 }
 
-/// A region of the largest size goes in and out in several pieces, and so do many small ones.
+/// Two regions of the largest size are read and written in several pieces, and so are many small ones.
 #[test]
-fn large_heaps_go_in_pieces(rt: HostRuntime) -> Result<(), Fail> {
+fn large_heaps_are_read_in_pieces(rt: HostRuntime) -> Result<(), Fail> {
     let words = Vec::from_iter(rt.alloc(), (0..131_072u64).map(|a| a << 32 | a))?;
     for region_log in [3, 16] {
         let text = image_text(rt.alloc(), regions_of(region_log), words.as_slice(), &[])?;
@@ -147,7 +148,7 @@ fn large_heaps_go_in_pieces(rt: HostRuntime) -> Result<(), Fail> {
     Ok(())
 }
 
-/// The image of this text, which comes by at most 10,000 bytes.
+/// Reads an image whose text arrives in pieces of at most 10,000 bytes.
 fn read_in_pieces(
     alloc: Global,
     text: &[u8],

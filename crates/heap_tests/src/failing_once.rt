@@ -1,5 +1,5 @@
-//! Tests of devices that fail in one call and would work again, and of a front alone where memory is refused.
-use crate::answers::refused;
+//! Tests of devices that fail in one call and would work again, and of a front without a body when memory runs out.
+use crate::answers::expect_fault;
 use crate::checks::{equal, equal_at, equal_bytes, holds};
 use crate::texts::{base_text, front};
 use heap_image::{
@@ -11,10 +11,10 @@ use std::io::{Read, Write};
 use std::process::Abort;
 use std::test::Fail;
 
-/// How many bytes a device moves at a time.
+/// The most bytes that a device moves at a time.
 const STEP: usize = 7;
 
-/// A reader of these bytes, or a writer that keeps what it takes. One of its calls fails, and the others don't.
+/// A reader of `bytes`, and a writer that appends to `taken`. One call fails, and the others don't.
 #[derive(Drop)]
 struct FailsOnce<'a> {
     bytes: &'a [u8],
@@ -24,7 +24,7 @@ struct FailsOnce<'a> {
 }
 
 impl FailsOnce<'_> {
-    /// Whether this call, which is counted, is the one that fails.
+    /// Counts a call, and returns whether it is the one that fails.
     fn is_failing(&mut self) -> bool {
         let call = self.calls;
         self.calls = call.wrapping_add(1);
@@ -69,31 +69,33 @@ fn failing_at(alloc: Global, fails_at: usize, bytes: &[u8]) -> FailsOnce<'_> {
     }
 }
 
-/// What two readings find, and asking the reader in between, where this call fails.
-type Asked = (Fault, bool, Fault, usize);
+/// The fault of a reading, whether the reader stays failed, the fault of a second reading, and the number of calls of
+/// the device.
+type TwoReadings = (Fault, bool, Fault, usize);
 
-fn asked(rt: &impl Abort, alloc: Global, text: &[u8], fails_at: usize) -> Asked {
+/// Reads twice from a reader whose device fails in this call.
+fn read_twice(rt: &impl Abort, alloc: Global, text: &[u8], fails_at: usize) -> TwoReadings {
     let mut reader = FromRead::new(failing_at(alloc, fails_at, text));
-    let fault = refused(rt, read_image(alloc, &mut reader));
+    let fault = expect_fault(rt, read_image(alloc, &mut reader));
     let failed = reader.failed() && reader.take(&mut [0; 1]).is_err();
-    let again = refused(rt, read_image(alloc, &mut reader));
+    let again = expect_fault(rt, read_image(alloc, &mut reader));
     (fault, failed, again, reader.into_inner().calls)
 }
 
-/// The image of a reading that succeeds, and how many calls it made.
-fn sound(alloc: Global, text: &[u8]) -> Result<(Image, usize), Fault> {
+/// Reads an image without a failure, and returns it with the number of calls of the device.
+fn read_sound(alloc: Global, text: &[u8]) -> Result<(Image, usize), Fault> {
     let mut reader = FromRead::new(failing_at(alloc, 48, text));
     let image = read_image(alloc, &mut reader)?;
     Ok((image, reader.into_inner().calls))
 }
 
-/// A reader that is asked again after an error meets its contract. It fails here.
+/// No contract forbids asking a failed reader again, so this is tested.
 #[test]
-fn a_reader_that_failed_is_not_asked_again(rt: HostRuntime) -> Result<(), Fail> {
+fn a_failed_reader_is_not_asked_again(rt: HostRuntime) -> Result<(), Fail> {
     let text = base_text(rt.alloc())?;
-    // The front in 5 calls, the rest in 42, and one that finds the end.
+    // The front takes 5 calls, the body 42, and the end one.
     for fails_at in 0..48 {
-        let found = asked(&rt, rt.alloc(), text.as_slice(), fails_at);
+        let found = read_twice(&rt, rt.alloc(), text.as_slice(), fails_at);
         equal_at(
             &rt,
             found,
@@ -101,13 +103,14 @@ fn a_reader_that_failed_is_not_asked_again(rt: HostRuntime) -> Result<(), Fail> 
             fails_at,
         );
     }
-    let (image, calls) = sound(rt.alloc(), text.as_slice())?;
+    let (image, calls) = read_sound(rt.alloc(), text.as_slice())?;
     equal(&rt, (image.len(), calls), (32, 48));
     Ok(())
 }
 
-/// Whether two writings fail, and giving the writer more in between, where this call fails; and what the device has.
-fn given(alloc: Global, image: &Image, fails_at: usize) -> ([bool; 3], FailsOnce<'static>) {
+/// Writes twice, and once more in between, to a writer whose device fails in this call. Returns whether each failed,
+/// and the device.
+fn write_twice(alloc: Global, image: &Image, fails_at: usize) -> ([bool; 3], FailsOnce<'static>) {
     let mut writer = ToWrite::new(failing_at(alloc, fails_at, &[]));
     let first = write_image(image, &mut writer).is_err();
     let failed = writer.failed() && writer.give(&[0; 1]).is_err();
@@ -115,40 +118,39 @@ fn given(alloc: Global, image: &Image, fails_at: usize) -> ([bool; 3], FailsOnce
     ([first, failed, again], writer.into_inner())
 }
 
-/// Whether the device has a beginning of the text, after so many calls.
-fn has_beginning(device: &FailsOnce<'_>, text: &[u8], calls: usize) -> bool {
+/// Whether the device has a prefix of the text, after this number of calls.
+fn has_prefix(device: &FailsOnce<'_>, text: &[u8], calls: usize) -> bool {
     device.calls == calls && text.starts_with(device.taken.as_slice())
 }
 
-/// A writer that is written to again after an error meets its contract. It fails here.
+/// No contract forbids writing to a failed writer again, so this is tested.
 #[test]
-fn a_writer_that_failed_is_not_written_to_again(rt: HostRuntime) -> Result<(), Fail> {
+fn a_failed_writer_is_not_written_to_again(rt: HostRuntime) -> Result<(), Fail> {
     let text = base_text(rt.alloc())?;
-    let (image, _calls) = sound(rt.alloc(), text.as_slice())?;
+    let (image, _calls) = read_sound(rt.alloc(), text.as_slice())?;
     for fails_at in 0..47 {
-        let (failed, device) = given(rt.alloc(), &image, fails_at);
+        let (failed, device) = write_twice(rt.alloc(), &image, fails_at);
         equal_at(&rt, failed, [true; 3], fails_at);
-        holds(&rt, has_beginning(&device, text.as_slice(), fails_at + 1));
+        holds(&rt, has_prefix(&device, text.as_slice(), fails_at + 1));
     }
-    let (is_written, device) = written_whole(rt.alloc(), &image);
+    let (is_written, device) = write_once(rt.alloc(), &image);
     holds(&rt, is_written && device.calls == 47);
     equal_bytes(&rt, device.taken.as_slice(), text.as_slice());
     Ok(())
 }
 
-fn written_whole(alloc: Global, image: &Image) -> (bool, FailsOnce<'static>) {
+fn write_once(alloc: Global, image: &Image) -> (bool, FailsOnce<'static>) {
     let mut writer = ToWrite::new(failing_at(alloc, 47, &[]));
     let is_written = write_image(image, &mut writer).is_ok();
     (is_written, writer.into_inner())
 }
 
-/// No memory is taken for a front that nothing stands behind. The script tests/crate-allocations runs this with each
-/// allocation refused in turn.
+/// No memory is allocated for a front without a body. A script runs this with each allocation refused in turn.
 #[test]
-fn front_alone_where_refused_memory_is_told(rt: HostRuntime) {
+fn front_alone_where_refused_memory_is_reported(rt: HostRuntime) {
     let bytes = front(8, 0, 4_194_304);
-    let decoded = refused(&rt, decode(rt.alloc(), &bytes));
-    let read = refused(
+    let decoded = expect_fault(&rt, decode(rt.alloc(), &bytes));
+    let read = expect_fault(
         &rt,
         read_image(rt.alloc(), &mut FromRead::new(bytes.as_slice())),
     );

@@ -1,4 +1,4 @@
-//! Images that are read, written, taken apart and made again.
+//! Tests of images that are read, written, taken apart and rebuilt.
 use crate::answers::{are_right, comes_through};
 use crate::checks::{equal, equal_bytes, equal_words, holds};
 use crate::texts::{base_text, front};
@@ -26,25 +26,25 @@ fn the_base_is_read_and_written(rt: HostRuntime) -> Result<(), Fail> {
     equal(&rt, left, 0);
     check_image(&rt, &image);
     check_heap(&rt, &image);
-    let written = written(rt.alloc(), &image)?;
+    let written = write(rt.alloc(), &image)?;
     equal_bytes(&rt, written.as_slice(), text.as_slice());
     Ok(())
 }
 
-/// The image of this text, and how many bytes were not read.
+/// Reads an image, and returns it with the number of unread bytes.
 fn read_whole(alloc: Global, text: &[u8]) -> Result<(Image, usize), Fault> {
     let mut reader = FromRead::new(text);
     let image = read_image(alloc, &mut reader)?;
     Ok((image, reader.into_inner().len()))
 }
 
-fn written(alloc: Global, image: &Image) -> Result<Vec<u8>, Fault> {
+fn write(alloc: Global, image: &Image) -> Result<Vec<u8>, Fault> {
     let mut writer = ToWrite::new(Vec::new(alloc));
     write_image(image, &mut writer)?;
     Ok(writer.into_inner())
 }
 
-/// Fails where this is not the image of the base heap.
+/// Fails if this is not the image of the base heap.
 fn check_image(rt: &impl Abort, image: &Image) {
     let numbers = (
         image.region_log(),
@@ -63,7 +63,7 @@ fn check_image(rt: &impl Abort, image: &Image) {
     equal(rt, begins, Some(4));
 }
 
-/// Fails where the words are not those of the base heap.
+/// Fails if the words are not those of the base heap.
 fn check_heap(rt: &impl Abort, image: &Image) {
     let heap = image.heap();
     holds(rt, heap.len() == 32);
@@ -74,7 +74,7 @@ fn check_heap(rt: &impl Abort, image: &Image) {
 }
 
 #[test]
-fn sizes_are_kept_where_threads_check(rt: HostRuntime) -> Result<(), Fail> {
+fn sizes_are_kept_if_threads_check(rt: HostRuntime) -> Result<(), Fail> {
     let text = base_text(rt.alloc())?;
     let mut image = decode_by_threads(rt.alloc(), text.as_slice(), &rt)?;
     equal(&rt, image.live().get(3), Some(&20));
@@ -85,7 +85,7 @@ fn sizes_are_kept_where_threads_check(rt: HostRuntime) -> Result<(), Fail> {
     Ok(())
 }
 
-/// The size of the fourth live object, where sizes are kept.
+/// The size of the fourth live object, or 0 if no sizes are kept.
 fn last_size(image: &Image) -> u32 {
     match image.sizes() {
         Some([first, ..]) => first[3],
@@ -93,7 +93,7 @@ fn last_size(image: &Image) -> u32 {
     }
 }
 
-/// Whether the base heap with allowance 2 comes through each call that takes memory.
+/// Whether the base heap with allowance 2 comes unchanged through each call that allocates memory.
 fn base_comes_through(alloc: Global, threads: &(impl Threads + Sync)) -> Result<bool, Fault> {
     comes_through(
         alloc,
@@ -102,9 +102,9 @@ fn base_comes_through(alloc: Global, threads: &(impl Threads + Sync)) -> Result<
     )
 }
 
-/// The script tests/crate-allocations runs this with each allocation refused in turn.
+/// A script runs this with each allocation refused in turn.
 #[test]
-fn refused_memory_is_told(rt: HostRuntime) {
+fn refused_memory_is_reported(rt: HostRuntime) {
     let answers = [
         base_comes_through(rt.alloc(), &rt),
         base_comes_through(rt.alloc(), &rt),
@@ -113,7 +113,7 @@ fn refused_memory_is_told(rt: HostRuntime) {
 }
 
 #[test]
-fn an_image_is_taken_apart_and_made_again(rt: HostRuntime) -> Result<(), Fail> {
+fn an_image_is_taken_apart_and_rebuilt(rt: HostRuntime) -> Result<(), Fail> {
     let text = base_text(rt.alloc())?;
     let parts = decode_by_threads(rt.alloc(), text.as_slice(), &rt)?.into_parts();
     equal(&rt, (parts.region_log, parts.allowance), (3, 0));

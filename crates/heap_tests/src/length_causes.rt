@@ -1,4 +1,4 @@
-//! Tests of the causes of fault 4, and of their texts.
+//! Tests of the causes of fault 4, and of their messages.
 use crate::answers::fault_of;
 use crate::checks::equal;
 use crate::texts::front;
@@ -26,7 +26,7 @@ fn each_cause_of_a_length(rt: HostRuntime) -> Result<(), Fail> {
 }
 
 #[test]
-fn other_fronts_have_no_such_cause(rt: HostRuntime) {
+fn other_fronts_have_no_length_cause(rt: HostRuntime) {
     for (region_log, count, words) in [(3, 32, 32), (2, 0, 0), (17, 0, 0), (8, 0, 4_194_304)] {
         equal(&rt, LengthCause::of(&front(region_log, count, words)), None);
     }
@@ -34,7 +34,7 @@ fn other_fronts_have_no_such_cause(rt: HostRuntime) {
 }
 
 #[test]
-fn causes_have_their_texts(rt: HostRuntime) -> Result<(), Fail> {
+fn causes_have_their_messages(rt: HostRuntime) -> Result<(), Fail> {
     let texts = [
         (LengthCause::NoWords, "the number of words is 0"),
         (

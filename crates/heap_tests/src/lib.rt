@@ -1,6 +1,6 @@
-//! The tests of `raw_region`, `thread_row`, `heap_image` and `mark_bitmap`, through their public calls alone.
+//! Tests of the public calls of `raw_region`, `thread_row`, `heap_image` and `mark_bitmap`.
 //!
-//! They stand in a crate of their own so that a check of them doesn't prove those crates again.
+//! They are in a crate of their own so that checking them doesn't prove those crates again.
 #![tactic(auto)]
 
 #[cfg(test)]

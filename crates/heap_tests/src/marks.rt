@@ -1,4 +1,4 @@
-//! Heaps whose marks are known.
+//! Tests of marks of known heaps.
 ghost use Rattle.std.specs.Prelude.{◌≡◌, ◌≤◌, IfOk};
 ghost use Rattle.heap_image.specs.HeapImage.{heap_words};
 
@@ -25,8 +25,8 @@ fn base_marks(rt: &impl Abort, alloc: Global) -> Result<Marks, Fail>
     Ok(Marks::of(alloc, &image)?)
 }
 
-/// The image of a heap with this region log and so many words, whose objects have no references and only zeros behind their
-/// headers.
+/// The image of a heap with this region log and number of words, whose objects have no references and only zeros after
+/// their headers.
 pub fn plain_image(
     threads: &(impl Threads + Sync),
     alloc: Global,
@@ -58,13 +58,13 @@ pub fn plain_marks(
     Ok(Marks::of(alloc, &image)?)
 }
 
-/// Whether objects begin at these addresses below 600 and no others.
+/// Whether exactly these are the addresses below 600 at which objects begin.
 fn are_begins(marks: &Marks, wanted: &[u64]) -> bool {
     let begins = (0..600).filter(|a| marks.is_begin(*a));
     begins.eq(wanted.iter().copied())
 }
 
-/// Whether objects end at these addresses below 600 and no others.
+/// Whether exactly these are the addresses below 600 of last words of objects.
 fn are_ends(marks: &Marks, wanted: &[u64]) -> bool {
     let ends = (0..600).filter(|a| marks.is_end(*a));
     ends.eq(wanted.iter().copied())
@@ -79,12 +79,12 @@ fn base_heap_has_its_bits(rt: HostRuntime) -> Result<(), Fail> {
 }
 
 #[test]
-fn base_heap_answers(rt: HostRuntime) -> Result<(), Fail> {
+fn queries_of_the_base_heap(rt: HostRuntime) -> Result<(), Fail> {
     check_answers(&rt, &base_marks(&rt, rt.alloc())?);
     Ok(())
 }
 
-/// Fails where a query of the base heap's marks has another answer.
+/// Fails if a query of the base heap's marks has another result.
 fn check_answers(rt: &impl Abort, marks: &Marks)
     requires { heap_words marks.now ≡ 32 }
 {
@@ -104,8 +104,9 @@ fn check_answers(rt: &impl Abort, marks: &Marks)
     equal(rt, marks.size_at(20), 10);
 }
 
-/// How many words are live in a heap of 512 words by the marks that so many workers make, and whether these are its ends.
-fn seen_by(
+/// By the marks that this number of workers makes of a heap of 512 words: the number of live words, and whether these
+/// are the addresses of last words.
+fn count_by_workers(
     threads: &(impl Threads + Sync),
     alloc: Global,
     image: &Image,
@@ -123,7 +124,7 @@ fn several_workers_make_the_same_marks(rt: HostRuntime) -> Result<(), Fail> {
     let image = plain_image(&rt, rt.alloc(), (9, 512), &[(60, 200), (260, 252)])?;
     holds(&rt, image.len() == 512);
     for workers in [0, 1, 3] {
-        let seen = seen_by(&rt, rt.alloc(), &image, workers, &[259, 511])?;
+        let seen = count_by_workers(&rt, rt.alloc(), &image, workers, &[259, 511])?;
         equal(&rt, seen, (452, true));
     }
     Ok(())
@@ -168,7 +169,8 @@ fn are_shared_alike(
     Ok(are_alike(marks, &shared, image.len()))
 }
 
-/// Whether two threads make the same marks of a large heap as one. Where their parts meet, at 1,048,640, an object lies.
+/// Whether two threads make the same marks of a large heap as one. An object crosses the border of their parts,
+/// 1,048,640.
 fn large_comes_through(alloc: Global, threads: &(impl Threads + Sync)) -> Result<bool, Fault> {
     let objects = [
         (5, 700_000),
@@ -182,9 +184,9 @@ fn large_comes_through(alloc: Global, threads: &(impl Threads + Sync)) -> Result
     are_made_alike(threads, alloc, &decode(alloc, text.as_slice())?)
 }
 
-/// The script tests/crate-allocations runs this with each allocation refused in turn.
+/// A script runs this with each allocation refused in turn.
 #[test]
-fn two_threads_make_the_same_marks_and_refused_memory_is_told(rt: HostRuntime) {
+fn two_threads_make_the_same_marks_and_refused_memory_is_reported(rt: HostRuntime) {
     let answers = [
         large_comes_through(rt.alloc(), &rt),
         large_comes_through(rt.alloc(), &rt),
@@ -192,15 +194,15 @@ fn two_threads_make_the_same_marks_and_refused_memory_is_told(rt: HostRuntime) {
     holds(&rt, are_right(&answers));
 }
 
-/// Whether the base heap with allowance 2 has the same marks by one worker and by two.
+/// Whether two workers make the same marks of the base heap with allowance 2 as one.
 fn base_comes_through(alloc: Global, threads: &(impl Threads + Sync)) -> Result<bool, Fault> {
     let text = Base::WithLiveList.text(alloc, 2)?;
     are_made_alike(threads, alloc, &decode(alloc, text.as_slice())?)
 }
 
-/// The script tests/crate-allocations runs this with each allocation refused in turn.
+/// A script runs this with each allocation refused in turn.
 #[test]
-fn refused_memory_is_told(rt: HostRuntime) {
+fn refused_memory_is_reported(rt: HostRuntime) {
     let answers = [
         base_comes_through(rt.alloc(), &rt),
         base_comes_through(rt.alloc(), &rt),
@@ -242,7 +244,7 @@ fn live_bits_of_64_addresses(rt: HostRuntime) -> Result<(), Fail> {
     Ok(())
 }
 
-/// The live words before each block in its region, in a heap of so many words.
+/// The number of live words before each block in its region, in a heap of `len` words.
 fn block_sums(alloc: Global, marks: &Marks, len: u64) -> Result<Vec<u32>, AllocError>
     requires { heap_words marks.now ≡ len }
 {
@@ -278,7 +280,7 @@ fn a_search_ends_at_its_bound(rt: HostRuntime) -> Result<(), Fail> {
     Ok(())
 }
 
-/// Fails where a search in the base heap doesn't end at its bound.
+/// Fails if a search in the base heap doesn't end at its bound.
 fn check_bounds(rt: &impl Abort, marks: &Marks) {
     let begins = [
         marks.next_begin_before(13, 21),
@@ -303,7 +305,7 @@ fn check_bounds(rt: &impl Abort, marks: &Marks) {
 }
 
 #[test]
-fn a_run_over_several_words_of_bits_is_seen_to_its_bound(rt: HostRuntime) -> Result<(), Fail> {
+fn a_search_over_several_words_of_bits_ends_at_its_bound(rt: HostRuntime) -> Result<(), Fail> {
     check_run(
         &rt,
         &plain_marks(&rt, rt.alloc(), (9, 512), &[(60, 200), (260, 252)])?,
@@ -311,7 +313,7 @@ fn a_run_over_several_words_of_bits_is_seen_to_its_bound(rt: HostRuntime) -> Res
     Ok(())
 }
 
-/// Fails where a search in that heap doesn't end at its bound.
+/// Fails if a search in that heap doesn't end at its bound.
 fn check_run(rt: &impl Abort, marks: &Marks) {
     let live = [
         marks.next_live_before(0, 60),

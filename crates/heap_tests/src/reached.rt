@@ -1,5 +1,5 @@
-//! What roots reach: graphs of some shapes, and thousands of small heaps beside a plain marking program.
-use crate::answers::refused;
+//! Tests of reachability: graphs of some shapes, and thousands of small heaps, compared with a plain marking program.
+use crate::answers::expect_fault;
 use crate::checks::{equal, holds, holds_at};
 use crate::refusals::PAIR;
 use crate::roots::{is_live, object, text_with_roots, try_live};
@@ -21,7 +21,7 @@ fn a_cycle_is_followed_once(rt: HostRuntime) -> Result<(), Fail> {
     Ok(())
 }
 
-/// How many objects an array refers to.
+/// The number of objects to which an array refers.
 const ELEMENTS: u64 = 65_535;
 
 /// The words of an array that refers to all other objects, which have no references.
@@ -35,7 +35,7 @@ fn array_words(alloc: Global) -> Result<Vec<u64>, AllocError> {
 }
 
 #[test]
-fn an_array_reaches_all(rt: HostRuntime) -> Result<(), Fail> {
+fn all_elements_of_an_array_are_reached(rt: HostRuntime) -> Result<(), Fail> {
     let words = array_words(rt.alloc())?;
     let text = text_with_roots(rt.alloc(), &words, &[1])?;
     let image = decode_by_threads(rt.alloc(), &text, &rt)?;
@@ -46,10 +46,10 @@ fn an_array_reaches_all(rt: HostRuntime) -> Result<(), Fail> {
     Ok(())
 }
 
-/// How many objects a list has.
+/// The number of objects of a list.
 const LINKS: u64 = 1 << 20;
 
-/// The words of a list whose objects lie scattered: of each two neighbours in it the addresses are far apart.
+/// The words of a linked list whose neighbours are far apart in memory.
 fn list_words(alloc: Global) -> Result<Vec<u64>, AllocError> {
     let mut words = Vec::new(alloc);
     for link in 0..LINKS {
@@ -70,12 +70,13 @@ fn a_list_of_a_million_objects_is_reached(rt: HostRuntime) -> Result<(), Fail> {
     Ok(())
 }
 
-/// How many words a small heap has, and how many roots at most.
+/// The number of words of a small heap.
 const WORDS: u64 = 16;
 
+/// The largest number of roots of a small heap.
 const ROOTS: u64 = 4;
 
-/// What stands at even addresses: mostly objects of two words with a reference, and some of other sizes.
+/// The words at even addresses: mostly headers of pairs, and some of other sizes.
 const EVEN: [u64; 16] = [
     PAIR,
     PAIR,
@@ -95,10 +96,10 @@ const EVEN: [u64; 16] = [
     0,
 ];
 
-/// What stands at odd addresses, and what roots are: mostly references to even addresses, and at times others.
+/// The words at odd addresses, and the roots: mostly references to even addresses.
 const ODD: [u64; 16] = [0, 1, 3, 5, 7, 9, 11, 13, 15, 1, 5, 9, 13, 7, 4, 17];
 
-/// One of 16, which looks like chance, for a place of the heap of this number.
+/// A pseudo-random choice for a place in the heap with this number.
 fn choice(heap: u64, place: u64, of: &[u64; 16]) -> u64 {
     let number = heap.wrapping_mul(32).wrapping_add(place);
     let mixed = number.wrapping_mul(0x9E37_79B9_7F4A_7C15);
@@ -123,7 +124,7 @@ fn roots_of(alloc: Global, heap: u64) -> Result<Vec<u64>, AllocError> {
     )
 }
 
-/// A heap, its objects that were found by a plain marking program, and those that were found and not followed yet.
+/// A plain marking program: a heap, the objects found so far, and those whose references are still to be followed.
 #[derive(Drop)]
 struct Search<'a> {
     words: &'a [u64],
@@ -132,7 +133,7 @@ struct Search<'a> {
 }
 
 impl Search<'_> {
-    /// The word at `a`, or 0 behind the heap.
+    /// The word at `a`, or 0 past the heap.
     fn word(&self, a: u64) -> u64 {
         self.words.get(a as usize).copied().unwrap_or(0)
     }
@@ -149,12 +150,12 @@ impl Search<'_> {
             && self.end(a) <= self.words.len() as u64
     }
 
-    /// The reference of this number of the object at `a`.
+    /// The reference in this field of the object at `a`.
     fn reference(&self, a: u64, field: u32) -> u64 {
         self.word(a.wrapping_add(u64::from(field)).wrapping_add(1))
     }
 
-    /// Finds what a root or a reference leads to.
+    /// Finds the target of a root or a reference.
     fn find(&mut self, reference: u64) -> Result<(), AllocError> {
         if reference == 0 || reference > self.words.len() as u64 {
             return Ok(());
@@ -165,7 +166,7 @@ impl Search<'_> {
         Ok(())
     }
 
-    /// Finds what the object at `a` refers to.
+    /// Finds the targets of the object at `a`.
     fn follow(&mut self, a: u64) -> Result<(), AllocError> {
         if self.is_sound(a) {
             for field in 0..header::references(self.word(a)) {
@@ -175,7 +176,7 @@ impl Search<'_> {
         Ok(())
     }
 
-    /// Finds what these roots lead to.
+    /// Finds the targets of these roots.
     fn find_all(&mut self, roots: &[u64]) -> Result<(), AllocError> {
         for root in roots {
             self.find(*root)?;
@@ -183,7 +184,7 @@ impl Search<'_> {
         Ok(())
     }
 
-    /// Finds all that is reached from what was found.
+    /// Finds all objects that are reachable from those found so far.
     fn follow_all(&mut self) -> Result<(), AllocError> {
         for _ in 0..self.words.len() {
             if let Some(a) = self.queue.pop_front() {
@@ -193,13 +194,13 @@ impl Search<'_> {
         Ok(())
     }
 
-    /// The first object that is unsound.
+    /// The fault of the first unsound object.
     fn unsound(&self) -> Option<Fault> {
         let mut found = self.found.iter().copied();
         found.find(|a| !self.is_sound(*a)).map(Fault::Header)
     }
 
-    /// The first object that begins before the end of another.
+    /// The fault of the first object that begins before the end of the one before it.
     fn overlapping(&self) -> Option<Fault> {
         let mut end = 0;
         for a in self.found.iter() {
@@ -211,7 +212,7 @@ impl Search<'_> {
         None
     }
 
-    /// The first field of the object at `a` that leads out of the heap.
+    /// The fault of the first field of the object at `a` that leads out of the heap.
     fn beyond_from(&self, a: u64) -> Option<Fault> {
         let mut fields = 0..header::references(self.word(a));
         fields
@@ -219,13 +220,13 @@ impl Search<'_> {
             .map(|field| Fault::Reference(a, field))
     }
 
-    /// The first reference that leads out of the heap.
+    /// The fault of the first reference that leads out of the heap.
     fn beyond(&self) -> Option<Fault> {
         let mut found = self.found.iter().copied();
         found.find_map(|a| self.beyond_from(a))
     }
 
-    /// What is first wrong with these roots or what they reach.
+    /// The first fault of these roots and of the objects found.
     fn fault(&self, roots: &[u64]) -> Option<Fault> {
         let outside = roots
             .iter()
@@ -238,8 +239,8 @@ impl Search<'_> {
     }
 }
 
-/// What a plain marking program says of a heap, by a queue and a set: its live objects, or what is first wrong.
-fn plainly_marked(
+/// Marks a heap by the plain program, and returns its live objects or its first fault.
+fn mark_plainly(
     alloc: Global,
     words: &[u64],
     roots: &[u64],
@@ -257,17 +258,17 @@ fn plainly_marked(
     }
 }
 
-/// Whether the small heap of this number is read as the plain program says.
+/// Whether reading the small heap with this number agrees with the plain program.
 fn agrees(rt: &(impl Abort + Threads + Sync), alloc: Global, heap: u64) -> Result<bool, Fault> {
     let words = words_of(alloc, heap)?;
     let roots = roots_of(alloc, heap)?;
-    match plainly_marked(alloc, &words, &roots)? {
+    match mark_plainly(alloc, &words, &roots)? {
         Ok(live) => is_live(rt, alloc, &words, &roots, &live),
         Err(fault) => Ok(found_fault(rt, alloc, &words, &roots)? == fault),
     }
 }
 
-/// The fault of a heap that must be refused.
+/// The fault of an invalid heap.
 fn found_fault(
     rt: &(impl Abort + Threads + Sync),
     alloc: Global,
@@ -275,11 +276,11 @@ fn found_fault(
     roots: &[u64],
 ) -> Result<Fault, AllocError> {
     let text = text_with_roots(alloc, words, roots)?;
-    Ok(refused(rt, decode_by_threads(alloc, &text, rt)))
+    Ok(expect_fault(rt, decode_by_threads(alloc, &text, rt)))
 }
 
 #[test]
-fn small_heaps_are_read_as_a_plain_program_marks_them(rt: HostRuntime) -> Result<(), Fail> {
+fn small_heaps_agree_with_a_plain_marking_program(rt: HostRuntime) -> Result<(), Fail> {
     for heap in 0..6_000u64 {
         holds_at(&rt, agrees(&rt, rt.alloc(), heap)?, heap as usize);
     }

@@ -1,5 +1,5 @@
-//! Texts that are refused, and the texts of the faults.
-use crate::answers::{fault_of, refused};
+//! Tests of invalid images, and of the messages of the faults.
+use crate::answers::{expect_fault, fault_of};
 use crate::checks::{equal, equal_at, holds};
 use crate::texts::{front, regions_of};
 use heap_image::{Fault, decode_by_threads, header};
@@ -9,7 +9,7 @@ use std::process::Abort;
 use std::test::Fail;
 use std::thread::Threads;
 
-/// The words of the small heap, of which one is changed so that two objects overlap.
+/// The words of a small heap in which two objects overlap.
 const OVERLAPPING: [u64; 8] = [
     0x0100_0000_0000_0001,
     999,
@@ -22,7 +22,7 @@ const OVERLAPPING: [u64; 8] = [
 ];
 
 #[test]
-fn each_beginning_is_refused(rt: HostRuntime) -> Result<(), Fail> {
+fn each_proper_prefix_is_rejected(rt: HostRuntime) -> Result<(), Fail> {
     for (base, bytes) in [(Base::WithLiveList, 320), (Base::WithRoots, 304)] {
         let mut text = base.text(rt.alloc(), 0)?;
         equal(&rt, text.len(), bytes);
@@ -34,7 +34,7 @@ fn each_beginning_is_refused(rt: HostRuntime) -> Result<(), Fail> {
     Ok(())
 }
 
-/// Fails where a beginning of this text is not refused by its length.
+/// Fails if a proper prefix of this text has another fault than its length calls for.
 fn try_beginnings(rt: &(impl Abort + Threads + Sync), alloc: Global, text: &[u8]) {
     for n in 0..text.len() {
         let fault = if n < 32 {
@@ -63,7 +63,7 @@ fn limits_of_the_front(rt: HostRuntime) {
     }
 }
 
-/// Fails where the text of these words and live addresses is not refused so, also where a byte follows.
+/// Fails if the text of these words and live addresses, with or without a trailing byte, has another fault.
 fn try_refused(
     rt: &(impl Abort + Threads + Sync),
     alloc: Global,
@@ -78,7 +78,7 @@ fn try_refused(
     Ok(())
 }
 
-/// Fails where the base heap with one of its words changed is not refused so.
+/// Fails if the base heap with one word changed has another fault. Each row is an address, a word and a fault.
 fn try_words(
     rt: &(impl Abort + Threads + Sync),
     alloc: Global,
@@ -94,7 +94,7 @@ fn try_words(
 }
 
 #[test]
-fn changed_images_are_refused(rt: HostRuntime) -> Result<(), Fail> {
+fn changed_images_are_rejected(rt: HostRuntime) -> Result<(), Fail> {
     let lists = [
         ([0, 5, 5, 20], Fault::LiveOrder(2)),
         ([0, 3, 12, 20], Fault::Header(3)),
@@ -108,7 +108,7 @@ fn changed_images_are_refused(rt: HostRuntime) -> Result<(), Fail> {
 }
 
 #[test]
-fn malicious_images_are_refused(rt: HostRuntime) -> Result<(), Fail> {
+fn malicious_images_are_rejected(rt: HostRuntime) -> Result<(), Fail> {
     let changes = [
         (0, 0x0100_0000_FFFF_FFFF, Fault::Header(0)),
         (12, 0x0100_0002_0000_0002, Fault::Header(12)),
@@ -123,8 +123,8 @@ fn malicious_images_are_refused(rt: HostRuntime) -> Result<(), Fail> {
 /// The header of an object of two words, of which the second is a reference.
 pub const PAIR: u64 = 0x0100_0001_0000_0002;
 
-/// The text of a heap of 4,096 such objects, each with a reference to itself, but for one of its numbers: its 8,192 words
-/// and then its live addresses. The objects are so many that several threads check them.
+/// The text of a heap of 4,096 such objects, each with a reference to itself, with one number replaced. Numbers count
+/// through the 8,192 words and then the live addresses. There are enough objects for several threads.
 fn pairs_but(alloc: Global, at: u64, number: u64) -> Result<Vec<u8>, AllocError> {
     let own_word = |a: u64| if a % 2 == 0 { PAIR } else { a };
     let word = |a: u64| if a == at { number } else { own_word(a) };
@@ -150,14 +150,14 @@ fn many_objects_are_checked_by_several_threads(rt: HostRuntime) -> Result<(), Fa
     ];
     for (at, number, fault) in changes {
         let text = pairs_but(rt.alloc(), at, number)?;
-        let found = refused(&rt, decode_by_threads(rt.alloc(), text.as_slice(), &rt));
+        let found = expect_fault(&rt, decode_by_threads(rt.alloc(), text.as_slice(), &rt));
         equal(&rt, found, fault);
     }
     Ok(())
 }
 
 #[test]
-fn faults_have_their_texts(rt: HostRuntime) -> Result<(), Fail> {
+fn faults_have_their_messages(rt: HostRuntime) -> Result<(), Fail> {
     let texts = [
         (Fault::TruncatedHeader, "1 truncated header"),
         (Fault::Magic, "2 magic"),
@@ -183,7 +183,7 @@ fn faults_have_their_texts(rt: HostRuntime) -> Result<(), Fail> {
     Ok(())
 }
 
-/// Fails where a fault has another text.
+/// Fails if a fault has another message.
 fn check_text(rt: &impl Abort, alloc: Global, fault: Fault, text: &str) -> Result<(), Fail> {
     let found = format!(in alloc; "{fault}")?;
     equal(rt, found.as_str(), text);

@@ -1,4 +1,4 @@
-//! Regions of words that are written, copied, moved and cleared.
+//! Tests of `raw_region`.
 use crate::checks::{equal, equal_words, holds};
 use raw_region::{MAX_WORDS, Region};
 use std::test::Fail;
@@ -79,13 +79,13 @@ fn zeros_are_copied_from_a_cleared_region(rt: HostRuntime) -> Result<(), Fail> {
     Ok(())
 }
 
-/// Whether each word of a region is this.
+/// Whether each word of a region equals `word`.
 fn is_full_of(region: &Region, word: u64) -> bool {
     region.words().iter().all(|&it| it == word)
 }
 
 #[test]
-fn the_least_and_the_largest(rt: HostRuntime) -> Result<(), Fail> {
+fn the_smallest_and_the_largest_region(rt: HostRuntime) -> Result<(), Fail> {
     let mut least = Region::new(rt.alloc(), 1)?;
     let mut largest = Region::new(rt.alloc(), MAX_WORDS)?;
     holds(&rt, is_full_of(&largest, 0));

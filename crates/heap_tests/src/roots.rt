@@ -1,5 +1,5 @@
-//! Images with roots: the worked ones, and those that are refused.
-use crate::answers::{are_right, comes_through, fault_of, is_text, refused};
+//! Tests of valid and invalid images with roots.
+use crate::answers::{are_right, comes_through, expect_fault, fault_of, is_text};
 use crate::checks::{equal, equal_words, holds, holds_at};
 use crate::devices::Trickle;
 use crate::texts::base_text;
@@ -12,7 +12,7 @@ use std::process::Abort;
 use std::test::Fail;
 use std::thread::Threads;
 
-/// The header of an object of so many words, the first of which are references.
+/// The header of an object of `size` words, header included, that begins with `references` references.
 pub const fn object(size: u64, references: u64) -> u64 {
     1 << 56 | references << 32 | size
 }
@@ -22,7 +22,7 @@ pub fn text_with_roots(alloc: Global, words: &[u64], roots: &[u64]) -> Result<Ve
     rooted_text(alloc, Settings::of_base(0), words, roots)
 }
 
-/// Whether an image with roots comes through whole, with these live objects.
+/// Whether an image with roots is read and decoded unchanged, with these live objects.
 pub fn is_live(
     rt: &(impl Threads + Sync),
     alloc: Global,
@@ -58,7 +58,7 @@ fn is_decoded(
     Ok(is_text && image.live() == live)
 }
 
-/// Fails where these words with these roots don't have these live objects. Each row is roots and live objects.
+/// Fails if these words with these roots don't have these live objects. Each row is roots and live objects.
 pub fn try_live(
     rt: &(impl Abort + Threads + Sync),
     alloc: Global,
@@ -95,17 +95,17 @@ fn roots_come_in_any_order_and_number(rt: HostRuntime) -> Result<(), Fail> {
     Ok(())
 }
 
-/// The fault of this text where the reader fails behind it.
+/// The fault of this text if the reader fails after it.
 fn broken_fault(rt: &(impl Abort + Threads + Sync), alloc: Global, text: &[u8]) -> Fault {
     let mut broken = FromRead::new(Trickle {
         bytes: text,
         step: 7,
         limit: text.len(),
     });
-    refused(rt, read_image_by_threads(alloc, &mut broken, rt))
+    expect_fault(rt, read_image_by_threads(alloc, &mut broken, rt))
 }
 
-/// The faults of a heap: where the reader fails behind its text, of all of it, and where a byte follows.
+/// The faults of a heap: if the reader fails after its text, if it ends there, and if a byte follows.
 fn faults_of(
     rt: &(impl Abort + Threads + Sync),
     alloc: Global,
@@ -119,7 +119,7 @@ fn faults_of(
     Ok([broken, whole, fault_of(rt, alloc, text.as_slice())])
 }
 
-/// Fails where these words with these roots are not refused so. Each row is roots and a fault.
+/// Fails if these words with these roots have another fault. Each row is roots and a fault.
 fn try_refused(
     rt: &(impl Abort + Threads + Sync),
     alloc: Global,
@@ -133,7 +133,7 @@ fn try_refused(
 }
 
 #[test]
-fn roots_outside_the_heap_are_refused_first(rt: HostRuntime) -> Result<(), Fail> {
+fn roots_outside_the_heap_are_reported_first(rt: HostRuntime) -> Result<(), Fail> {
     let rows: [(&[u64], Fault); 4] = [
         (&[4, 33], Fault::Root(1)),
         (&[21, 0, u64::MAX, 33], Fault::Root(2)),
@@ -145,11 +145,11 @@ fn roots_outside_the_heap_are_refused_first(rt: HostRuntime) -> Result<(), Fail>
 }
 
 #[test]
-fn unsound_objects_are_refused(rt: HostRuntime) -> Result<(), Fail> {
+fn unsound_objects_are_rejected(rt: HostRuntime) -> Result<(), Fail> {
     let mut words = BASE_WORDS;
     let rows: [(&[u64], Fault); 2] = [(&[4], Fault::Header(3)), (&[15, 4, 32], Fault::Header(3))];
     try_refused(&rt, rt.alloc(), &words, &rows)?;
-    // Found from a root, and from two objects.
+    // The object is reached from a root, and from two objects.
     (words[1], words[6]) = (4, 4);
     try_refused(&rt, rt.alloc(), &words, &[(&[4, 21, 4], Fault::Header(3))])?;
     // A header comes before a reference out of the heap.
@@ -159,7 +159,7 @@ fn unsound_objects_are_refused(rt: HostRuntime) -> Result<(), Fail> {
 }
 
 #[test]
-fn references_out_of_the_heap_are_refused(rt: HostRuntime) -> Result<(), Fail> {
+fn references_out_of_the_heap_are_rejected(rt: HostRuntime) -> Result<(), Fail> {
     let mut words = BASE_WORDS;
     (words[23], words[24]) = (33, u64::MAX);
     try_refused(&rt, rt.alloc(), &words, &[(&[21], Fault::Reference(20, 2))])?;
@@ -170,14 +170,14 @@ fn references_out_of_the_heap_are_refused(rt: HostRuntime) -> Result<(), Fail> {
         &words,
         &[(&[21, 1], Fault::Reference(0, 0))],
     )?;
-    // What isn't reached may refer to anything.
+    // An object that isn't reachable may have any references.
     (words[1], words[2]) = (6, 0);
     try_live(&rt, rt.alloc(), &words, &[(&[6], &[0, 5, 12])])?;
     Ok(())
 }
 
 #[test]
-fn only_what_is_reached_may_not_overlap(rt: HostRuntime) -> Result<(), Fail> {
+fn only_reachable_objects_must_not_overlap(rt: HostRuntime) -> Result<(), Fail> {
     let inner = [object(3, 0), object(4, 0), 0, 0, 0, 0, 0, 0];
     try_live(&rt, rt.alloc(), &inner, &[(&[1], &[0]), (&[2], &[1])])?;
     try_refused(&rt, rt.alloc(), &inner, &[(&[2, 1], Fault::Overlap(1))])?;
@@ -197,8 +197,8 @@ fn only_what_is_reached_may_not_overlap(rt: HostRuntime) -> Result<(), Fail> {
     Ok(())
 }
 
-/// What the base heap's roots reach by the call that marks, for as many roots as it has live objects.
-fn marked_in_base(
+/// Marks the base heap from at most as many roots as it has live objects.
+fn mark_base(
     alloc: Global,
     threads: &(impl Threads + Sync),
     roots: &[u64],
@@ -213,20 +213,20 @@ fn marked_in_base(
 }
 
 #[test]
-fn the_call_that_marks_says_the_same(rt: HostRuntime) -> Result<(), Fail> {
-    let live = marked_in_base(rt.alloc(), &rt, &BASE_ROOTS)?;
+fn mark_from_roots_finds_the_same_objects(rt: HostRuntime) -> Result<(), Fail> {
+    let live = mark_base(rt.alloc(), &rt, &BASE_ROOTS)?;
     equal_words(&rt, live.as_slice(), &BASE_LIVE);
-    let none = marked_in_base(rt.alloc(), &rt, &[0, 0, 0, 0])?;
+    let none = mark_base(rt.alloc(), &rt, &[0, 0, 0, 0])?;
     holds(&rt, none.is_empty());
     let rows: [(&[u64], Fault); 2] = [(&[4], Fault::Header(3)), (&[4, 33], Fault::Root(1))];
     for (roots, fault) in rows {
-        let found = marked_in_base(rt.alloc(), &rt, roots).err();
+        let found = mark_base(rt.alloc(), &rt, roots).err();
         equal(&rt, found, Some(fault));
     }
     Ok(())
 }
 
-/// An object's data, a dead object and a filler, each with what looks like headers and references.
+/// Data of an object, a dead object and a filler contain words that look like headers and references.
 #[test]
 fn what_looks_like_an_object_is_dead(rt: HostRuntime) -> Result<(), Fail> {
     let words = [
@@ -243,16 +243,16 @@ fn what_looks_like_an_object_is_dead(rt: HostRuntime) -> Result<(), Fail> {
     Ok(())
 }
 
-/// Whether the base with roots and allowance 2 comes through each call that takes memory.
+/// Whether the base heap with roots and allowance 2 comes unchanged through each call that allocates memory.
 fn base_comes_through(alloc: Global, threads: &(impl Threads + Sync)) -> Result<bool, Fault> {
-    let marked = marked_in_base(alloc, threads, &BASE_ROOTS)?;
+    let marked = mark_base(alloc, threads, &BASE_ROOTS)?;
     let text = Base::WithRoots.text(alloc, 2)?;
     Ok(marked.as_slice() == BASE_LIVE.as_slice() && comes_through(alloc, threads, &text)?)
 }
 
-/// The script tests/crate-allocations runs this with each allocation refused in turn.
+/// A script runs this with each allocation refused in turn.
 #[test]
-fn refused_memory_is_told(rt: HostRuntime) {
+fn refused_memory_is_reported(rt: HostRuntime) {
     let answers = [
         base_comes_through(rt.alloc(), &rt),
         base_comes_through(rt.alloc(), &rt),

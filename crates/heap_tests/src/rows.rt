@@ -1,11 +1,11 @@
-//! Threads in a row, which share a list.
+//! Tests of `thread_row`.
 ghost use Rattle.std.specs.Prelude.{◌≡◌, ◌+◌, ◌<◌};
 
 use crate::checks::equal;
 use std::thread::Threads;
 use thread_row::{behind_an_empty_thread, for_each_mut};
 
-/// The list after so many threads have changed it, with each place's number added to 1.
+/// A list of ones after at most `most` threads have added to each element its index.
 fn numbered(threads: &(impl Threads + Sync), most: usize) -> [usize; 10]
     requires { 0 < most }
 {
@@ -23,13 +23,13 @@ fn numbered(threads: &(impl Threads + Sync), most: usize) -> [usize; 10]
 }
 
 #[test]
-fn each_place_is_changed_by_its_call(rt: HostRuntime) {
+fn each_element_is_changed_once(rt: HostRuntime) {
     for threads in [1, 2, 3, 4, 64] {
         equal(&rt, numbered(&rt, threads), [1, 2, 3, 4, 5, 6, 7, 8, 9, 10]);
     }
 }
 
 #[test]
-fn what_is_called_gives_its_answer(rt: HostRuntime) {
+fn a_call_beside_an_empty_thread_returns_its_result(rt: HostRuntime) {
     equal(&rt, behind_an_empty_thread(&rt, || 7u32), 7);
 }

@@ -1,4 +1,4 @@
-//! Heaps made from seeds, whose marks are compared with plain searches and counts over their objects.
+//! Compares the marks of pseudo-random heaps with plain searches and counts over their objects.
 ghost use Rattle.std.specs.Prelude.{◌≡◌, ◌≤◌};
 ghost use Rattle.heap_image.specs.HeapImage.{heap_words};
 
@@ -11,7 +11,7 @@ use std::process::Abort;
 use std::test::Fail;
 use std::thread::Threads;
 
-/// Numbers that look like chance, the same in each run.
+/// A pseudo-random generator with a fixed seed.
 #[derive(Drop)]
 struct Seed(u64);
 
@@ -25,7 +25,7 @@ impl Seed {
     }
 }
 
-/// Objects in a heap of so many words: every second one of one word, and every other one without dead words before it.
+/// Objects in a heap of `len` words: every second one has one word, and two of three have no dead words before them.
 fn seeded_objects(alloc: Global, mut seed: Seed, len: u64) -> Result<Vec<Object>, AllocError> {
     let mut objects = Vec::new(alloc);
     let mut end: u64 = 0;
@@ -60,7 +60,7 @@ fn is_live(objects: &[Object], a: u64) -> bool {
         .any(|(begin, size)| *begin <= a && a - *begin < *size)
 }
 
-/// Whether the first addresses from this one on are those that a search finds.
+/// Whether the first addresses from this one on are those of a plain search.
 fn firsts_agree(marks: &Marks, objects: &[Object], from: u64, len: u64) -> bool {
     marks.is_begin(from) == is_begin(objects, from)
         && marks.is_end(from) == is_end(objects, from)
@@ -69,10 +69,10 @@ fn firsts_agree(marks: &Marks, objects: &[Object], from: u64, len: u64) -> bool 
         && marks.next_live(from) == (from..len).find(|a| is_live(objects, *a))
 }
 
-/// How far from an address the bounds of its searches lie at most: in the next word of 64 bits.
+/// The greatest distance of a bound from the start of a search, which takes it into the next word of 64 bits.
 const REACH: u64 = 66;
 
-/// Whether the first addresses from this one on, below each bound in reach, are those of one pass.
+/// Whether the first addresses from this one on and below each bound in reach are those of a single pass.
 fn bounded_firsts_agree(marks: &Marks, objects: &[Object], from: u64, len: u64) -> bool {
     let mut begin: Option<u64> = None;
     let mut live: Option<u64> = None;
@@ -92,7 +92,7 @@ fn bounded_firsts_agree(marks: &Marks, objects: &[Object], from: u64, len: u64) 
     true
 }
 
-/// Whether the counts of live words from this address on are those of one pass.
+/// Whether the counts of live words from this address on are those of a single pass.
 fn counts_agree(marks: &Marks, objects: &[Object], from: u64, len: u64) -> bool
     requires { len ≤ heap_words marks.now }
 {
@@ -106,7 +106,7 @@ fn counts_agree(marks: &Marks, objects: &[Object], from: u64, len: u64) -> bool
     true
 }
 
-/// Whether each 64 addresses in a row have the live bits of their words.
+/// Whether all live bits are right.
 fn live_bits_agree(marks: &Marks, objects: &[Object], len: u64) -> bool
     requires { len ≤ heap_words marks.now }
 {
@@ -119,7 +119,7 @@ fn live_bits_agree(marks: &Marks, objects: &[Object], len: u64) -> bool
     true
 }
 
-/// Whether each object has its size.
+/// Whether all sizes are right.
 fn sizes_agree(marks: &Marks, objects: &[Object]) -> bool {
     for (begin, size) in objects {
         if !marks.is_begin(*begin) || marks.size_at(*begin) != *size {
@@ -129,7 +129,7 @@ fn sizes_agree(marks: &Marks, objects: &[Object]) -> bool {
     true
 }
 
-/// Whether the marks of the heap that this seed makes are those that are searched and counted.
+/// Whether the marks of the heap with this seed agree with plain searches and counts.
 fn seed_agrees(
     rt: &(impl Abort + Threads + Sync),
     alloc: Global,
@@ -156,7 +156,7 @@ fn marks_agree(marks: &Marks, objects: &[Object], len: u64) -> bool
 }
 
 #[test]
-fn seeded_heaps_have_the_marks_that_are_counted(rt: HostRuntime) -> Result<(), Fail> {
+fn marks_of_random_heaps_agree_with_plain_counts(rt: HostRuntime) -> Result<(), Fail> {
     for seed in 0..20u64 {
         let small = seed_agrees(&rt, rt.alloc(), seed, (3, 24))?;
         let large = seed_agrees(&rt, rt.alloc(), seed, (7, 384))?;

@@ -1,4 +1,4 @@
-//! Bodies that are read by several threads out of a store.
+//! Tests of bodies that several threads read from a store.
 use crate::checks::{equal, holds_at};
 use heap_image::{Body, BodySize, Extent, Failed, Store, body_at};
 use raw_region::Region;
@@ -6,27 +6,27 @@ use std::alloc::{AllocError, Global};
 use std::test::Fail;
 use std::thread::Threads;
 
-/// A body that is worth several threads. Its numbers are more than the share of one of three.
+/// A body that is large enough for several threads. Its numbers are more than the share of one of three threads.
 const SIZE: BodySize = BodySize {
     region_log: 9,
     regions: 500,
     numbers: 150_000,
 };
 
-/// How many words its regions have.
+/// The number of words of its regions.
 const REGION_WORDS: u64 = 500 * 512;
 
-/// How many words that body has.
+/// The number of words of the body.
 const WORDS: u64 = REGION_WORDS + 150_000;
 
-/// Bytes in memory, of which those behind a place can't be taken.
+/// Bytes in memory. Reading at offset `fails_from` or above fails.
 #[derive(Drop)]
-struct Kept<'a> {
+struct Failing<'a> {
     bytes: &'a [u8],
     fails_from: usize,
 }
 
-impl Store for Kept<'_> {
+impl Store for Failing<'_> {
     ghost use Rattle.std.specs.Prelude.{None};
 
     ghost bytes = { λ _. None };
@@ -36,19 +36,19 @@ impl Store for Kept<'_> {
         if at >= self.fails_from {
             return Err(Failed);
         }
-        // No more than some at a time, as a device may.
+        // A device may return fewer bytes than requested.
         let n = (self.bytes.len() - at).min(buffer.len()).min(1000);
         buffer[..n].copy_from_slice(&self.bytes[at..at + n]);
         Ok(n)
     }
 }
 
-/// Another word for each.
+/// A word that differs for each index.
 fn mixed(word: u64) -> u64 {
     word.wrapping_mul(0x9E37_79B9_7F4A_7C15)
 }
 
-/// Bytes of which no two words in a row are equal.
+/// The bytes of the first of these words.
 fn bytes_of_words(alloc: Global, words: u64) -> Result<Vec<u8>, AllocError> {
     let mut bytes = Vec::new(alloc);
     for word in 0..words {
@@ -57,7 +57,7 @@ fn bytes_of_words(alloc: Global, words: u64) -> Result<Vec<u8>, AllocError> {
     Ok(bytes)
 }
 
-/// Whether these are the words from this one on.
+/// Whether these are the words from index `first` on.
 fn are_from(words: &[u64], first: u64) -> bool {
     let mut word = first;
     let mut same = true;
@@ -68,7 +68,7 @@ fn are_from(words: &[u64], first: u64) -> bool {
     same
 }
 
-/// Whether the regions have the words from this one on.
+/// Whether the regions have the words from index `first` on.
 fn regions_are_from(regions: &[Region], first: u64) -> bool {
     let mut word = first;
     let mut same = true;
@@ -79,7 +79,7 @@ fn regions_are_from(regions: &[Region], first: u64) -> bool {
     same
 }
 
-/// Whether a body has all its words, from this one on.
+/// Whether a body has all its words, from index `first` on.
 fn is_whole(body: &Body, first: u64) -> bool {
     let sizes = (body.regions.len(), body.tail.len());
     sizes == (SIZE.regions, SIZE.numbers)
@@ -87,9 +87,14 @@ fn is_whole(body: &Body, first: u64) -> bool {
         && are_from(body.tail.as_slice(), first.wrapping_add(REGION_WORDS))
 }
 
-/// Whether so many threads at most read the words from the sixth on.
-fn are_read(threads: &(impl Threads + Sync), alloc: Global, kept: &Kept<'_>, most: usize) -> bool {
-    match body_at(alloc, kept, Extent { at: 40, size: SIZE }, most, threads) {
+/// Whether at most `most` threads read the words from index 5 on.
+fn are_read(
+    threads: &(impl Threads + Sync),
+    alloc: Global,
+    store: &Failing<'_>,
+    most: usize,
+) -> bool {
+    match body_at(alloc, store, Extent { at: 40, size: SIZE }, most, threads) {
         Some(body) => is_whole(&body, 5),
         None => false,
     }
@@ -98,29 +103,29 @@ fn are_read(threads: &(impl Threads + Sync), alloc: Global, kept: &Kept<'_>, mos
 #[test]
 fn each_word_is_read_by_any_number_of_threads(rt: HostRuntime) -> Result<(), Fail> {
     let bytes = bytes_of_words(rt.alloc(), 5 + WORDS)?;
-    let kept = Kept {
+    let store = Failing {
         bytes: bytes.as_slice(),
         fails_from: usize::MAX,
     };
     for most in [0, 1, 2, 3, 4, 8, 64] {
-        holds_at(&rt, are_read(&rt, rt.alloc(), &kept, most), most);
+        holds_at(&rt, are_read(&rt, rt.alloc(), &store, most), most);
     }
     Ok(())
 }
 
-/// Whether so many threads at most get no body that begins with the first of these bytes.
-fn is_lacking(
+/// Whether at most `most` threads find no body at offset 0 of these bytes.
+fn is_missing(
     threads: &(impl Threads + Sync),
     alloc: Global,
     (bytes, fails_from): (&[u8], usize),
     most: usize,
 ) -> bool {
-    let kept = Kept { bytes, fails_from };
-    body_at(alloc, &kept, Extent { at: 0, size: SIZE }, most, threads).is_none()
+    let store = Failing { bytes, fails_from };
+    body_at(alloc, &store, Extent { at: 0, size: SIZE }, most, threads).is_none()
 }
 
 #[test]
-fn a_byte_that_lacks_or_fails_gives_none(rt: HostRuntime) -> Result<(), Fail> {
+fn a_missing_or_failing_byte_gives_none(rt: HostRuntime) -> Result<(), Fail> {
     let bytes = bytes_of_words(rt.alloc(), WORDS)?;
     let last = bytes.len().saturating_sub(1);
     let stores = [
@@ -130,10 +135,10 @@ fn a_byte_that_lacks_or_fails_gives_none(rt: HostRuntime) -> Result<(), Fail> {
         (bytes.as_slice(), last / 8 * 7),
     ];
     for store in stores {
-        let is_told = [1, 2, 4]
+        let is_reported = [1, 2, 4]
             .iter()
-            .all(|most| is_lacking(&rt, rt.alloc(), store, *most));
-        holds_at(&rt, is_told, store.1);
+            .all(|most| is_missing(&rt, rt.alloc(), store, *most));
+        holds_at(&rt, is_reported, store.1);
     }
     Ok(())
 }

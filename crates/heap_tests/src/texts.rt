@@ -1,4 +1,4 @@
-//! Texts of the base heap, and fronts that nothing has to stand behind.
+//! The text of the base heap, and fronts without a body.
 use heap_samples::{Base, Settings};
 use std::alloc::{AllocError, Global};
 
@@ -12,7 +12,7 @@ pub fn front(region_log: u32, live_count: u32, words: u64) -> [u8; 32] {
     front
 }
 
-/// Regions of this log, and no allowance.
+/// Settings with this region log, and no allowance.
 pub fn regions_of(region_log: u64) -> Settings {
     Settings {
         region_log,

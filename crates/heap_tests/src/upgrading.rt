@@ -1,4 +1,4 @@
-//! Images with a live list, upgraded to ones with roots.
+//! Tests of the upgrade from version 1 to version 2.
 use crate::answers::{are_right, is_text};
 use crate::checks::{equal, equal_at, equal_bytes, equal_words, holds};
 use crate::devices::{Full, Trickle};
@@ -13,26 +13,26 @@ use std::process::Abort;
 use std::test::Fail;
 use std::thread::Threads;
 
-/// The roots of the upgraded base.
+/// The roots of the upgraded base heap.
 const ROOTS: [u64; 4] = [1, 6, 13, 21];
 
-/// The number of roots that `upgrade_stream` answers, and what it writes.
-fn upgraded(alloc: Global, bytes: &[u8]) -> (Result<u32, Fault>, Vec<u8>) {
+/// Upgrades a stream, and returns the result and the bytes that are written.
+fn upgrade_bytes(alloc: Global, bytes: &[u8]) -> (Result<u32, Fault>, Vec<u8>) {
     let mut writer = ToWrite::new(Vec::new(alloc));
     let answer = upgrade_stream(alloc, &mut FromRead::new(bytes), &mut writer);
     (answer, writer.into_inner())
 }
 
 #[test]
-fn the_base_is_upgraded_and_stays_so(rt: HostRuntime) -> Result<(), Fail> {
-    let (count, text) = upgraded(rt.alloc(), base_text(rt.alloc())?.as_slice());
+fn the_base_heap_is_upgraded_once(rt: HostRuntime) -> Result<(), Fail> {
+    let (count, text) = upgrade_bytes(rt.alloc(), base_text(rt.alloc())?.as_slice());
     equal(&rt, count, Ok(4));
     equal(&rt, text.len(), 320);
     let wanted = text_with_roots(rt.alloc(), &BASE_WORDS, &ROOTS)?;
     equal_bytes(&rt, text.as_slice(), wanted.as_slice());
     let image = decode_by_threads(rt.alloc(), text.as_slice(), &rt)?;
     equal_words(&rt, image.live(), &BASE_LIVE);
-    let (count, again) = upgraded(rt.alloc(), text.as_slice());
+    let (count, again) = upgrade_bytes(rt.alloc(), text.as_slice());
     equal(&rt, count, Ok(4));
     equal_bytes(&rt, again.as_slice(), text.as_slice());
     Ok(())
@@ -42,7 +42,7 @@ fn the_base_is_upgraded_and_stays_so(rt: HostRuntime) -> Result<(), Fail> {
 fn a_heap_with_no_object_has_no_root(rt: HostRuntime) -> Result<(), Fail> {
     let words = [999; 32];
     let old = image_text(rt.alloc(), Settings::of_base(0), &words, &[])?;
-    let (count, text) = upgraded(rt.alloc(), old.as_slice());
+    let (count, text) = upgrade_bytes(rt.alloc(), old.as_slice());
     equal(&rt, count, Ok(0));
     equal(&rt, text.len(), 288);
     let wanted = text_with_roots(rt.alloc(), &words, &[])?;
@@ -51,10 +51,10 @@ fn a_heap_with_no_object_has_no_root(rt: HostRuntime) -> Result<(), Fail> {
 }
 
 #[test]
-fn no_beginning_of_an_image_is_upgraded(rt: HostRuntime) -> Result<(), Fail> {
+fn no_proper_prefix_of_an_image_is_upgraded(rt: HostRuntime) -> Result<(), Fail> {
     let text = base_text(rt.alloc())?;
     for n in 0..text.len() {
-        let (answer, written) = upgraded(rt.alloc(), &text[..n]);
+        let (answer, written) = upgrade_bytes(rt.alloc(), &text[..n]);
         let fault = if n < 32 {
             Fault::TruncatedHeader
         } else {
@@ -65,9 +65,13 @@ fn no_beginning_of_an_image_is_upgraded(rt: HostRuntime) -> Result<(), Fail> {
     Ok(())
 }
 
-/// What an upgrade answers where the reader fails at byte `limit`, which of both devices have failed then, and how much is
-/// written.
-fn broken(alloc: Global, text: &[u8], limit: usize) -> (Result<u32, Fault>, [bool; 2], usize) {
+/// Upgrades a stream whose reader fails at byte `limit`. Returns the result, whether the reader and the writer have
+/// failed, and the number of bytes that are written.
+fn upgrade_broken(
+    alloc: Global,
+    text: &[u8],
+    limit: usize,
+) -> (Result<u32, Fault>, [bool; 2], usize) {
     let mut reader = FromRead::new(Trickle {
         bytes: text,
         step: 7,
@@ -83,14 +87,14 @@ fn broken(alloc: Global, text: &[u8], limit: usize) -> (Result<u32, Fault>, [boo
 fn a_reader_fails_at_each_byte(rt: HostRuntime) -> Result<(), Fail> {
     let text = base_text(rt.alloc())?;
     for limit in 0..=text.len() {
-        let found = broken(rt.alloc(), text.as_slice(), limit);
+        let found = upgrade_broken(rt.alloc(), text.as_slice(), limit);
         equal_at(&rt, found, (Err(Fault::Io), [true, false], 0), limit);
     }
     Ok(())
 }
 
-/// What a writer has of the upgraded base that takes `limit` bytes, and then fails or takes none.
-fn begun(rt: &impl Abort, alloc: Global, old: &[u8], limit: usize, fails: bool) -> Vec<u8> {
+/// Upgrades a stream to a writer that takes `limit` bytes, and then fails or takes none. Returns these bytes.
+fn upgrade_cut(rt: &impl Abort, alloc: Global, old: &[u8], limit: usize, fails: bool) -> Vec<u8> {
     let mut full = ToWrite::new(Full {
         bytes: Vec::new(alloc),
         step: 7,
@@ -108,15 +112,15 @@ fn a_writer_is_full_at_each_byte(rt: HostRuntime) -> Result<(), Fail> {
     let old = base_text(rt.alloc())?;
     let text = text_with_roots(rt.alloc(), &BASE_WORDS, &ROOTS)?;
     for limit in 0..text.len() {
-        let taken = begun(&rt, rt.alloc(), &old, limit, false);
+        let taken = upgrade_cut(&rt, rt.alloc(), &old, limit, false);
         equal_bytes(&rt, taken.as_slice(), &text[..limit]);
-        let taken = begun(&rt, rt.alloc(), &old, limit, true);
+        let taken = upgrade_cut(&rt, rt.alloc(), &old, limit, true);
         equal_bytes(&rt, taken.as_slice(), &text[..limit]);
     }
     Ok(())
 }
 
-/// The base with allowance 2, with its live list and upgraded.
+/// The base heap with allowance 2 in version 1, and upgraded.
 #[derive(Drop)]
 struct Texts {
     old: Vec<u8>,
@@ -130,8 +134,8 @@ fn both_texts(alloc: Global) -> Result<Texts, AllocError> {
     })
 }
 
-/// Whether an image is upgraded to the right one. Where memory is refused, false if the image that comes back isn't as it
-/// was.
+/// Whether an image is upgraded to the right one. Returns false also if memory runs out and the image isn't returned
+/// unchanged.
 fn is_upgraded(
     alloc: Global,
     threads: &(impl Threads + Sync),
@@ -143,7 +147,7 @@ fn is_upgraded(
     }
 }
 
-/// This fault where the image that came back has its text, and else false.
+/// Returns this fault if the returned image has its old text, and otherwise false.
 fn is_refused(alloc: Global, back: &Image, text: &[u8], fault: Fault) -> Result<bool, Fault> {
     if is_text(alloc, back, text)? {
         Err(fault)
@@ -152,7 +156,7 @@ fn is_refused(alloc: Global, back: &Image, text: &[u8], fault: Fault) -> Result<
     }
 }
 
-/// Whether an image with roots is upgraded to itself, which takes no memory.
+/// Whether an image with roots is upgraded to itself, which allocates no memory.
 fn stays(alloc: Global, threads: &(impl Threads + Sync), texts: &Texts) -> Result<bool, Fault> {
     match upgrade(alloc, decode_by_threads(alloc, &texts.new, threads)?) {
         Ok(same) => is_text(alloc, &same, &texts.new),
@@ -160,7 +164,7 @@ fn stays(alloc: Global, threads: &(impl Threads + Sync), texts: &Texts) -> Resul
     }
 }
 
-/// Whether the right text is written. Where memory is refused, false if anything is written.
+/// Whether the right text is written. Returns false also if memory runs out after something is written.
 fn is_written(alloc: Global, texts: &Texts) -> Result<bool, Fault> {
     let mut writer = ToWrite::new(Full {
         bytes: Vec::with_capacity(alloc, 400)?,
@@ -177,16 +181,16 @@ fn is_written(alloc: Global, texts: &Texts) -> Result<bool, Fault> {
     }
 }
 
-/// Whether all three are so.
+/// Whether all three upgrades are right.
 fn comes_through(alloc: Global, threads: &(impl Threads + Sync)) -> Result<bool, Fault> {
     let texts = both_texts(alloc)?;
     let is_right = is_upgraded(alloc, threads, &texts)? && is_written(alloc, &texts)?;
     Ok(is_right && stays(alloc, threads, &texts)?)
 }
 
-/// The script tests/crate-allocations runs this with each allocation refused in turn.
+/// A script runs this with each allocation refused in turn.
 #[test]
-fn refused_memory_is_told(rt: HostRuntime) {
+fn refused_memory_is_reported(rt: HostRuntime) {
     let answers = [
         comes_through(rt.alloc(), &rt),
         comes_through(rt.alloc(), &rt),

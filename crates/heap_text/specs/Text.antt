@@ -3,19 +3,19 @@ use Rattle.std.specs.Prelude.{ℕ, ◌+◌, ◌-◌, nat_le, ◌==◌, Bool, if�
 use Rattle.std.specs.List.{range_with_len, list_all}
 use Rattle.heap_image.specs.HeapImage.{HeapImage, version_of, roots_of, heap_words, word_at, size_at, references_at, end_of}
 
--- the words from one address up to another stand at these addresses_between
+-- the addresses from one up to another
 abbrev pub addresses_between : ℕ → ℕ → List ℕ
 addresses_between from to = range_with_len from (to - from)
 
--- where a reference or a root leads, behind a space
+-- a space and a reference or a root
 abbrev pub reference_text : ℕ → List ℕ
 reference_text w = if w == 0 then codes " null" else codes " @" ++ decimal (w - 1)
 
--- a number behind a space
+-- a space and a number
 abbrev pub number_text : ℕ → List ℕ
 number_text w = codes " " ++ decimal w
 
--- a line with a number behind its name
+-- a line of a name and a number
 abbrev pub number_line : List ℕ → ℕ → List ℕ
 number_line name n = name ++ (codes " " ++ (decimal n ++ codes "\n"))
 
@@ -33,17 +33,17 @@ module _ (image : HeapImage) where
   abbrev pub roots_line : List ℕ
   roots_line = if version_of image == 2 then roots_text (roots_of image) else []
 
-  -- the words from one address up to another as references, behind their name, where there are some
+  -- the words from one address up to another as references after their name, if there are any
   abbrev pub references_text : ℕ → ℕ → List ℕ
   references_text from to =
       if nat_le to from then [] else codes " refs" ++ flat_map (λ a. reference_text (word_at image a)) (addresses_between from to)
 
-  -- the words from one address up to another as numbers, behind this name, where there are some
+  -- the words from one address up to another as numbers after this name, if there are any
   abbrev pub numbers_text : List ℕ → ℕ → ℕ → List ℕ
   numbers_text name from to =
       if nat_le to from then [] else name ++ flat_map (λ a. number_text (word_at image a)) (addresses_between from to)
 
-  -- the line of the object at an address: its size, its references, and the words behind them
+  -- the line of the object at an address: its size, its references, and the words after them
   abbrev pub object_text : ℕ → List ℕ
   object_text a = codes "@" ++ (decimal a ++ (codes " object " ++ (decimal (size_at image a)
       ++ (references_text (a + 1) (a + 1 + references_at image a)
@@ -54,17 +54,17 @@ module _ (image : HeapImage) where
   abbrev pub are_equal : ℕ → ℕ → Bool
   are_equal from to = list_all (λ a. word_at image a == word_at image from) (addresses_between from to)
 
-  -- the words of a dead run: one of them where they are equal, and else each
+  -- the words of a dead run: one of them if they are all equal, else each
   abbrev pub dead_words_text : ℕ → ℕ → List ℕ
   dead_words_text from to =
       if are_equal from to then codes " of" ++ number_text (word_at image from) else numbers_text (codes " words") from to
 
-  -- the line of the dead words from one address up to another, where there are some
+  -- the line of the dead words from one address up to another, if there are any
   abbrev pub dead_text : ℕ → ℕ → List ℕ
   dead_text from to = if nat_le to from then [] else codes "@" ++ (decimal from ++ (codes " dead " ++ (decimal (to - from)
       ++ (dead_words_text from to ++ codes "\n"))))
 
-  -- the lines of the words from an address on, of which the live objects are these
+  -- the lines of the words from an address on, where these are the live objects
   abbrev pub lines_from : ℕ → List ℕ → List ℕ
   lines_from from [] = dead_text from (heap_words image)
   lines_from from (a ∷ live) = dead_text from a ++ (object_text a ++ lines_from (end_of image a) live)

@@ -1,44 +1,81 @@
-//! `assemble`: the image of a text.
-ghost use Rattle.std.specs.Prelude.{◌≡◌, ◌≤◌, IfOk, IfErr, length};
+//! Makes the image of a text.
+ghost use Rattle.std.specs.Prelude.{◌≡◌, ◌≤◌, IfOk, IfErr, IfSome, IsTrue, OnOk, length};
+ghost use Rattle.std.specs.Io.KnownBytes.{IsAtEnd};
 ghost use Rattle.heap_image.specs.HeapImage.{IsValid};
 ghost use Rattle.heap_text.specs.Text.{text_of};
-ghost use Rattle.heap_text.specs.TextLines.{IsLineOf, IsWithin};
+ghost use Rattle.heap_text.specs.TextLines.{IsAbout, IsLineOf, IsWithin};
 
-use crate::error::TextError;
+use crate::error::{AssembleError, TextError};
 use crate::expected::Expected;
+use crate::image_bytes::ImageBytes;
 use crate::lines::{line_of_address, line_of_place};
-use crate::parts::Parts;
-use crate::reading::read_text;
-use crate::writing::write_text;
-use heap_image::{Fault, Image, decode};
+use crate::parsed_heap::ParsedHeap;
+use crate::reading::{parse_from, parse_text};
+use crate::writing::write_text_with_capacity;
+use heap_image::{Fault, Image, Intake, read_image};
 use std::alloc::Global;
 
-/// The image of which this is the text, or which line of it is another than was expected.
+/// Returns the image whose text this is, or the first line that differs from what is expected.
 ///
-/// What is answered was written back as a text and compared: so nothing but the text of an image is taken.
+/// The image is written as a text again and compared with the input, so only the exact text of an image is accepted.
 pub fn assemble(alloc: Global, text: &[u8]) -> Result<Image, TextError>
     ensures text { IfOk result (λ image. text.now ≡ text_of image) }
     ensures valid { IfOk result (λ image. IsValid image) }
     ensures line { IfErr result (λ error. IsWithin text.now error) }
 {
-    let parts = read_text(alloc, text)?;
-    let image = image_of(alloc, &parts, text)?;
-    same_objects(text, parts.live.as_slice(), image.live())?;
-    let written = write_text(alloc, &image)?;
-    if text == written.as_slice() {
-        return Ok(image);
-    }
-    let line = line_of_place(text, alike(text, written.as_slice()));
-    Err(TextError::Line(line, Expected::Spelling))
+    let heap = parse_text(alloc, text)?;
+    build_image(alloc, heap, text)
 }
 
-/// The image with these parts, which this text has told.
-fn image_of(alloc: Global, parts: &Parts, text: &[u8]) -> Result<Image, TextError>
+/// As [`assemble`], of a text that a device gives.
+///
+/// Each line is parsed when it has arrived. Nothing is requested after the piece of 64 KiB in which a line is wrong or is
+/// longer than any line of a text, so an endless input is rejected. A device that has failed is not used again.
+pub fn assemble_from<R: Intake>(alloc: Global, device: &mut R) -> Result<Image, AssembleError>
+    // The device had the text of the image left, and nothing after it.
+    ensures text { IfOk result (λ image. IfSome (R.left device.old) (λ bytes. bytes ≡ text_of image)) }
+    ensures end { OnOk result (IsAtEnd (R.left device.new)) }
+    ensures valid { IfOk result (λ image. IsValid image) }
+    ensures line { IfErr result (λ error. IfSome (R.left device.old) (λ bytes. IsAbout bytes error)) }
+    ensures device { result ≡ Err AssembleError.Device → IsTrue (R.has_failed device.new) }
+{
+    let mut text = Vec::new(alloc);
+    let heap = parse_from(alloc, device, &mut text)?;
+    Ok(build_image(alloc, heap, text.as_slice())?)
+}
+
+/// Returns the image of the text with these contents.
+fn build_image(alloc: Global, heap: ParsedHeap, text: &[u8]) -> Result<Image, TextError>
+    ensures text { IfOk result (λ image. text.now ≡ text_of image) }
     ensures valid { IfOk result (λ image. IsValid image) }
     ensures line { IfErr result (λ error. IsWithin text.now error) }
 {
-    let bytes = parts.bytes(alloc)?;
-    match decode(alloc, bytes.as_slice()) {
+    let front = heap.front();
+    let ParsedHeap {
+        is_rooted,
+        words,
+        live,
+        roots,
+        ..
+    } = heap;
+    let tail = if is_rooted { &roots } else { &live };
+    let bytes = ImageBytes::new(alloc, front, words, tail.as_slice())?;
+    let image = decode_heap(alloc, bytes, text)?;
+    check_live_objects(text, live.as_slice(), image.live())?;
+    let written = write_text_with_capacity(alloc, &image, text.len())?;
+    if text == written.as_slice() {
+        return Ok(image);
+    }
+    let line = line_of_place(text, common_prefix(text, written.as_slice()));
+    Err(TextError::Line(line, Expected::Spelling))
+}
+
+/// Decodes an image, and reports a fault at its line of the text.
+fn decode_heap(alloc: Global, mut bytes: ImageBytes<'_>, text: &[u8]) -> Result<Image, TextError>
+    ensures valid { IfOk result (λ image. IsValid image) }
+    ensures line { IfErr result (λ error. IsWithin text.now error) }
+{
+    match read_image(alloc, &mut bytes) {
         Ok(image) => Ok(image),
         Err(Fault::Memory) => Err(TextError::Memory),
         Err(fault) => {
@@ -48,7 +85,7 @@ fn image_of(alloc: Global, parts: &Parts, text: &[u8]) -> Result<Image, TextErro
     }
 }
 
-/// The line that a fault is about.
+/// The line that has the object of a fault, or line 1 for a fault of no object.
 fn line_of_fault(text: &[u8], fault: Fault) -> u64
     ensures { IsLineOf text.now result }
 {
@@ -60,11 +97,11 @@ fn line_of_fault(text: &[u8], fault: Fault) -> u64
     }
 }
 
-/// Refuses a text where the objects that it lists are others than the live ones.
-fn same_objects(text: &[u8], listed: &[u64], live: &[u64]) -> Result<(), TextError>
+/// Rejects a text whose objects are not exactly the live ones.
+fn check_live_objects(text: &[u8], listed: &[u64], live: &[u64]) -> Result<(), TextError>
     ensures { IfErr result (λ error. IsWithin text.now error) }
 {
-    let index = alike(listed, live);
+    let index = common_prefix(listed, live);
     let (address, expected) = match (listed.get(index), live.get(index)) {
         (Some(listed), None) => (*listed, Expected::Unreached(*listed)),
         (Some(listed), Some(live)) if *listed < *live => (*listed, Expected::Unreached(*listed)),
@@ -75,8 +112,8 @@ fn same_objects(text: &[u8], listed: &[u64], live: &[u64]) -> Result<(), TextErr
     Err(TextError::Line(line, expected))
 }
 
-/// How many items these have alike at their fronts.
-fn alike<T: PartialEq + Copy>(one: &[T], other: &[T]) -> usize
+/// The length of the longest common prefix.
+fn common_prefix<T: PartialEq + Copy>(one: &[T], other: &[T]) -> usize
     ensures { result ≤ length one.now }
 {
     for (place, left) in one.iter().enumerate() {

@@ -1,60 +1,69 @@
-//! The line of dead words, behind its address and its kind.
-ghost use Rattle.std.specs.Prelude.{◌≡◌, ◌<◌, ◌≤◌, OnOk, vec_len};
+//! Parses the line of a dead run, after its address and kind.
+ghost use Rattle.std.specs.Prelude.{◌<◌, ◌≤◌};
 
 use crate::expected::Expected;
-use crate::parts::Parts;
-use crate::stop::Stop;
-use crate::words::{Words, number};
+use crate::line_error::LineError;
+use crate::parsed_heap::ParsedHeap;
+use crate::tokens::{Tokens, parse_number};
 
-impl Parts {
-    /// Takes the words of the next dead run, in a heap of so many words.
-    pub(crate) fn take_dead(&mut self, len: u64, mut words: Words<'_>) -> Result<(), Stop>
-        requires { vec_len self.old.words < len }
+impl ParsedHeap {
+    /// Pushes the words of the next dead run, in a heap of `len` words.
+    pub(crate) fn parse_dead(&mut self, len: u64, mut tokens: Tokens<'_>) -> Result<(), LineError>
+        requires left { self.old.words.len < len }
+        requires few { len ≤ 4194304 }
     {
-        let left = len - self.words.len() as u64;
-        let count = match words.next().and_then(number) {
+        let left = len - self.words.len();
+        let count = match tokens.next().and_then(parse_number) {
             Some(count) if 1 <= count && count <= left => count,
-            _ => return Err(Stop::Expected(Expected::Count(left))),
+            _ => return Err(LineError::Expected(Expected::Count(left))),
         };
-        match words.next() {
-            Some(name) if name == b"of".as_slice() => self.take_equal(count, words),
-            Some(name) if name == b"words".as_slice() => self.take_unequal(count, words),
-            _ => Err(Stop::Expected(Expected::Dead)),
+        match tokens.next() {
+            Some(name) if name == b"of".as_slice() => self.parse_equal_words(len, count, tokens),
+            Some(name) if name == b"words".as_slice() => {
+                self.parse_unequal_words(len, count, tokens)
+            }
+            _ => Err(LineError::Expected(Expected::Dead)),
         }
     }
 
-    /// Takes one number for so many words.
-    fn take_equal(&mut self, count: u64, mut words: Words<'_>) -> Result<(), Stop> {
-        let Some(word) = words.next().and_then(number) else {
-            return Err(Stop::Expected(Expected::Number));
+    /// Parses one number and pushes it `count` times.
+    fn parse_equal_words(
+        &mut self,
+        len: u64,
+        count: u64,
+        mut tokens: Tokens<'_>,
+    ) -> Result<(), LineError>
+        requires { len ≤ 4194304 }
+    {
+        let Some(word) = tokens.next().and_then(parse_number) else {
+            return Err(LineError::Expected(Expected::Number));
         };
-        if words.next().is_some() {
-            return Err(Stop::Expected(Expected::LineEnd));
+        if tokens.next().is_some() {
+            return Err(LineError::Expected(Expected::LineEnd));
         }
         for _i in 0..count {
-            self.words.push(word)?;
+            self.push_word(len, word)?;
         }
         Ok(())
     }
 
-    /// Takes so many numbers, which are not all equal.
-    fn take_unequal(&mut self, count: u64, words: Words<'_>) -> Result<(), Stop> {
+    /// Parses `count` numbers, and rejects them if all are equal.
+    fn parse_unequal_words(
+        &mut self,
+        len: u64,
+        count: u64,
+        tokens: Tokens<'_>,
+    ) -> Result<(), LineError>
+        requires { len ≤ 4194304 }
+    {
         let start = self.words.len();
-        self.take_numbers(words)?;
-        if (self.words.len() - start) as u64 != count {
-            return Err(Stop::Expected(Expected::WordCount(count)));
+        self.parse_numbers(len, tokens)?;
+        if self.words.len() - start != count {
+            return Err(LineError::Expected(Expected::WordCount(count)));
         }
-        if are_equal(&self.words[start..]) {
-            return Err(Stop::Expected(Expected::Equal));
+        if self.words.are_equal_from(start) {
+            return Err(LineError::Expected(Expected::Equal));
         }
         Ok(())
-    }
-}
-
-/// Whether all of these are equal.
-fn are_equal(words: &[u64]) -> bool {
-    match words.split_first() {
-        Some((first, others)) => others.iter().all(|word| *word == *first),
-        None => true,
     }
 }

@@ -1,32 +1,32 @@
-//! `Expected`: what a line of a text should be.
+//! What a line of a text should be.
 use heap_image::Fault;
 use thiserror::Error;
 
-/// What a line of a text should be, or have.
+/// What a line of a text should be or contain.
 #[derive(Debug, Clone, Copy, PartialEq, Eq, Error)]
 pub enum Expected {
-    /// A line that ends with a newline.
+    /// A newline at the end of the last line, or of a line that is longer than any line of a text.
     #[error("a newline at the end of the line")]
     Newline,
-    /// The first line.
+    /// `heap version`.
     #[error("`heap version 1` or `heap version 2`")]
     Version,
-    /// The second line.
+    /// `region-log`.
     #[error("`region-log K`, where K is 3 to 16")]
     RegionLog,
-    /// The third line.
+    /// `words`.
     #[error("`words N`, where N is 1 to 4194304 and makes whole regions, 16384 at most")]
     Words,
-    /// The fourth line.
+    /// `allowance`.
     #[error("`allowance M`, where M is a number below 2^64")]
     Allowance,
-    /// The fifth line, in version 2.
+    /// `roots`, in version 2.
     #[error("`roots`, and behind it `null` or `@` and an address for each root")]
     Roots,
-    /// No more roots than words.
+    /// No more roots than the heap has words.
     #[error("{0} roots at most")]
     FewRoots(u64),
-    /// The line of the words at this address.
+    /// The line of the word at this address.
     #[error("a line that begins with `@{0}`")]
     Place(u64),
     /// The kind of a line.
@@ -38,16 +38,16 @@ pub enum Expected {
     /// The words of an object.
     #[error("`refs` or `data` behind the size")]
     Fields,
-    /// So many words of an object.
+    /// This number of words after the header of an object.
     #[error("{0} references and data words in all")]
     FieldCount(u64),
     /// A reference or a root.
     #[error("`null`, or `@` and an address below {0}")]
     Reference(u64),
-    /// A word.
+    /// A number.
     #[error("a number below 2^64, decimal and without leading zeros")]
     Number,
-    /// An object behind a dead run.
+    /// An object after a dead run.
     #[error("an object at @{0}, since dead words in a row have one line")]
     Object(u64),
     /// The length of a dead run.
@@ -56,28 +56,28 @@ pub enum Expected {
     /// The words of a dead run.
     #[error("`of` and a number, or `words` and numbers, behind the number of dead words")]
     Dead,
-    /// So many words of a dead run.
+    /// This number of words of a dead run.
     #[error("{0} numbers behind `words`")]
     WordCount(u64),
-    /// One word for all, since they are equal.
+    /// `of`, since the words of the dead run are equal.
     #[error("`of` and one number, since the words are equal")]
     Equal,
-    /// Nothing more in this line.
+    /// The end of the line.
     #[error("the end of the line")]
     LineEnd,
-    /// No more lines.
+    /// The end of the text.
     #[error("no more lines, since all words are there")]
     End,
-    /// An object that is reached.
+    /// No object at this address, which is unreachable from the roots.
     #[error("dead words, since nothing leads to @{0} from the roots")]
     Unreached(u64),
-    /// An object where dead words stand, or the middle of another.
+    /// An object at this address, where the text has dead words or the middle of another object.
     #[error("an object at @{0}, to which a root or a reference leads")]
     Reached(u64),
-    /// Objects without a fault.
+    /// A heap that has no such fault as an image.
     #[error("a valid object, where this is fault {0}")]
     Valid(Fault),
-    /// The one spelling of a line.
+    /// The only spelling of the line. No known text causes this.
     #[error("the line as it is written for this heap")]
     Spelling,
 }

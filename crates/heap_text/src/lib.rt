@@ -1,31 +1,37 @@
 //! A heap as lines that a person can write, read and compare.
 //!
-//! [`write_text`] writes an image as a text: a head, and then a line for each live object and each run of dead words, by
-//! ascending address. [`assemble`] makes the image of such a text. Each image has one text, and [`assemble`] takes no
-//! other; where it refuses one, it says which line it would have otherwise. `docs/FORMATS.md`, "Heap text", has the
-//! grammar.
+//! [`write_text`] writes an image as a text: a head, and then a line for each live object and each dead run, by ascending
+//! address. [`assemble`] makes the image of a text in memory, [`assemble_from`] of one that an
+//! [`Intake`](heap_image::Intake) gives. Each image has one text, and only that is accepted; an error says which line of a
+//! rejected text should be different, and how. `docs/FORMATS.md`, "Heap text", has the grammar.
 //!
-//! **Proved**, for all inputs: `write_text` gives the text of the image; an image that `assemble` answers has just the
-//! text that it was given; an error is about a line of the text, or the one that is missing at its end; no call indexes
-//! out of range, overflows or runs forever. **Only tested**: that the text of each image is taken; which errors come, and
-//! what they say. See the README.
+//! **Proved**, for all inputs: `write_text` returns the text of the image, and no two valid images have the same text
+//! ([`one_text`]); the text of an image that `assemble` or `assemble_from` returns is exactly the input, up to its end, so the
+//! image is the only one with this text; an error names a line of the text, or the line after its last; an error of the device
+//! comes only where the device has failed; no call indexes out of range, overflows or runs forever. **Only tested**: that the
+//! text of each image is accepted; which errors come, and what they say. See the README.
 #![tactic(auto)]
 
 mod assembling;
-mod awaited;
 mod dead_line;
 mod error;
 mod expected;
+mod image_bytes;
+mod laws;
+mod line_error;
+mod line_parser;
 mod lines;
+mod next_line;
 mod object_line;
-mod parts;
-mod reader;
+mod parsed_heap;
 mod reading;
-mod stop;
-mod words;
+mod text_parser;
+mod tokens;
+mod word_list;
 mod writing;
 
-pub use assembling::assemble;
-pub use error::TextError;
+pub use assembling::{assemble, assemble_from};
+pub use error::{AssembleError, TextError};
 pub use expected::Expected;
+pub use laws::one_text;
 pub use writing::write_text;

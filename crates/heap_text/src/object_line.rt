@@ -1,93 +1,107 @@
-//! The line of an object, behind its address and its kind.
-ghost use Rattle.std.specs.Prelude.{◌≡◌, ◌<◌, ◌≤◌, ◌+◌, OnOk, IfOk, IfErr, vec_len};
+//! Parses the line of an object, after its address and kind.
+ghost use Rattle.std.specs.Prelude.{◌≡◌, ◌<◌, ◌≤◌, ◌+◌, OnOk, IfOk};
 
 use crate::expected::Expected;
-use crate::parts::Parts;
-use crate::stop::Stop;
-use crate::words::{Words, number, reference};
+use crate::line_error::LineError;
+use crate::parsed_heap::ParsedHeap;
+use crate::tokens::{Tokens, parse_number, parse_reference};
+use std::alloc::AllocError;
 
-impl Parts {
-    /// Takes the words of the next object, in a heap of so many words.
-    pub(crate) fn take_object(&mut self, len: u64, mut words: Words<'_>) -> Result<(), Stop>
-        requires left { vec_len self.old.words < len }
+impl ParsedHeap {
+    /// Pushes the words of the next object, in a heap of `len` words.
+    pub(crate) fn parse_object(&mut self, len: u64, mut tokens: Tokens<'_>) -> Result<(), LineError>
+        requires left { self.old.words.len < len }
         requires few { len ≤ 4194304 }
     {
         let place = self.words.len();
-        let left = len - place as u64;
-        let size = match words.next().and_then(number) {
+        let left = len - place;
+        let size = match tokens.next().and_then(parse_number) {
             Some(size) if 1 <= size && size <= left => size,
-            _ => return Err(Stop::Expected(Expected::Size(left))),
+            _ => return Err(LineError::Expected(Expected::Size(left))),
         };
-        self.live.push(place as u64)?;
+        self.live.push(place)?;
         self.words.push(0)?;
-        let behind_references = self.take_fields(len, words)?;
-        if self.words.len() as u64 != place as u64 + size {
-            return Err(Stop::Expected(Expected::FieldCount(size - 1)));
+        let references_end = self.parse_fields(len, tokens)?;
+        if self.words.len() != place + size {
+            return Err(LineError::Expected(Expected::FieldCount(size - 1)));
         }
-        let references = (behind_references - place - 1) as u64;
-        self.words[place] = 1 << 56 | references << 32 | size;
+        let references = references_end - place - 1;
+        self.words.set(place, 1 << 56 | references << 32 | size);
         Ok(())
     }
 
-    /// Takes references and then numbers, each behind their name. Answers how many words there are up to the last
-    /// reference.
-    fn take_fields(&mut self, len: u64, mut words: Words<'_>) -> Result<usize, Stop>
+    /// Parses `refs` and references, then `data` and numbers. Returns the number of words up to the last reference.
+    fn parse_fields(&mut self, len: u64, mut tokens: Tokens<'_>) -> Result<u64, LineError>
         requires { len ≤ 4194304 }
-        ensures grown { OnOk result (vec_len self.old.words ≤ vec_len self.new.words) }
-        ensures low { IfOk result (λ behind. vec_len self.old.words ≤ behind) }
-        ensures high { IfOk result (λ behind. behind ≤ vec_len self.new.words) }
+        ensures grown { OnOk result (self.old.words.len ≤ self.new.words.len) }
+        ensures low { IfOk result (λ end. self.old.words.len ≤ end) }
+        ensures high { IfOk result (λ end. end ≤ self.new.words.len) }
     {
-        let Some(name) = words.next() else {
+        let Some(name) = tokens.next() else {
             return Ok(self.words.len());
         };
         let has_data = if name == b"refs".as_slice() {
-            self.take_references(len, &mut words)?
+            self.parse_references(len, &mut tokens)?
         } else if name == b"data".as_slice() {
             true
         } else {
-            return Err(Stop::Expected(Expected::Fields));
+            return Err(LineError::Expected(Expected::Fields));
         };
-        let behind_references = self.words.len();
+        let references_end = self.words.len();
         if has_data {
-            self.take_numbers(words)?;
+            self.parse_numbers(len, tokens)?;
         }
-        Ok(behind_references)
+        Ok(references_end)
     }
 
-    /// Takes one reference or more, up to the name of the numbers or to the end. Answers whether that name comes.
-    fn take_references(&mut self, len: u64, words: &mut Words<'_>) -> Result<bool, Stop>
-        ensures { OnOk result (vec_len self.old.words ≤ vec_len self.new.words) }
+    /// Parses one reference or more, up to `data` or the end of the line. Returns whether `data` comes.
+    fn parse_references(&mut self, len: u64, tokens: &mut Tokens<'_>) -> Result<bool, LineError>
+        requires { len ≤ 4194304 }
+        ensures { OnOk result (self.old.words.len ≤ self.new.words.len) }
     {
         let start = self.words.len();
-        while let Some(word) = words.next() {
-            match reference(word, len) {
-                Some(reference) => self.words.push(reference)?,
-                None if word == b"data".as_slice() && self.words.len() > start => return Ok(true),
-                None => return Err(Stop::Expected(Expected::Reference(len))),
+        while let Some(token) = tokens.next() {
+            match parse_reference(token, len) {
+                Some(reference) => self.push_word(len, reference)?,
+                None if token == b"data".as_slice() && self.words.len() > start => return Ok(true),
+                None => return Err(LineError::Expected(Expected::Reference(len))),
             }
         }
         if self.words.len() > start {
             Ok(false)
         } else {
-            Err(Stop::Expected(Expected::Reference(len)))
+            Err(LineError::Expected(Expected::Reference(len)))
         }
     }
 
-    /// Takes one number or more, up to the end.
-    pub(crate) fn take_numbers(&mut self, words: Words<'_>) -> Result<(), Stop>
-        ensures { OnOk result (vec_len self.old.words ≤ vec_len self.new.words) }
+    /// Parses one number or more, up to the end of the line.
+    pub(crate) fn parse_numbers(&mut self, len: u64, tokens: Tokens<'_>) -> Result<(), LineError>
+        requires { len ≤ 4194304 }
+        ensures { OnOk result (self.old.words.len ≤ self.new.words.len) }
     {
         let start = self.words.len();
-        for word in words {
-            match number(word) {
-                Some(word) => self.words.push(word)?,
-                None => return Err(Stop::Expected(Expected::Number)),
+        for token in tokens {
+            match parse_number(token) {
+                Some(word) => self.push_word(len, word)?,
+                None => return Err(LineError::Expected(Expected::Number)),
             }
         }
         if self.words.len() > start {
             Ok(())
         } else {
-            Err(Stop::Expected(Expected::Number))
+            Err(LineError::Expected(Expected::Number))
         }
+    }
+
+    /// Pushes a word, but keeps at most one word more than the heap has. That one shows that the line is too long, and a
+    /// line of any length takes no more memory.
+    pub(crate) fn push_word(&mut self, len: u64, word: u64) -> Result<(), AllocError>
+        requires { len ≤ 4194304 }
+        ensures { OnOk result (self.old.words.len ≤ self.new.words.len) }
+    {
+        if self.words.len() <= len {
+            self.words.push(word)?;
+        }
+        Ok(())
     }
 }

@@ -1,23 +1,34 @@
-//! `write_text`: an image as a text.
+//! Writes an image as a text.
 ghost use Rattle.std.specs.Prelude.{◌≡◌, ◌++◌, ◌+◌, ◌-◌, ◌≤◌, ◌<◌, IfOk, OnOk, List, ℕ, IsTrue, codes, string_bytes};
 ghost use Rattle.heap_image.specs.HeapImage.{HasSoundHeader, end_of, heap_words};
 ghost use Rattle.heap_text.specs.Text.{are_equal, dead_text, dead_words_text, front_text, number_line, lines_from, number_text, numbers_text, object_text, reference_text, references_text, roots_line, roots_text, text_of};
 
-use heap_image::{Image, header};
+use heap_image::{Image, header, image_is_valid};
 use std::alloc::{AllocError, Global};
 
-/// The text of an image.
+/// Returns the text of an image.
 pub fn write_text(alloc: Global, image: &Image) -> Result<Vec<u8>, AllocError>
     ensures { IfOk result (λ text. text.items ≡ text_of image.now) }
 {
-    let mut text = String::new(alloc);
+    write_text_with_capacity(alloc, image, 0)
+}
+
+/// As [`write_text`], with room for `room` bytes at first.
+pub(crate) fn write_text_with_capacity(
+    alloc: Global,
+    image: &Image,
+    room: usize,
+) -> Result<Vec<u8>, AllocError>
+    ensures { IfOk result (λ text. text.items ≡ text_of image.now) }
+{
+    let mut text = String::with_capacity(alloc, room)?;
     write_front(&mut text, image)?;
     write_roots_line(&mut text, image)?;
     write_lines(&mut text, image)?;
     Ok(text.into_bytes())
 }
 
-/// Adds the lines before the words, but for that of the roots.
+/// Appends the lines before the words, except the line of the roots.
 fn write_front(text: &mut String, image: &Image) -> Result<(), AllocError>
     ensures { OnOk result (string_bytes text.new ≡ string_bytes text.old ++ front_text image.now) }
 {
@@ -28,14 +39,14 @@ fn write_front(text: &mut String, image: &Image) -> Result<(), AllocError>
     Ok(())
 }
 
-/// Adds a line with a number behind its name.
+/// Appends a line of a name and a number.
 fn write_line(text: &mut String, name: &str, number: u64) -> Result<(), AllocError>
     ensures { OnOk result (string_bytes text.new ≡ string_bytes text.old ++ number_line name.now number) }
 {
     writeln!(text, "{name} {number}")
 }
 
-/// Adds the line of the roots, in version 2.
+/// Appends the line of the roots, in version 2.
 fn write_roots_line(text: &mut String, image: &Image) -> Result<(), AllocError>
     ensures { OnOk result (string_bytes text.new ≡ string_bytes text.old ++ roots_line image.now) }
 {
@@ -46,7 +57,7 @@ fn write_roots_line(text: &mut String, image: &Image) -> Result<(), AllocError>
     }
 }
 
-/// Adds a line of these roots.
+/// Appends a line of these roots.
 fn write_roots(text: &mut String, roots: &[u64]) -> Result<(), AllocError>
     ensures { OnOk result (string_bytes text.new ≡ string_bytes text.old ++ roots_text roots.now) }
 {
@@ -57,7 +68,7 @@ fn write_roots(text: &mut String, roots: &[u64]) -> Result<(), AllocError>
     text.push_str("\n")
 }
 
-/// Adds a line for each object and each run of dead words.
+/// Appends a line for each object and each dead run.
 fn write_lines(text: &mut String, image: &Image) -> Result<(), AllocError>
     ensures { OnOk result (string_bytes text.new ≡ string_bytes text.old ++ lines_from image.now 0 image.now.live) }
 {
@@ -69,13 +80,13 @@ fn write_lines(text: &mut String, image: &Image) -> Result<(), AllocError>
     write_dead(text, image, from, image.len())
 }
 
-/// Adds the line of an object. Answers the address behind it.
+/// Appends the line of an object, and returns the end of the object.
 fn write_object(text: &mut String, image: &Image, place: u64) -> Result<u64, AllocError>
     requires { HasSoundHeader image.now place }
     ensures text { OnOk result (string_bytes text.new ≡ string_bytes text.old ++ object_text image.now place) }
     ensures end { IfOk result (λ end. end ≡ end_of image.now place) }
 {
-    let _words = image.len();
+    image_is_valid(image);
     let word = image.word(place);
     let behind = place + 1 + u64::from(header::references(word));
     let end = place + u64::from(header::size(word));
@@ -86,7 +97,7 @@ fn write_object(text: &mut String, image: &Image, place: u64) -> Result<u64, All
     Ok(end)
 }
 
-/// Adds the line of the dead words from one address up to another, if there are some.
+/// Appends the line of the dead words from `from` up to `to`, if there are any.
 fn write_dead(text: &mut String, image: &Image, from: u64, to: u64) -> Result<(), AllocError>
     requires { to ≤ heap_words image.now }
     ensures { OnOk result (string_bytes text.new ≡ string_bytes text.old ++ dead_text image.now from to) }
@@ -103,7 +114,7 @@ fn write_dead(text: &mut String, image: &Image, from: u64, to: u64) -> Result<()
     text.push_str("\n")
 }
 
-/// Whether the words from one address up to another are all equal.
+/// Whether the words from `from` up to `to` are all equal.
 fn are_equal(image: &Image, from: u64, to: u64) -> bool
     requires some { from < to }
     requires inside { to ≤ heap_words image.now }
@@ -118,7 +129,7 @@ fn are_equal(image: &Image, from: u64, to: u64) -> bool
     true
 }
 
-/// Adds the words from one address up to another as references, if there are some.
+/// Appends the words from `from` up to `to` as references, if there are any.
 fn write_references(text: &mut String, image: &Image, from: u64, to: u64) -> Result<(), AllocError>
     requires { to ≤ heap_words image.now }
     ensures { OnOk result (string_bytes text.new ≡ string_bytes text.old ++ references_text image.now from to) }
@@ -133,7 +144,7 @@ fn write_references(text: &mut String, image: &Image, from: u64, to: u64) -> Res
     Ok(())
 }
 
-/// Adds the words from one address up to another as numbers behind a name, if there are some.
+/// Appends a name and the words from `from` up to `to` as numbers, if there are any.
 fn write_numbers(
     text: &mut String,
     image: &Image,
@@ -154,7 +165,7 @@ fn write_numbers(
     Ok(())
 }
 
-/// Adds a reference or a root.
+/// Appends a reference or a root.
 fn write_reference(text: &mut String, reference: u64) -> Result<(), AllocError>
     ensures { OnOk result (string_bytes text.new ≡ string_bytes text.old ++ reference_text reference) }
 {

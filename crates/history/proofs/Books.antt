@@ -118,7 +118,7 @@ book_schedule scheduler lines kept =
       lines = subst (λ (ls : List Line). All (λ line. IsTrue (is_line scheduler.workers line)) ls) (sym kept.told) (steps_fit scheduler.moves scheduler.workers opening (entries_of lines) kept.table kept.legal);
     }
 
--- what a call that was taken makes of a book
+-- a book after a call
 pub record IsApplied (old new : SchedulerView) (lines lines' : List Line) (e : Entry) : Type 0 where
   pub kept : IsKeptBook new lines'
   pub view : ◌≡◌ {A = BookView} (record { workers = new.workers; moves = new.moves; log = entries_of lines' }) (record { workers = old.workers; moves = old.moves; log = entries_of lines ++ e ∷ [] })

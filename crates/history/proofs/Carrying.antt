@@ -1,4 +1,4 @@
--- What a carrier tells: origins, references and fillers.
+-- The fields of a carrier: origins, references and fillers.
 use Rattle.std.proofs.Common.{◌≡◌, ℕ, ◌+◌, ◌-◌, ◌<◌, ◌≤◌, Bool, true, false, List, [], ◌∷◌, ◌++◌, length, get_or, take, min, ◌≢◌, Option, Some, None, Contains, refl, sym, ap, add-one, ◌∙◌, subst, inl, inr, arith}
 use Rattle.std.specs.Prelude.{MatchOption, ◌&&◌, ◌||◌, not, nat_lt, nat_le, slice_index, slice_index_or}
 use Rattle.std.specs.List.{list_any}
@@ -34,7 +34,7 @@ pub record IsListed (image : HeapImage) (origins : List ℕ) (from : ℕ) : Type
   pub count : prefix_end image + length origins ≡ slid image from
   pub each : (k : ℕ) → k < length origins → origin image (prefix_end image + k) ≡ Some (slice_index origins k)
 
--- flags that tell of the first objects
+-- flags for the first objects
 abbrev pub AreFlagsOf : HeapImage → (ℕ → ℕ → Bool) → ℕ → List Bool → Type 0
 AreFlagsOf image test number flags = AreFlags image (λ q. list_any (λ a. test a q) (take number image.live)) flags
 
@@ -176,7 +176,7 @@ module _ (image : HeapImage) (valid : IsValid image) where
       ∙ (cond-true (is_deferred image a) (word_at image (a + (1 + f))) (redirected image (word_at image (a + (1 + f)))) both.0 ∙ ap (word_at image) (omega arith))) in
       ap (is_null_or_live image) word ∙ valid.live_list.references at.0 0 at.2 f few
 
-  -- where the word of a place stands: a live word's old address
+  -- the origin of an address: a live word's old address
   pub origin_inside : (p x : ℕ) → origin image p ≡ Some x → x < heap_words image
   origin_inside p x from = live_below image valid.live_list x (origin-Some image valid.live_list p x from).0
 
@@ -206,7 +206,7 @@ module _ (image : HeapImage) (valid : IsValid image) where
       → AreFlagsOf image (late_test image) (number + 1) flags
   late_same number flags inside are early = flags_same (late_test image) number flags inside are (λ q. rw early refl)
 
-  -- the word of a filler, by the first live word behind it
+  -- the word of a filler, by the first live word after it
   pub filler_end : (place : ℕ) (o : Option ℕ) → place < prefix_end image → is_live_word image place ≡ false → MatchOption o (NoneFrom (is_live_word image) place) (IsFirstFrom (is_live_word image) place)
       → gap_at image place ≡ min (unwrap_or o (prefix_end image)) (prefix_end image) - place
   filler_end place None low dead none = gap_at-run image place (prefix_end image) (omega arith) (omega arith) (λ q l m. none q l) (λ no. absurd (omega arith)) ∙ omega arith

@@ -1,4 +1,4 @@
--- Whether all words that go from one region to another are written, told by numbers.
+-- Whether all words that go from one region to another are written, by counts.
 use Rattle.std.proofs.Common.{◌≡◌, ◌≢◌, ℕ, ◌+◌, ◌-◌, ◌*◌, ◌/◌, ◌%◌, ◌<◌, ◌≤◌, true, Some, sym, ap, ◌∙◌, subst, inl, inr, arith}
 use Rattle.std.specs.Prelude.{◌==◌, not}
 use Rattle.std.proofs.lemmas.Bool.{and_parts, eqb-false, not-true, cases_lt}
@@ -59,7 +59,7 @@ module _ (image : HeapImage) (valid : IsValid image) (d s : ℕ) where
         behind = omega arith;
       }
 
-  -- where so many words are written, all that go there are
+  -- if this number of words are written, all that go there are
   pub copied_out : (w : Machine) → IsRead image d s → taken_up_to image d s ≤ w.written d → IsCopiedOut (image_slide image) w d s
   copied_out w is enough a x below region from source =
       let o = origin-Some image valid.live_list a x from in
@@ -70,7 +70,7 @@ module _ (image : HeapImage) (valid : IsValid image) (d s : ℕ) where
       let short : a % region_words image < w.written d = omega arith in
       subst (λ (n : ℕ). a % region_words image < n) (ap w.written (sym region)) short
 
-  -- and where all are, so many are written
+  -- and if all are, this number are written
   pub copied_up_to : (w : Machine) → IsRead image d s → IsCopiedOut (image_slide image) w d s → taken_up_to image d s ≤ w.written d
   copied_up_to w is out =
       let some_data = is.some in

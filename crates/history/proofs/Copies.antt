@@ -60,7 +60,7 @@ module _ (m : MoveTable) (p : Slide) (start : ℕ → ℕ) (w : Machine) (worker
       let written : a % p.size < (write_words p d n w).written (a / p.size) = subst (λ (r : ℕ). a % p.size < (write_words p d n w).written r) (sym region) (omega arith) in
       after.moved a written
 
-  -- the words that go there stand as they stood at the start
+  -- the origins of the words that go there still have the words of the start
   pub origins_stand : (a x : ℕ) → next_place p d w ≤ a → a < next_place p d w + n → p.origin a ≡ Some x → w.heap x ≡ start x
   origins_stand a x low high from =
       let k : ℕ = a - next_place p d w in
@@ -73,7 +73,7 @@ module _ (m : MoveTable) (p : Slide) (start : ℕ → ℕ) (w : Machine) (worker
       let up : a ≤ x = slide.down a x below from in
       sym (write_words-other p d k w x (inr (omega arith))) ∙ stands
 
--- what a copy of the machine's is in a list of words
+-- a copy of the machine in a list of words
 pub record IsCopy (image : HeapImage) (heap : List ℕ) (first number : ℕ) (after : ℕ → ℕ) : Type 0 where
   pub below : first + number ≤ new_top image
   pub stands : (a x : ℕ) → first ≤ a → a < first + number → origin image a ≡ Some x → slice_index heap x ≡ word_at image x
@@ -110,7 +110,7 @@ module _ (image : HeapImage) (valid : IsValid image) (workers : ℕ) (log : List
         ];
       }
 
-  -- what an event of the machine copies
+  -- the words that an event of the machine copies
   pub event_copies : (ledger : Ledger) (worker : ℕ) (event : Event) → IsKept (image_table image) (image_slide image) (word_at image) (machine_of image log) → Tells ledger (machine_of image log)
       → Allows (image_table image) (machine_of image log).known worker event → AllowsWords (image_slide image) (machine_of image log) event
       → IsCopy image heap (places_of image ledger event).0 (places_of image ledger event).1 (copied (image_slide image) (machine_of image log) event).heap
@@ -152,7 +152,7 @@ first_way image v ledger lines heap kept tells none same =
 module _ (image : HeapImage) (valid : IsValid image) (v : ScheduleView) (items : List Line) (number : ℕ) (old new : Ledger) (lines : List Line) (heap : List ℕ) (line : Line) (r : Reply)
     (same : items ≡ v.lines) (way : IsUnderWay image v number old lines heap) (inside : number < length items) (there : line ≡ get_or items number no_line)
     (call : IsCallOfLine line (entry line.worker line.event r)) (leads : Leads image old.scheduler.workers old (entry line.worker line.event r) new) where
-  -- what the line's event copies
+  -- the words that the line's event copies
   pub line_copies : IsCopy image heap (places_of image old line.event).0 (places_of image old line.event).1 (copied (image_slide image) (machine_of image way.log) line.event).heap
   line_copies =
       let step = (leads (machine_of image way.log) way.tells).0 in
@@ -222,7 +222,7 @@ replied_schedule image v lines heap done valid formed all =
 abbrev view_of : ℕ → List Line → ScheduleView
 view_of n ls = record { workers = n; lines = ls }
 
--- what a replay gives
+-- the result of a replay
 pub replayed : (image : HeapImage) (v : ScheduleView) (lines : List Line) (heap : List ℕ) (done : Bool) (gives : Replayed) → IsValid image → IsCarriedOut image v lines done heap
     → gives.lines ≡ record { workers = v.workers; lines = lines } → ((log : List Entry) → IsTrue done ↔ AllAreSettled (image_table image) (machine_of image log).known → IsEndOf image log gives.ended) → IsReplayed image v gives
 replayed image v lines heap done gives valid all told ended =

@@ -35,7 +35,7 @@ pub some_where_not_none : (o : Option ℕ) → (o ≡ None → ⊥) → (v : ℕ
 some_where_not_none None h = absurd (h refl)
 some_where_not_none (Some v) h = (v, refl)
 
--- two heaps that agree where the word comes from give one word
+-- two heaps that agree at the word's origin give the same word
 pub word_from_same : (p : Slide) (f g : ℕ → ℕ) (a : ℕ) (o : Option ℕ) → ((x : ℕ) → o ≡ Some x → f x ≡ g x) → word_from p f a o ≡ word_from p g a o
 word_from_same p f g a None h = refl
 word_from_same p f g a (Some x) h = ap (λ v. p.carried x v) (h x refl)
@@ -52,11 +52,11 @@ place_is p d k h =
     let s : k < p.size = omega arith in
     record { below = omega arith; short = s; region = div-mul-add d p.size k s; offset = mod-mul-add d p.size k s }
 
--- an address is told by its region and its place in it
+-- an address is determined by its region and its offset in it
 pub address_is : (p : Slide) (a d k : ℕ) → a / p.size ≡ d → a % p.size ≡ k → a ≡ d * p.size + k
 address_is p a d k e f = sym (div-add-mod' a p.size) ∙ (rw (e, f) refl)
 
--- the word that goes to the next place of a region that is being filled stands as it stood at the start
+-- the origin of the next word of a region that is being filled still has the word of the start
 pub origin_stands : (m : MoveTable) (p : Slide) (start : ℕ → ℕ) (w : Machine) (worker d x : ℕ)
     → IsSlideOf m p → IsKept m p start w → w.known.claimed d ≡ Some worker → w.written d < words_of p d
     → p.origin (next_place p d w) ≡ Some x → w.heap x ≡ start x
@@ -207,7 +207,7 @@ kept_at_first m p start =
       stands = λ a le. refl;
     }
 
--- the same words, with what the scheduler knows under another name
+-- the same words, with another expression for the scheduler's state
 pub kept_known : (m : MoveTable) (p : Slide) (start : ℕ → ℕ) (w : Machine) (known : State) → w.known ≡ known → IsKept m p start w
     → IsKept m p start (record { known = known; heap = w.heap; written = w.written })
 kept_known m p start w known e kept =
@@ -222,7 +222,7 @@ drained_where_not_pending true true e f = refl
 drained_where_not_pending true false e f = sym e
 drained_where_not_pending false b e f = absurd (false≢true f)
 
--- a claim that was answered Yes
+-- a granted claim
 pub claim_kept : (m : MoveTable) (p : Slide) (start : ℕ → ℕ) (w : Machine) (worker r : ℕ)
     → IsKept m p start w → MayClaim m w.known r
     → IsKept m p start (record { known = claimed_by w.known worker r Yes; heap = w.heap; written = w.written })
@@ -249,7 +249,7 @@ claim_kept m p start w worker r kept may =
     read_out' d s by own reads_it (inl h) = rw h.0 (drained_where_not_pending (reads m d r) (w.known.drained d r) (may.idle d) (rw h.0 at reads_it))
     read_out' d s by own reads_it (inr h) = kept.read_out d s by (sym h.1 ∙ own) reads_it
 
--- one call more: each word is found as it was at the start, and what holds stays
+-- one more call: each word is found as it was at the start, and the invariant stays
 pub step_kept : (m : MoveTable) (p : Slide) (start : ℕ → ℕ) (w : Machine) (worker : ℕ) (event : Event) (reply : Reply)
     → IsSlideOf m p → IsKept m p start w
     → IsStep m w.known worker event reply (state_after w.known worker event reply) → AllowsWords p w event
@@ -329,7 +329,7 @@ filled_heap m p start w slide kept filled a = go (cases_lt a p.top)
         let few : w.written (a / p.size) ≤ words_of p (a / p.size) = kept.within (a / p.size) in
         rw (le-ltb a p.top le) (kept.stands a (omega arith))
 
--- what a whole history keeps, from the opening on
+-- what holds for a whole history, from the opening on
 pub history_kept : (m : MoveTable) (p : Slide) (workers : ℕ) (start : ℕ → ℕ) (log : List Entry) → IsSlideOf m p → AreMachineSteps m p workers (machine_at_first start) log
     → AllFind p start (machine_at_first start) log × IsKept m p start (machine_from p (machine_at_first start) log)
 history_kept m p workers start log slide steps = steps_kept m p workers start (machine_at_first start) log slide (kept_at_first m p start) steps

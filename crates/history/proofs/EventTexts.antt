@@ -62,7 +62,7 @@ pub event_is : (e : Event) (v : Verb) (name bytes rest after : List ℕ) → nam
 event_is e v name bytes rest after spells is split numbers =
     split ∙ (ap (λ (w : List ℕ). w ++ 32 ∷ rest) (spells ∙ ap verb_text (sym is)) ∙ (ap (λ (r : List ℕ). verb_text (verb_of e) ++ 32 ∷ r) numbers ∙ sym (event_text-verb e after)))
 
--- what is known of an answer, by what is known of either
+-- what holds for a result, from what holds for either case
 pub match_known : {X : Type 0} (o : Option X) (N M : Type 0) (P Q : X → Type 0) → MatchOption o N P → (N → M) → ((x : X) → P x → Q x) → MatchOption o M Q
 match_known None N M P Q h f g = f h
 match_known (Some x) N M P Q h f g = g x h
@@ -100,7 +100,7 @@ numbers_unique (Copy m n) (Copy p q) t u is h k e = two_unique Copy m n p q t u 
 numbers_unique Poll Poll t u is h k e = (refl, e)
 numbers_unique e f t u is h k same = absurd (cc)
 
--- an event that ends at a space is told, and so is what follows
+-- an event that ends at a space is unique, and so is what follows
 pub event_unique : (e f : Event) (t u : List ℕ) → has_numbers e ≡ true → has_numbers f ≡ true → event_text e ++ 32 ∷ t ≡ event_text f ++ 32 ∷ u → (e ≡ f) × (t ≡ u)
 event_unique e f t u h k same =
     let both = begins f (verb_text (verb_of e)) (event_text e ++ 32 ∷ t) (numbers_then e t) u (verb_without (verb_of e)) (event_text-verb e t) same in

@@ -41,7 +41,7 @@ is_flagged-set e t (p ∷ ps) (flag ∷ flags) (suc at) c lt all =
     go true false r = refl
     go false a r = refl
 
--- the flag beside a pair tells
+-- what the flag of a pair says
 pub is_flagged_at : (d s : ℕ) (ps : List (ℕ × ℕ)) (flags : List Bool) (at : ℕ) (c : ℕ × ℕ) → IsAscending ps → at < length ps → length flags ≡ length ps → (get_or ps at c).0 ≡ d → (get_or ps at c).1 ≡ s
     → is_flagged d s ps flags ≡ get_or flags at false
 is_flagged_at d s [] flags at c up lt all a b = absurd (omega arith)

@@ -23,7 +23,7 @@ use Rattle.history.specs.declared.line.Line.{Line}
 use Rattle.history.specs.declared.line_cause.LineCause.{LineCause}
 use Rattle.history.proofs.Machines.{replay_more, machine_of-push}
 
--- the first lines are taken, and the ledger tells the machine to which they lead
+-- the first lines are taken, and the machine after them is one of the ledger
 pub record IsFollowed (image : HeapImage) (v : ScheduleView) (number : ℕ) (ledger : Ledger) : Type 0 where
   pub kept : IsLedger image v.workers ledger
   pub log : List Entry
@@ -48,11 +48,11 @@ followed_more image v number old new line e followed more call leads kept =
 take_split : (lines : List Line) (number : ℕ) (d : Line) → number < length lines → lines ≡ take number lines ++ get_or lines number d ∷ drop (suc number) lines
 take_split lines number d inside = sym (take-append-drop number lines) ∙ ap (λ (ls : List Line). take number lines ++ ls) (drop-cons lines number d inside)
 
--- what stands where there is no line
+-- the default item, if there is no line
 abbrev pub no_line : Line
 no_line = record { worker = 0; event = Claim 0; reply = None }
 
--- an item that stands in the list
+-- an item of the list
 pub item_is : (items : List Line) (number : ℕ) (line : Line) → number < length items → line ≡ get_or items number line → line ≡ get_or items number no_line
 item_is items number line inside is = is ∙ ap (λ o. unwrap_or o line) (sym (slice_get-get_or items number line inside) ∙ slice_get-get_or items number no_line inside)
 

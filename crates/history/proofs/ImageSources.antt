@@ -83,7 +83,7 @@ module _ (image : HeapImage) (valid : IsValid image) (d : ℕ) where
       let e = sym (table-reads image valid d s) ∙ next.1 in
       (reads-in_range image valid d s (and_parts (not (d == s)) (image_reads image d s) e).1).1
 
-  -- what the first of the regions read from there on says
+  -- what the first of the regions read from there on determines
   pub next_is : (from : ℕ) (left later : List ℕ) (next : Option ℕ) → left ≡ sources_from image d (max from (d + 1)) → MatchOption next ((left ≡ []) × (later ≡ [])) (λ s. left ≡ s ∷ later) → IsNextSource (image_table image) d from next
   next_is from left later None e h = none_left_above from (sym e ∙ h.0)
   next_is from left later (Some s) e h = next_above from s later (sym e ∙ h)

@@ -13,7 +13,7 @@ use Rattle.history.specs.declared.readers.Readers.TheVariants.{Nobody, One, Two}
 use Rattle.history.proofs.Counting.{count_by_none}
 use Rattle.history.proofs.Pairs.{count_by-take, IsBefore, before_tells, before_from, not_before_from, not_before_tells, IsPlaced, placed}
 
--- behind a pair stands the first one that isn't before the next source
+-- after a pair comes the first one that isn't before the next source
 pub first_behind : (ps : List (ℕ × ℕ)) (d s at : ℕ) → IsAscending ps → IsPlaceOf ps d s at → IsFirstPlace ps d (s + 1) (at + 1)
 first_behind ps d s at all place = record { inside = let i = place.inside in omega arith; before = before; after = after }
   where
@@ -170,7 +170,7 @@ no_readers_outside m s table outside =
     none : (k : ℕ) (d : ℕ × ℕ) → k < length m.pairs → has_source s (get_or (take (length m.pairs) m.pairs) k d) ≡ false
     none k d lt = rw (take_all (length m.pairs) m.pairs (omega arith)) (ne_eqb s (get_or m.pairs k d).1 (λ is. let h = (table.slide k d lt).1 in omega arith))
 
--- each entry of an index tells the readers of its region, and one that there isn't tells none
+-- each entry of an index has the readers of its region, and one out of range has none
 pub entry_are : (m : MoveTable) (s : ℕ) (first : List ℕ) (readers : List Readers) → IsIndexed m first readers → AreReaders m.pairs (length m.pairs) s (slice_index_or readers s Nobody)
 entry_are m s first readers kept = go (cases_lt s (region_count m))
   where
@@ -198,7 +198,7 @@ reader_places_more m n s readers table lt is before = record { room = length-set
         rw (same, get_or-set_same readers s (joined (slice_index_or readers s Nobody) n) Nobody (rw before.room s_inside)) (one_reader_more m.pairs n s (slice_index_or readers s Nobody) lt is few (before.each s s_inside))
     go t inside (inr other) = rw (get_or-set_other readers s t (joined (slice_index_or readers s Nobody) n) Nobody other) (no_reader_more m.pairs n t (slice_index_or readers t Nobody) lt (λ d e. other (e ∙ is d)) (before.each t inside))
 
--- what holds where there is no answer
+-- what holds if there is no result
 pub if_none : {X P Q : Type 0} (o : Option X) → (P → Q) → IfNone o P → IfNone o Q
 if_none None f h = f h
 if_none (Some x) f h = tt

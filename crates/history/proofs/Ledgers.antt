@@ -25,7 +25,7 @@ use Rattle.history.specs.declared.line_cause.LineCause.TheVariants.{OtherReply}
 use Rattle.history.specs.declared.reply.Reply.{Reply}
 use Rattle.history.proofs.Drained.{choice_cases}
 
--- a machine that the ledger tells
+-- a machine of the ledger
 abbrev pub told_by : Ledger → Machine
 told_by ledger = record { known = state_in ledger.scheduler; heap = λ a. 0; written = λ r. slice_index ledger.written.items r }
 
@@ -73,7 +73,7 @@ copy_room image valid workers ledger worker event kept allowed words d n is =
     let inside : d < length ledger.written.items = let all = kept.all in let l = fits.0 in omega arith in
     (inside, fits.1)
 
--- the step of the scheduler, told of the machine's
+-- the step of the scheduler as a step of the machine's
 step_of : (m m' : MoveTable) (now known : State) (worker : ℕ) (event : Event) (reply : Reply) (new : State) → m ≡ m' → known ≡ now → IsStep m now worker event reply new
     → IsStep m' known worker event reply (state_after known worker event reply)
 step_of m m' now known worker event reply new moves same step =
@@ -120,7 +120,7 @@ pub scheduler_refuses : (image : HeapImage) (workers : ℕ) (old : Ledger) (work
 scheduler_refuses image workers old worker event kept not w tells reply step =
     not (subst (λ (t : MoveTable). Allows t (state_in old.scheduler) worker event) (sym kept.moves) (subst (λ (k : State). Allows (image_table image) k worker event) tells.known step.1.allowed))
 
--- the call of a line is told by its reply
+-- the call of a line is determined by its reply
 call_is : (line : Line) (e : Entry) → IsCallOfLine line e → e ≡ entry line.worker line.event e.reply
 call_is line e is = let a = is.worker in let b = is.event in go e.worker line.worker e.event line.event a b
   where
@@ -138,7 +138,7 @@ some_told : (told reply : Reply) (o : Option Reply) → o ≡ Some told → (o �
 some_told told reply o is (inl none) = let f : Some told ≡ None = sym is ∙ none in cc
 some_told told reply o is (inr some) = let f : Some told ≡ Some reply = sym is ∙ some in cc
 
--- where the line tells another reply than the machine's, it is refused
+-- a line whose reply isn't the machine's is refused
 pub reply_refused : (image : HeapImage) (workers : ℕ) (old new : Ledger) (line : Line) (told reply : Reply) → line.reply ≡ Some told → told ≢ reply
     → Leads image workers old (entry line.worker line.event reply) new → RefusesLine image workers old line
 reply_refused image workers old new line told reply is other leads w tells e call step =

@@ -1,5 +1,5 @@
 -- The parts of a line's text.
-use Rattle.std.proofs.Common.{◌≡◌, ℕ, ◌-◌, ◌<◌, ◌≤◌, ◌^◌, true, take, drop, take_all, length-drop, List, [], ◌∷◌, ◌++◌, length, Option, Some, None, refl, sym, ap, ◌∙◌, arith, append_assoc}
+use Rattle.std.proofs.Common.{◌≡◌, ℕ, ◌<◌, ◌≤◌, ◌^◌, true, drop, List, [], ◌∷◌, ◌++◌, Option, Some, None, refl, sym, ap, ◌∙◌, arith, append_assoc}
 use Rattle.std.specs.Prelude.{decimal, nat_lt, ◌&&◌}
 use Rattle.std.proofs.lemmas.Bool.{and_parts, ltb-true, leb-true, false≢true}
 use Rattle.std.proofs.lemmas.Fmt.{decimal_injective}
@@ -23,7 +23,7 @@ line_parts l rest =
     ∙ ap (λ (xs : List ℕ). decimal l.worker ++ 32 ∷ xs)
     (append_assoc (event_text l.event) (32 ∷ told) rest ∙ ap (λ (xs : List ℕ). event_text l.event ++ 32 ∷ xs) (append_assoc (told_text l.reply) (10 ∷ []) rest))
 
--- what a line of a text keeps
+-- the invariant of a line of a text
 pub record IsTextLine (workers : ℕ) (l : Line) : Type 0 where
   pub worker : l.worker < workers
   pub event : is_event l.event ≡ true
@@ -65,7 +65,7 @@ pub told_without : (event : Event) (told : Option Reply) → is_told_reply event
 told_without event None h = refl
 told_without event (Some reply) h = reply_without event reply h
 
--- what stands behind a line's worker, and behind its event
+-- what follows a line's worker, and its event
 pub behind_worker : (workers worker : ℕ) (l : Line) (bytes after rest : List ℕ) → workers ≤ 64 → IsTextLine workers l → worker < 2 ^ 32 → bytes ≡ decimal worker ++ 32 ∷ after → bytes ≡ line_text l ++ rest
     → (worker ≡ l.worker) × (after ≡ event_text l.event ++ 32 ∷ (told_text l.reply ++ 10 ∷ rest))
 behind_worker workers worker l bytes after rest most fits few is same =
@@ -89,8 +89,7 @@ header_number told workers bytes after rest few most is same =
     let words = (split_unique 10 (decimal told) (decimal workers) after rest (decimal_without 10 told (omega arith) (omega arith)) (decimal_without 10 workers (omega arith) (omega arith)) (sym is ∙ (same ∙ header_parts workers rest))).0 in
     decimal_injective told workers (omega arith) (omega arith) words
 
--- the number behind the first eleven bytes of a first line
-pub header_told : (told workers : ℕ) (bytes after rest : List ℕ) → told < 2 ^ 32 → workers ≤ 64 → take (length bytes - 11) (drop 11 bytes) ≡ decimal told ++ 10 ∷ after → bytes ≡ header_text workers ++ rest → told ≡ workers
-header_told told workers bytes after rest few most is same =
-    let all : take (length bytes - 11) (drop 11 bytes) ≡ drop 11 bytes = take_all (length bytes - 11) (drop 11 bytes) (omega (arith, length-drop 11 bytes)) in
-    header_number told workers (drop 11 bytes) after rest few most (sym all ∙ is) (ap (drop 11) same)
+-- the number after the first 11 bytes of a header
+pub header_told : (told workers : ℕ) (bytes left after rest : List ℕ) → told < 2 ^ 32 → workers ≤ 64 → left ≡ drop 11 bytes → left ≡ decimal told ++ 10 ∷ after → bytes ≡ header_text workers ++ rest → told ≡ workers
+header_told told workers bytes left after rest few most cut is same =
+    header_number told workers left after rest few most is (cut ∙ ap (drop 11) same)

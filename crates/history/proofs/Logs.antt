@@ -1,4 +1,4 @@
--- Histories: their fronts, what comes after, and what their entries tell of the state that they lead to.
+-- Histories: their fronts, what comes after, and what their entries say about the state after them.
 use Rattle.std.proofs.Common.{◌≡◌, ℕ, Bool, true, false, List, [], ◌∷◌, ◌++◌, Some, refl, sym, ap, ◌∙◌, inl, inr, ◌⊎◌}
 use Rattle.std.specs.Prelude.{◌==◌, ◌&&◌, ◌||◌, not, if◌then◌else◌}
 use Rattle.std.specs.List.{list_any}

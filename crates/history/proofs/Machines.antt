@@ -19,12 +19,12 @@ pub machine_from-append : (p : Slide) (w : Machine) (xs ys : List Entry) → mac
 machine_from-append p w [] ys = refl
 machine_from-append p w (x ∷ xs) ys = machine_from-append p (machine_after p w x) xs ys
 
--- what the words allow is legal
+-- an event that the words allow is legal
 pub legal_steps : (m : MoveTable) (p : Slide) (workers : ℕ) (w : Machine) (log : List Entry) → AreMachineSteps m p workers w log → AreSteps m workers w.known log
 legal_steps m p workers w [] steps = tt
 legal_steps m p workers w (e ∷ es) steps = (steps.0.0, steps.0.1, legal_steps m p workers (machine_after p w e) es steps.1)
 
--- and leads to what the machine's scheduler knows
+-- and leads to the state of the machine's scheduler
 pub known-machine_from : (p : Slide) (w : Machine) (log : List Entry) → (machine_from p w log).known ≡ state_from w.known log
 known-machine_from p w [] = refl
 known-machine_from p w (e ∷ es) = known-machine_from p (machine_after p w e) es

@@ -57,7 +57,7 @@ unsettled-opening m =
     count_of_flags m.fill
     ∙ count_by_same (λ r. to_fill m r) (λ r. to_fill m r && not false) (range_with_len 0 (region_count m)) (λ k d lt. sym (and_true (to_fill m (get_or (range_with_len 0 (region_count m)) k d))))
 
--- what a scheduler keeps at first
+-- the invariant of a new scheduler
 pub record IsOpening (v : SchedulerView) (readers sources : List ℕ) (left : ℕ) : Type 0 where
   pub state : state_in v ≡ opening
   pub kept : IsKept v readers sources left

@@ -18,7 +18,7 @@ use Rattle.history.proofs.Pairs.{flag_inside}
 use Rattle.history.proofs.Logs.{state_from-append, AreSteps-front, AreSteps-rest, drained_from, settled_from, settled_after, claimed_from, claimed_after, pending_from}
 use Rattle.history.proofs.Reaches.{MayClaim, grant_tells, step_reached, legal_reached}
 
--- the step that an entry stands for
+-- the step of an entry
 pub step_at : (m : MoveTable) (workers : ℕ) (log before after : List Entry) (e : Entry) → IsLegal m workers log → IsSplit log before e after
     → IsStep m (state_of before) e.worker e.event e.reply (state_after (state_of before) e.worker e.event e.reply)
 step_at m workers log before after e legal split = (AreSteps-rest m workers opening before (e ∷ after) (subst (λ (l : List Entry). AreSteps m workers opening l) split legal)).1

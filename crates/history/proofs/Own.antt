@@ -1,4 +1,4 @@
--- What a worker's own calls tell of the regions that it claimed.
+-- What a worker's own calls say about the regions that it claimed.
 use Rattle.std.proofs.Common.{◌≡◌, ◌≢◌, ℕ, Bool, cond, List, [], ◌∷◌, Option, Some, None, refl, sym, ap, ◌∙◌, subst, inl, inr, ◌⊎◌}
 use Rattle.std.specs.Prelude.{if◌then◌else◌, ◌==◌, ◌&&◌, ◌||◌}
 use Rattle.std.proofs.lemmas.Bool.{cases_eq, eq-eqb, ne_eqb, false_from_ne_true}
@@ -12,7 +12,7 @@ use Rattle.history.specs.declared.reply.Reply.TheVariants.{Yes}
 use Rattle.history.specs.declared.entry.Entry.{Entry}
 use Rattle.history.proofs.Reaches.{MayClaim, grant_tells, step_reached, opening_reached}
 
--- the worker claimed the region and its own calls tell all of it, or it didn't and they tell nothing
+-- the worker claimed the region and its own calls determine its state, or it didn't and they say nothing
 abbrev Told : ℕ → State → State → ℕ → Type 0
 Told w own now d = ((now.claimed d ≡ Some w) × AgreeOn d own now) ⊎ ((now.claimed d ≢ Some w) × AgreeOn d own opening)
 

@@ -21,7 +21,7 @@ AllPairs-append R (x ∷ xs) ys front back across =
 abbrev pub row : (ℕ → Bool) → ℕ → ℕ → ℕ → List (ℕ × ℕ)
 row test d b m = map (λ s. (d, s)) (filter test (range_with_len b m))
 
--- what holds of each such pair
+-- what holds for each such pair
 pub All-row : (P : ℕ × ℕ → Type 0) (test : ℕ → Bool) (d b m : ℕ) → ((s : ℕ) → b ≤ s → s < b + m → test s ≡ true → P (d, s)) → All P (row test d b m)
 All-row P test d b zero h = All-nil P
 All-row P test d b (suc m) h =

@@ -1,4 +1,4 @@
--- Tables of moves: their order, their sources, and what a table that may be handed in keeps.
+-- Tables of moves: their order, their sources, and the invariant of plain tables.
 use Rattle.std.proofs.Common.{◌≡◌, ℕ, zero, suc, ◌+◌, ◌-◌, ◌<◌, ◌≤◌, Bool, true, false, cond, List, [], ◌∷◌, ◌++◌, length, get_or, take, replicate, Some, refl, sym, ap, ◌∙◌, inl, inr, ◌⊎◌, subst, arith}
 use Rattle.std.specs.Prelude.{◌==◌, ◌&&◌, nat_lt, slice_index, slice_index_or, slice_set, count_by, filter}
 use Rattle.std.specs.List.{list_any}
@@ -57,7 +57,7 @@ ascending_tail p ps all i j d lt inside = all (suc i) (suc j) d (omega arith) (o
 pub ascending_head : (p : ℕ × ℕ) (ps : List (ℕ × ℕ)) (k : ℕ) (d : ℕ × ℕ) → IsAscending (p ∷ ps) → k < length ps → IsBefore p (get_or ps k d)
 ascending_head p ps k d all lt = before_tells p (get_or ps k d) (all 0 (suc k) d (omega arith) (omega arith))
 
--- a pair stands at one place alone
+-- a pair is at one index only
 pub one_place : (ps : List (ℕ × ℕ)) (i j : ℕ) (c d : ℕ × ℕ) → IsAscending ps → i < length ps → j < length ps → (get_or ps i c).0 ≡ (get_or ps j d).0 → (get_or ps i c).1 ≡ (get_or ps j d).1 → i ≡ j
 one_place ps i j c d all li lj e f = go (cases_order i j)
   where
@@ -106,7 +106,7 @@ flag_inside fill r e = go (cases_lt r (length fill))
     go (inl lt) = lt
     go (inr le) = absurd (false≢true (sym (get_or_past fill r false le) ∙ e))
 
--- what the laws of a table say of a pair that it has
+-- what the laws of a table say about its pairs
 pub record IsSlide (m : MoveTable) (d s : ℕ) : Type 0 where
   pub down : d < s
   pub from_inside : s < region_count m
@@ -136,7 +136,7 @@ IsBefore_partitions ps q all i j d le lt e = go (cases_eq i j)
     go (inl same) = ap (λ (k : ℕ). is_before (get_or ps k d) q) same ∙ e
     go (inr other) = before_from (get_or ps i d) q (before_trans (get_or ps i d) (get_or ps j d) q (before_tells (get_or ps i d) (get_or ps j d) (all i j d (omega arith) lt)) (before_tells (get_or ps j d) q e))
 
--- a source from there on stands at that place or after it
+-- a source from there on is at that index or after it
 pub source_after : (ps : List (ℕ × ℕ)) (d from at t : ℕ) → IsFirstPlace ps d from at → from ≤ t → (p : IsPlaced ps d t) → at ≤ p.at
 source_after ps d from at t first le p = go (cases_lt p.at at)
   where
@@ -156,7 +156,7 @@ next_past ps d from at first past t le =
     let b = p.inside in
     omega arith)
 
--- another destination's pair stands there, so there is no source from there on
+-- a pair of another destination is there, so there is no source from there on
 pub next_other : (ps : List (ℕ × ℕ)) (d from at : ℕ) (q : ℕ × ℕ) → IsAscending ps → IsFirstPlace ps d from at → at < length ps → get_or ps at q ≡ q → (q.0 ≡ d → ⊥) → (t : ℕ) → from ≤ t → list_any (is_pair d t) ps ≡ false
 next_other ps d from at q all first lt is other t le = false_from_ne_true (list_any (is_pair d t) ps) (λ e. go (placed ps d t e))
   where
@@ -178,7 +178,7 @@ next_other ps d from at q all first lt is other t le = false_from_ne_true (list_
             wrong (inl c) = let a = p.first q in let b : (get_or ps at q).0 ≡ q.0 = ap (λ (x : ℕ × ℕ). x.0) is in let g = beyond.1 in omega arith
             wrong (inr c) = let a = p.first q in let b : (get_or ps at q).0 ≡ q.0 = ap (λ (x : ℕ × ℕ). x.0) is in let g = beyond.1 in omega arith
 
--- the pair that stands there is the next source's
+-- the pair there is that of the next source
 pub next_here : (m : MoveTable) (d from at s : ℕ) (q : ℕ × ℕ) → IsAscending m.pairs → IsFirstPlace m.pairs d from at → at < length m.pairs → get_or m.pairs at q ≡ q → q.0 ≡ d → q.1 ≡ s → IsNextSource m d from (Some s)
 next_here m d from at s q all first lt is a b = (from_le (not_before_tells q (d, from) (ap (λ (x : ℕ × ℕ). is_before x (d, from)) (sym is) ∙ first.after at q (omega arith) lt)), reads_at m.pairs at d s q lt (ap (λ (x : ℕ × ℕ). x.0) is ∙ a) (ap (λ (x : ℕ × ℕ). x.1) is ∙ b), λ t from_t t_s. false_from_ne_true (reads m d t) (λ e. go t from_t t_s (placed m.pairs d t e)))
   where
@@ -289,7 +289,7 @@ pairs_before-opening m = filter_none (λ p. is_before p (0, 0)) m.pairs (λ k d 
     wrong (inl h) = omega arith
     wrong (inr h) = omega arith
 
--- all pairs are before the place behind the last region
+-- all pairs are before the index after the last region
 pub pairs_before-whole : (m : MoveTable) → IsMoveTable m → pairs_before m (region_count m) 0 ≡ m.pairs
 pairs_before-whole m table = filter_all (λ p. is_before p (region_count m, 0)) m.pairs (λ k d lt. let h = table.slide k d lt in before_from (get_or m.pairs k d) (region_count m, 0) (inl (let a = h.0 in let b = h.1 in omega arith)))
 

@@ -14,7 +14,7 @@ use Rattle.history.proofs.Counting.{count_by_zero}
 use Rattle.history.proofs.Pairs.{placed}
 use Rattle.history.proofs.Logs.{pending_after}
 
--- what an allowed claim tells
+-- what an allowed claim says
 pub record MayClaim (m : MoveTable) (now : State) (r : ℕ) : Type 0 where
   pub fills : IsTrue (to_fill m r)
   pub unclaimed : now.claimed r ≡ None
@@ -73,7 +73,7 @@ choice_cases a b x y = go (cases_eq a b)
     go (inl e) = inl (e, rw (eq-eqb a b e))
     go (inr n) = inr (n, rw (ne_eqb a b n))
 
--- a claim that was answered Yes
+-- a granted claim
 claim_reached : (m : MoveTable) (now : State) (worker r : ℕ) → IsReached m now → MayClaim m now r → IsReached m (claimed_by now worker r Yes)
 claim_reached m now worker r before may =
     record {

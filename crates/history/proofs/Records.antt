@@ -1,4 +1,4 @@
--- A schedule that tells all its replies has one history.
+-- A schedule with all its replies has one history.
 use Rattle.std.proofs.Common.{◌≡◌, ℕ, Option, Some, None, List, [], ◌∷◌, map, refl, sym, ap, ◌∙◌, subst, ◌⊎◌, ⊎_elim}
 use Rattle.std.specs.Prelude.{true}
 use Rattle.std.proofs.lemmas.Option.{none-some, same_Some}

@@ -7,7 +7,7 @@ use Rattle.history.specs.declared.event.Event.TheVariants.{Claim, Look, Drain, C
 use Rattle.history.specs.declared.reply.Reply.{Reply}
 use Rattle.history.specs.declared.reply.Reply.TheVariants.{Yes, No, Outside, Claimed, Last, NotLast, Done, All, More}
 
--- what the definitions answer to these calls of one worker, one after another
+-- the replies of the definitions to these calls of one worker, one after another
 abbrev replies_from : MoveTable → State → List Event → List Reply
 replies_from m now [] = []
 replies_from m now (e ∷ es) = reply_to m now e ∷ replies_from m (state_after now 0 e (reply_to m now e)) es

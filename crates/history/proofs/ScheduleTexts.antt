@@ -18,7 +18,7 @@ text_more workers lines l =
     ap (λ (t : List ℕ). header_text workers ++ t) (flat_map-append line_text lines (l ∷ []) ∙ ap (λ (t : List ℕ). flat_map line_text lines ++ t) (append-nil (line_text l)))
     ∙ sym (append_assoc (header_text workers) (flat_map line_text lines) (line_text l))
 
--- what holds once a line more is read
+-- what holds after one more line is read
 pub record IsRead (bytes : List ℕ) (workers : ℕ) (lines : List Line) (rest : List ℕ) : Type 0 where
   pub kept : IsTextSchedule (record { workers = workers; lines = lines })
   pub is : bytes ≡ schedule_text (record { workers = workers; lines = lines }) ++ rest
@@ -38,7 +38,7 @@ read_more bytes workers lines lines' l rest after more kept is formed next =
 pub not_empty : (rest : List ℕ) → (length rest == 0) ≡ false → rest ≢ []
 not_empty rest h e = false≢true (sym h ∙ ap (λ (t : List ℕ). length t == 0) e)
 
--- what a text may have is a schedule
+-- lines that a text may have form a schedule
 pub text_schedule : (v : ScheduleView) → IsTextSchedule v → IsSchedule v
 text_schedule v f =
     record {

@@ -1,4 +1,4 @@
--- The steps of a scheduler, on what it keeps.
+-- The steps of a scheduler, on its fields.
 use Rattle.std.proofs.Common.{◌≡◌, ℕ, ◌+◌, ◌-◌, ◌<◌, ◌≤◌, Bool, true, false, List, length, get_or, Option, Some, None, Ok, Err, refl, sym, ap, ◌∙◌, inl, inr, ◌⊎◌, arith}
 use Rattle.std.proofs.Math.Path.{fun_ext}
 use Rattle.std.specs.Prelude.{◌==◌, ◌&&◌, ◌||◌, not, if◌then◌else◌, IsTrue, slice_index, slice_index_or, slice_set, count_by}
@@ -73,7 +73,7 @@ left_by_other end_of m drained d s at x table inside first second apart =
         let none : (x == end_of (get_or m.pairs k c)) ≡ false = ne_eqb x (end_of (get_or m.pairs k c)) (λ e. apart (e ∙ (ap (λ (j : ℕ). end_of (get_or m.pairs j c)) same ∙ ap end_of (get_or_default m.pairs at c (0, 0) inside)))) in
         rw none refl
 
--- the pair that is found pending, with what follows of it
+-- a pair that is found pending, and the consequences
 pub record IsOpen (v : SchedulerView) (d s at : ℕ) : Type 0 where
   pub inside : at < length v.moves.pairs
   pub first : (c : ℕ × ℕ) → (get_or v.moves.pairs at c).0 ≡ d
@@ -105,7 +105,7 @@ open_of v readers sources left d s at kept found =
     undrained : is_flagged d s v.moves.pairs v.flags ≡ false
     undrained = is_flagged_at d s v.moves.pairs v.flags at (0, 0) kept.table.ascending found.inside kept.flags_all (first (0, 0)) (second (0, 0)) ∙ found.undrained
 
--- what a scheduler shows once a pair is drained
+-- the state of a scheduler after a pair is drained
 abbrev pub drained_view : SchedulerView → ℕ → SchedulerView
 drained_view v at = record v { flags = slice_set v.flags at true }
 
@@ -134,7 +134,7 @@ lowered counts x old new inside are less same k lt = go (cases_eq k x)
         ap (λ (j : ℕ). slice_index (slice_set counts x (slice_index counts x - 1)) j) e ∙ (get_or-set_same counts x (slice_index counts x - 1) 0 inside ∙ (down ∙ ap new (sym e)))
     go (inr n) = get_or-set_other counts x k (slice_index counts x - 1) 0 n ∙ (are k lt ∙ sym (same k n))
 
--- what holds once a pair is drained
+-- what holds after a pair is drained
 pub record Drains (v : SchedulerView) (readers sources : List ℕ) (left d s at : ℕ) : Type 0 where
   pub some_sources : 1 ≤ slice_index sources d
   pub some_readers : 1 ≤ slice_index readers s
@@ -221,7 +221,7 @@ slice-set xs i y d lt = fun_ext (λ k. go k (cases_eq k i))
     go k (inl e) = rw (e, eq-eqb i i refl) (get_or-set_same xs i y d lt)
     go k (inr n) = rw (ne_eqb k i n) (get_or-set_other xs i k y d n)
 
--- a fill that has begun is of a region that there is
+-- a fill that has begun is of a region in range
 pub begun_inside : (xs : List Progress) (d : ℕ) (p : Progress) → slice_index_or xs d Unclaimed ≡ p → (p ≡ Unclaimed → ⊥) → d < length xs
 begun_inside xs d p is begun = go (cases_lt d (length xs))
   where
@@ -229,7 +229,7 @@ begun_inside xs d p is begun = go (cases_lt d (length xs))
     go (inl lt) = lt
     go (inr le) = absurd (begun (sym is ∙ get_or_past xs d Unclaimed le))
 
--- what a scheduler shows once a region's fill has come so far
+-- the state of a scheduler after the progress of a region's fill changes
 abbrev pub progressed : SchedulerView → ℕ → Progress → SchedulerView
 progressed v d p = record v { progress = slice_set v.progress d p }
 
@@ -242,7 +242,7 @@ test-set test xs d p lt is = ap {B = ℕ → Bool} (λ (f : ℕ → Progress) (r
     go r (inl e) = rw e is
     go r (inr e) = rw e refl
 
--- what the write leaves as it was
+-- what the write leaves unchanged
 pub field-set : {X : Type 0} (f : Progress → X) (xs : List Progress) (d : ℕ) (p : Progress) → d < length xs → f p ≡ f (slice_index_or xs d Unclaimed)
     → ◌≡◌ {A = ℕ → X} (λ r. f (slice_index_or (slice_set xs d p) r Unclaimed)) (λ r. f (slice_index_or xs r Unclaimed))
 field-set {X} f xs d p lt same = ap {B = ℕ → X} (λ (g : ℕ → Progress) (r : ℕ). f (g r)) (slice-set xs d p Unclaimed lt) ∙ fun_ext (λ r. go r (cases_eq r d))
@@ -265,7 +265,7 @@ pub state_is : (old : State) (drained : ℕ → ℕ → Bool) (claimed claimed' 
     → ◌≡◌ {A = State} (record { drained = drained; claimed = claimed; filled = filled; settled = settled }) (record { drained = drained; claimed = claimed'; filled = filled'; settled = settled' })
 state_is old drained claimed claimed' filled filled' settled settled' a b c = λ i. record { drained = drained; claimed = a i; filled = b i; settled = c i }
 
--- what is kept where only a fill's progress changes, and with it no settling
+-- the invariant stays if only a fill's progress changes and nothing is settled
 kept_progress : (v : SchedulerView) (readers sources : List ℕ) (left d : ℕ) (p : Progress) → IsKept v readers sources left → d < length v.progress → is_settled p ≡ is_settled (slice_index_or v.progress d Unclaimed)
     → ((r worker : ℕ) → (state_in (progressed v d p)).claimed r ≡ Some worker → IsTrue (to_fill v.moves r)) → IsKept (progressed v d p) readers sources left
 kept_progress v readers sources left d p kept lt same fills =

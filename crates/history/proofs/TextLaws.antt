@@ -85,7 +85,7 @@ line_same l k a b c = go k.worker l.worker k.event l.event k.reply l.reply a b c
     go : (m n : ℕ) (e f : Event) (t u : Option Reply) → m ≡ n → e ≡ f → t ≡ u → ◌≡◌ {A = Line} (record { worker = m; event = e; reply = t }) (record { worker = n; event = f; reply = u })
     go m n e f t u a b c = cc
 
--- a line in front is told, and so is what follows
+-- a line at the front is unique, and so is what follows
 line_unique : (workers : ℕ) (l k : Line) (rest after : List ℕ) → workers ≤ 64 → is_text_line workers l ≡ true → is_text_line workers k ≡ true → line_text l ++ rest ≡ line_text k ++ after → (k ≡ l) × (after ≡ rest)
 line_unique workers l k rest after most fits fits' same =
     let f : IsTextLine workers l = text_line workers l fits in
@@ -97,7 +97,7 @@ line_unique workers l k rest after most fits fits' same =
     let reply : k.reply ≡ l.reply = told_injective l.event k.reply l.reply (ap (λ (e : Event). is_told_reply e k.reply) (sym b.0) ∙ g.reply) f.reply d.0 in
     (line_same l k a.0 b.0 reply, d.1)
 
--- a first line in front is told, and so is what follows
+-- a header at the front is unique, and so is what follows
 header_unique : (m n : ℕ) (rest after : List ℕ) → m ≤ 64 → n ≤ 64 → header_text m ++ rest ≡ header_text n ++ after → (m ≡ n) × (rest ≡ after)
 header_unique m n rest after few few' same =
     let behind : (decimal m ++ (10 ∷ [])) ++ rest ≡ (decimal n ++ (10 ∷ [])) ++ after = ap (drop 11) same in

@@ -19,7 +19,7 @@ without_parts c b bs h = go (b == c) (list_any (λ x. x == c) bs) h refl
     go true y h e = absurd (false≢true h)
     go false y h e = (λ same. let f : false ≡ true = e ∙ eq-eqb b c same in false≢true f, h)
 
--- the byte stands in the middle
+-- the byte is in the middle
 not_without : (c : ℕ) (front rest : List ℕ) → is_without c (front ++ c ∷ rest) ≡ true → ⊥
 not_without c [] rest h = (without_parts c c rest h).0 refl
 not_without c (b ∷ front) rest h = not_without c front rest (without_parts c b (front ++ c ∷ rest) h).1
@@ -31,7 +31,7 @@ without-append c xs ys h k =
 pub without_one : (c b : ℕ) → b ≢ c → is_without c (b ∷ []) ≡ true
 without_one c b n = rw (ne_eqb b c n) refl
 
--- a word that ends at a byte is told, and so is what follows
+-- a word that ends at a byte is unique, and so is what follows
 pub split_unique : (c : ℕ) (v w r s : List ℕ) → is_without c v ≡ true → is_without c w ≡ true → v ++ c ∷ r ≡ w ++ c ∷ s → (v ≡ w) × (r ≡ s)
 split_unique c [] [] r s h k e = (refl, cc)
 split_unique c [] (b ∷ w) r s h k e = absurd ((without_parts c b w k).0 (let f : c ∷ r ≡ b ∷ (w ++ c ∷ s) = e in cc))

@@ -26,7 +26,7 @@ record IsSetBy (m : MoveTable) (kind : Entry → Bool) (flag : State → Bool) :
   sets : (now : State) (e : Entry) → kind e ≡ true → flag (state_after now e.worker e.event e.reply) ≡ true
   keeps : (now : State) (e : Entry) → kind e ≡ false → flag (state_after now e.worker e.event e.reply) ≡ flag now
 
--- so the entries of the kind are as many as the flag tells
+-- so the number of entries of the kind is that of the flag
 counted : (m : MoveTable) (workers : ℕ) (kind : Entry → Bool) (flag : State → Bool) → IsSetBy m kind flag → (now : State) (log : List Entry) → AreSteps m workers now log
     → count_by kind log + one_if (flag now) ≡ one_if (flag (state_from now log))
 counted m workers kind flag by now [] steps = omega arith

@@ -1,4 +1,4 @@
--- The bytes of a schedule's text, as they come.
+-- The bytes of a schedule's text, as they come from a device.
 use Rattle.std.proofs.Common.{◌≡◌, ◌≢◌, ℕ, ◌+◌, ◌-◌, ◌<◌, ◌≤◌, ◌⊎◌, ◌^◌, true, List, [], ◌∷◌, ◌++◌, length, take, drop, take_all, Option, Some, None, inl, inr, refl, sym, ap, ◌∙◌, subst, arith, append_assoc, length-append, length-take}
 use Rattle.std.specs.Prelude.{IfSome, IsTrue, codes, decimal, nat_lt, slice_range}
 use Rattle.std.specs.Io.KnownBytes.{Consumes, IsAtEnd, prepend_known}
@@ -25,7 +25,7 @@ use Rattle.history.proofs.LineTexts.{IsTextLine, text_line, open_small, outside_
 use Rattle.history.proofs.ScheduleTexts.{text_more}
 use Rattle.history.proofs.Texts.{split_unique, decimal_without, without-append}
 
--- bytes without a newline, and so many at most
+-- at most this number of bytes, without a newline
 record IsWord (most : ℕ) (bytes : List ℕ) : Type 0 where
   plain : is_without 10 bytes ≡ true
   short : length bytes ≤ most
@@ -115,14 +115,14 @@ header_is_one workers most =
     let is : header_text workers ≡ word ++ 10 ∷ [] = sym (append_assoc (codes "schedule 1 ") (decimal workers) (10 ∷ [])) in
     record { word = word; plain = all.plain; is = is; short = omega (arith, ap length is, length-append word (10 ∷ []), all.short) }
 
--- a text that stands in front of bytes with more behind them, and is no longer than the bytes
+-- a text at the front of bytes that are followed by more, and no longer than the bytes
 short_in_front : (bytes more text rest : List ℕ) → length text ≤ length bytes → bytes ++ more ≡ text ++ rest → bytes ≡ text ++ drop (length text) bytes
 short_in_front bytes more text rest short same =
     let n : ℕ = length text in
     let front : take n bytes ≡ text = sym (take-append-le n bytes more short) ∙ (ap (take n) same ∙ (take-append-le n text rest (omega arith) ∙ take_all n text (omega arith))) in
     sym (take-append-drop n bytes) ∙ ap (λ (xs : List ℕ). xs ++ drop n bytes) front
 
--- a line that stands in front of bytes with a newline
+-- a line at the front of bytes with a newline
 line_in_front : (bytes more front behind word rest : List ℕ) → is_without 10 front ≡ true → is_without 10 word ≡ true → bytes ≡ front ++ 10 ∷ behind → bytes ++ more ≡ (word ++ 10 ∷ []) ++ rest
     → bytes ≡ (word ++ 10 ∷ []) ++ behind
 line_in_front bytes more front behind word rest plain plain' is same =
@@ -131,7 +131,7 @@ line_in_front bytes more front behind word rest plain plain' is same =
     let one : front ≡ word = (split_unique 10 front word (behind ++ more) rest plain plain' whole).0 in
     is ∙ (ap (λ (xs : List ℕ). xs ++ 10 ∷ behind) one ∙ sym (append_assoc word (10 ∷ []) behind))
 
--- a line that stands in front of all bytes stands in front of those that have come, where they hold a line
+-- a line at the front of all bytes is at the front of those that have come, if they hold a line
 in_front : (bytes more text rest : List ℕ) → HoldLine bytes → IsOneLine text → bytes ++ more ≡ text ++ rest → (after : List ℕ) × (bytes ≡ text ++ after)
 in_front bytes more text rest holds one same = elim holds [
   | inl long ↦ (drop (length text) bytes, short_in_front bytes more text rest (omega (arith, long, one.short)) same)
@@ -147,18 +147,18 @@ not_in_front bytes more text whole one none rest same = elim whole [
   | inr end ↦ none rest (sym (append-nil bytes) ∙ (ap (λ (xs : List ℕ). bytes ++ xs) (sym end) ∙ same))
 ]
 
--- what is said of all bytes that come is said of those before them
+-- what holds for all bytes that come holds for those before them
 pub carried_back : (P : List ℕ → Type 0) (a b : Option (List ℕ)) → Consumes a b [] → IfSome b P → IfSome a P
 carried_back P None b same h = tt
 carried_back P (Some xs) None same h = absurd same
 carried_back P (Some xs) (Some ys) same h = subst P (sym same) h
 
--- with no byte held, what comes is what the device has left
+-- with no unread byte, what comes is what the device has left
 pub from_device : (held : List ℕ) (left : Option (List ℕ)) → held ≡ [] → Consumes left (prepend_known held left) []
 from_device held None none = tt
 from_device held (Some xs) none = ap (λ (ys : List ℕ). ys ++ xs) (sym none)
 
--- no first line has come
+-- no header has come
 pub bad_header : (held : List ℕ) (left : Option (List ℕ)) → HoldLine held ⊎ IsAtEnd left
     → ((workers : ℕ) (rest : List ℕ) → 1 ≤ workers → workers ≤ 64 → held ≢ header_text workers ++ rest) → IfSome (prepend_known held left) (λ bytes. IsBadHeader bytes 1)
 bad_header held None whole none = tt
@@ -173,7 +173,7 @@ module _ (before left : Option (List ℕ)) (held : List ℕ) (workers : ℕ) (li
   abbrev read : List ℕ
   read = schedule_text (record { workers = workers; lines = lines })
 
-  -- no line has come behind those that were read
+  -- no line has come after those that were read
   pub bad_line : IsTextSchedule (record { workers = workers; lines = lines }) → Consumes before (prepend_known held left) read → held ≢ [] → HoldLine held ⊎ IsAtEnd left
       → ((next : Line) (after : List ℕ) → is_text_line workers next ≡ true → held ≢ line_text next ++ after) → IfSome before (λ bytes. IsMalformedAt bytes (length lines + 2))
   bad_line kept is some whole none = go before left is whole
@@ -202,7 +202,7 @@ module _ (before left : Option (List ℕ)) (held : List ℕ) (workers : ℕ) (li
 pub held_more : (a b c : Option (List ℕ)) (read : List ℕ) → Consumes a b read → Consumes b c [] → Consumes a c read
 held_more a b c read is same = subst (λ (bytes : List ℕ). Consumes a c bytes) (append-nil read) (consumes_more a b c read [] is same)
 
--- so many bytes in front are passed
+-- this number of bytes at the front are skipped
 pub passed : (bytes front rest : List ℕ) (start end count : ℕ) → count ≤ length (slice_range bytes start end) → slice_range bytes start end ≡ front ++ rest → length front ≡ count
     → slice_range bytes (start + count) end ≡ rest
 passed bytes front rest start end count held same is =
@@ -213,7 +213,7 @@ passed bytes front rest start end count held same is =
     ∙ (drop-take count (end - (start + count)) (drop start bytes) ∙ ap (take (end - (start + count))) (drop-drop count start bytes)) in
     sym tail ∙ (ap (λ (n : ℕ). drop n (slice_range bytes start end)) (sym is) ∙ front_rest (slice_range bytes start end) front rest same)
 
--- bytes that came behind those in front
+-- bytes that came after those at the front
 pub came_behind : (bytes buffer : List ℕ) (end room came : ℕ) → end ≤ length bytes → came ≤ length buffer
     → slice_range (put_mid end room bytes buffer) 0 (end + came) ≡ slice_range bytes 0 end ++ take came buffer
 came_behind bytes buffer end room came inside within =
@@ -222,7 +222,7 @@ came_behind bytes buffer end room came inside within =
     ap (λ (k : ℕ). take k (put_mid end room bytes buffer)) e
     ∙ (take_put_back bytes buffer end room came inside within ∙ ap (λ (k : ℕ). take k bytes ++ take came buffer) f)
 
--- what is known of the rest stays, as bytes come
+-- what is known about the rest stays as bytes come
 pub rest_kept : (held taken : List ℕ) (a b : Option (List ℕ)) → Consumes a b taken → Consumes (prepend_known held a) (prepend_known (held ++ taken) b) []
 rest_kept held taken None b h = tt
 rest_kept held taken (Some xs) None h = absurd h

@@ -1,4 +1,4 @@
--- What a book keeps.
+-- The invariant of a book.
 use Rattle.std.specs.Prelude.{◌≡◌, ℕ, ◌≤◌, List, map}
 use Rattle.history.specs.MoveTable.{MoveTable, IsMoveTable}
 use Rattle.history.specs.History.{state_of, IsLegal}
@@ -7,7 +7,7 @@ use Rattle.history.specs.Schedule.{line_of, entries_of}
 use Rattle.history.specs.declared.entry.Entry.{Entry}
 use Rattle.history.specs.declared.line.Line.{Line}
 
--- What contracts see of a book: its moves and the list of its calls, oldest first.
+-- What contracts see of a book: its moves and its calls, oldest first.
 pub record BookView : Type 0 where
   pub workers : ℕ
   pub moves : MoveTable

@@ -18,7 +18,7 @@ state_from now (e ∷ es) = state_from (state_after now e.worker e.event e.reply
 abbrev pub state_of : List Entry → State
 state_of log = state_from opening log
 
--- each call is a step from where those before it lead to, made by one of so many workers
+-- each call is a step from the state after the calls before it, made by a worker below this number
 abbrev pub AreSteps : MoveTable → ℕ → State → List Entry → Type 0
 AreSteps m workers now [] = Unit {0}
 AreSteps m workers now (e ∷ es) =
@@ -69,54 +69,54 @@ is_grant r e = is_claim_of r e.event && is_yes e.reply
 abbrev pub is_grant_to : ℕ → ℕ → Entry → Bool
 is_grant_to worker r e = is_grant r e && e.worker == worker
 
--- the entry stands in the history after these and before those
+-- the history is the entries before this one, this one, and those after it
 abbrev pub IsSplit : List Entry → List Entry → Entry → List Entry → Type 0
 IsSplit log before e after = log ≡ before ++ e ∷ after
 
--- What the entries of a legal history say of each other.
+-- What holds between the entries of a legal history.
 pub record IsOrderly (m : MoveTable) (log : List Entry) : Type 0 where
   -- a region is granted at most once
   pub granted_once : (r : ℕ) → count_by (is_grant r) log ≤ 1
-  -- when it is granted, nobody has still to read it
+  -- when it is granted, it has no pending readers
   pub granted_when_read : (before after : List Entry) (e : Entry) (r d : ℕ) → IsSplit log before e after → IsTrue (is_grant r e) → is_pending m (state_of before) d r ≡ false
-  -- and nobody has to read it at any later moment
+  -- and it has none at any later moment
   pub stays_read : (before middle after : List Entry) (e : Entry) (r d : ℕ) → IsSplit log before e (middle ++ after) → IsTrue (is_grant r e) → is_pending m (state_of (before ++ e ∷ middle)) d r ≡ false
-  -- it is completed only by the worker to which it was granted
+  -- only the worker to which it was granted completes it
   pub completed_by_claimant : (before after : List Entry) (e : Entry) (d : ℕ) → IsSplit log before e after → e.event ≡ Complete d → IsTrue (list_any (is_grant_to e.worker d) before)
   -- and only after it has drained all that it reads
   pub completed_when_drained : (before after : List Entry) (e : Entry) (d s : ℕ) → IsSplit log before e after → e.event ≡ Complete d → IsTrue (reads m d s) → IsTrue (list_any (λ c. is_drain_of d s c.event) before)
-  -- a settling answers All exactly if every region to be filled is settled with it
+  -- the reply to a settling is All if and only if every region to be filled is settled after it
   pub all_when_last : (before after : List Entry) (e : Entry) (d : ℕ) → IsSplit log before e after → e.event ≡ Settle d
       → (e.reply ≡ All) ↔ ((r : ℕ) → IsTrue (to_fill m r) → IsTrue (list_any (λ c. is_settling_of r c.event) (before ++ e ∷ [])))
-  -- and then no settling follows
+  -- and no settling follows it
   pub none_after_all : (before after : List Entry) (e : Entry) (d : ℕ) → IsSplit log before e after → e.event ≡ Settle d → e.reply ≡ All → list_any (λ c. is_settling c.event) after ≡ false
 
--- What holds in each state to which a legal history leads.
+-- What holds in each state that a legal history reaches.
 pub record IsReached (m : MoveTable) (now : State) : Type 0 where
   pub claimed_to_fill : (r worker : ℕ) → now.claimed r ≡ Some worker → IsTrue (to_fill m r)
   pub filled_claimed : (r : ℕ) → IsTrue (now.filled r) → now.claimed r ≢ None
   pub settled_filled : (r : ℕ) → IsTrue (now.settled r) → IsTrue (now.filled r)
   pub drained_reads : (d s : ℕ) → IsTrue (now.drained d s) → IsTrue (reads m d s)
-  -- a pair is drained only once its destination is claimed
+  -- a pair is drained only after its destination is claimed
   pub drained_claimed : (d s : ℕ) → IsTrue (now.drained d s) → now.claimed d ≢ None
-  -- a region is claimed only once nobody has to read it any more
+  -- a region is claimed only when it has no pending readers
   pub claimed_read : (d s worker : ℕ) → now.claimed s ≡ Some worker → is_pending m now d s ≡ false
-  -- a region is filled only once it has drained all that it reads
+  -- a region is filled only after it has drained all that it reads
   pub filled_drained : (d s : ℕ) → IsTrue (now.filled d) → is_pending m now d s ≡ false
 
--- Two states say the same of a region, and of what it reads.
+-- Two states agree on a region and on what it reads.
 pub record AgreeOn (d : ℕ) (one other : State) : Type 0 where
   pub claimed : one.claimed d ≡ other.claimed d
   pub filled : one.filled d ≡ other.filled d
   pub settled : one.settled d ≡ other.settled d
   pub drained : (s : ℕ) → one.drained d s ≡ other.drained d s
 
--- Of the regions that the worker claimed, its own calls tell all. Of any other they tell nothing.
+-- A worker's own calls determine the state of the regions that it claimed, and say nothing about any other.
 pub record TellsOwn (worker : ℕ) (own now : State) : Type 0 where
   pub claimed : (d : ℕ) → now.claimed d ≡ Some worker → AgreeOn d own now
   pub others : (d : ℕ) → now.claimed d ≢ Some worker → AgreeOn d own opening
 
--- How the counts go down, one at a time, and what none left means.
+-- How the counts go down, one at a time, and what a count of 0 means.
 pub record CountsDown (m : MoveTable) (now : State) : Type 0 where
   pub few : (s : ℕ) → readers_left m now s ≤ 2
   pub no_reader : (d s : ℕ) → readers_left m now s ≡ 0 → is_pending m now d s ≡ false

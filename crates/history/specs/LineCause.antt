@@ -13,7 +13,7 @@ use Rattle.history.specs.declared.line_cause.LineCause.TheVariants.{NotAllowed, 
 use Rattle.history.specs.declared.refused_line.RefusedLine.{RefusedLine}
 use Rattle.history.specs.declared.reply.Reply.{Reply}
 
--- with no reply is the line's event a step of the machine; or with this reply it is, and the line tells another
+-- the line's event is a step of the machine with no reply; or it is with this reply, and the line has another
 abbrev pub IsCause : HeapImage → ℕ → Machine → Line → LineCause → Type 0
 IsCause image workers w line NotAllowed =
     (reply : Reply) → ¬ (IsMachineStep (image_table image) (image_slide image) workers w (entry line.worker line.event reply))
@@ -21,7 +21,7 @@ IsCause image workers w line (OtherReply found) =
     IsMachineStep (image_table image) (image_slide image) workers w (entry line.worker line.event found)
     × ((told : Reply) × (line.reply ≡ Some told) × (told ≢ found))
 
--- the least line of a schedule's text that the machine refuses, and why it does so after the lines before
+-- the first line of a schedule's text that the machine refuses, and why it does so after the lines before
 pub record IsExplained (image : HeapImage) (v : ScheduleView) (found : RefusedLine) : Type 0 where
   pub refused : IsRefusedAt image v found.number
   pub cause : IsCause image v.workers (machine_of image refused.log) refused.line found.cause

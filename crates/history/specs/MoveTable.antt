@@ -1,11 +1,11 @@
 use Rattle.std.specs.Prelude.{◌≡◌, ℕ, ◌<◌, ◌≤◌, Bool, true, false, ◌==◌, ◌&&◌, ◌||◌, nat_lt, IsTrue, List, length, slice_index_or, All, AllPairs, count_by, filter, Option, MatchOption}
 use Rattle.std.specs.List.{list_any}
 
--- What moves where. A region's own words, which it keeps or slides down within itself, make no pair.
+-- The moves between regions. Words that a region keeps, or slides down within itself, make no pair.
 pub record MoveTable : Type 0 where
-  -- of each region, whether it is to be filled
+  -- for each region, whether it is to be filled
   pub fill : List Bool
-  -- (destination, source): some word goes to the destination from the source, another region
+  -- (destination, source): some word goes to the destination from the source, which is another region
   pub pairs : List (ℕ × ℕ)
 
 abbrev pub table_of : List Bool → List (ℕ × ℕ) → MoveTable
@@ -30,11 +30,11 @@ reads m d s = list_any (is_pair d s) m.pairs
 abbrev pub has_source : ℕ → ℕ × ℕ → Bool
 has_source s pair = s == pair.1
 
--- how many regions take words from s
+-- the number of regions that take words from s
 abbrev pub readers_of : MoveTable → ℕ → ℕ
 readers_of m s = count_by (has_source s) m.pairs
 
--- by destination, and then by source
+-- one pair comes before another, by destination and then by source
 abbrev pub is_before : ℕ × ℕ → ℕ × ℕ → Bool
 is_before p q = nat_lt p.0 q.0 || (p.0 == q.0 && nat_lt p.1 q.1)
 
@@ -42,13 +42,13 @@ is_before p q = nat_lt p.0 q.0 || (p.0 == q.0 && nat_lt p.1 q.1)
 abbrev pub IsAscending : List (ℕ × ℕ) → Type 0
 IsAscending ps = AllPairs (λ p q. IsTrue (is_before p q)) ps
 
--- the place of the first pair that isn't before (d, s), or the number of pairs where all are before
+-- the index of the first pair that isn't before (d, s), or the number of pairs if all are before
 pub record IsFirstPlace (ps : List (ℕ × ℕ)) (d s at : ℕ) : Type 0 where
   pub inside : at ≤ length ps
   pub before : (k : ℕ) (e : ℕ × ℕ) → k < at → is_before (slice_index_or ps k e) (d, s) ≡ true
   pub after : (k : ℕ) (e : ℕ × ℕ) → at ≤ k → k < length ps → is_before (slice_index_or ps k e) (d, s) ≡ false
 
--- words slide down, into a region that is to be filled, from one that there is
+-- words slide down, into a region that is to be filled, from a region in range
 abbrev pub Slides : List Bool → ℕ × ℕ → Type 0
 Slides fill pair = (pair.0 < pair.1) × (pair.1 < length fill) × IsTrue (slice_index_or fill pair.0 false)
 
@@ -60,7 +60,7 @@ pub record IsMoveTable (m : MoveTable) : Type 0 where
   pub slide : All (Slides m.fill) m.pairs
   pub two : (s : ℕ) → readers_of m s ≤ 2
 
--- the least source of d, from this region on, or none where there is no more
+-- the first source of d at or after this region, or none if there is no other
 abbrev pub IsNextSource : MoveTable → ℕ → ℕ → Option ℕ → Type 0
 IsNextSource m d from next =
     MatchOption next

@@ -1,4 +1,4 @@
--- Lines in twelve bytes.
+-- Lines in 12 bytes.
 use Rattle.std.specs.Prelude.{ℕ, ◌<◌, Bool, true, nat_lt, IsTrue, Option, Some, None}
 use Rattle.history.specs.declared.event.Event.{Event}
 use Rattle.history.specs.declared.event.Event.TheVariants.{Claim, Look, Drain, Complete, Settle, Poll, Copy}
@@ -10,7 +10,7 @@ use Rattle.history.specs.declared.reply_kind.ReplyKind.TheVariants as kind
 use Rattle.history.specs.declared.verb.Verb.{Verb}
 use Rattle.history.specs.declared.verb.Verb.TheVariants as verb
 
--- the event of a verb and of as many of these numbers as it has
+-- the event of a verb with its numbers; those that it doesn't have are ignored
 abbrev pub event_with : Verb → ℕ → ℕ → Event
 event_with verb.Claim m n = Claim m
 event_with verb.Look m n = Look m
@@ -20,7 +20,7 @@ event_with verb.Settle m n = Settle m
 event_with verb.Poll m n = Poll
 event_with verb.Copy m n = Copy m n
 
--- the reply of a kind, which may tell this number of readers
+-- the reply of a kind with its number of readers, if the kind has one
 abbrev pub reply_with : ReplyKind → ℕ → Option Reply
 reply_with kind.Any n = None
 reply_with kind.Yes n = Some Yes
@@ -40,12 +40,12 @@ few_readers (Open n) = nat_lt n 256
 few_readers (Outside n) = nat_lt n 256
 few_readers _ = true
 
--- the readers that a reply tells, if it does, are a number of one byte
+-- the number of readers in a reply, if it has one, fits in a byte
 abbrev pub has_few_readers : Option Reply → Bool
 has_few_readers None = true
 has_few_readers (Some reply) = few_readers reply
 
--- a line that goes into twelve bytes
+-- a line that fits in 12 bytes
 pub record IsSmall (line : Line) : Type 0 where
   pub worker : line.worker < 256
   pub readers : IsTrue (has_few_readers line.reply)

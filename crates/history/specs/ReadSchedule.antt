@@ -5,23 +5,23 @@ use Rattle.history.specs.ScheduleText.{line_text, header_text, schedule_text}
 use Rattle.history.specs.Verb.{has_numbers}
 use Rattle.history.specs.declared.line.Line.{Line}
 
--- a line of so many workers whose numbers a text may have
+-- a line of a worker below this number, with numbers that a text may have
 abbrev pub is_text_line : ℕ → Line → Bool
 is_text_line workers line = is_line workers line && has_numbers line.event
 
--- a schedule of lines that a text may have
+-- a schedule whose lines a text may have
 pub record IsTextSchedule (v : ScheduleView) : Type 0 where
   pub some : 1 ≤ v.workers
   pub few : v.workers ≤ 64
   pub lines : All (λ line. IsTrue (is_text_line v.workers line)) v.lines
 
--- the text doesn't begin with a first line
+-- the text doesn't begin with a header
 pub record IsBadHeader (bytes : List ℕ) (line : ℕ) : Type 0 where
   pub first : line ≡ 1
   pub none : (workers : ℕ) (rest : List ℕ) → 1 ≤ workers → workers ≤ 64 → bytes ≢ header_text workers ++ rest
 
--- The text begins with that of a schedule of all lines before this one, and what follows, which is something, doesn't
--- begin with a line.
+-- The text begins with the text of a schedule of all lines before this one. The rest isn't empty and doesn't begin with
+-- a line.
 pub record IsBadLine (bytes : List ℕ) (line : ℕ) : Type 0 where
   pub workers : ℕ
   pub lines : List Line
@@ -32,6 +32,6 @@ pub record IsBadLine (bytes : List ℕ) (line : ℕ) : Type 0 where
   pub number : line ≡ length lines + 2
   pub none : (next : Line) (after : List ℕ) → IsTrue (is_text_line workers next) → rest ≢ line_text next ++ after
 
--- the least malformed line, counted from 1
+-- the first malformed line, counted from 1
 abbrev pub IsMalformedAt : List ℕ → ℕ → Type 0
 IsMalformedAt bytes line = IsBadHeader bytes line ⊎ IsBadLine bytes line

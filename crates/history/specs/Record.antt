@@ -1,4 +1,4 @@
--- A schedule that was recorded to the end of a collection.
+-- A schedule recorded to the end of a collection.
 use Rattle.std.specs.Prelude.{◌≡◌, ℕ, List}
 use Rattle.heap_image.specs.HeapImage.{HeapImage}
 use Rattle.history.specs.State.{AllAreSettled}
@@ -8,8 +8,8 @@ use Rattle.history.specs.WordMachine.{machine_of, IsAllowed}
 use Rattle.history.specs.Whole.{HasEachOnce}
 use Rattle.history.specs.declared.entry.Entry.{Entry}
 
--- The schedule tells each call with its reply. The word machine of the image allows them, and settles with them all regions
--- to be filled. Each of these is granted, completed and settled once, and each pair is drained once.
+-- The schedule has each call with its reply. The word machine of the image allows the calls, and all regions to be filled
+-- are settled after them. Each of these regions is granted, completed and settled once, and each pair is drained once.
 pub record IsRecord (image : HeapImage) (workers : ℕ) (v : ScheduleView) : Type 0 where
   pub log : List Entry
   pub told : v ≡ schedule_of workers log

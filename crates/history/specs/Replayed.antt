@@ -1,4 +1,4 @@
--- What a replay gives.
+-- The result of a replay.
 use Rattle.std.specs.Prelude.{◌≡◌, ℕ, ◌+◌, ◌<◌, ◌↔◌, Bool, IsTrue, List, length, map, slice_index}
 use Rattle.heap_image.specs.HeapImage.{HeapImage, heap_words, start_of}
 use Rattle.summary.specs.Compaction.{compact}
@@ -17,7 +17,7 @@ use Rattle.history.specs.declared.replayed.End.{End}
 use Rattle.history.specs.declared.replayed.End.TheVariants.{Finished, Open}
 use Rattle.history.specs.declared.replayed.Replayed.{Replayed}
 
--- finished, with the compacted image, exactly where all regions to be filled are settled after these calls
+-- finished with the compacted image if all regions to be filled are settled after these calls, otherwise open
 abbrev pub IsEndOf : HeapImage → List Entry → End → Type 0
 IsEndOf image log (Finished new) = AllAreSettled (image_table image) (machine_of image log).known × (new ≡ compact image)
 IsEndOf image log Open = ¬ (AllAreSettled (image_table image) (machine_of image log).known)
@@ -35,7 +35,7 @@ pub record Holds (image : HeapImage) (heap : List ℕ) (w : Machine) : Type 0 wh
   pub long : length heap ≡ heap_words image
   pub each : (a : ℕ) → a < heap_words image → slice_index heap a ≡ w.heap a
 
--- the word machine takes all lines: its replies, whether all regions to be filled are settled, and its heap
+-- the word machine takes all lines; its replies, whether all regions to be filled are settled, and its heap
 pub record IsCarriedOut (image : HeapImage) (v : ScheduleView) (lines : List Line) (settled : Bool) (heap : List ℕ) : Type 0 where
   pub log : List Entry
   pub taken : IsReplay image v.workers v.lines log
@@ -43,7 +43,7 @@ pub record IsCarriedOut (image : HeapImage) (v : ScheduleView) (lines : List Lin
   pub tells : IsTrue settled ↔ AllAreSettled (image_table image) (machine_of image log).known
   pub holds : Holds image heap (machine_of image log)
 
--- the first place that an event writes, and how many it writes
+-- the first address that an event writes, and the number of words
 abbrev pub places_of : HeapImage → Ledger → Event → ℕ × ℕ
 places_of image ledger (Copy d n) = (start_of image d + slice_index ledger.written.items d, n)
 places_of image ledger _ = (0, 0)

@@ -1,18 +1,18 @@
--- What the readers of a reply answer.
+-- The results of parsing a reply.
 use Rattle.std.specs.Prelude.{◌≡◌, ◌≢◌, ℕ, IsTrue, List, Option, MatchOption}
 use Rattle.history.specs.Schedule.{is_reply_to, is_told_reply}
 use Rattle.history.specs.ScheduleText.{reply_text, told_text}
 use Rattle.history.specs.declared.event.Event.{Event}
 use Rattle.history.specs.declared.reply.Reply.{Reply}
 
--- the reply to the event that these bytes spell
+-- these bytes are the text of this reply to the event, or of none
 abbrev pub ReadsReply : Event → List ℕ → Option Reply → Type 0
 ReadsReply event word result =
     MatchOption result
     ((reply : Reply) → IsTrue (is_reply_to event reply) → word ≢ reply_text reply)
     (λ reply. IsTrue (is_reply_to event reply) × (word ≡ reply_text reply))
 
--- the same where the reply may be left open
+-- the same, if the reply may be left open
 abbrev pub ReadsTold : Event → List ℕ → Option (Option Reply) → Type 0
 ReadsTold event word result =
     MatchOption result

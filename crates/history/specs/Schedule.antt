@@ -1,4 +1,4 @@
--- Schedules: histories in which a reply may be left open.
+-- Schedules: histories in which replies may be left open.
 use Rattle.std.specs.Prelude.{◌≡◌, ℕ, ◌≤◌, Bool, true, false, ◌&&◌, nat_lt, nat_le, IsTrue, All, List, [], ◌∷◌, map, Option, Some, None}
 use Rattle.history.specs.MoveTable.{MoveTable, IsMoveTable}
 use Rattle.history.specs.History.{IsLegal}
@@ -9,7 +9,7 @@ use Rattle.history.specs.declared.reply.Reply.TheVariants.{Yes, No, Open, Outsid
 use Rattle.history.specs.declared.entry.Entry.{Entry}
 use Rattle.history.specs.declared.line.Line.{Line}
 
--- the events that a schedule may have: a copy is of some words
+-- the events that a schedule may have; a copy has at least one word
 abbrev pub is_event : Event → Bool
 is_event (Copy d n) = nat_le 1 n
 is_event _ = true
@@ -32,12 +32,12 @@ is_reply_to Poll More = true
 is_reply_to (Copy d n) Done = true
 is_reply_to _ _ = false
 
--- any reply where it is left open
+-- a reply that the event may have, or one left open
 abbrev pub is_told_reply : Event → Option Reply → Bool
 is_told_reply event None = true
 is_told_reply event (Some reply) = is_reply_to event reply
 
--- a line that a schedule of so many workers may have
+-- a line that a schedule of this number of workers may have
 abbrev pub is_line : ℕ → Line → Bool
 is_line workers line = nat_lt line.worker workers && (is_event line.event && is_told_reply line.event line.reply)
 
@@ -46,13 +46,13 @@ pub record ScheduleView : Type 0 where
   pub workers : ℕ
   pub lines : List Line
 
--- what a schedule keeps
+-- the invariant of a schedule
 pub record IsSchedule (v : ScheduleView) : Type 0 where
   pub some : 1 ≤ v.workers
   pub few : v.workers ≤ 64
   pub lines : All (λ line. IsTrue (is_line v.workers line)) v.lines
 
--- the entry as a line that tells its reply
+-- the entry as a line with its reply
 abbrev pub line_of : Entry → Line
 line_of e = record { worker = e.worker; event = e.event; reply = Some e.reply }
 
@@ -64,7 +64,7 @@ abbrev pub with_entry : Line → Option Reply → List Entry → List Entry
 with_entry line None log = log
 with_entry line (Some reply) log = record { worker = line.worker; event = line.event; reply = reply } ∷ log
 
--- the entries that the lines with replies tell
+-- the entries of the lines that have a reply
 abbrev pub entries_of : List Line → List Entry
 entries_of [] = []
 entries_of (line ∷ lines) = with_entry line line.reply (entries_of lines)

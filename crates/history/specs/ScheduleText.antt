@@ -1,4 +1,4 @@
--- Schedules as text: a first line that tells the workers, then a line for each call.
+-- Schedules as text: a header with the number of workers, then a line for each call.
 use Rattle.std.specs.Prelude.{ℕ, List, [], ◌∷◌, ◌++◌, flat_map, codes, decimal, Option, Some, None}
 use Rattle.history.specs.Schedule.{ScheduleView}
 use Rattle.history.specs.declared.event.Event.{Event}
@@ -29,7 +29,7 @@ reply_text Done = codes "ok"
 reply_text All = codes "all"
 reply_text More = codes "more"
 
--- a question mark where the reply is left open
+-- the reply, or a question mark if it is left open
 abbrev pub told_text : Option Reply → List ℕ
 told_text None = codes "?"
 told_text (Some reply) = reply_text reply

@@ -12,12 +12,12 @@ use Rattle.history.specs.declared.progress.Progress.TheVariants.{Unclaimed}
 pub record SchedulerView : Type 0 where
   pub workers : ℕ
   pub moves : MoveTable
-  -- of each pair of the moves, whether it is drained
+  -- for each pair of the moves, whether it is drained
   pub flags : List Bool
-  -- of each region, how far its fill has come
+  -- for each region, the state of its fill
   pub progress : List Progress
 
--- the pair stands in the list, and the flag beside it is set
+-- the pair is in the list, and its flag is set
 abbrev pub is_flagged : ℕ → ℕ → List (ℕ × ℕ) → List Bool → Bool
 is_flagged d s [] flags = false
 is_flagged d s (pair ∷ pairs) [] = false
@@ -33,11 +33,11 @@ state_in v =
       settled = λ r. is_settled (slice_index_or v.progress r Unclaimed);
     }
 
--- how many regions d has still to copy words from
+-- the number of regions from which d has still to copy words
 abbrev pub sources_left : MoveTable → State → ℕ → ℕ
 sources_left m now d = count_by (λ pair. d == pair.0 && not (now.drained pair.0 pair.1)) m.pairs
 
--- the counts that a scheduler keeps beside its state
+-- the counts that a scheduler keeps besides its state
 pub record AreCounts (v : SchedulerView) (readers sources : List ℕ) (left : ℕ) : Type 0 where
   pub readers_all : length readers ≡ region_count v.moves
   pub sources_all : length sources ≡ region_count v.moves
@@ -45,7 +45,7 @@ pub record AreCounts (v : SchedulerView) (readers sources : List ℕ) (left : �
   pub sources_are : (d : ℕ) → d < region_count v.moves → slice_index sources d ≡ sources_left v.moves (state_in v) d
   pub left_is : left ≡ unsettled v.moves (state_in v)
 
--- what holds of a scheduler
+-- the invariant of a scheduler
 pub record IsKept (v : SchedulerView) (readers sources : List ℕ) (left : ℕ) : Type 0 where
   pub table : IsMoveTable v.moves
   pub flags_all : length v.flags ≡ length v.moves.pairs
@@ -53,19 +53,19 @@ pub record IsKept (v : SchedulerView) (readers sources : List ℕ) (left : ℕ) 
   pub claimed_to_fill : (r worker : ℕ) → (state_in v).claimed r ≡ Some worker → IsTrue (to_fill v.moves r)
   pub counts : AreCounts v readers sources left
 
--- the moves and the workers stay, and the event is a step with its reply; or it isn't allowed, and nothing changes
+-- the moves and the workers stay; the event is a step with this reply, or it isn't allowed and nothing changes
 pub record Steps (old : SchedulerView) (worker : ℕ) (event : Event) (result : Result Reply Illegal) (new : SchedulerView) : Type 0 where
   pub moves : new.moves ≡ old.moves
   pub workers : new.workers ≡ old.workers
   pub step : MatchResult result (λ reply. IsStep old.moves (state_in old) worker event reply (state_in new)) (λ e. (new ≡ old) × ¬ (Allows old.moves (state_in old) worker event))
 
--- the pair stands at this place, and isn't drained
+-- the pair is at this index and isn't drained
 pub record IsPendingAt (v : SchedulerView) (d s at : ℕ) : Type 0 where
   pub inside : at < length v.moves.pairs
   pub is : slice_index_or v.moves.pairs at (d, s) ≡ (d, s)
   pub undrained : slice_index_or v.flags at false ≡ false
 
--- of each region, how many of these pairs have it as this end
+-- for each region, the number of pairs that have it at this end
 pub record ArePairCounts (m : MoveTable) (end_of : ℕ × ℕ → ℕ) (pairs : List (ℕ × ℕ)) (counts : List ℕ) : Type 0 where
   pub all : length counts ≡ region_count m
   pub each : (r : ℕ) → r < region_count m → slice_index counts r ≡ count_by (λ pair. r == end_of pair) pairs

@@ -6,26 +6,26 @@ use Rattle.history.specs.declared.event.Event.{Event}
 use Rattle.history.specs.declared.event.Event.TheVariants.{Claim, Look, Drain, Complete, Settle, Poll, Copy}
 use Rattle.history.specs.declared.entry.Entry.{Entry}
 
--- Which word goes where, and what becomes of it. The address a lies in the region a / size.
+-- Which word goes where, and how it is written. The address a lies in the region a / size.
 pub record Slide : Type 0 where
   pub size : ℕ
-  -- each word below it is to be written
+  -- each word below this address is to be written
   pub top : ℕ
-  -- the old place of the word that goes to this new place; a filler's word has none
+  -- the old address of the word that goes to this new address; the word of a filler has none
   pub origin : ℕ → Option ℕ
-  -- what the word at this old place is written as
+  -- the value with which the word of this old address is written
   pub carried : ℕ → ℕ → ℕ
-  -- the word of a filler at this place
+  -- the word of a filler at this address
   pub filler : ℕ → ℕ
 
--- Words slide down, and the table of moves knows each region that takes words from another one.
+-- Words slide down, and the table of moves has each pair of regions between which words go.
 pub record IsSlideOf (m : MoveTable) (p : Slide) : Type 0 where
   pub sized : 0 < p.size
   pub down : (a x : ℕ) → a < p.top → p.origin a ≡ Some x → a ≤ x
   pub told : (a x : ℕ) → a < p.top → p.origin a ≡ Some x → a / p.size ≢ x / p.size → IsTrue (reads m (a / p.size) (x / p.size))
   pub filled : (a : ℕ) → a < p.top → IsTrue (to_fill m (a / p.size))
 
--- the word for a place, of a heap as it stands
+-- the word for an address, from the present heap
 abbrev pub word_from : Slide → (ℕ → ℕ) → ℕ → Option ℕ → ℕ
 word_from p heap a None = p.filler a
 word_from p heap a (Some x) = p.carried x (heap x)
@@ -33,15 +33,15 @@ word_from p heap a (Some x) = p.carried x (heap x)
 abbrev pub word_for : Slide → (ℕ → ℕ) → ℕ → ℕ
 word_for p heap a = word_from p heap a (p.origin a)
 
--- the heap once each word below the top is written, and those above it still stand
+-- the heap after each word below the top is written; those above are unchanged
 abbrev pub moved_heap : Slide → (ℕ → ℕ) → ℕ → ℕ
 moved_heap p start a = if nat_lt a p.top then word_for p start a else start a
 
--- how many words of the region are to be written
+-- the number of words of the region that are to be written
 abbrev pub words_of : Slide → ℕ → ℕ
 words_of p d = min p.size (p.top - d * p.size)
 
--- What the scheduler knows, the heap, and how many words of each region are written.
+-- The state of the scheduler, the heap, and the number of words written in each region.
 pub record Machine : Type 0 where
   pub known : State
   pub heap : ℕ → ℕ
@@ -54,7 +54,7 @@ machine_at_first start = record { known = opening; heap = start; written = λ r.
 abbrev pub next_place : Slide → ℕ → Machine → ℕ
 next_place p d w = d * p.size + w.written d
 
--- that word is written, from where its origin stands now
+-- that word is written, from the present word at its origin
 abbrev pub write_one : Slide → ℕ → Machine → Machine
 write_one p d w =
     record {
@@ -75,7 +75,7 @@ IsWritten p w a = a % p.size < w.written (a / p.size)
 abbrev pub IsCopiedOut : Slide → Machine → ℕ → ℕ → Type 0
 IsCopiedOut p w d s = (a x : ℕ) → a < p.top → a / p.size ≡ d → p.origin a ≡ Some x → x / p.size ≡ s → IsWritten p w a
 
--- what the words ask for, where the scheduler allows the event
+-- what an event that the scheduler allows requires of the words
 abbrev pub AllowsWords : Slide → Machine → Event → Type 0
 AllowsWords p w (Claim r) = Unit {0}
 AllowsWords p w (Look r) = Unit {0}
@@ -114,12 +114,12 @@ IsMachineStep m p workers w e =
     × IsStep m w.known e.worker e.event e.reply (state_after w.known e.worker e.event e.reply)
     × AllowsWords p w e.event
 
--- each call is a step from where those before it lead to
+-- each call is a step from the machine after the calls before it
 abbrev pub AreMachineSteps : MoveTable → Slide → ℕ → Machine → List Entry → Type 0
 AreMachineSteps m p workers w [] = Unit {0}
 AreMachineSteps m p workers w (e ∷ es) = IsMachineStep m p workers w e × AreMachineSteps m p workers (machine_after p w e) es
 
--- as each word is written, its origin stands as it did at the start
+-- when each word is written, its origin holds the word of the start
 abbrev pub Finds : Slide → (ℕ → ℕ) → Machine → Event → Type 0
 Finds p start w (Copy d n) =
     (k x : ℕ) → k < n → p.origin (d * p.size + w.written d + k) ≡ Some x → (write_words p d k w).heap x ≡ start x

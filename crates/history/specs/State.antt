@@ -6,7 +6,7 @@ use Rattle.history.specs.declared.event.Event.TheVariants.{Claim, Look, Drain, C
 use Rattle.history.specs.declared.reply.Reply.{Reply}
 use Rattle.history.specs.declared.reply.Reply.TheVariants.{Yes, No, Open, Outside, Claimed, Filled, Last, NotLast, Done, All, More}
 
--- What the scheduler knows: four sets.
+-- The state of the scheduler: four sets.
 pub record State : Type 0 where
   -- the destination has copied all that it takes from the source
   pub drained : ℕ → ℕ → Bool
@@ -23,11 +23,11 @@ opening = record { drained = λ d s. false; claimed = λ r. None; filled = λ r.
 abbrev pub is_pending : MoveTable → State → ℕ → ℕ → Bool
 is_pending m now d s = reads m d s && not (now.drained d s)
 
--- how many regions have still to copy words from s
+-- the number of regions that have still to copy words from s
 abbrev pub readers_left : MoveTable → State → ℕ → ℕ
 readers_left m now s = count_by (λ pair. s == pair.1 && not (now.drained pair.0 pair.1)) m.pairs
 
--- how many regions to be filled aren't settled
+-- the number of regions to be filled that aren't settled
 abbrev pub unsettled : MoveTable → State → ℕ
 unsettled m now = count_by (λ r. to_fill m r && not (now.settled r)) (range_with_len 0 (region_count m))
 
@@ -35,11 +35,11 @@ unsettled m now = count_by (λ r. to_fill m r && not (now.settled r)) (range_wit
 abbrev pub AllAreSettled : MoveTable → State → Type 0
 AllAreSettled m now = (r : ℕ) → IsTrue (to_fill m r) → IsTrue (now.settled r)
 
--- the worker claimed the region, and hasn't filled it
+-- the worker claimed the region and hasn't filled it
 abbrev pub IsFilling : State → ℕ → ℕ → Type 0
 IsFilling now worker d = (now.claimed d ≡ Some worker) × (now.filled d ≡ false)
 
--- where each event is allowed
+-- the event is allowed
 abbrev pub Allows : MoveTable → State → ℕ → Event → Type 0
 Allows m now worker (Claim r) = r < region_count m
 Allows m now worker (Look r) = r < region_count m
@@ -49,16 +49,16 @@ Allows m now worker (Settle d) = (now.claimed d ≡ Some worker) × IsTrue (now.
 Allows m now worker Poll = Unit {0}
 Allows m now worker (Copy d n) = IsFilling now worker d × (1 ≤ n)
 
--- to be filled, claimed by nobody, and nobody has still to read it
+-- to be filled, unclaimed and without pending readers
 abbrev pub may_claim : MoveTable → State → ℕ → Bool
 may_claim m now r = to_fill m r && (is_none (now.claimed r) && (readers_left m now r == 0))
 
--- the region is the worker's, where the reply says so
+-- the region belongs to the worker, if the reply grants it
 abbrev pub claimed_by : State → ℕ → ℕ → Reply → State
 claimed_by now worker r Yes = record now { claimed = λ q. if q == r then Some worker else now.claimed q }
 claimed_by now worker r _ = now
 
--- what each event, with its reply, makes of the four sets
+-- the four sets after an event with its reply
 abbrev pub state_after : State → ℕ → Event → Reply → State
 state_after now worker (Claim r) reply = claimed_by now worker r reply
 state_after now worker (Look r) reply = now
@@ -68,7 +68,7 @@ state_after now worker (Settle d) reply = record now { settled = λ r. r == d ||
 state_after now worker Poll reply = now
 state_after now worker (Copy d n) reply = now
 
--- how a region stands
+-- the status of a region
 abbrev pub look_at : MoveTable → State → ℕ → Reply
 look_at m now r =
     if now.filled r then Filled
@@ -76,11 +76,11 @@ look_at m now r =
     else if to_fill m r then Open (readers_left m now r)
     else Outside (readers_left m now r)
 
--- whether all regions to be filled are settled
+-- All if no region to be filled is unsettled, otherwise More
 abbrev pub all_or_more : ℕ → Reply
 all_or_more left = if left == 0 then All else More
 
--- the reply to each event, where it is allowed
+-- the reply to an event that is allowed
 abbrev pub reply_to : MoveTable → State → Event → Reply
 reply_to m now (Claim r) = if may_claim m now r then Yes else No
 reply_to m now (Look r) = look_at m now r

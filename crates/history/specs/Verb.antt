@@ -23,7 +23,7 @@ verb_of (Settle d) = verb.Settle
 verb_of Poll = verb.Poll
 verb_of (Copy d n) = verb.Copy
 
--- the event's numbers are those that a text may have
+-- a text may have the event's numbers
 abbrev pub has_numbers : Event → Bool
 has_numbers (Claim r) = nat_lt r (2 ^ 32)
 has_numbers (Look r) = nat_lt r (2 ^ 32)
@@ -33,7 +33,7 @@ has_numbers (Settle d) = nat_lt d (2 ^ 32)
 has_numbers Poll = true
 has_numbers (Copy d n) = nat_lt d (2 ^ 32) && nat_lt n (2 ^ 32)
 
--- what stands behind the verb and its space: the event's numbers, each with a space, and then this
+-- what follows the verb and its space: the event's numbers, each with a space, and then this
 abbrev pub numbers_then : Event → List ℕ → List ℕ
 numbers_then (Claim r) rest = decimal r ++ (32 ∷ rest)
 numbers_then (Look r) rest = decimal r ++ (32 ∷ rest)

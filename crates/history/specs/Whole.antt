@@ -1,4 +1,4 @@
--- What a history says in which every region to be filled is settled.
+-- Histories after which every region to be filled is settled.
 use Rattle.std.specs.Prelude.{◌≡◌, ℕ, Bool, false, ◌==◌, IsTrue, List, count_by}
 use Rattle.history.specs.MoveTable.{MoveTable, to_fill, reads}
 use Rattle.history.specs.History.{is_grant, is_settling_of, is_drain_of}

@@ -1,4 +1,4 @@
--- The word machine over an image, and what every list that it allows keeps.
+-- The word machine over an image, and what holds for every list of calls that it allows.
 use Rattle.std.specs.Prelude.{◌≡◌, ℕ, Bool, not, ◌&&◌, if◌then◌else◌, List}
 use Rattle.std.specs.List.{list_any}
 use Rattle.heap_image.specs.HeapImage.{HeapImage, region_words, word_at}
@@ -15,8 +15,8 @@ module _ (image : HeapImage) where
   abbrev pub is_redirected : ℕ → Bool
   is_redirected q = list_any (λ a. is_reference_of image a q && not (is_deferred image a)) image.live
 
-  -- How the image's words slide: each goes to its new place, its reference redirected as it is written unless its object
-  -- is deferred.
+  -- How the image's words slide: each goes to its new address, and a reference is redirected as it is written unless its
+  -- object is deferred.
   abbrev pub image_slide : Slide
   image_slide =
       record {
@@ -27,7 +27,7 @@ module _ (image : HeapImage) where
         filler = filler_word image;
       }
 
-  -- the machine at the start: nothing has happened, and the heap is the image's
+  -- the machine at the start: no calls, and the heap of the image
   abbrev pub machine_start : Machine
   machine_start = machine_at_first (word_at image)
 
@@ -39,7 +39,7 @@ module _ (image : HeapImage) where
   abbrev pub IsAllowed : ℕ → List Entry → Type 0
   IsAllowed workers log = AreMachineSteps (image_table image) image_slide workers machine_start log
 
--- What the machine keeps over a list of calls.
+-- What holds for the machine after a list of calls.
 pub record IsDrainedBeforeWritten (image : HeapImage) (log : List Entry) : Type 0 where
   -- each copy finds each word that it takes as it was at the start
   pub finds : AllFind (image_slide image) (word_at image) (machine_start image) log

@@ -5,6 +5,7 @@ ghost use Rattle.history.specs.Schedule.{schedule_of};
 
 use crate::call_fault::CallFault;
 use crate::event::Event;
+use crate::laws::moves_are_lawful;
 use crate::line::Line;
 use crate::moves::Moves;
 use crate::packed_line::PackedLine;
@@ -14,8 +15,8 @@ use crate::scheduler::Scheduler;
 use std::alloc::{AllocError, Global};
 use std::marker::Model;
 
-/// A scheduler that keeps the list of its calls. Contracts see its moves, the number of workers and
-/// the list, a legal history that leads to the scheduler's state.
+/// A scheduler that records its calls. Contracts see its moves, the number of workers and the list
+/// of calls, which is a legal history that leads to the scheduler's state.
 #[derive(Drop)]
 pub struct Book {
     scheduler: Scheduler,
@@ -35,21 +36,20 @@ impl Model for Book {
 }
 
 impl Book {
-    /// A book of these moves and 1 to 64 workers, to which nothing has happened yet.
+    /// Makes the book of these moves and 1 to 64 workers, with no calls.
     pub fn new<M: Moves>(alloc: Global, moves: &M, workers: u32) -> Result<Book, AllocError>
         requires { (1 ≤ workers) × (workers ≤ 64) }
         ensures { IfOk result (λ book. book ≡ record { workers = workers; moves = M.table moves.now; log = [] }) }
     {
-        // Its clause is that these moves keep the laws of a table.
-        let _regions = moves.regions();
+        moves_are_lawful(moves);
         let scheduler = Scheduler::new(alloc, moves, workers)?;
         let lines = Vec::new(alloc);
         Ok(Book { scheduler, lines })
     }
 
-    /// One call more: the reply, and its entry at the end of the list. It answers `Illegal` exactly
-    /// where the event isn't allowed in the present state, and `Memory` only where it is. Either
-    /// leaves the book as it was.
+    /// Makes one call: returns the reply and appends the entry to the list. Fails with `Illegal` if and
+    /// only if the present state doesn't allow the event, and with `Memory` if the list can't grow. An
+    /// error leaves the book unchanged.
     pub fn apply(&mut self, worker: u32, event: Event) -> Result<Reply, CallFault>
         requires { worker < self.old.workers }
         ensures ok { IfOk result (λ reply. self.new ≡ record self.old { log = self.old.log ++ (record { worker = worker; event = event; reply = reply }) ∷ [] }) }
@@ -72,14 +72,14 @@ impl Book {
         Ok(reply)
     }
 
-    /// How many workers there are.
+    /// The number of workers.
     pub fn workers(&self) -> u32
         ensures { result ≡ self.now.workers }
     {
         self.scheduler.workers()
     }
 
-    /// Whether all regions to be filled are settled. It is no call of a worker.
+    /// Whether all regions to be filled are settled. Not recorded as a call.
     pub fn is_done(&self) -> bool
         ensures { IsTrue result ↔ AllAreSettled self.now.moves (state_of self.now.log) }
     {

@@ -1,12 +1,12 @@
 use crate::event::Illegal;
 use std::alloc::{AllocError, AllocFailed};
 
-/// Why a book or a locked board didn't take a call. Either leaves it as it was.
+/// Why a book or a locked board rejected a call. The error leaves it unchanged.
 #[derive(Clone, Copy, Debug, PartialEq, Eq)]
 pub enum CallFault {
-    /// The event isn't allowed in the present state.
+    /// The present state doesn't allow the event.
     Illegal,
-    /// The event is allowed, but memory for its entry was refused.
+    /// The event is allowed, but memory for its entry ran out.
     Memory,
 }
 

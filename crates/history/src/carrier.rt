@@ -1,4 +1,4 @@
-//! What carries each word to its place.
+//! `Carrier`: the word machine's copying of words, over a plan.
 
 ghost use Rattle.std.specs.Prelude.{◌≡◌, ◌⊎◌, ◌+◌, ◌<◌, ◌≤◌, ℕ, Some, IfOk, length, slice_index, map, option_map};
 ghost use Rattle.heap_image.specs.HeapImage.{HeapImage, IsValid, heap_words, region_words, region_count, word_at, start_of};
@@ -17,17 +17,18 @@ use mark_bitmap::Marks;
 use raw_region::Region;
 use std::alloc::{AllocError, Global};
 use summary::Plan;
+use summary::laws::plans::planned_image_is_valid;
 
-/// Which word goes to each place, and what becomes of it on the way and at the end.
+/// For each new address, the word that goes there, and when it is redirected.
 #[derive(Drop)]
 pub(crate) struct Carrier<'a> {
     plan: &'a Plan,
     marks: &'a Marks,
-    /// The old addresses of the words that go to the places from the prefix end on.
+    /// The old addresses of the words that go to the new addresses from the prefix end on.
     origins: Vec<u32>,
-    /// Of each old address, whether its word is redirected as it is moved.
+    /// For each old address, whether its word is redirected as it is moved.
     early: Vec<bool>,
-    /// Of each place, whether its word is redirected at the end.
+    /// For each new address, whether its word is redirected at the end.
     late: Vec<bool>,
 }
 
@@ -43,8 +44,7 @@ impl<'a> Carrier<'a> {
         ensures kept { IfOk result IsCarrier }
         ensures plan { IfOk result (λ carrier. carrier.plan.now ≡ image.now) }
     {
-        // Its clause is that the image is valid.
-        let _regions = plan.regions();
+        planned_image_is_valid(plan);
         let origins = origins_of(alloc, plan, marks)?;
         let early = early_references(alloc, image, plan, marks)?;
         let late = late_references(alloc, image, plan, marks)?;
@@ -57,8 +57,8 @@ impl<'a> Carrier<'a> {
         })
     }
 
-    /// The compacted image, from the heap in which all regions are filled: references of deferred
-    /// objects are redirected, and words from the new top up are 0.
+    /// Makes the compacted image of a heap in which all regions are filled: redirects the references
+    /// of deferred objects and sets the words from the new top up to 0.
     pub(crate) fn finish(
         &self,
         alloc: Global,
@@ -87,7 +87,7 @@ impl<'a> Carrier<'a> {
         Ok(parts.into_image())
     }
 
-    /// The roots of an image of version 2, redirected.
+    /// The redirected roots, or `None` for an image of version 1.
     fn new_roots(&self, alloc: Global, image: &Image) -> Result<Option<Vec<u64>>, AllocError>
         requires kept { IsCarrier self.now }
         requires image { self.now.plan.now ≡ image.now }
@@ -133,7 +133,7 @@ impl<'a> Carrier<'a> {
         Ok(region)
     }
 
-    /// The word of a place of the compacted image.
+    /// The word at an address of the compacted image.
     fn finished_word(&self, heap: &[u64], place: u64) -> u64
         requires kept { IsCarrier self.now }
         requires inside { place < heap_words self.now.plan.now }
@@ -152,8 +152,8 @@ impl<'a> Carrier<'a> {
         }
     }
 
-    /// Writes the words of so many places, ascending, each from where its origin stands in the heap
-    /// now, which is as it stood at the start.
+    /// Writes the words at `number` addresses from `first` on, ascending, each from the present word at
+    /// its origin, which is still the one of the start.
     pub(crate) fn copy(&self, heap: &mut [u64], first: u64, number: u32)
         requires kept { IsCarrier self.now }
         requires long { length heap.old ≡ heap_words self.now.plan.now }
@@ -167,7 +167,7 @@ impl<'a> Carrier<'a> {
         }
     }
 
-    /// The word for a place, its origin as it stands in the heap.
+    /// The word that goes to an address, from the present word at its origin.
     fn word(&self, heap: &[u64], place: u64) -> u64
         requires kept { IsCarrier self.now }
         requires long { length heap.now ≡ heap_words self.now.plan.now }
@@ -186,7 +186,7 @@ impl<'a> Carrier<'a> {
         }
     }
 
-    /// The old address of the word that goes to a place.
+    /// The old address of the word that goes to a new address.
     fn origin(&self, place: u64) -> Option<u64>
         requires kept { IsCarrier self.now }
         requires below { place < new_top self.now.plan.now }

@@ -1,4 +1,4 @@
-//! Schedules followed without moving a word.
+//! Schedules checked without moving a word.
 
 ghost use Rattle.std.specs.Prelude.{◌≡◌, ◌⊎◌, ℕ, Bool, IfOk, IfErr, IfSome, IfNone};
 ghost use Rattle.heap_image.specs.declared.fault.Fault.{Fault};
@@ -12,10 +12,10 @@ use heap_image::Fault;
 use std::alloc::{AllocError, Global};
 use summary::Plan;
 
-/// Whether all regions to be filled are settled after the last line of the schedule, each line of
-/// which the word machine takes. Moves no word. Fault 14 names the least line of the schedule's
-/// text that the machine doesn't allow, or that tells another reply than the machine's; fault 11
-/// comes where memory was refused. Linear in the number of lines and of regions.
+/// Runs the schedule on the word machine without moving a word, and returns whether all regions to be
+/// filled are settled after the last line. Fault 14 names the first line of the schedule's text that
+/// the machine doesn't allow, or whose reply isn't the machine's; fault 11 means out of memory. Takes
+/// time linear in the number of lines and of regions.
 pub fn check(alloc: Global, plan: &Plan, schedule: &Schedule) -> Result<bool, Fault>
     ensures ok { IfOk result (IsChecked plan.now schedule.now) }
     ensures fault { IfErr result (λ fault. (fault ≡ Fault.Memory) ⊎ ((line : ℕ) × (fault ≡ Fault.Schedule line) × IsRefusedAt plan.now schedule.now line)) }
@@ -26,9 +26,9 @@ pub fn check(alloc: Global, plan: &Plan, schedule: &Schedule) -> Result<bool, Fa
     }
 }
 
-/// The least line of the schedule's text that the word machine refuses, and why: it doesn't allow the
-/// event, or it gives another reply, which is told. `check` and `replay` answer fault 14 of the same
-/// line. None where the machine takes all lines. Moves no word; linear as `check` is.
+/// The first line of the schedule's text that the word machine refuses, and why: the machine doesn't
+/// allow the event, or it gives another reply, which is returned. `check` and `replay` fail with fault
+/// 14 at the same line. `None` if the machine takes all lines. Takes as long as `check`.
 pub fn explain(
     alloc: Global,
     plan: &Plan,
@@ -40,7 +40,7 @@ pub fn explain(
     Ok(followed(alloc, plan, schedule)?.err())
 }
 
-/// Whether all regions to be filled are settled after the last line, or the line that is refused.
+/// Whether all regions to be filled are settled after the last line, or the refused line.
 fn followed(
     alloc: Global,
     plan: &Plan,

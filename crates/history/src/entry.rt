@@ -1,7 +1,7 @@
 use crate::event::Event;
 use crate::reply::Reply;
 
-/// One line of a history: which worker called, what it said, and what it was answered.
+/// One call in a history: the worker, the event and the reply.
 #[derive(Clone, Copy, Debug, PartialEq, Eq)]
 pub struct Entry {
     pub worker: u32,

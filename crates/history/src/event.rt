@@ -1,23 +1,23 @@
-/// What a worker asks of the scheduler or tells it. Regions are numbers from 0; in a pair the
+/// A worker's request or report to the scheduler. Regions are numbered from 0; in a pair the
 /// destination comes first.
 #[derive(Clone, Copy, Debug, PartialEq, Eq)]
 pub enum Event {
-    /// Asks for the right to fill this region.
+    /// Requests the right to fill the region.
     Claim(u32),
-    /// Asks how this region stands.
+    /// Asks for the status of the region.
     Look(u32),
-    /// Tells that all words that the first region takes from the second one are copied.
+    /// Reports that all words that the first region takes from the second are copied.
     Drain(u32, u32),
-    /// Tells that all words of this region are written.
+    /// Reports that all words of the region are written.
     Complete(u32),
-    /// Tells that the worker is done with this region.
+    /// Reports that the worker is done with the region.
     Settle(u32),
     /// Asks whether all regions to be filled are settled.
     Poll,
-    /// Notes that so many words of this region are written. The scheduler keeps no count of them.
+    /// Reports that this many more words of the region are written. The scheduler doesn't count them.
     Copy(u32, u32),
 }
 
-/// The event isn't allowed in the state that the scheduler is in.
+/// The scheduler's present state doesn't allow the event.
 #[derive(Clone, Copy, Debug, PartialEq, Eq)]
 pub struct Illegal;

@@ -1,4 +1,4 @@
-//! Events read from their text.
+//! Parsing of events.
 
 ghost use Rattle.std.specs.Prelude.{◌≡◌, ◌≢◌, ℕ, ◌<◌, ◌^◌, ◌∷◌, ◌++◌, List, IsTrue, MatchOption, decimal};
 ghost use Rattle.history.specs.Verb.{verb_of, has_numbers, numbers_then};
@@ -7,20 +7,21 @@ ghost use Rattle.history.specs.declared.event.Event.{Event};
 
 use crate::event::Event;
 use crate::reading::{number_to, word};
-use crate::verb::{Verb, spelled};
+use crate::verb::{Verb, parse_verb};
 
-/// The event whose text stands in front, before a space, and the bytes behind the space.
+/// Parses the event at the front of `bytes`, up to a space. Returns it with the bytes after the space.
 pub(crate) fn event(bytes: &[u8]) -> Option<(Event, &[u8])>
     ensures { MatchOption result
         ((event : Event) (rest : List ℕ) → IsTrue (has_numbers event) → bytes.now ≢ event_text event ++ 32 ∷ rest)
         (λ parts. IsTrue (has_numbers parts.0) × (bytes.now ≡ event_text parts.0 ++ 32 ∷ parts.1.now)) }
 {
     let (name, rest) = word(bytes, b' ')?;
-    let verb = spelled(name)?;
+    let verb = parse_verb(name)?;
     numbers(verb, rest)
 }
 
-/// The event of this verb whose numbers stand in front, each before a space, and the bytes behind.
+/// Parses the numbers of an event with this verb, each before a space. Returns the event with the
+/// bytes after.
 fn numbers(verb: Verb, bytes: &[u8]) -> Option<(Event, &[u8])>
     ensures { MatchOption result
         ((event : Event) (rest : List ℕ) → verb_of event ≡ verb → IsTrue (has_numbers event) → bytes.now ≢ numbers_then event rest)
@@ -55,7 +56,7 @@ fn numbers(verb: Verb, bytes: &[u8]) -> Option<(Event, &[u8])>
     }
 }
 
-/// Two numbers, each before a space.
+/// Parses two numbers, each before a space.
 fn two_numbers(bytes: &[u8]) -> Option<((u32, u32), &[u8])>
     ensures { MatchOption result
         ((m n : ℕ) (rest : List ℕ) → m < 2 ^ 32 → n < 2 ^ 32 → bytes.now ≢ decimal m ++ (32 ∷ (decimal n ++ 32 ∷ rest)))

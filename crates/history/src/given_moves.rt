@@ -7,11 +7,11 @@ use heap_image::limits;
 use std::alloc::{AllocError, Global};
 use std::marker::Model;
 
-/// A table has at most so many regions.
+/// The most regions that a table can have.
 const MAX_REGIONS: usize = limits::MAX_REGIONS as usize;
 
-/// A table of moves that was handed in. It takes no memory of its own: a count walks the pairs, and a
-/// source is searched for. `IndexedMoves` has both at hand.
+/// A table of moves as plain lists, checked when it is made. It has no index: a count goes over all
+/// pairs, and a source is found by binary search. `IndexedMoves` does both in constant time.
 #[derive(Drop)]
 pub struct GivenMoves {
     fill: Vec<bool>,
@@ -29,8 +29,8 @@ impl Model for GivenMoves {
 }
 
 impl GivenMoves {
-    /// The table of these regions, a flag each for whether it is to be filled, and these pairs
-    /// (destination, source). None unless there are 1 to 16,384 regions, the pairs are strictly
+    /// Makes a table from a flag for each region, which says whether it is to be filled, and pairs
+    /// (destination, source). `None` unless there are 1 to 16,384 regions, the pairs are strictly
     /// ascending and in range, each leads down to a region to be filled, and no source has more
     /// than two readers.
     pub fn new(fill: Vec<bool>, pairs: Vec<(u32, u32)>) -> Option<GivenMoves>
@@ -42,7 +42,7 @@ impl GivenMoves {
         Some(GivenMoves { fill, pairs })
     }
 
-    /// The same table as these moves tell, in room of its own.
+    /// Copies the table of `moves`.
     pub fn copy_of<M: Moves>(alloc: Global, moves: &M) -> Result<GivenMoves, AllocError>
         ensures { IfOk result (λ given. given ≡ M.table moves.now) }
     {
@@ -59,7 +59,7 @@ impl GivenMoves {
         &self.pairs
     }
 
-    /// How many regions are to be filled. At the opening none of them is settled.
+    /// The number of regions to be filled.
     pub fn fill_count(&self) -> usize
         ensures flags { result ≡ count_by (λ fills. fills) self.now.fill }
         ensures opening { result ≡ unsettled self.now opening }
@@ -67,7 +67,7 @@ impl GivenMoves {
         count_set(&self.fill)
     }
 
-    /// The place of the first pair that isn't before this one, by a binary search.
+    /// The index of the first pair that isn't before this one, by binary search.
     pub(crate) fn first_from(&self, destination: u32, source: u32) -> usize
         ensures { IsFirstPlace self.now.pairs destination source result }
     {
@@ -78,8 +78,8 @@ impl GivenMoves {
         )
     }
 
-    /// The source of the pair at this place, if it is one of the destination's: its next one from
-    /// where this is the place of the first pair.
+    /// The source of the pair at index `place`, if the pair has this destination. If `place` comes from
+    /// `first_from`, it is the destination's next source.
     pub(crate) fn source_at(&self, place: usize, destination: u32) -> Option<u32>
         ensures least { (from : ℕ) → IsFirstPlace self.now.pairs destination from place → IsNextSource self.now destination from result }
         ensures inside { IfSome result (λ source. source < region_count self.now) }
@@ -109,14 +109,14 @@ impl Moves for GivenMoves {
     }
 }
 
-/// By destination, and then by source.
+/// Whether a pair comes before another, by destination and then by source.
 fn is_before(one: (u32, u32), other: (u32, u32)) -> bool
     ensures { result ≡ is_before one other }
 {
     one.0 < other.0 || (one.0 == other.0 && one.1 < other.1)
 }
 
-/// Whether this may be handed in as a table.
+/// Whether the lists form a table, as `GivenMoves::new` requires.
 fn is_move_table(fill: &[bool], pairs: &[(u32, u32)]) -> bool
     ensures { IsTrue result ↔ IsMoveTable (table_of fill.now pairs.now) }
 {
@@ -126,7 +126,7 @@ fn is_move_table(fill: &[bool], pairs: &[(u32, u32)]) -> bool
     are_ascending(pairs) && all_slide(fill, pairs) && have_two_readers_at_most(pairs)
 }
 
-/// How many pairs have this source.
+/// The number of pairs with this source.
 fn count_of(pairs: &[(u32, u32)], source: u32) -> usize
     ensures { result ≡ count_by (has_source source) pairs.now }
 {
@@ -155,8 +155,8 @@ fn all_slide(fill: &[bool], pairs: &[(u32, u32)]) -> bool
     true
 }
 
-/// Keeps its counts on the stack, since a table takes no memory of its own. Linear in the number of
-/// pairs.
+/// Whether no source has more than two readers. Keeps its counts on the stack, so that making a table
+/// allocates nothing. Linear in the number of pairs.
 fn have_two_readers_at_most(pairs: &[(u32, u32)]) -> bool
     requires { All (λ pair. pair.1 < 16384) pairs.now }
     ensures { IsTrue result ↔ ((s : ℕ) → count_by (has_source s) pairs.now ≤ 2) }
@@ -171,14 +171,14 @@ fn have_two_readers_at_most(pairs: &[(u32, u32)]) -> bool
     true
 }
 
-/// How many of the flags are set.
+/// The number of flags that are set.
 fn count_set(flags: &[bool]) -> usize
     ensures { result ≡ count_by (λ flag. flag) flags.now }
 {
     flags.iter().filter(|flag| **flag).count()
 }
 
-/// Of each region, whether it is to be filled.
+/// For each region, whether it is to be filled.
 fn fill_of<M: Moves>(alloc: Global, moves: &M, regions: u32) -> Result<Vec<bool>, AllocError>
     requires { regions ≡ region_count (M.table moves.now) }
     ensures { IfOk result (λ fill. fill.items ≡ (M.table moves.now).fill) }
@@ -203,7 +203,7 @@ fn pairs_of<M: Moves>(alloc: Global, moves: &M, regions: u32) -> Result<Vec<(u32
     Ok(pairs)
 }
 
-/// How many pairs there are, for which room is made.
+/// The number of pairs, to allocate the list at once.
 fn pair_count<M: Moves>(moves: &M, regions: u32) -> usize
     requires { regions ≡ region_count (M.table moves.now) }
 {
@@ -214,7 +214,7 @@ fn pair_count<M: Moves>(moves: &M, regions: u32) -> usize
     count
 }
 
-/// Adds the pairs of one destination to those of the smaller ones.
+/// Appends the pairs of one destination.
 fn push_pairs<M: Moves>(
     pairs: &mut Vec<(u32, u32)>,
     moves: &M,

@@ -1,12 +1,12 @@
-//! The moves of an image. The function does nothing: its contract is the law.
+//! Theorem about the moves of an image.
 ghost use Rattle.std.specs.Prelude.{◌≡◌, ◌&&◌, ◌==◌, not, ℕ};
 ghost use Rattle.heap_image.specs.HeapImage.{HeapImage, IsValid, region_count as heap_regions};
 ghost use Rattle.summary.specs.WordMoves.{is_to_fill, reads as image_reads};
 ghost use Rattle.history.specs.MoveTable.{IsMoveTable, region_count, to_fill, reads};
 ghost use Rattle.history.specs.ImageMoves.{image_table};
 
-/// The table of an image's moves has the image's regions, and is a lawful one. Its regions to be filled are those that
-/// the image tells, and its pairs are the words that go from one region to another.
+/// The moves of an image form a valid table with the image's regions. Its regions to be filled are those of the
+/// compaction, and it has a pair for each two regions between which a word goes.
 pub fn moves_of_images()
     ensures regions { (image : HeapImage) → region_count (image_table image) ≡ heap_regions image }
     ensures lawful { (image : HeapImage) → IsValid image → IsMoveTable (image_table image) }

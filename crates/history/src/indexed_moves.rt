@@ -1,4 +1,4 @@
-//! A table of moves with an index.
+//! `IndexedMoves`: a table of moves with an index.
 
 ghost use Rattle.std.specs.Prelude.{◌≡◌, ◌≢◌, ◌+◌, ◌<◌, ◌≤◌, length, slice_index_or, IfOk, IfSome, IfNone, false};
 ghost use Rattle.history.specs.MoveTable.{region_count, reads, IsAscending, IsFirstPlace};
@@ -10,15 +10,15 @@ use crate::readers::Readers;
 use std::alloc::{AllocError, Global};
 use std::marker::Model;
 
-/// A table of moves with an index. Each look-up takes constant time, but for the next source from a
-/// number that is neither at most one above the destination nor one above a source of it: that one is
-/// searched for.
+/// A table of moves with an index. Each look-up takes constant time, except the next source from a
+/// number that is neither at most one above the destination nor one above one of its sources: that
+/// takes a binary search.
 #[derive(Drop)]
 pub struct IndexedMoves {
     moves: GivenMoves,
-    /// Of each region, the place of the first pair whose destination isn't below it.
+    /// For each region, the index of the first pair whose destination isn't below it.
     first: Vec<usize>,
-    /// Of each region, the pairs of which it is the source.
+    /// For each region, the pairs of which it is the source.
     readers: Vec<Readers>,
 }
 
@@ -34,7 +34,7 @@ impl Model for IndexedMoves {
 }
 
 impl IndexedMoves {
-    /// This table, with an index. Linear in the number of regions and pairs.
+    /// Indexes a table, in time linear in the number of regions and pairs.
     pub fn new(alloc: Global, moves: GivenMoves) -> Result<IndexedMoves, AllocError>
         ensures { IfOk result (λ indexed. indexed ≡ moves) }
     {
@@ -47,14 +47,14 @@ impl IndexedMoves {
         })
     }
 
-    /// The same table as these moves tell, with an index, in room of its own.
+    /// Copies the table of `moves` and indexes it.
     pub fn of<M: Moves>(alloc: Global, moves: &M) -> Result<IndexedMoves, AllocError>
         ensures { IfOk result (λ indexed. indexed ≡ M.table moves.now) }
     {
         IndexedMoves::new(alloc, GivenMoves::copy_of(alloc, moves)?)
     }
 
-    /// The place of the pair, if the table has it.
+    /// The index of a pair, if the table has it.
     pub(crate) fn place(&self, destination: u32, source: u32) -> Option<usize>
         ensures found { IfSome result (λ at. IsPlaceOf self.now.pairs destination source at) }
         ensures fits { IfSome result (λ at. at < usize.MAX) }
@@ -69,7 +69,7 @@ impl IndexedMoves {
         }
     }
 
-    /// The places of the pairs with this source.
+    /// The indices of the pairs with this source.
     fn readers_of(&self, source: u32) -> Readers
         ensures { AreReaders self.now.pairs (length self.now.pairs) source result }
     {
@@ -79,7 +79,7 @@ impl IndexedMoves {
             .unwrap_or(Readers::Nobody)
     }
 
-    /// The place, if the pair there has this destination.
+    /// The index `at`, if the pair there has this destination.
     fn reader_at(&self, at: usize, destination: u32) -> Option<usize>
         requires { at < length self.now.pairs }
         ensures some { IfSome result (λ found. (found ≡ at) × ((slice_index_or self.now.pairs at (0, 0)).0 ≡ destination)) }
@@ -93,7 +93,7 @@ impl IndexedMoves {
         }
     }
 
-    /// The place of the first pair that isn't before this one.
+    /// The index of the first pair that isn't before this one.
     fn first_from(&self, destination: u32, source: u32) -> usize
         requires { destination < region_count self.now }
         ensures { IsFirstPlace self.now.pairs destination source result }
@@ -130,7 +130,7 @@ impl Moves for IndexedMoves {
     }
 }
 
-/// Of each region, the place of the first pair whose destination isn't below it.
+/// For each region, the index of the first pair whose destination isn't below it.
 fn first_places(alloc: Global, moves: &GivenMoves) -> Result<Vec<usize>, AllocError>
     ensures { IfOk result (λ first. AreFirstPlaces moves.now first.items) }
 {
@@ -138,13 +138,13 @@ fn first_places(alloc: Global, moves: &GivenMoves) -> Result<Vec<usize>, AllocEr
     let mut place = 0;
     for destination in 0..moves.regions() {
         first.push(place)?;
-        place = behind(moves.pairs(), place, destination);
+        place = end_of_pairs(moves.pairs(), place, destination);
     }
     Ok(first)
 }
 
-/// The place behind the pairs of this destination, of which the first, if there is one, is at `first`.
-fn behind(pairs: &[(u32, u32)], first: usize, destination: u32) -> usize
+/// The index after the pairs of this destination, which begin at index `first`.
+fn end_of_pairs(pairs: &[(u32, u32)], first: usize, destination: u32) -> usize
     requires ascending { IsAscending pairs.now }
     requires first { IsFirstPlace pairs.now destination 0 first }
     ensures { IsFirstPlace pairs.now (destination + 1) 0 result }
@@ -156,7 +156,7 @@ fn behind(pairs: &[(u32, u32)], first: usize, destination: u32) -> usize
     place
 }
 
-/// Of each region, the pairs of which it is the source.
+/// For each region, the pairs of which it is the source.
 fn reader_places(alloc: Global, moves: &GivenMoves) -> Result<Vec<Readers>, AllocError>
     ensures { IfOk result (λ readers. AreReaderPlaces moves.now readers.items) }
 {

@@ -6,41 +6,50 @@ ghost use Rattle.history.specs.History.{IsLegal, IsOrderly, IsReached, TellsOwn,
 ghost use Rattle.history.specs.WordMachine.{IsAllowed, IsDrainedBeforeWritten};
 ghost use Rattle.history.specs.declared.entry.Entry.{Entry};
 
-/// Whatever the workers call, in any order and however many they are: a region is granted at most
-/// once, when nobody has to read it any more nor ever will, it is completed by its claimant alone
-/// and after all its reads are drained, and exactly the last settling answers `All`.
+use crate::moves::Moves;
+
+/// For any number of workers and any order of calls: a region is granted at most once, when it has no
+/// pending readers and will have none; only its claimant completes it, after all its reads are drained;
+/// and exactly the last settling returns `All`.
 pub fn legal_histories_are_orderly()
     ensures { (m : MoveTable) (workers : ℕ) (log : List Entry) → IsLegal m workers log → IsOrderly m log }
 {}
 
-/// What holds in each state to which a legal history leads: what is settled is filled, what is
-/// filled is claimed, and nothing is pending on a claimed region or by a filled one.
+/// In each state to which a legal history leads, settled regions are filled, filled regions are
+/// claimed, a claimed region has no pending readers and a filled one no undrained sources.
 pub fn what_legal_histories_keep()
     ensures { (m : MoveTable) (workers : ℕ) (log : List Entry) → IsLegal m workers log → IsReached m (state_of log) }
 {}
 
-/// What one worker's own calls in a legal history tell: of a region that it claimed all that there
-/// is to tell, though the other workers called in between, and of any other region nothing.
+/// One worker's own calls in a legal history determine the state of each region that it claimed,
+/// whatever the other workers called in between, and say nothing about any other region.
 pub fn what_own_calls_tell()
     ensures { (m : MoveTable) (workers worker : ℕ) (log : List Entry) → IsLegal m workers log → TellsOwn worker (state_of (calls_by worker log)) (state_of log) }
 {}
 
-/// How many readers, sources and unsettled regions are left: at most two readers, and each drain
-/// and each settling takes exactly one off its own counts and leaves the others.
+/// The counts of readers, sources and unsettled regions that are left: a region has at most two
+/// readers, and each drain and each settling lowers its own counts by one and leaves the others.
 pub fn how_counts_go_down()
     ensures { (m : MoveTable) (now : State) → IsMoveTable m → CountsDown m now }
 {}
 
-/// What a table of moves says of each pair: words slide down, from a region that there is to one
-/// that is to be filled.
+/// In each pair of a table of moves, words slide down, from a region in range to one that is to be
+/// filled.
 pub fn pairs_slide_down()
     ensures { (m : MoveTable) (d s : ℕ) → IsMoveTable m → IsTrue (reads m d s) → Slides m.fill (d, s) }
 {}
 
-/// No word is overwritten before it was copied out. Of a valid image and however many workers: in
-/// every list that the word machine allows, each copy finds each origin word as it was at the
-/// start, though other regions, and the lower words of the region itself, are already overwritten.
+/// No word is overwritten before it is copied out. For a valid image and any number of workers: in
+/// every list of calls that the word machine allows, each copy finds each origin word as it was at the
+/// start, although other regions, and the lower words of the region itself, are already overwritten.
 /// Once all regions to be filled are filled, the heap is that of the moved words.
 pub fn drained_before_written()
     ensures { (image : HeapImage) → IsValid image → (workers : ℕ) (log : List Entry) → IsAllowed image workers log → IsDrainedBeforeWritten image log }
 {}
+
+/// Moves keep the laws of a table.
+pub fn moves_are_lawful<M: Moves>(moves: &M)
+    ensures { IsMoveTable (M.table moves.now) }
+{
+    moves.regions();
+}

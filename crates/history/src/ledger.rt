@@ -1,4 +1,4 @@
-//! The word machine without its heap.
+//! `Ledger`: the word machine without its heap.
 
 ghost use Rattle.std.specs.Prelude.{◌≡◌, ◌+◌, ◌^◌, ◌<◌, ◌≤◌, ◌↔◌, ℕ, length, slice_index, IsTrue, IfOk, OnErr, IfErr};
 ghost use Rattle.history.specs.MoveTable.{reads};
@@ -20,17 +20,18 @@ use crate::reply::Reply;
 use crate::scheduler::Scheduler;
 use std::alloc::{AllocError, Global};
 use summary::Plan;
+use summary::laws::plans::planned_image_is_valid;
 
-/// The scheduler, and how many words of each region are written: the word machine but for its heap.
+/// The scheduler and the number of words written in each region: the word machine without its heap.
 #[derive(Drop)]
 pub(crate) struct Ledger {
     scheduler: Scheduler,
-    /// Of each region, how many of its words below the new top are written.
+    /// For each region, the number of its words below the new top that are written.
     written: Vec<u32>,
 }
 
 impl Ledger {
-    /// The ledger of the word machine at the opening.
+    /// Makes the ledger of the word machine at the start.
     pub(crate) fn new(alloc: Global, plan: &Plan, workers: u32) -> Result<Ledger, AllocError>
         requires { (1 ≤ workers) × (workers ≤ 64) }
         ensures kept { IfOk result (IsLedger plan.now workers) }
@@ -41,8 +42,8 @@ impl Ledger {
         Ok(Ledger { scheduler, written })
     }
 
-    /// The reply to the line, exactly where the word machine allows the line and the line tells this
-    /// reply or none; else why not. After `Err` the ledger is of no more use.
+    /// Makes the call of a line. Returns the reply if the word machine allows the event and the line has
+    /// this reply or none, and otherwise the cause. After an error the ledger must not be used again.
     pub(crate) fn follow(&mut self, plan: &Plan, line: Line) -> Result<Reply, LineCause>
         requires kept { IsLedger plan.now self.old.scheduler.workers self.old }
         requires worker { line.worker < self.old.scheduler.workers }
@@ -68,14 +69,14 @@ impl Ledger {
         self.scheduler.is_done()
     }
 
-    /// How many words of the region are written.
+    /// The number of words of a region that are written.
     fn written(&self, region: u32) -> u32
         ensures { result ≡ slice_index self.now.written.items region }
     {
         self.written.get(region as usize).copied().unwrap_or(0)
     }
 
-    /// The first place that an event writes, and how many it writes, where the word machine allows it.
+    /// The first address that an event writes and the number of words, if the word machine allows it.
     pub(crate) fn places(&self, plan: &Plan, event: Event) -> (u64, u32)
         ensures { result ≡ places_of plan.now self.now event }
     {
@@ -100,14 +101,13 @@ impl Ledger {
         if !self.scheduler.allows(worker, event) || !self.allows_words(plan, event) {
             return Err(Illegal);
         }
-        // Its clause is that the image of the plan is valid.
-        let _regions = Plan::regions(plan);
+        planned_image_is_valid(plan);
         let reply = self.scheduler.step(worker, event)?;
         note(&mut self.written, event);
         Ok(reply)
     }
 
-    /// Whether the words allow an event that the scheduler allows.
+    /// Whether the written words allow an event that the scheduler allows.
     fn allows_words(&self, plan: &Plan, event: Event) -> bool
         requires { (d s : ℕ) → event ≡ Event.Drain d s → IsTrue (reads (image_table plan.now) d s) }
         ensures { (w : Machine) → Tells self.now w → IsTrue result ↔ AllowsWords (image_slide plan.now) w event }
@@ -127,13 +127,12 @@ impl Ledger {
         requires { IsTrue (reads (image_table plan.now) destination source) }
         ensures { (w : Machine) → Tells self.now w → IsTrue result ↔ IsCopiedOut (image_slide plan.now) w destination source }
     {
-        // Its clause is that the image of the plan is valid.
-        let _regions = Plan::regions(plan);
+        planned_image_is_valid(plan);
         u64::from(self.written(destination)) >= taken_up_to(plan, destination, source)
     }
 }
 
-/// Notes the words that the event writes.
+/// Counts the words that the event writes.
 fn note(written: &mut [u32], event: Event)
     requires { (d n : ℕ) → event ≡ Event.Copy d n → (d < length written.old) × (slice_index written.old d + n < 2 ^ 32) }
     ensures { AreWrittenBy event written.old written.new }
@@ -143,7 +142,7 @@ fn note(written: &mut [u32], event: Event)
     }
 }
 
-/// How many words of the region lie below the new top.
+/// The number of words of a region below the new top.
 fn words_of(plan: &Plan, region: u32) -> u64
     ensures { result ≡ words_of (image_slide plan.now) region }
 {
@@ -152,7 +151,7 @@ fn words_of(plan: &Plan, region: u32) -> u64
     size.min(plan.new_top().saturating_sub(start))
 }
 
-/// Up to which place, counted from the destination's start, words of the source go there.
+/// The number of words from the destination's start up to the last one that comes from the source.
 fn taken_up_to(plan: &Plan, destination: u32, source: u32) -> u64
     requires { IsTrue (reads (image_table plan.now) destination source) }
     ensures { result ≡ taken_up_to plan.now destination source }

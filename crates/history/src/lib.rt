@@ -1,39 +1,35 @@
-//! The scheduler of one thread, by which every other way to hand out regions is measured.
+//! The one-thread scheduler, which defines what every other scheduler may do.
 //!
-//! A sliding collection fills regions, and each is filled from itself and from regions above it.
-//! A region may be overwritten only once every other region that takes words from it has copied
-//! them. `Moves` tells which regions are to be filled and which pairs (destination, source) there
-//! are; `Scheduler` answers each event of each worker, one at a time.
+//! A sliding collection fills each region from itself and from regions above it. A region may be
+//! overwritten only after every other region that takes words from it has copied them. `Moves` says
+//! which regions are to be filled and which pairs (destination, source) there are; `Scheduler` replies
+//! to the events of the workers, one at a time.
 //!
-//! - `Moves` is a trait, so that a plan of a real heap can implement it. Its whole meaning is one
-//!   table of plain data. `GivenMoves` is a table that is handed in, and `IndexedMoves` is one with an
-//!   index, by which look-ups take constant time.
-//! - `Scheduler::step` answers `Ok` exactly where the step relation allows the event, with its reply
-//!   and its state; `Illegal` leaves the scheduler as it was.
-//! - `legal_histories_are_orderly`, `what_legal_histories_keep`, `what_own_calls_tell`,
-//!   `how_counts_go_down` and `pairs_slide_down` have no body. Their contracts say what every legal
-//!   history of any number of workers keeps, and every table of moves.
+//! - `Moves` is a trait, so that a plan of a real heap can implement it. Contracts see one table of
+//!   plain data. `GivenMoves` is a table made of lists, and `IndexedMoves` adds an index for look-ups
+//!   in constant time. `summary::Plan` implements `Moves` by the table of its image.
+//! - `Scheduler::step` returns the reply and changes the state if the step relation allows the event;
+//!   otherwise it returns `Illegal` and changes nothing.
+//! - `Book` is a scheduler that records its calls, a legal history that leads to its state.
+//!   `LockedBoard` is a book under a lock, for workers in any thread.
+//! - `Schedule` is a history in which replies may be left open. `write_schedule` makes its text, and
+//!   `read_schedule` parses it or names the first malformed line.
+//! - `check` runs a schedule on the word machine without moving a word, and `replay` runs it on a copy
+//!   of the heap. Both name the first line that the machine refuses, and `explain` says why.
 //!
-//! - `Book` is a scheduler that keeps the list of its calls, a legal history that leads to its state.
-//!   `LockedBoard` is one under a lock, for workers in any thread.
-//! - The moves of a plan of a heap (`summary::Plan`) are the table of its image.
-//! - `drained_before_written` has no body. Its contract is about the word machine, the scheduler with
-//!   a heap: in every list that it allows, each copy finds each word as it was at the start, and once
-//!   all regions are filled the heap is that of the moved words.
-//! - `Schedule` is a history in which a reply may be left open. `write_schedule` gives its text, and
-//!   `read_schedule` reads it or names the least malformed line. `one_schedule_a_text` and
-//!   `malformed_is_no_schedule` have no body: two schedules with one text are the same, and a text
-//!   with a malformed line is no schedule's.
-//! - `check` follows a schedule by the word machine without moving a word, and `replay` runs it on a
-//!   copy of the heap. Both name the least line that the machine doesn't allow, and `explain` says why
-//!   it doesn't. `what_replays_keep` has no body: the calls of a schedule that the machine takes are
-//!   one legal history.
+//! The laws have no body; their contracts are theorems. `legal_histories_are_orderly`,
+//! `what_legal_histories_keep`, `what_own_calls_tell`, `how_counts_go_down` and `pairs_slide_down` are
+//! about legal histories of any number of workers and tables of moves. `drained_before_written` is
+//! about the word machine, the scheduler with a heap: in every list of calls that it allows, each copy
+//! finds each word as it was at the start. `one_schedule_a_text` and `malformed_is_no_schedule` are
+//! about texts, and `what_replays_keep` is about the calls of a replay.
 //!
 //! `specs/MoveTable.antt` defines tables of moves, `specs/State.antt` the state and the step,
-//! `specs/History.antt` legal histories and what is said of them, `specs/Slide.antt` and
+//! `specs/History.antt` legal histories and their properties, `specs/Slide.antt` and
 //! `specs/WordMachine.antt` the word machine, `specs/ScheduleText.antt` and `specs/ReadSchedule.antt`
-//! the text of a schedule, `specs/Replay.antt`, `specs/LineCause.antt` and `specs/Replayed.antt` what a replay finds. The contracts are proved. Only tested: that memory is found where there is
-//! some, and that a call of a `LockedBoard` does what `Book::apply` does.
+//! the text of a schedule, and `specs/Replay.antt`, `specs/LineCause.antt` and `specs/Replayed.antt`
+//! the results of a replay. The contracts are proved. Only tested: that allocations succeed, and that
+//! a call of a `LockedBoard` does what `Book::apply` does.
 #![tactic(auto)]
 
 mod book;
@@ -88,8 +84,8 @@ pub use given_moves::GivenMoves;
 pub use image_laws::moves_of_images;
 pub use indexed_moves::IndexedMoves;
 pub use laws::{
-    drained_before_written, how_counts_go_down, legal_histories_are_orderly, pairs_slide_down,
-    what_legal_histories_keep, what_own_calls_tell,
+    drained_before_written, how_counts_go_down, legal_histories_are_orderly, moves_are_lawful,
+    pairs_slide_down, what_legal_histories_keep, what_own_calls_tell,
 };
 pub use line::Line;
 pub use line_cause::LineCause;

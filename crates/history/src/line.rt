@@ -1,8 +1,7 @@
 use crate::event::Event;
 use crate::reply::Reply;
 
-/// One line of a schedule: which worker called, what it said, and what it was answered. `None`
-/// stands for whatever the reply is.
+/// One line of a schedule: the worker, the event and the reply, which is `None` if it is left open.
 #[derive(Clone, Copy, Debug, PartialEq, Eq)]
 pub struct Line {
     pub worker: u32,

@@ -1,4 +1,4 @@
-//! Lines of a schedule read from their text.
+//! Parsing of a schedule's lines.
 
 ghost use Rattle.std.specs.Prelude.{◌≡◌, ◌≢◌, ◌≤◌, ◌++◌, List, ℕ, IsTrue, MatchOption};
 ghost use Rattle.history.specs.Schedule.{is_event};
@@ -10,10 +10,11 @@ use crate::event::Event;
 use crate::event_text::event;
 use crate::line::Line;
 use crate::reading::{number_to, word};
-use crate::reply_text::told;
+use crate::reply_text::parse_reply;
 use crate::schedule::MAX_WORKERS;
 
-/// The line of one of these workers whose text stands in front, and the bytes behind it.
+/// Parses the line at the front of `bytes`, of a schedule with this number of workers. Returns it with
+/// the bytes after.
 pub(crate) fn line(workers: u32, bytes: &[u8]) -> Option<(Line, &[u8])>
     requires { workers ≤ 64 }
     ensures { MatchOption result
@@ -23,7 +24,7 @@ pub(crate) fn line(workers: u32, bytes: &[u8]) -> Option<(Line, &[u8])>
     let (worker, after_worker) = number_to(bytes, b' ')?;
     let (event, after_event) = event(after_worker)?;
     let (reply, rest) = word(after_event, b'\n')?;
-    let reply = told(event, reply)?;
+    let reply = parse_reply(event, reply)?;
     if worker >= workers || !is_event(event) {
         return None;
     }
@@ -35,7 +36,7 @@ pub(crate) fn line(workers: u32, bytes: &[u8]) -> Option<(Line, &[u8])>
     Some((line, rest))
 }
 
-/// Whether a schedule may have this event: a copy is of some words.
+/// Whether a schedule may have this event: a copy has at least one word.
 fn is_event(event: Event) -> bool
     ensures { result ≡ is_event event }
 {
@@ -45,29 +46,13 @@ fn is_event(event: Event) -> bool
     }
 }
 
-/// The number of workers that the first line in front tells, and the bytes behind it.
+/// Parses the first line of a schedule. Returns the number of workers with the bytes after.
 pub(crate) fn header(bytes: &[u8]) -> Option<(u32, &[u8])>
     ensures { MatchOption result
         ((workers : ℕ) (rest : List ℕ) → 1 ≤ workers → workers ≤ 64 → bytes.now ≢ header_text workers ++ rest)
         (λ parts. (1 ≤ parts.0) × (parts.0 ≤ 64) × (bytes.now ≡ header_text parts.0 ++ parts.1.now)) }
 {
-    let bytes = match bytes {
-        [
-            b's',
-            b'c',
-            b'h',
-            b'e',
-            b'd',
-            b'u',
-            b'l',
-            b'e',
-            b' ',
-            b'1',
-            b' ',
-            rest @ ..,
-        ] => rest,
-        _ => return None,
-    };
+    let bytes = bytes.strip_prefix(b"schedule 1 ")?;
     let (workers, rest) = number_to(bytes, b'\n')?;
     if workers >= 1 && workers <= MAX_WORKERS {
         Some((workers, rest))

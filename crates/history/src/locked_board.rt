@@ -10,16 +10,16 @@ use crate::schedule::Schedule;
 use std::alloc::{AllocError, Global};
 use std::sync::{Mutex, Wait};
 
-/// A book under a lock, for workers in any thread. Its list is legal at every moment, by its type.
-/// No contract can say what a call did to a value under a lock: that `call` does `Book::apply` is
-/// tested.
+/// A book under a lock, for workers in any thread. Its list of calls is legal at every moment, by its
+/// type. No contract can say how a call changes a value under a lock; tests show that `call` does what
+/// `Book::apply` does.
 #[derive(Drop)]
 pub struct LockedBoard {
     book: Mutex<Book>,
 }
 
 impl LockedBoard {
-    /// A board of these moves and 1 to 64 workers, to which nothing has happened yet.
+    /// Makes the board of these moves and 1 to 64 workers, with no calls.
     pub fn new<M: Moves>(alloc: Global, moves: &M, workers: u32) -> Result<LockedBoard, AllocError>
         requires { (1 ≤ workers) × (workers ≤ 64) }
     {
@@ -29,9 +29,8 @@ impl LockedBoard {
         })
     }
 
-    /// Takes the lock and does `Book::apply`. It answers `Illegal` where the event isn't allowed, or
-    /// there is no such worker, and `Memory` where the list could not grow. Either leaves the board
-    /// as it was.
+    /// Takes the lock and calls `Book::apply`. Fails with `Illegal` if the event isn't allowed or there
+    /// is no such worker, and with `Memory` if the list can't grow. An error leaves the board unchanged.
     pub fn call(&self, worker: u32, event: Event, wait: &impl Wait) -> Result<Reply, CallFault> {
         let mut book = self.book.lock(wait);
         if worker >= book.workers() {
@@ -40,7 +39,7 @@ impl LockedBoard {
         book.apply(worker, event)
     }
 
-    /// Whether all regions to be filled are settled. It is no call of a worker.
+    /// Whether all regions to be filled are settled. Not recorded as a call.
     pub fn done(&self, wait: &impl Wait) -> bool {
         self.book.lock(wait).is_done()
     }

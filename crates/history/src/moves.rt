@@ -1,15 +1,14 @@
 ghost use Rattle.std.specs.Prelude.{◌≡◌, ◌<◌, IfSome};
 ghost use Rattle.history.specs.MoveTable.{MoveTable, IsMoveTable, IsNextSource, region_count, to_fill, readers_of};
 
-/// What moves where: which regions are to be filled, and from which other regions each takes words.
-/// Contracts see it as one table of plain data, a flag for each region and a list of pairs
-/// (destination, source).
+/// The regions to be filled, and the other regions from which each of them takes words. Contracts see
+/// one table of plain data: a flag for each region and a list of pairs (destination, source).
 pub trait Moves {
-    /// The whole table.
+    /// The table that contracts see.
     ghost table: { Self → MoveTable };
 
-    /// How many regions there are. Words slide down, into regions to be filled, and at most two
-    /// other regions read one.
+    /// The number of regions. The contract also says that words slide down into regions to be filled,
+    /// and that at most two other regions read one.
     fn regions(&self) -> u32
         ensures number { result ≡ region_count (table self.now) }
         ensures lawful { IsMoveTable (table self.now) };
@@ -19,12 +18,12 @@ pub trait Moves {
         requires { region < region_count (table self.now) }
         ensures { result ≡ to_fill (table self.now) region };
 
-    /// How many other regions take words from this one.
+    /// The number of other regions that take words from this one.
     fn count(&self, source: u32) -> u32
         requires { source < region_count (table self.now) }
         ensures { result ≡ readers_of (table self.now) source };
 
-    /// The least other region, from this one on, from which the destination takes words.
+    /// The first other region at or after `from` from which the destination takes words.
     fn next_source(&self, destination: u32, from: u32) -> Option<u32>
         requires { destination < region_count (table self.now) }
         ensures least { IsNextSource (table self.now) destination from result }

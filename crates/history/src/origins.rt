@@ -1,4 +1,4 @@
-//! Where the words of places come from.
+//! The old addresses of the words that go to new addresses.
 
 ghost use Rattle.std.specs.Prelude.{◌≡◌, ◌<◌, false, IfOk};
 ghost use Rattle.heap_image.specs.HeapImage.{heap_words, is_live_word};
@@ -7,11 +7,11 @@ ghost use Rattle.summary.specs.Fillers.{filler_word};
 ghost use Rattle.history.specs.Carrier.{AreOrigins};
 
 use heap_image::header;
-use mark_bitmap::Marks;
+use mark_bitmap::{Marks, marked_image_is_valid};
 use std::alloc::{AllocError, Global};
 use summary::Plan;
 
-/// The origins of the places from the prefix end up to the new top.
+/// The old addresses of the words that go to the new addresses from the prefix end up to the new top.
 pub(crate) fn origins_of(alloc: Global, plan: &Plan, marks: &Marks) -> Result<Vec<u32>, AllocError>
     requires { marks.now ≡ plan.now }
     ensures { IfOk result (λ origins. AreOrigins plan.now origins.items) }
@@ -25,17 +25,16 @@ pub(crate) fn origins_of(alloc: Global, plan: &Plan, marks: &Marks) -> Result<Ve
     Ok(origins)
 }
 
-/// Whether the word belongs to a live object.
+/// Whether the word at `a` belongs to a live object.
 pub(crate) fn is_live(marks: &Marks, a: u64) -> bool
     requires { a < heap_words marks.now }
     ensures { result ≡ is_live_word marks.now a }
 {
-    // Its clause is that the image is valid.
-    let _block_words = marks.block_words();
+    marked_image_is_valid(marks);
     marks.live_words(a, a + 1) == 1
 }
 
-/// The word of a filler of the dense prefix.
+/// The word at `place` of a filler of the dense prefix.
 pub(crate) fn filler_word(plan: &Plan, marks: &Marks, place: u64) -> u64
     requires same { marks.now ≡ plan.now }
     requires inside { place < prefix_end plan.now }

@@ -1,4 +1,4 @@
-//! `PackedLine`: a line of a schedule in twelve bytes.
+//! `PackedLine`: a line of a schedule in 12 bytes.
 ghost use Rattle.std.specs.Prelude.{◌≡◌, IsTrue};
 ghost use Rattle.history.specs.PackedLine.{IsSmall, event_with, has_few_readers, reply_with};
 
@@ -9,15 +9,15 @@ use crate::reply_kind::ReplyKind;
 use crate::verb::Verb;
 use std::marker::Model;
 
-/// A line in twelve bytes, where a [`Line`] takes 28. Contracts see the line.
+/// A line in 12 bytes, where a [`Line`] takes 28. Contracts see the line.
 #[derive(Drop)]
 pub(crate) struct PackedLine {
     worker: u8,
     verb: Verb,
     reply: ReplyKind,
-    /// How many readers the reply tells, if it is of a kind that does.
+    /// The number of readers in the reply, if its kind has one.
     readers: u8,
-    /// The numbers of the event, if it has as many.
+    /// The numbers of the event; 0 for those that it doesn't have.
     first: u32,
     second: u32,
 }
@@ -32,7 +32,6 @@ impl Model for PackedLine {
 }
 
 impl PackedLine {
-    /// This line.
     pub(crate) fn of(line: Line) -> PackedLine
         requires { IsSmall line }
         ensures { result ≡ line }
@@ -49,7 +48,6 @@ impl PackedLine {
         }
     }
 
-    /// The line.
     pub(crate) fn line(&self) -> Line
         ensures { result ≡ self.now }
     {
@@ -61,7 +59,7 @@ impl PackedLine {
     }
 }
 
-/// The verb and the numbers of an event, 0 where it has fewer than two.
+/// The verb and the numbers of an event; 0 for numbers that it doesn't have.
 fn event_parts(event: Event) -> (Verb, u32, u32)
     ensures { event_with result.0 result.1 result.2 ≡ event }
 {
@@ -76,7 +74,7 @@ fn event_parts(event: Event) -> (Verb, u32, u32)
     }
 }
 
-/// The event of a verb and of as many of these numbers as it has.
+/// The event of a verb with its numbers; ignores those that it doesn't have.
 fn event_with(verb: Verb, first: u32, second: u32) -> Event
     ensures { result ≡ event_with verb first second }
 {
@@ -91,7 +89,7 @@ fn event_with(verb: Verb, first: u32, second: u32) -> Event
     }
 }
 
-/// The kind of a reply, and how many readers it tells, 0 where it tells none.
+/// The kind of a reply and its number of readers, or 0 if it has none.
 fn reply_parts(reply: Option<Reply>) -> (ReplyKind, u8)
     requires { IsTrue (has_few_readers reply) }
     ensures { reply_with result.0 result.1 ≡ reply }
@@ -112,7 +110,7 @@ fn reply_parts(reply: Option<Reply>) -> (ReplyKind, u8)
     }
 }
 
-/// The reply of a kind, which may tell this number of readers.
+/// The reply of a kind with its number of readers, if the kind has one.
 fn reply_with(kind: ReplyKind, readers: u32) -> Option<Reply>
     ensures { result ≡ reply_with kind readers }
 {

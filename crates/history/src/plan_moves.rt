@@ -1,9 +1,9 @@
-//! The moves of a plan.
+//! `Moves` of a plan.
 
 use crate::moves::Moves;
 use summary::Plan;
 
-/// The moves of the image of which the plan was made. None takes longer than a plan's query.
+/// The moves of the image that the plan was made of. Each call takes as long as a query of the plan.
 impl Moves for Plan {
     ghost use Rattle.history.specs.ImageMoves.{image_table};
 

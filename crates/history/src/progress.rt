@@ -1,4 +1,4 @@
-/// How far the fill of a region has come, and by which worker.
+/// The state of the fill of a region, with the worker that claimed it.
 #[derive(Clone, Copy, Debug, PartialEq, Eq)]
 pub(crate) enum Progress {
     Unclaimed,

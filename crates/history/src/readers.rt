@@ -1,7 +1,7 @@
 ghost use Rattle.std.specs.Prelude.{◌≡◌};
 ghost use Rattle.history.specs.MoveIndex.{number_of, joined};
 
-/// The places of the pairs in which others read a region. No table has more than two.
+/// The indices of the pairs with a given source, at most two in any table.
 #[derive(Clone, Copy, Debug, PartialEq, Eq)]
 pub(crate) enum Readers {
     Nobody,
@@ -10,7 +10,6 @@ pub(crate) enum Readers {
 }
 
 impl Readers {
-    /// How many there are.
     pub(crate) fn count(self) -> u32
         ensures { result ≡ number_of self }
     {
@@ -21,7 +20,7 @@ impl Readers {
         }
     }
 
-    /// These and one more. After two there is none.
+    /// Adds an index; ignored if there are two already.
     pub(crate) fn and(self, place: usize) -> Readers
         ensures { result ≡ joined self place }
     {

@@ -1,9 +1,9 @@
-//! Words and numbers of a text.
+//! Parsing of words and numbers.
 
 ghost use Rattle.std.specs.Prelude.{◌≡◌, ◌≢◌, ℕ, ◌<◌, ◌^◌, ◌∷◌, ◌++◌, ◌↔◌, List, IsTrue, MatchOption, decimal};
 ghost use Rattle.history.specs.Reading.{is_without, ReadsNumber};
 
-/// The bytes before the first such byte, and those behind it.
+/// Splits the bytes at the first byte equal to `end`, which is in neither part.
 pub(crate) fn word(bytes: &[u8], end: u8) -> Option<(&[u8], &[u8])>
     ensures { MatchOption result
         ((front rest : List ℕ) → bytes.now ≢ front ++ end ∷ rest)
@@ -17,7 +17,7 @@ pub(crate) fn word(bytes: &[u8], end: u8) -> Option<(&[u8], &[u8])>
     None
 }
 
-/// The number whose decimal text these bytes are.
+/// Parses a decimal number without leading zeros.
 pub(crate) fn number(text: &[u8]) -> Option<u32>
     ensures { ReadsNumber text.now result }
 {
@@ -30,7 +30,7 @@ pub(crate) fn number(text: &[u8]) -> Option<u32>
     if is_decimal(text, n) { Some(n) } else { None }
 }
 
-/// Whether these bytes are the number's decimal text.
+/// Whether these bytes are the decimal text of `n`.
 fn is_decimal(text: &[u8], n: u32) -> bool
     ensures { IsTrue result ↔ (text.now ≡ decimal n) }
 {
@@ -47,7 +47,7 @@ fn is_decimal(text: &[u8], n: u32) -> bool
     }
 }
 
-/// The number that stands before the first such byte, and the bytes behind it.
+/// Parses the number before the first byte equal to `end`. Returns it with the bytes after that byte.
 pub(crate) fn number_to(bytes: &[u8], end: u8) -> Option<(u32, &[u8])>
     requires { end < 48 }
     ensures { MatchOption result

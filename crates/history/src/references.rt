@@ -1,4 +1,4 @@
-//! References of live objects: which words they are, and what becomes of them.
+//! Which words are references of live objects, and when each is redirected.
 
 ghost use Rattle.std.specs.Prelude.{◌≡◌, ◌+◌, ◌<◌, IfOk, length, Contains};
 ghost use Rattle.heap_image.specs.HeapImage.{word_at};
@@ -12,7 +12,7 @@ use mark_bitmap::Marks;
 use std::alloc::{AllocError, Global};
 use summary::Plan;
 
-/// Of each word, whether it is a reference of an object that isn't deferred.
+/// For each old address, whether its word is a reference of an object that isn't deferred.
 pub(crate) fn early_references(
     alloc: Global,
     image: &Image,
@@ -27,13 +27,13 @@ pub(crate) fn early_references(
     for a in image.live() {
         let header = image.word(*a);
         if !is_deferred(plan, marks, *a, header) {
-            set_behind(&mut flags, *a, header::references(header));
+            set_after(&mut flags, *a, header::references(header));
         }
     }
     Ok(flags)
 }
 
-/// Of each place, whether a reference of a deferred object goes there.
+/// For each new address, whether a reference of a deferred object goes there.
 pub(crate) fn late_references(
     alloc: Global,
     image: &Image,
@@ -49,13 +49,13 @@ pub(crate) fn late_references(
         let header = image.word(*a);
         if is_deferred(plan, marks, *a, header) {
             let begin = plan.new_address(marks, *a);
-            set_behind(&mut flags, begin, header::references(header));
+            set_after(&mut flags, begin, header::references(header));
         }
     }
     Ok(flags)
 }
 
-/// Whether the live object with this header is deferred.
+/// Whether the live object at `a` with this header is deferred.
 fn is_deferred(plan: &Plan, marks: &Marks, a: u64, header: u64) -> bool
     requires same { marks.now ≡ plan.now }
     requires live { Contains plan.now.live a }
@@ -68,8 +68,8 @@ fn is_deferred(plan: &Plan, marks: &Marks, a: u64, header: u64) -> bool
     begin / size != last / size
 }
 
-/// Sets the flags of so many words behind this one.
-fn set_behind(flags: &mut [bool], begin: u64, number: u32)
+/// Sets the flags of the `number` words after `begin`.
+fn set_after(flags: &mut [bool], begin: u64, number: u32)
     requires { begin + number < length flags.old }
     ensures { AreSet flags.old flags.new begin (begin + number) }
 {

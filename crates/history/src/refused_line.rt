@@ -1,10 +1,10 @@
 use crate::line_cause::LineCause;
 
-/// The least line of a schedule's text that the word machine refuses.
+/// The first line of a schedule's text that the word machine refuses.
 #[derive(Clone, Copy, Debug, PartialEq, Eq)]
 pub struct RefusedLine {
-    /// Which line it is, counted from 1. The first line tells the workers.
+    /// The line's number in the text, from 1. Line 1 is the header.
     pub number: u64,
-    /// Why it is refused.
+    /// Why the machine refuses the line.
     pub cause: LineCause,
 }

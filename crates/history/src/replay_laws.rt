@@ -1,6 +1,4 @@
-//! What the calls of a schedule that the word machine takes keep.
-//!
-//! The function does nothing: its contract is a law.
+//! Theorem about the calls of a schedule that the word machine takes.
 
 ghost use Rattle.std.specs.Prelude.{◌≡◌, ℕ, List, map};
 ghost use Rattle.heap_image.specs.HeapImage.{HeapImage};
@@ -12,10 +10,10 @@ ghost use Rattle.history.specs.Replay.{AreCallsOf, IsReplay, IsRefusedAt};
 ghost use Rattle.history.specs.declared.entry.Entry.{Entry};
 ghost use Rattle.history.specs.declared.line.Line.{Line};
 
-/// The calls of a schedule that the word machine takes are a legal history of the image's moves, and
-/// lead to what the machine's scheduler knows. There is one list of them, and it is the schedule's
-/// own where each line tells its reply.
-/// A schedule that is refused at a line is refused at no other, and isn't taken.
+/// The calls of a schedule that the word machine takes are a legal history of the image's moves that
+/// leads to the state of the machine's scheduler. The list of calls is unique, and it is the
+/// schedule's own if each line has its reply. A schedule that is refused at one line is refused at no
+/// other and isn't taken.
 pub fn what_replays_keep()
     ensures legal { (image : HeapImage) (workers : ℕ) (lines : List Line) (log : List Entry) → IsReplay image workers lines log → IsLegal (image_table image) workers log }
     ensures state { (image : HeapImage) (log : List Entry) → (machine_of image log).known ≡ state_of log }

@@ -1,19 +1,19 @@
 use crate::schedule::Schedule;
 use heap_image::Image;
 
-/// What a replay gives.
+/// The result of a replay.
 #[derive(Drop)]
 pub struct Replayed {
-    /// The schedule, with the reply of the word machine in each line.
+    /// The schedule with the word machine's reply in each line.
     pub lines: Schedule,
-    /// How it ended.
+    /// How the replay ended.
     pub ended: End,
 }
 
-/// How a schedule ends.
+/// How a replay ends.
 #[derive(Drop)]
 pub enum End {
-    /// All regions to be filled are settled. This is the compacted image.
+    /// All regions to be filled are settled; this is the compacted image.
     Finished(Image),
     /// Some region to be filled isn't settled.
     Open,

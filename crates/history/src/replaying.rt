@@ -1,4 +1,4 @@
-//! Schedules replayed on a copy of the heap.
+//! Replays of schedules on a copy of the heap.
 
 ghost use Rattle.std.specs.Prelude.{◌≡◌, ◌⊎◌, ℕ, IfOk, IfErr};
 ghost use Rattle.heap_image.specs.declared.fault.Fault.{Fault};
@@ -16,11 +16,11 @@ use heap_image::{Fault, Image};
 use std::alloc::{AllocError, Global};
 use summary::{Plan, Survey};
 
-/// Runs the schedule on a copy of the image by the word machine: words move word by word, each from
-/// where its origin stands then. At `Ok` the lines have the machine's reply for each that was left
-/// open, and the image is the compacted one where all regions to be filled are settled. Fault 14
-/// names the least line of the schedule's text that the machine doesn't allow, or that tells another
-/// reply than the machine's; fault 11 comes where memory was refused.
+/// Runs the schedule by the word machine on a copy of the image. Each word is copied from what is at
+/// its origin at that moment. Returns the schedule with the machine's replies, and the compacted image
+/// if all regions to be filled are settled at the end. Fault 14 names the first line of the schedule's
+/// text that the machine doesn't allow, or whose reply isn't the machine's; fault 11 means out of
+/// memory.
 pub fn replay(
     alloc: Global,
     image: &Image,
@@ -44,8 +44,8 @@ pub fn replay(
     Ok(Replayed { lines, ended })
 }
 
-/// Runs the lines on the heap: each with its reply, and whether all regions to be filled are settled
-/// after the last.
+/// Runs the lines on the heap. Returns each line with its reply, and whether all regions to be filled
+/// are settled after the last.
 fn carry_out(
     alloc: Global,
     carrier: &Carrier<'_>,
@@ -76,7 +76,7 @@ fn carry_out(
     Ok((lines, ledger.is_done()))
 }
 
-/// The words of the heap.
+/// Copies the words of the heap.
 fn words_of(alloc: Global, image: &Image) -> Result<Vec<u64>, AllocError>
     ensures { IfOk result (λ words. words.items ≡ image.now.words) }
 {

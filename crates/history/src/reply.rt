@@ -1,21 +1,21 @@
-/// What the scheduler answers.
+/// The scheduler's reply to an event.
 #[derive(Clone, Copy, Debug, PartialEq, Eq)]
 pub enum Reply {
-    /// To a claim: the region is the worker's to fill.
+    /// To a claim: granted, the worker may fill the region.
     Yes,
-    /// To a claim: it isn't, and nothing has changed.
+    /// To a claim: refused, and nothing has changed.
     No,
-    /// To a look: unclaimed, to be filled, and so many regions have still to read it.
+    /// To a look: unclaimed and to be filled, with this number of pending readers.
     Open(u32),
-    /// To a look: not to be filled, and so many regions have still to read it.
+    /// To a look: not to be filled, with this number of pending readers.
     Outside(u32),
-    /// To a look: claimed, and not filled yet.
+    /// To a look: claimed and not yet filled.
     Claimed,
     /// To a look: all words of the region are written.
     Filled,
-    /// To a drain: nobody has to read the source any more.
+    /// To a drain: the source has no pending readers left.
     Last,
-    /// To a drain: another region has still to read the source.
+    /// To a drain: the source has another pending reader.
     NotLast,
     /// To a completion or a copy.
     Done,

@@ -1,7 +1,7 @@
-/// What a line of a schedule says of its reply, but for a number of readers.
+/// The reply of a schedule line, without its number of readers.
 #[derive(Clone, Copy)]
 pub(crate) enum ReplyKind {
-    /// Nothing: the reply is left open.
+    /// The reply is left open.
     Any,
     Yes,
     No,

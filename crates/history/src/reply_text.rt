@@ -1,4 +1,4 @@
-//! Replies read from their text.
+//! Parsing of replies.
 
 ghost use Rattle.std.specs.Prelude.{◌≡◌, ◌≢◌, ℕ, IsTrue, MatchOption, decimal, nat_le};
 ghost use Rattle.history.specs.ReplyText.{ReadsReply, ReadsTold};
@@ -7,8 +7,8 @@ use crate::event::Event;
 use crate::reading::number;
 use crate::reply::Reply;
 
-/// The reply to this event that these bytes spell, or no reply for a question mark.
-pub(crate) fn told(event: Event, word: &[u8]) -> Option<Option<Reply>>
+/// Parses a reply to this event; `?` leaves the reply open.
+pub(crate) fn parse_reply(event: Event, word: &[u8]) -> Option<Option<Reply>>
     ensures { ReadsTold event word.now result }
 {
     match word {
@@ -53,7 +53,7 @@ fn to_look(word: &[u8]) -> Option<Reply>
     }
 }
 
-/// A number of readers, 2 at most.
+/// Parses a number of readers, at most 2.
 fn readers(text: &[u8]) -> Option<u32>
     ensures { MatchOption result
         ((n : ℕ) → IsTrue (nat_le n 2) → text.now ≢ decimal n)
@@ -73,7 +73,7 @@ fn to_drain(word: &[u8]) -> Option<Reply>
     }
 }
 
-/// The reply to a completion or a copy.
+/// Parses the reply to a completion or a copy.
 fn done(word: &[u8]) -> Option<Reply>
     ensures { ReadsReply (Event.Complete 0) word.now result }
 {
@@ -83,7 +83,7 @@ fn done(word: &[u8]) -> Option<Reply>
     }
 }
 
-/// The reply to a settling or a poll.
+/// Parses the reply to a settling or a poll.
 fn all_or_more(word: &[u8]) -> Option<Reply>
     ensures { ReadsReply (Event.Settle 0) word.now result }
 {

@@ -9,8 +9,8 @@ use std::marker::Model;
 /// The most workers that a schedule, a scheduler or a collection can have.
 pub const MAX_WORKERS: u32 = 64;
 
-/// A number of workers, 1 to 64, and what they called, oldest first. Each line has a worker below
-/// that number, and a reply that its event may have, or none.
+/// A number of workers, 1 to 64, and their calls, oldest first. Each line has a worker below that
+/// number and a reply that fits its event, or none.
 #[derive(Drop)]
 pub struct Schedule {
     workers: u32,
@@ -28,7 +28,6 @@ impl Model for Schedule {
 }
 
 impl Schedule {
-    /// The schedule of these workers and lines.
     pub(crate) fn of_lines(workers: u32, lines: Vec<PackedLine>) -> Schedule
         requires { IsSchedule (record { workers = workers; lines = lines.items }) }
         ensures { result ≡ record { workers = workers; lines = lines.items } }
@@ -36,7 +35,7 @@ impl Schedule {
         Schedule { workers, lines }
     }
 
-    /// How many workers there are.
+    /// The number of workers.
     pub fn workers(&self) -> u32
         ensures value { result ≡ self.now.workers }
         ensures formed { IsSchedule self.now }
@@ -44,7 +43,7 @@ impl Schedule {
         self.workers
     }
 
-    /// How many lines there are. The line that tells the workers isn't counted.
+    /// The number of lines, without the header.
     pub fn len(&self) -> usize
         ensures { result ≡ length self.now.lines }
     {
@@ -58,8 +57,8 @@ impl Schedule {
         self.lines.is_empty()
     }
 
-    /// The worker, the event and the reply of a line, counted from 0. No reply stands for whatever
-    /// the reply is.
+    /// The worker, the event and the reply of line `i`, counted from 0 after the header. The reply is
+    /// `None` if the line leaves it open.
     pub fn line(&self, i: usize) -> (u32, Event, Option<Reply>)
         requires { i < length self.now.lines }
         ensures line { slice_get self.now.lines i ≡ Some (record { worker = result.0; event = result.1; reply = result.2 }) }
@@ -69,7 +68,6 @@ impl Schedule {
         (line.worker, line.event, line.reply)
     }
 
-    /// All lines.
     pub(crate) fn lines(&self) -> &[PackedLine]
         ensures lines { result.now ≡ self.now.lines }
         ensures formed { IsSchedule self.now }

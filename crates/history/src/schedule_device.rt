@@ -1,4 +1,4 @@
-//! Schedules read from a device, line by line.
+//! Parsing of a schedule from a device, line by line.
 ghost use Rattle.std.specs.Prelude.{◌≡◌, ◌≢◌, ◌≤◌, ◌⊎◌, ◌++◌, ◌||◌, ℕ, List, IsTrue, IfOk, IfErr, IfSome, IfNone, OnOk};
 ghost use Rattle.std.specs.Io.KnownBytes.{Consumes, IsAtEnd};
 ghost use Rattle.heap_image.specs.Device.{is_io};
@@ -16,11 +16,11 @@ use crate::window::Window;
 use heap_image::{Fault, Intake};
 use std::alloc::Global;
 
-/// The schedule whose text a device gives, as [`read_schedule`](crate::read_schedule) reads it from all of the device's
-/// bytes, which aren't kept.
+/// Reads a schedule from a device, with the result that [`read_schedule`](crate::read_schedule) has for all of the
+/// device's bytes. The bytes aren't kept.
 ///
-/// The device is asked for more only where the bytes that have come neither have a whole line nor are more than a line can
-/// have. So the first malformed line decides, however much would follow. Fault 13 says that the device has failed.
+/// Requests more bytes only if those that have come neither hold a whole line nor exceed the length of any line. So the
+/// first malformed line decides, whatever follows it. Fault 13 means that the device failed.
 pub fn read_schedule_from<R: Intake>(alloc: Global, source: &mut R) -> Result<Schedule, Fault>
     ensures text { IfOk result (λ schedule. Consumes (R.left source.old) (R.left source.new) (schedule_text schedule)) }
     ensures end { OnOk result (IsAtEnd (R.left source.new)) }
@@ -41,7 +41,7 @@ pub fn read_schedule_from<R: Intake>(alloc: Global, source: &mut R) -> Result<Sc
     Ok(Schedule::of_lines(workers, lines))
 }
 
-/// The number of workers that the first line tells.
+/// Reads the first line and returns the number of workers.
 fn read_header<R: Intake>(source: &mut R, window: &mut Window) -> Result<u32, Fault>
     requires { IsInRange window.old }
     ensures in_range { OnOk result (IsInRange window.new) }
@@ -63,7 +63,7 @@ fn read_header<R: Intake>(source: &mut R, window: &mut Window) -> Result<u32, Fa
     }
 }
 
-/// The line of one of these workers that stands in front of the window. It is read.
+/// Parses the line at the front of the window, of a schedule with this number of workers, and skips it.
 fn take_line(window: &mut Window, workers: u32) -> Option<Line>
     requires in_range { IsInRange window.old }
     requires few { workers ≤ 64 }

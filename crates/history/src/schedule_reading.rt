@@ -1,4 +1,4 @@
-//! Schedules read from their text.
+//! Parsing of a schedule.
 
 ghost use Rattle.std.specs.Prelude.{◌≡◌, ◌⊎◌, ℕ, IfOk, IfErr};
 ghost use Rattle.heap_image.specs.declared.fault.Fault.{Fault};
@@ -11,9 +11,8 @@ use crate::schedule::Schedule;
 use heap_image::Fault;
 use std::alloc::Global;
 
-/// The schedule whose text these bytes are. Fault 14 names line 1 where the bytes don't begin with a
-/// first line, or else the first line, counted from 1, that isn't one of a schedule; fault 11 comes
-/// where memory was refused.
+/// Parses a schedule. Fault 14 names the first malformed line, counted from 1, where line 1 is the
+/// header; fault 11 means out of memory.
 pub fn read_schedule(alloc: Global, bytes: &[u8]) -> Result<Schedule, Fault>
     ensures ok { IfOk result (λ schedule. bytes.now ≡ schedule_text schedule) }
     ensures formed { IfOk result IsTextSchedule }

@@ -1,4 +1,4 @@
-//! Schedules as text.
+//! Printing of schedules.
 
 ghost use Rattle.std.specs.Prelude.{◌≡◌, ◌++◌, IfOk, OnOk, flat_map, take, string_bytes};
 ghost use Rattle.history.specs.ScheduleText.{line_text, header_text, schedule_text};
@@ -53,7 +53,7 @@ impl fmt::Display for Reply {
     }
 }
 
-/// The text of a schedule.
+/// Returns the text of a schedule. Fails only if memory runs out.
 pub fn write_schedule(alloc: Global, schedule: &Schedule) -> Result<Vec<u8>, AllocError>
     ensures { IfOk result (λ text. text.items ≡ schedule_text schedule.now) }
 {
@@ -62,7 +62,7 @@ pub fn write_schedule(alloc: Global, schedule: &Schedule) -> Result<Vec<u8>, All
     Ok(text.into_bytes())
 }
 
-/// Adds the text of a schedule.
+/// Appends the text of a schedule. Fails only if memory runs out.
 pub fn append_schedule(text: &mut String, schedule: &Schedule) -> Result<(), AllocError>
     ensures { OnOk result (string_bytes text.new ≡ string_bytes text.old ++ schedule_text schedule.now) }
 {
@@ -70,7 +70,6 @@ pub fn append_schedule(text: &mut String, schedule: &Schedule) -> Result<(), All
     write_lines(text, schedule.lines())
 }
 
-/// Adds the text of lines.
 fn write_lines(text: &mut String, lines: &[PackedLine]) -> Result<(), AllocError>
     ensures { OnOk result (string_bytes text.new ≡ string_bytes text.old ++ flat_map line_text lines.now) }
 {

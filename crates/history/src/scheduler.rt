@@ -14,21 +14,21 @@ use crate::tallies::{count_readers, count_sources};
 use std::alloc::{AllocError, Global};
 use std::marker::Model;
 
-/// The scheduler of one thread: what every other way to hand out regions is measured by.
-/// Contracts see the moves that it keeps, the number of workers, and the state that it is in.
+/// The one-thread scheduler, which defines what every other scheduler may do. Contracts see its moves,
+/// the number of workers and its state.
 #[derive(Drop)]
 pub struct Scheduler {
     workers: u32,
     moves: IndexedMoves,
-    /// Of each pair of the moves, whether it is drained.
+    /// For each pair of the moves, whether it is drained.
     drained: Vec<bool>,
-    /// Of each region, how far its fill has come.
+    /// For each region, the state of its fill.
     progress: Vec<Progress>,
-    /// Of each region, how many regions have still to read it.
+    /// For each region, the number of its pending readers.
     readers_left: Vec<usize>,
-    /// Of each region, how many regions it has still to read.
+    /// For each region, the number of regions that it has still to read.
     sources_left: Vec<usize>,
-    /// How many regions to be filled aren't settled.
+    /// The number of regions to be filled that aren't settled.
     unsettled: usize,
 }
 
@@ -43,7 +43,7 @@ impl Model for Scheduler {
 }
 
 impl Scheduler {
-    /// A scheduler of these moves and 1 to 64 workers, to which nothing has happened yet.
+    /// Makes the scheduler of these moves and 1 to 64 workers, at its start.
     pub fn new<M: Moves>(alloc: Global, moves: &M, workers: u32) -> Result<Scheduler, AllocError>
         requires { (1 ≤ workers) × (workers ≤ 64) }
         ensures moves { IfOk result (λ scheduler. scheduler.moves ≡ M.table moves.now) }
@@ -69,8 +69,8 @@ impl Scheduler {
         })
     }
 
-    /// One step: the reply, exactly where the event is allowed in the present state. `Illegal`
-    /// leaves the scheduler as it is. Takes no memory, and constant time.
+    /// Makes one step. Returns the reply if the present state allows the event; otherwise returns
+    /// `Illegal` and changes nothing. Takes constant time and allocates nothing.
     pub fn step(&mut self, worker: u32, event: Event) -> Result<Reply, Illegal>
         requires { worker < self.old.workers }
         ensures moves { self.new.moves ≡ self.old.moves }
@@ -90,7 +90,7 @@ impl Scheduler {
         }
     }
 
-    /// Whether the event is allowed in the present state.
+    /// Whether the present state allows the event.
     pub fn allows(&self, worker: u32, event: Event) -> bool
         ensures { IsTrue result ↔ Allows self.now.moves (state_in self.now) worker event }
     {
@@ -107,7 +107,7 @@ impl Scheduler {
         }
     }
 
-    /// How many workers there are.
+    /// The number of workers.
     pub fn workers(&self) -> u32
         ensures { result ≡ self.now.workers }
     {
@@ -208,7 +208,7 @@ impl Scheduler {
         }
     }
 
-    /// Whether all regions to be filled are settled.
+    /// The reply to a settling or a poll in the present state.
     fn all_or_more(&self) -> Reply
         ensures { result ≡ all_or_more (unsettled self.now.moves (state_in self.now)) }
     {
@@ -219,7 +219,7 @@ impl Scheduler {
         }
     }
 
-    /// How far the fill of the region has come. A region that there isn't is unclaimed.
+    /// The state of the fill of a region. A region out of range counts as unclaimed.
     fn progress_of(&self, region: u32) -> Progress
         ensures { result ≡ slice_index_or self.now.progress region Progress.Unclaimed }
     {
@@ -229,7 +229,6 @@ impl Scheduler {
             .unwrap_or(Progress::Unclaimed)
     }
 
-    /// Whether the fill of the region has come just so far.
     fn is_at(&self, region: u32, progress: Progress) -> bool
         ensures { IsTrue result ↔ (slice_index_or self.now.progress region Progress.Unclaimed ≡ progress) }
     {
@@ -243,7 +242,7 @@ impl Scheduler {
         self.readers_left[region as usize] as u32
     }
 
-    /// Whether the region may be claimed now.
+    /// Whether the region may be claimed in the present state.
     fn may_claim(&self, region: u32) -> bool
         requires { region < region_count self.now.moves }
         ensures { result ≡ may_claim self.now.moves (state_in self.now) region }
@@ -267,7 +266,7 @@ impl Scheduler {
             && self.sources_left[destination as usize] == 0
     }
 
-    /// The place of the pair, if it stands in the moves and isn't drained.
+    /// The index of the pair, if it is in the moves and isn't drained.
     fn pending_place(&self, destination: u32, source: u32) -> Option<usize>
         ensures found { IfSome result (λ at. IsPendingAt self.now destination source at) }
         ensures pending { OnSome result (IsTrue (is_pending self.now.moves (state_in self.now) destination source)) }

@@ -5,7 +5,7 @@ use crate::given_moves::GivenMoves;
 use crate::moves::Moves;
 use std::alloc::{AllocError, Global};
 
-/// Of each region, how many others read it. Linear in the number of pairs.
+/// For each region, the number of other regions that read it. Linear in the number of pairs.
 pub fn count_readers(alloc: Global, moves: &GivenMoves) -> Result<Vec<usize>, AllocError>
     ensures { IfOk result (λ counts. ArePairCounts moves.now (λ pair. pair.1) moves.now.pairs counts.items) }
 {
@@ -16,7 +16,7 @@ pub fn count_readers(alloc: Global, moves: &GivenMoves) -> Result<Vec<usize>, Al
     Ok(counts)
 }
 
-/// Of each region, how many others it reads. Linear in the number of pairs.
+/// For each region, the number of other regions that it reads. Linear in the number of pairs.
 pub fn count_sources(alloc: Global, moves: &GivenMoves) -> Result<Vec<usize>, AllocError>
     ensures { IfOk result (λ counts. ArePairCounts moves.now (λ pair. pair.0) moves.now.pairs counts.items) }
 {

@@ -14,8 +14,8 @@ pub(crate) enum Verb {
     Copy,
 }
 
-/// The verb that these bytes spell.
-pub(crate) fn spelled(word: &[u8]) -> Option<Verb>
+/// Parses a verb.
+pub(crate) fn parse_verb(word: &[u8]) -> Option<Verb>
     ensures found { IfSome result (λ verb. word.now ≡ verb_text verb) }
     ensures none { IfNone result ((verb : Verb) → word.now ≢ verb_text verb) }
 {

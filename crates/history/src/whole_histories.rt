@@ -5,8 +5,8 @@ ghost use Rattle.history.specs.History.{IsLegal, state_of};
 ghost use Rattle.history.specs.Whole.{HasEachOnce};
 ghost use Rattle.history.specs.declared.entry.Entry.{Entry};
 
-/// Once every region to be filled is settled, each of them was granted once, completed once and
-/// settled once, and each pair was drained once, whoever called and in whatever order.
+/// When all regions to be filled are settled, each of them has been granted, completed and settled
+/// exactly once and each pair drained exactly once, whoever called and in whatever order.
 pub fn settled_histories_have_each_once()
     ensures { (m : MoveTable) (workers : ℕ) (log : List Entry) → IsMoveTable m → IsLegal m workers log → AllAreSettled m (state_of log) → HasEachOnce m log }
 {}

@@ -1,4 +1,4 @@
-//! `Window`: the bytes of a schedule's text, as they come.
+//! `Window`: the buffer for a schedule's text as it comes from a device.
 ghost use Rattle.std.specs.Prelude.{◌≡◌, ◌≢◌, ◌<◌, ◌≤◌, ◌+◌, ◌⊎◌, ◌++◌, ◌||◌, ◌↔◌, true, false, List, ℕ, [], length, Ok, IsTrue, IfOk, IsErr, OnOk, is_err};
 ghost use Rattle.std.specs.Io.KnownBytes.{Consumes, IsAtEnd};
 ghost use Rattle.history.specs.Window.{HoldLine};
@@ -6,17 +6,17 @@ ghost use Rattle.history.specs.Window.{HoldLine};
 use crate::reading::word;
 use heap_image::{Failed, Intake};
 
-/// How many bytes are held at most.
+/// The size of the buffer, in bytes.
 const ROOM: usize = 8_192;
 
-/// No line of a schedule has more bytes, its newline among them.
+/// The most bytes of a schedule's line, its newline included.
 const LINE_ROOM: usize = 64;
 
-/// The next bytes of a text, which are asked for in large pieces.
+/// The next bytes of a text, which are requested in large pieces.
 #[derive(Drop)]
 pub(crate) struct Window {
     bytes: [u8; ROOM],
-    /// The bytes from `start` to `end` have come and were not read.
+    /// The bytes from `start` to `end` have come and are unread.
     start: usize,
     end: usize,
 }
@@ -24,7 +24,6 @@ pub(crate) struct Window {
 impl Window {
     ghost use Rattle.history.specs.Window.{IsInRange, rest_of, unread};
 
-    /// No byte has come yet.
     pub(crate) fn new() -> Window
         ensures in_range { IsInRange result }
         ensures none { unread result ≡ [] }
@@ -36,7 +35,7 @@ impl Window {
         }
     }
 
-    /// The bytes that have come and were not read.
+    /// The bytes that have come and are unread.
     pub(crate) fn unread(&self) -> &[u8]
         requires { IsInRange self.now }
         ensures { result.now ≡ unread self.now }
@@ -44,7 +43,7 @@ impl Window {
         &self.bytes[self.start..self.end]
     }
 
-    /// Whether no byte is held.
+    /// Whether there are no unread bytes.
     fn is_empty(&self) -> bool
         requires { IsInRange self.now }
         ensures { IsTrue result ↔ (unread self.now ≡ []) }
@@ -52,7 +51,7 @@ impl Window {
         self.unread().is_empty()
     }
 
-    /// Goes on behind so many bytes that have come.
+    /// Skips `count` unread bytes.
     pub(crate) fn pass(&mut self, count: usize)
         requires in_range { IsInRange self.old }
         requires held { count ≤ length (unread self.old) }
@@ -62,8 +61,8 @@ impl Window {
         self.start += count;
     }
 
-    /// Takes bytes until a whole line has come, or more than a line can have, or the device has none left. Answers whether
-    /// any byte is held.
+    /// Requests bytes until there is a whole line, or more than a line can have, or the device has none left. Returns
+    /// whether there are unread bytes.
     pub(crate) fn hold_line<R: Intake>(&mut self, source: &mut R) -> Result<bool, Failed>
         requires { IsInRange self.old }
         ensures in_range { IsInRange self.new }
@@ -81,7 +80,7 @@ impl Window {
         Ok(true)
     }
 
-    /// Takes more bytes, and answers how many: 0 only where the device has none left.
+    /// Requests more bytes and returns how many came; 0 only if the device has none left.
     fn take_more<R: Intake>(&mut self, source: &mut R) -> Result<usize, Failed>
         requires in_range { IsInRange self.old }
         requires short { length (unread self.old) < 64 }
@@ -98,7 +97,7 @@ impl Window {
         Ok(came)
     }
 
-    /// Moves what has come and was not read to the front.
+    /// Moves the unread bytes to the front of the buffer.
     fn make_room(&mut self)
         requires { IsInRange self.old }
         ensures in_range { IsInRange self.new }
@@ -111,7 +110,7 @@ impl Window {
     }
 }
 
-/// Whether the bytes have a newline, or are more than a line can have.
+/// Whether the bytes have a newline or are more than a line can have.
 fn holds_line(bytes: &[u8]) -> bool
     ensures yes { IsTrue result → HoldLine bytes.now }
     ensures no { result ≡ false → length bytes.now < 64 }

@@ -13,10 +13,10 @@ use Rattle.std.proofs.lemmas.Nat.Bits.{bit_at-zero}
 use Rattle.heap_image.specs.HeapImage.{HeapImage, IsValid, size_at, end_of, is_live_word}
 use Rattle.heap_image.specs.Bits.{has}
 use Rattle.heap_image.proofs.Places.{same_tests}
-use Rattle.mark_bitmap.specs.Marks.{AreBitsFrom, IsFirstObject, IsMarkedPart, goes_on, is_end}
+use Rattle.mark_bitmap.specs.Marks.{AreBitsFrom, IsFirstObject, IsMarkedPart, continues_at, is_end}
 use Rattle.mark_bitmap.proofs.Apart.{apart, sound_at, place_of}
 
--- the bits of two parts, the one behind the other
+-- the bits of two parts, one after the other
 pub join_bits : (test : ℕ → Bool) (start : ℕ) (xs ys : List ℕ) → AreBitsFrom test start xs → AreBitsFrom test (start + length xs) ys → AreBitsFrom test start (xs ++ ys)
 join_bits test start xs ys front back n inside = elim (cases_lt n (64 * length xs)) [
   | inl low ↦ ap (λ w. eqb (bit_at w (n % 64)) 1) (get_or-append xs ys 0 (n / 64) (omega arith)) ∙ front n low
@@ -90,28 +90,28 @@ module _ (image : HeapImage) (valid : IsValid image) where
       let below : end_of image (get_or image.live j 0) ≤ get_or image.live (i - 1) 0 = apart image valid j (i - 1) (omega arith) (omega arith) in
       ne_eqb (end_of image (get_or image.live j 0)) e (λ same. omega arith))
 
-  -- the objects that begin from a place on end behind it
+  -- the objects that begin from a place on end after it
   pub those_before_end : (place i n e : ℕ) → IsFirstObject image place i → i ≤ n → e ≤ place → list_any (λ a. eqb (end_of image a) e) (take n image.live) ≡ list_any (λ a. eqb (end_of image a) e) image.live
   those_before_end place i n e first most before = taken-decide (λ a. eqb (end_of image a) e) image.live n (λ j l inside.
       let begin : place ≤ get_or image.live j 0 = first.behind j (omega arith) inside in
       let some : 0 < size_at image (get_or image.live j 0) = (sound_at image valid j inside).header in
       ne_eqb (end_of image (get_or image.live j 0)) e (λ same. omega arith))
 
-  -- no object goes on at a place before which none begins
-  pub none-goes_on : (place : ℕ) → IsFirstObject image place 0 → goes_on image place ≡ false
-  none-goes_on place first = false_from_ne_true (goes_on image place) (λ h.
+  -- no object continues at a place before which none begins
+  pub none-continues_at : (place : ℕ) → IsFirstObject image place 0 → continues_at image place ≡ false
+  none-continues_at place first = false_from_ne_true (continues_at image place) (λ h.
       let here = place_of image valid (λ a. ltb a place && ltb place (end_of image a)) h in
       let begin : place ≤ get_or image.live here.0 0 = first.behind here.0 (omega arith) here.1 in
       let low : get_or image.live here.0 0 < place = ltb-true (get_or image.live here.0 0) place (and_parts (ltb (get_or image.live here.0 0) place) (ltb place (end_of image (get_or image.live here.0 0))) here.2).0 in
       omega arith)
 
-  -- else the last object that begins before it goes on, or none does
-  pub last-goes_on : (place i : ℕ) → IsFirstObject image place i → 0 < i → ltb place (end_of image (get_or image.live (i - 1) 0)) ≡ goes_on image place
-  last-goes_on place i first some =
+  -- else the last object that begins before it continues, or none does
+  pub last-continues_at : (place i : ℕ) → IsFirstObject image place i → 0 < i → ltb place (end_of image (get_or image.live (i - 1) 0)) ≡ continues_at image place
+  last-continues_at place i first some =
       let most : i ≤ length image.live = first.inside in
       let last : ℕ = get_or image.live (i - 1) 0 in
       let low : last < place = first.before (i - 1) (omega arith) in
-      same_tests (ltb place (end_of image last)) (goes_on image place)
+      same_tests (ltb place (end_of image last)) (continues_at image place)
       (λ h. list_any_at (λ a. ltb a place && ltb place (end_of image a)) image.live (i - 1) 0 (omega arith) (and_from (ltb last place) (ltb place (end_of image last)) (lt-ltb last place low) h))
       (λ h. let here = place_of image valid (λ a. ltb a place && ltb place (end_of image a)) h in
       let j : ℕ = here.0 in
@@ -129,7 +129,7 @@ module _ (image : HeapImage) (valid : IsValid image) where
             let no : ⊥ = omega arith in absurd no
       ])
 
--- the marks of two parts, the one behind the other
+-- the marks of two parts, one after the other
 pub join_parts : (image : HeapImage) (start middle : ℕ) (ends0 live0 ends live ends1 live1 : List ℕ)
     → length ends ≡ length ends0 → length ends0 ≡ middle → length live ≡ length live0 → length live0 ≡ middle
     → IsMarkedPart image start ends live → IsMarkedPart image (start + middle) ends1 live1 → IsMarkedPart image start (ends ++ ends1) (live ++ live1)

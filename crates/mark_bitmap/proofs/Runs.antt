@@ -11,7 +11,7 @@ use Rattle.std.proofs.Math.ListN.{set}
 use Rattle.std.proofs.lemmas.List.{get_or-set_same, get_or-set_other}
 use Rattle.heap_image.specs.HeapImage.{HeapImage, IsValid, heap_words, end_of, size_at, is_word_of, is_live_word}
 use Rattle.heap_image.specs.Bits.{has}
-use Rattle.mark_bitmap.specs.Marks.{AreBegins, AreBitsFrom, goes_on, is_begin, is_end}
+use Rattle.mark_bitmap.specs.Marks.{AreBegins, AreBitsFrom, continues_at, is_begin, is_end}
 use Rattle.heap_image.proofs.Places.{same_tests}
 use Rattle.mark_bitmap.proofs.Apart.{place_of, sound_at, apart}
 
@@ -81,8 +81,8 @@ number-bit bits (suc n) j h = elim (cases_lt j n) [
       ∙ ap (bit_at (one (bits n))) place ∙ one-bit (bits n) ∙ ap (λ m. one (bits m)) (sym same)
 ]
 
--- Of runs apart from one another: a place is in one where one begins or goes on from the place before, and not both; and
--- it is in one where one ends or goes on to the next place, and not both.
+-- Of runs apart from one another: a place is in one where one begins or continues from the place before, and not both; and
+-- it is in one where one ends or continues to the next place, and not both.
 pub record AreRuns (begins ends live on : ℕ → Bool) : Type 0 where
   pub first : (k : ℕ) → one (live k) ≡ one (begins k) + one (on k)
   pub last : (k : ℕ) → one (live k) ≡ one (ends k) + one (on (k + 1))
@@ -138,7 +138,7 @@ has-set words i word test inside so_far bits k h = elim (cases_lt k (64 * i)) [
       ∙ ap test place
 ]
 
--- the word that the sums of the bits of a word give, and what goes on behind it
+-- the word that the sums of the bits of a word give, and what continues after it
 module _ (begins ends live on : ℕ → Bool) (runs : AreRuns begins ends live on) (b e w o : ℕ) (b_bits : (j : ℕ) → j < 64 → bit_at b j ≡ one (begins j)) (e_bits : (j : ℕ) → j < 64 → bit_at e j ≡ one (ends j)) (b_fits : b < 2 ^ 64) (e_fits : e < 2 ^ 64) (w_fits : w < 2 ^ 64) (before : o ≡ one (on 0)) (sums : (w + b + o) % 2 ^ 64 ≡ 2 * e % 2 ^ 64) where
   number-of : (n : ℕ) (bits : ℕ → Bool) → n < 2 ^ 64 → ((j : ℕ) → j < 64 → bit_at n j ≡ one (bits j)) → n ≡ number bits 64
   number-of n bits fits same = same_from_bits_below 64 n (number bits 64) fits (number-lt bits 64) (λ j l. same j l ∙ sym (number-bit bits 64 j l))
@@ -154,8 +154,8 @@ module _ (begins ends live on : ℕ → Bool) (runs : AreRuns begins ends live o
   pub live_word-bits : (j : ℕ) → j < 64 → bit_at w j ≡ one (live j)
   live_word-bits j h = ap (λ n. bit_at n j) word-is ∙ number-bit live 64 j h
 
-  pub goes_on-next : w / 2 ^ 63 ≡ e / 2 ^ 63 + one (on 64)
-  goes_on-next =
+  pub continues_at-next : w / 2 ^ 63 ≡ e / 2 ^ 63 + one (on 64)
+  continues_at-next =
       let top : bit_at w 63 ≡ one (live 63) = live_word-bits 63 (omega arith) in
       let end : bit_at e 63 ≡ one (ends 63) = e_bits 63 (omega arith) in
       let last : one (live 63) ≡ one (ends 63) + one (on 64) = runs.last 63 in
@@ -170,19 +170,19 @@ one-or t false true h k = ap one h
 one-or t false false h k = ap one h
 
 module _ (image : HeapImage) (valid : IsValid image) where
-  -- a word of an object is its first, or one behind another of its words
-  first-or : (k : ℕ) → is_live_word image k ≡ (is_begin image k || goes_on image k)
-  first-or k = same_tests (is_live_word image k) (is_begin image k || goes_on image k)
+  -- a word of an object is its first, or one after another of its words
+  first-or : (k : ℕ) → is_live_word image k ≡ (is_begin image k || continues_at image k)
+  first-or k = same_tests (is_live_word image k) (is_begin image k || continues_at image k)
       (λ h. let here = place_of image valid (λ b. is_word_of image b k) h in
       let i : ℕ = here.0 in
       let a : ℕ = get_or image.live i 0 in
       let p = and_parts (leb a k) (ltb k (end_of image a)) here.2 in
       let low : a ≤ k = leb-true a k p.0 in
       elim (cases_lt a k) [
-        | inl behind ↦ or_right (is_begin image k) (goes_on image k) (list_any_at (λ b. ltb b k && ltb k (end_of image b)) image.live i 0 here.1 (and_from (ltb a k) (ltb k (end_of image a)) (lt-ltb a k behind) p.1))
-        | inr before ↦ or_left (is_begin image k) (goes_on image k) (list_any_at (λ b. eqb b k) image.live i 0 here.1 (eq-eqb a k (omega arith)))
+        | inl behind ↦ or_right (is_begin image k) (continues_at image k) (list_any_at (λ b. ltb b k && ltb k (end_of image b)) image.live i 0 here.1 (and_from (ltb a k) (ltb k (end_of image a)) (lt-ltb a k behind) p.1))
+        | inr before ↦ or_left (is_begin image k) (continues_at image k) (list_any_at (λ b. eqb b k) image.live i 0 here.1 (eq-eqb a k (omega arith)))
       ])
-      (λ h. elim (or_cases (is_begin image k) (goes_on image k) h) [
+      (λ h. elim (or_cases (is_begin image k) (continues_at image k) h) [
         | inl begin ↦
             let here = place_of image valid (λ b. eqb b k) begin in
             let i : ℕ = here.0 in
@@ -199,7 +199,7 @@ module _ (image : HeapImage) (valid : IsValid image) where
             list_any_at (λ b. is_word_of image b k) image.live i 0 here.1 (and_from (leb a k) (ltb k (end_of image a)) (le-leb a k (omega arith)) p.1)
       ])
 
-  first-not_both : (k : ℕ) → is_begin image k ≡ true → goes_on image k ≡ true → ⊥
+  first-not_both : (k : ℕ) → is_begin image k ≡ true → continues_at image k ≡ true → ⊥
   first-not_both k begin on =
       let here = place_of image valid (λ b. eqb b k) begin in
       let there = place_of image valid (λ b. ltb b k && ltb k (end_of image b)) on in
@@ -216,8 +216,8 @@ module _ (image : HeapImage) (valid : IsValid image) where
       ]
 
   -- a word of an object is its last, or one before another of its words
-  last-or : (k : ℕ) → is_live_word image k ≡ (is_end image k || goes_on image (k + 1))
-  last-or k = same_tests (is_live_word image k) (is_end image k || goes_on image (k + 1))
+  last-or : (k : ℕ) → is_live_word image k ≡ (is_end image k || continues_at image (k + 1))
+  last-or k = same_tests (is_live_word image k) (is_end image k || continues_at image (k + 1))
       (λ h. let here = place_of image valid (λ b. is_word_of image b k) h in
       let i : ℕ = here.0 in
       let a : ℕ = get_or image.live i 0 in
@@ -225,10 +225,10 @@ module _ (image : HeapImage) (valid : IsValid image) where
       let low : a ≤ k = leb-true a k p.0 in
       let high : k < end_of image a = ltb-true k (end_of image a) p.1 in
       elim (cases_lt (k + 1) (end_of image a)) [
-        | inl before ↦ or_right (is_end image k) (goes_on image (k + 1)) (list_any_at (λ b. ltb b (k + 1) && ltb (k + 1) (end_of image b)) image.live i 0 here.1 (and_from (ltb a (k + 1)) (ltb (k + 1) (end_of image a)) (lt-ltb a (k + 1) (omega arith)) (lt-ltb (k + 1) (end_of image a) before)))
-        | inr last ↦ or_left (is_end image k) (goes_on image (k + 1)) (list_any_at (λ b. eqb (end_of image b) (k + 1)) image.live i 0 here.1 (eq-eqb (end_of image a) (k + 1) (omega arith)))
+        | inl before ↦ or_right (is_end image k) (continues_at image (k + 1)) (list_any_at (λ b. ltb b (k + 1) && ltb (k + 1) (end_of image b)) image.live i 0 here.1 (and_from (ltb a (k + 1)) (ltb (k + 1) (end_of image a)) (lt-ltb a (k + 1) (omega arith)) (lt-ltb (k + 1) (end_of image a) before)))
+        | inr last ↦ or_left (is_end image k) (continues_at image (k + 1)) (list_any_at (λ b. eqb (end_of image b) (k + 1)) image.live i 0 here.1 (eq-eqb (end_of image a) (k + 1) (omega arith)))
       ])
-      (λ h. elim (or_cases (is_end image k) (goes_on image (k + 1)) h) [
+      (λ h. elim (or_cases (is_end image k) (continues_at image (k + 1)) h) [
         | inl end ↦
             let here = place_of image valid (λ b. eqb (end_of image b) (k + 1)) end in
             let i : ℕ = here.0 in
@@ -246,7 +246,7 @@ module _ (image : HeapImage) (valid : IsValid image) where
             list_any_at (λ b. is_word_of image b k) image.live i 0 here.1 (and_from (leb a k) (ltb k (end_of image a)) (le-leb a k (omega arith)) (lt-ltb k (end_of image a) (omega arith)))
       ])
 
-  last-not_both : (k : ℕ) → is_end image k ≡ true → goes_on image (k + 1) ≡ true → ⊥
+  last-not_both : (k : ℕ) → is_end image k ≡ true → continues_at image (k + 1) ≡ true → ⊥
   last-not_both k end on =
       let here = place_of image valid (λ b. eqb (end_of image b) (k + 1)) end in
       let there = place_of image valid (λ b. ltb b (k + 1) && ltb (k + 1) (end_of image b)) on in
@@ -263,31 +263,31 @@ module _ (image : HeapImage) (valid : IsValid image) where
         | inr (inr behind) ↦ let e : end_of image (get_or image.live j 0) ≤ get_or image.live i 0 = apart image valid j i behind here.1 in omega arith
       ]
 
-  pub runs-of : AreRuns (is_begin image) (is_end image) (is_live_word image) (goes_on image)
+  pub runs-of : AreRuns (is_begin image) (is_end image) (is_live_word image) (continues_at image)
   runs-of = record {
-    first = λ k. one-or (is_live_word image k) (is_begin image k) (goes_on image k) (first-or k) (first-not_both k);
-    last = λ k. one-or (is_live_word image k) (is_end image k) (goes_on image (k + 1)) (last-or k) (last-not_both k);
+    first = λ k. one-or (is_live_word image k) (is_begin image k) (continues_at image k) (first-or k) (first-not_both k);
+    last = λ k. one-or (is_live_word image k) (is_end image k) (continues_at image (k + 1)) (last-or k) (last-not_both k);
   }
 
-  -- word i of the live bits, and whether an object goes on behind it
+  -- word i of the live bits, and whether an object continues after it
   live_word-is : (i b e w o : ℕ) → ((j : ℕ) → j < 64 → bit_at b j ≡ one (is_begin image (64 * i + j))) → ((j : ℕ) → j < 64 → bit_at e j ≡ one (is_end image (64 * i + j)))
-      → b < 2 ^ 64 → e < 2 ^ 64 → w < 2 ^ 64 → o ≡ one (goes_on image (64 * i)) → (w + b + o) % 2 ^ 64 ≡ 2 * e % 2 ^ 64
-      → ((j : ℕ) → j < 64 → bit_at w j ≡ one (is_live_word image (64 * i + j))) × (w / 2 ^ 63 ≡ e / 2 ^ 63 + one (goes_on image (64 * (i + 1))))
+      → b < 2 ^ 64 → e < 2 ^ 64 → w < 2 ^ 64 → o ≡ one (continues_at image (64 * i)) → (w + b + o) % 2 ^ 64 ≡ 2 * e % 2 ^ 64
+      → ((j : ℕ) → j < 64 → bit_at w j ≡ one (is_live_word image (64 * i + j))) × (w / 2 ^ 63 ≡ e / 2 ^ 63 + one (continues_at image (64 * (i + 1))))
   live_word-is i b e w o b_bits e_bits b_fits e_fits w_fits before sums =
-      let runs = runs-from (is_begin image) (is_end image) (is_live_word image) (goes_on image) runs-of (64 * i) in
+      let runs = runs-from (is_begin image) (is_end image) (is_live_word image) (continues_at image) runs-of (64 * i) in
       let here : 64 * i ≡ 64 * i + 0 = omega arith in
       let next : 64 * i + 64 ≡ 64 * (i + 1) = omega arith in
-      let on : ℕ → Bool = λ k. goes_on image (64 * i + k) in
-      let before' : o ≡ one (on 0) = before ∙ ap (λ n. one (goes_on image n)) here in (
+      let on : ℕ → Bool = λ k. continues_at image (64 * i + k) in
+      let before' : o ≡ one (on 0) = before ∙ ap (λ n. one (continues_at image n)) here in (
         live_word-bits (λ k. is_begin image (64 * i + k)) (λ k. is_end image (64 * i + k)) (λ k. is_live_word image (64 * i + k)) on runs b e w o b_bits e_bits b_fits e_fits w_fits before' sums,
-        goes_on-next (λ k. is_begin image (64 * i + k)) (λ k. is_end image (64 * i + k)) (λ k. is_live_word image (64 * i + k)) on runs b e w o b_bits e_bits b_fits e_fits w_fits before' sums
-            ∙ ap (λ n. e / 2 ^ 63 + one (goes_on image n)) next,
+        continues_at-next (λ k. is_begin image (64 * i + k)) (λ k. is_end image (64 * i + k)) (λ k. is_live_word image (64 * i + k)) on runs b e w o b_bits e_bits b_fits e_fits w_fits before' sums
+            ∙ ap (λ n. e / 2 ^ 63 + one (continues_at image n)) next,
       )
 
   -- the same of word i of a part, which has the bits of the addresses from 64 * start on
   pub part_word-is : (begins ends : List ℕ) (start i b w o : ℕ) → AreBegins image begins → AreBitsFrom (is_end image) start ends → start + i < length begins → i < length ends
-      → b ≡ get_or begins (start + i) 0 → b < 2 ^ 64 → get_or ends i 0 < 2 ^ 64 → w < 2 ^ 64 → o ≡ one (goes_on image (64 * (start + i))) → (w + b + o) % 2 ^ 64 ≡ 2 * get_or ends i 0 % 2 ^ 64
-      → ((j : ℕ) → j < 64 → bit_at w j ≡ one (is_live_word image (64 * (start + i) + j))) × (w / 2 ^ 63 ≡ get_or ends i 0 / 2 ^ 63 + one (goes_on image (64 * (start + i + 1))))
+      → b ≡ get_or begins (start + i) 0 → b < 2 ^ 64 → get_or ends i 0 < 2 ^ 64 → w < 2 ^ 64 → o ≡ one (continues_at image (64 * (start + i))) → (w + b + o) % 2 ^ 64 ≡ 2 * get_or ends i 0 % 2 ^ 64
+      → ((j : ℕ) → j < 64 → bit_at w j ≡ one (is_live_word image (64 * (start + i) + j))) × (w / 2 ^ 63 ≡ get_or ends i 0 / 2 ^ 63 + one (continues_at image (64 * (start + i + 1))))
   part_word-is begins ends start i b w o begin_bits end_bits inside few is b_fits e_fits w_fits before sums =
       live_word-is (start + i) b (get_or ends i 0) w o
       (λ j h. word-bits begins 0 (start + i) b (is_begin image) is inside (λ k l. begin_bits.bits k ∙ ap (is_begin image) (omega arith)) j h ∙ ap (λ n. one (is_begin image n)) (omega arith))

@@ -1,4 +1,4 @@
--- What the marks of an image tell.
+-- The marks of an image.
 use Rattle.std.specs.Prelude.{◌≡◌, ℕ, ◌+◌, ◌*◌, ◌/◌, ◌<◌, ◌≤◌, ◌==◌, ◌&&◌, nat_lt, min, Bool, List, All, length, slice_index}
 use Rattle.std.specs.List.{list_any}
 use Rattle.heap_image.specs.HeapImage.{HeapImage, IsValid, heap_words, region_words, region_of, start_of, end_of, is_word_of, is_live_word, live_words}
@@ -17,14 +17,14 @@ module _ (image : HeapImage) where
   abbrev pub is_end : ℕ → Bool
   is_end a = list_any (λ b. end_of image b == a + 1) image.live
 
-  -- how many words a block has: 128, or those of a region where a region is smaller
+  -- the number of words of a block: 128, or those of a region if a region is smaller
   abbrev pub block_words : ℕ
   block_words = min 128 (region_words image)
 
   abbrev pub block_count : ℕ
   block_count = heap_words image / block_words
 
-  -- how many live words there are from the start of its region up to the start of block b
+  -- the number of live words from the start of its region up to the start of block b
   abbrev pub block_live : ℕ → ℕ
   block_live b = live_words image (start_of image (region_of image (b * block_words))) (b * block_words)
 
@@ -47,11 +47,11 @@ module _ (image : HeapImage) where
     pub log : region_log ≡ image.region_log
     pub bits : HaveMarks image.live begins ends live
 
-  -- the words at k - 1 and at k are of one object
-  abbrev pub goes_on : ℕ → Bool
-  goes_on k = list_any (λ a. nat_lt a k && nat_lt k (end_of image a)) image.live
+  -- the words at k - 1 and at k belong to the same object
+  abbrev pub continues_at : ℕ → Bool
+  continues_at k = list_any (λ a. nat_lt a k && nat_lt k (end_of image a)) image.live
 
-  -- the live objects of the indices below i begin below the address, and the others don't
+  -- the live objects with indices below i begin below the address, and the others don't
   pub record IsFirstObject (address i : ℕ) : Type 0 where
     pub inside : i ≤ length image.live
     pub before : (j : ℕ) → j < i → slice_index image.live j < address

@@ -1,25 +1,25 @@
-//! `MarkBuilder`: end bits and live bits in parts, each by a thread of its own.
+//! Sets the end bits and the live bits of an image in parts, each in a thread.
 ghost use Rattle.std.specs.Prelude.{◌≡◌, ◌+◌, ◌<◌, length};
 ghost use Rattle.mark_bitmap.specs.Marks.{AreBegins, IsBlankPart, IsMarkedPart};
 
 use crate::objects::mark_part;
-use heap_image::{Bits, Image};
+use heap_image::{Bits, Image, image_is_valid};
 use std::thread::{Threads, join_mut};
 
-/// What the threads share that make the marks of an image.
+/// What the threads share.
 #[derive(Drop)]
 pub(crate) struct MarkBuilder<'a, T: Threads + Sync> {
     pub(crate) image: &'a Image,
     /// The bits of the first words of the live objects.
     pub(crate) begins: &'a Bits,
     pub(crate) threads: &'a T,
-    /// How many words of bits a thread takes.
+    /// The number of words of bits that a thread sets.
     pub(crate) share: usize,
 }
 
 impl<T: Threads + Sync> MarkBuilder<'_, T> {
-    /// Sets the end bits and the live bits of the addresses from `64 * start` on. Of more words than a share each share but
-    /// the last is for a thread that this one starts.
+    /// Sets the end bits and the live bits of the addresses from `64 * start` on. Each share of words but the last gets a
+    /// thread, which this one starts.
     #[cycle(parts)]
     pub(crate) fn mark(&self, start: usize, ends: &mut [u64], live: &mut [u64])
         requires share { 0 < self.now.share }
@@ -33,37 +33,9 @@ impl<T: Threads + Sync> MarkBuilder<'_, T> {
             mark_part(self.image, self.begins, start, ends, live);
             return;
         }
+        image_is_valid(self.image);
         let (low_ends, high_ends) = ends.split_at_mut(self.share);
         let (low_live, high_live) = live.split_at_mut(self.share);
-        self.mark_both(start, low_ends, low_live, high_ends, high_live);
-    }
-
-    /// Sets the end bits and the live bits of two parts, of which the first begins with the addresses from `64 * start` on,
-    /// by two threads.
-    #[cycle(parts)]
-    fn mark_both(
-        &self,
-        start: usize,
-        low_ends: &mut [u64],
-        low_live: &mut [u64],
-        high_ends: &mut [u64],
-        high_live: &mut [u64],
-    )
-        requires share { 0 < self.now.share }
-        requires begins { AreBegins self.now.image.now self.now.begins.now }
-        requires some_low { 0 < length low_ends.old }
-        requires some_high { 0 < length high_ends.old }
-        requires low { IsBlankPart self.now.image.now start low_ends.old low_live.old }
-        requires high { IsBlankPart self.now.image.now (start + length low_ends.old) high_ends.old high_live.old }
-        ensures low_ends_room { length low_ends.new ≡ length low_ends.old }
-        ensures low_live_room { length low_live.new ≡ length low_live.old }
-        ensures high_ends_room { length high_ends.new ≡ length high_ends.old }
-        ensures high_live_room { length high_live.new ≡ length high_live.old }
-        ensures low { IsMarkedPart self.now.image.now start low_ends.new low_live.new }
-        ensures high { IsMarkedPart self.now.image.now (start + length low_ends.old) high_ends.new high_live.new }
-    {
-        // The image is valid by its type.
-        let _len = self.image.len();
         let middle = start + low_ends.len();
         let mut low = ||
             requires { (0 < self.now.share) × AreBegins self.now.image.now self.now.begins.now

@@ -1,4 +1,4 @@
-//! `Marks`: the mark bitmaps of an image.
+//! The mark bitmaps of an image, and the queries on them.
 ghost use Rattle.std.specs.Prelude.{◌≡◌, ℕ, ◌+◌, ◌*◌, ◌<◌, ◌≤◌, ◌==◌, IsTrue, IfOk, MatchOption, length};
 ghost use Rattle.std.specs.Int.{bit_at};
 ghost use Rattle.heap_image.specs.HeapImage.{IsValid, heap_words, is_live_word, is_dead_word, live_words, size_at};
@@ -13,12 +13,12 @@ use std::marker::Model;
 use std::snapshot::Snapshot;
 use std::thread::Threads;
 
-/// How many words of bits are worth a thread of their own.
-const LEAST: usize = 16_384;
+/// The least number of words of bits that are worth a thread.
+const LEAST_BIT_WORDS: usize = 16_384;
 
-/// The marks of an image: where its live objects begin and end, and which words are theirs.
+/// Where the live objects of an image begin and end, and which words they occupy.
 ///
-/// A contract sees marks as the image that they were made of, as it was then. The image itself is not kept.
+/// A contract sees the image that the marks were made of, as it was then. The image itself is not kept.
 #[derive(Drop)]
 pub struct Marks {
     image: Snapshot<Image>,
@@ -40,9 +40,9 @@ impl Model for Marks {
 }
 
 impl Marks {
-    /// The marks of an image, by its live list and the headers of the objects that it names.
+    /// Builds the marks of an image from its live list and the headers of its objects.
     ///
-    /// Takes about 3 bits for each word of the heap.
+    /// Allocates about 3 bits for each word of the heap.
     pub fn of(alloc: Global, image: &Image) -> Result<Marks, AllocError>
         ensures { IfOk result (λ marks. marks ≡ image.now) }
     {
@@ -53,7 +53,7 @@ impl Marks {
         Ok(Marks::with_bits(image, begins, ends, live))
     }
 
-    /// As [`of`](Marks::of), by so many threads at most, the caller's among them; 0 is taken for 1.
+    /// Like [`of`](Marks::of), but in at most `workers` threads, the caller's included; 0 counts as 1.
     pub fn by_workers(
         alloc: Global,
         image: &Image,
@@ -63,11 +63,11 @@ impl Marks {
         ensures { IfOk result (λ marks. marks ≡ image.now) }
     {
         let words = (image.len() / 64 + 1) as usize;
-        let share = words.div_ceil(workers.max(1)).max(LEAST);
+        let share = words.div_ceil(workers.max(1)).max(LEAST_BIT_WORDS);
         Marks::in_shares(alloc, image, share, threads)
     }
 
-    /// As [`of`](Marks::of), by a thread for so many words of bits each.
+    /// Like [`of`](Marks::of), but with a thread for each `share` words of bits.
     fn in_shares(
         alloc: Global,
         image: &Image,
@@ -90,7 +90,7 @@ impl Marks {
         Ok(Marks::with_bits(image, begins, ends, live))
     }
 
-    /// The marks of an image that have these bits.
+    /// The marks of an image with these bits.
     fn with_bits(image: &Image, begins: Bits, ends: Vec<u64>, live: Vec<u64>) -> Marks
         requires begins { AreBegins image.now begins }
         requires ends_room { length ends.items ≡ bit_words image.now }
@@ -107,7 +107,7 @@ impl Marks {
         }
     }
 
-    /// Whether a live object begins at address `a`. None does at an address past the heap.
+    /// Whether a live object begins at address `a`. This is false for an address past the heap.
     #[inline]
     pub fn is_begin(&self, a: u64) -> bool
         ensures { result ≡ is_begin self.now a }
@@ -115,7 +115,7 @@ impl Marks {
         self.begins.contains(a)
     }
 
-    /// Whether the word at address `a` is the last of a live object. None is at an address past the heap.
+    /// Whether the word at address `a` is the last of a live object. This is false for an address past the heap.
     #[inline]
     pub fn is_end(&self, a: u64) -> bool
         ensures { result ≡ is_end self.now a }
@@ -130,7 +130,7 @@ impl Marks {
         self.begins.next(from)
     }
 
-    /// The first address from `from` on that has the last word of a live object.
+    /// The first address from `from` on of the last word of a live object.
     pub fn next_end(&self, from: u64) -> Option<u64>
         ensures { MatchOption result (NoneFrom (is_end self.now) from) (IsFirstFrom (is_end self.now) from) }
     {
@@ -144,29 +144,29 @@ impl Marks {
         self.live.next(from)
     }
 
-    /// The first address from `from` on, below `to`, at which a live object begins. The search ends at `to`.
+    /// The first address from `from` on and below `to` at which a live object begins.
     pub fn next_begin_before(&self, from: u64, to: u64) -> Option<u64>
         ensures { MatchOption result (NoneBetween (is_begin self.now) from to) (IsFirstBetween (is_begin self.now) from to) }
     {
         self.begins.next_before(from, to)
     }
 
-    /// The first address from `from` on, below `to`, whose word belongs to a live object. The search ends at `to`.
+    /// The first address from `from` on and below `to` whose word belongs to a live object.
     pub fn next_live_before(&self, from: u64, to: u64) -> Option<u64>
         ensures { MatchOption result (NoneBetween (is_live_word self.now) from to) (IsFirstBetween (is_live_word self.now) from to) }
     {
         self.live.next_before(from, to)
     }
 
-    /// The first address from `from` on, below `to`, whose word belongs to no live object. The words past the heap belong
-    /// to none. The search ends at `to`.
+    /// The first address from `from` on and below `to` whose word belongs to no live object, as all words past the
+    /// heap.
     pub fn next_dead_before(&self, from: u64, to: u64) -> Option<u64>
         ensures { MatchOption result (NoneBetween (is_dead_word self.now) from to) (IsFirstBetween (is_dead_word self.now) from to) }
     {
         self.live.next_absent_before(from, to)
     }
 
-    /// How many words from address `from` up to `to`, itself not included, belong to live objects.
+    /// The number of live words from address `from` up to but excluding `to`.
     #[inline]
     pub fn live_words(&self, from: u64, to: u64) -> u64
         requires ordered { from ≤ to }
@@ -176,7 +176,7 @@ impl Marks {
         self.live.count(from, to)
     }
 
-    /// The live bits of 64 addresses in a row: bit `j` is set where the word at `64 * i + j` belongs to a live object.
+    /// The live bits of 64 consecutive addresses: bit `j` is set if the word at `64 * i + j` belongs to a live object.
     #[inline]
     pub fn live_bits(&self, i: u64) -> u64
         requires { 64 * i ≤ heap_words self.now }
@@ -197,7 +197,7 @@ impl Marks {
         }
     }
 
-    /// The number of words of a block: 128, or those of a region where a region is smaller.
+    /// The number of words of a block: 128, or those of a region if a region is smaller.
     pub fn block_words(&self) -> u64
         ensures value { result ≡ block_words self.now }
         ensures valid { IsValid self.now }
@@ -205,7 +205,7 @@ impl Marks {
         1 << self.region_log.min(7)
     }
 
-    /// How many live words there are from the start of its region up to the start of block `b`.
+    /// The number of live words from the start of its region up to the start of block `b`.
     ///
     /// Blocks are numbered from 0 at address 0, and each lies within one region.
     pub fn block_live(&self, b: u64) -> u32

@@ -1,16 +1,16 @@
-//! The bits of the live objects.
+//! Sets the bits of the live objects.
 ghost use Rattle.std.specs.Prelude.{◌≡◌, ℕ, ◌+◌, ◌-◌, ◌*◌, ◌%◌, ◌^◌, ◌<◌, ◌≤◌, ◌==◌, ◌||◌, All, IfOk, IfSome, nat_lt, length, map, slice_index, take, drop};
 ghost use Rattle.std.specs.List.{list_any};
 ghost use Rattle.heap_image.specs.HeapImage.{IsValid, HasSoundHeader, end_of, size_at, is_live_word};
 ghost use Rattle.heap_image.specs.Bits.{has, room};
 ghost use Rattle.heap_image.specs.Sizes.{AreSizesOf};
-ghost use Rattle.mark_bitmap.specs.Marks.{AreBegins, AreBitsFrom, IsBlankPart, IsFirstObject, IsMarkedPart, bit_words, goes_on, is_end};
+ghost use Rattle.mark_bitmap.specs.Marks.{AreBegins, AreBitsFrom, IsBlankPart, IsFirstObject, IsMarkedPart, bit_words, continues_at, is_end};
 
 use crate::part_bits::insert_within;
-use heap_image::{Bits, Image, PIECE};
+use heap_image::{Bits, Image, PIECE, image_is_valid};
 use std::alloc::{AllocError, Global};
 
-/// The bits of the first words of the live objects. Where they were seen when the image was read, they aren't made again.
+/// The begin bits of the live objects. If reading the image has kept them, they are copied.
 pub(crate) fn begin_bits(alloc: Global, image: &Image) -> Result<Bits, AllocError>
     ensures { IfOk result (λ bits. AreBegins image.now bits) }
 {
@@ -20,7 +20,7 @@ pub(crate) fn begin_bits(alloc: Global, image: &Image) -> Result<Bits, AllocErro
     }
 }
 
-/// Words for one bit of each address, none of which is set.
+/// Words with a bit for each address, none of which is set.
 pub(crate) fn no_bits(alloc: Global, image: &Image) -> Result<Vec<u64>, AllocError>
     ensures room { IfOk result (λ words. length words.items ≡ bit_words image.now) }
     ensures none { IfOk result (λ words. All (λ word. word ≡ 0) words.items) }
@@ -28,8 +28,8 @@ pub(crate) fn no_bits(alloc: Global, image: &Image) -> Result<Vec<u64>, AllocErr
     vec![in alloc; 0; (image.len() / 64 + 1) as usize]
 }
 
-/// Sets the end bits and the live bits of the addresses from `64 * start` on. Word `i` of each has those from
-/// `64 * (start + i)` on, so a part of the words of all bits has a `start` of its own.
+/// Sets the end bits and the live bits of a part of the heap. Word `i` of `ends` and of `live` has the bits of the 64
+/// addresses from `64 * (start + i)` on.
 pub(crate) fn mark_part(
     image: &Image,
     begins: &Bits,
@@ -43,13 +43,13 @@ pub(crate) fn mark_part(
     ensures live_room { length live.new ≡ length live.old }
     ensures marked { IsMarkedPart image.now start ends.new live.new }
 {
-    let _valid = image.len();
+    image_is_valid(image);
     mark_ends(image, start, ends);
     mark_words(image, begins, start, ends, live);
 }
 
-/// Sets the bit of the last word of each live object that ends in a part of the heap. Of the objects that begin before the
-/// part only the last one can end in it.
+/// Sets the bit of the last word of each live object that ends in a part of the heap. Of the objects that begin before
+/// the part, only the last one can end in it.
 fn mark_ends(image: &Image, start: usize, ends: &mut [u64])
     requires valid { IsValid image.now }
     requires inside { start + length ends.old ≤ bit_words image.now }
@@ -64,7 +64,7 @@ fn mark_ends(image: &Image, start: usize, ends: &mut [u64])
     }
 }
 
-/// How many live objects begin below an address: the index of the first one that begins there or behind it.
+/// The number of live objects that begin below an address. It is the index of the first one that doesn't.
 fn first_from(image: &Image, address: u64) -> usize
     ensures { IsFirstObject image.now address result }
 {
@@ -90,7 +90,7 @@ fn mark_ends_of(image: &Image, piece: usize, start: usize, ends: &mut [u64])
     insert_within(ends, 64 * start as u64, &lasts[..to - from]);
 }
 
-/// The sizes of the objects of a piece of the live list, where they were seen when the image was read.
+/// The sizes of the objects of a piece of the live list, if reading the image has kept them.
 fn sizes_of(image: &Image, piece: usize) -> Option<&[u32; PIECE]>
     requires { 64 * piece < length image.now.live }
     ensures { IfSome result (λ sizes. (j : ℕ) → j < 64 → 64 * piece + j < length image.now.live
@@ -102,7 +102,7 @@ fn sizes_of(image: &Image, piece: usize) -> Option<&[u32; PIECE]>
     }
 }
 
-/// The addresses of the last words of a few objects, whose sizes may be known, and zeros behind them.
+/// The addresses of the last words of a few objects, whose sizes may be known, and zeros after them.
 fn last_words(image: &Image, objects: &[u64], sizes: Option<&[u32; PIECE]>) -> [u64; PIECE]
     requires valid { IsValid image.now }
     requires few { length objects.now ≤ 64 }
@@ -111,17 +111,16 @@ fn last_words(image: &Image, objects: &[u64], sizes: Option<&[u32; PIECE]>) -> [
     ensures { take (length objects.now) result ≡ map (λ a. end_of image.now a - 1) objects.now }
 {
     match sizes {
-        Some(sizes) => last_words_by(image, objects, sizes),
-        None => last_words_read(image, objects),
+        Some(sizes) => last_words_by_sizes(image, objects, sizes),
+        None => last_words_by_headers(image, objects),
     }
 }
 
-/// The addresses of the last words of a few objects by their headers, and zeros behind them.
+/// The addresses of the last words of a few objects by their headers, and zeros after them.
 ///
-/// A header is mostly waited for, since it lies in no cache. Nothing is done here but to read the headers, so that the
-/// processor has many of them under way at once.
+/// The loop does nothing but read headers, so that their cache misses overlap.
 #[inline]
-fn last_words_read(image: &Image, objects: &[u64]) -> [u64; PIECE]
+fn last_words_by_headers(image: &Image, objects: &[u64]) -> [u64; PIECE]
     requires valid { IsValid image.now }
     requires few { length objects.now ≤ 64 }
     requires sound { All (HasSoundHeader image.now) objects.now }
@@ -135,16 +134,16 @@ fn last_words_read(image: &Image, objects: &[u64]) -> [u64; PIECE]
     lasts
 }
 
-/// The addresses of the last words of a few objects of these sizes, and zeros behind them.
+/// The addresses of the last words of a few objects of these sizes, and zeros after them.
 #[inline]
-fn last_words_by(image: &Image, objects: &[u64], sizes: &[u32; PIECE]) -> [u64; PIECE]
+fn last_words_by_sizes(image: &Image, objects: &[u64], sizes: &[u32; PIECE]) -> [u64; PIECE]
     requires valid { IsValid image.now }
     requires few { length objects.now ≤ 64 }
     requires sound { All (HasSoundHeader image.now) objects.now }
     requires sizes { AreSizesOf image.now objects.now sizes.now }
     ensures { take (length objects.now) result ≡ map (λ a. end_of image.now a - 1) objects.now }
 {
-    let _valid = image.len();
+    image_is_valid(image);
     let mut lasts = [0; PIECE];
     for (i, &begin) in objects.iter().enumerate() {
         lasts[i] = begin + u64::from(sizes[i]) - 1;
@@ -152,8 +151,7 @@ fn last_words_by(image: &Image, objects: &[u64], sizes: &[u32; PIECE]) -> [u64; 
     lasts
 }
 
-/// Sets the bits of the words of the live objects in a part of the heap, by the bits of their first words and of their
-/// last words.
+/// Sets the live bits of a part of the heap by the begin bits and the end bits.
 fn mark_words(image: &Image, begins: &Bits, start: usize, ends: &[u64], live: &mut [u64])
     requires valid { IsValid image.now }
     requires begins { AreBegins image.now begins.now }
@@ -163,7 +161,7 @@ fn mark_words(image: &Image, begins: &Bits, start: usize, ends: &[u64], live: &m
     ensures room { length live.new ≡ length live.old }
     ensures bits { AreBitsFrom (is_live_word image.now) start live.new }
 {
-    let mut carried = u64::from(goes_on(image, 64 * start as u64));
+    let mut carried = u64::from(continues_at(image, 64 * start as u64));
     for i in 0..ends.len() {
         let word = live_word(begins.word(start + i), ends[i], carried);
         live[i] = word;
@@ -171,9 +169,9 @@ fn mark_words(image: &Image, begins: &Bits, start: usize, ends: &[u64], live: &m
     }
 }
 
-/// Whether an object that begins below this address has the word there.
-fn goes_on(image: &Image, address: u64) -> bool
-    ensures { result ≡ goes_on image.now address }
+/// Whether the word at this address belongs to an object that begins below it.
+fn continues_at(image: &Image, address: u64) -> bool
+    ensures { result ≡ continues_at image.now address }
 {
     let objects = image.live();
     let first = first_from(image, address);
@@ -184,10 +182,10 @@ fn goes_on(image: &Image, address: u64) -> bool
     address < begin + image.heap().size_at(begin)
 }
 
-/// The live bits of a word, by the begin bits and the end bits in it. `carried` is 1 where its first bit belongs to an
-/// object that begins in a word below, and else 0.
+/// The live bits of a word, by its begin bits and end bits. `carried` is 1 if its first bit belongs to an object that
+/// begins in a lower word, and otherwise 0.
 ///
-/// The live bits of an object from bit `b` up to bit `e` are `2 ^ (e + 1) - 2 ^ b`, and objects do not overlap. So the
+/// The live bits of an object from bit `b` to bit `e` are `2 ^ (e + 1) - 2 ^ b`, and objects do not overlap. So the
 /// live bits of a word are the difference of the sums, modulo `2 ^ 64`.
 #[inline]
 fn live_word(begins: u64, ends: u64, carried: u64) -> u64

@@ -1,9 +1,9 @@
-//! Words of bits that are a part of a larger set.
+//! Inserts addresses into a part of a larger bit set.
 ghost use Rattle.std.specs.Prelude.{◌≡◌, ℕ, ◌+◌, ◌<◌, ◌==◌, ◌||◌, ◌^◌, length};
 ghost use Rattle.std.specs.List.{list_any};
 ghost use Rattle.heap_image.specs.Bits.{has, room};
 
-/// Puts those of some addresses into a part of a set for which the part has room. Its first bit is that of `start`.
+/// Inserts the addresses that lie within this part of a bit set. The first bit of the part is for the address `start`.
 pub(crate) fn insert_within(words: &mut [u64], start: u64, addresses: &[u64])
     requires { start + room words.old < 2 ^ 64 }
     ensures room { length words.new ≡ length words.old }
@@ -15,7 +15,7 @@ pub(crate) fn insert_within(words: &mut [u64], start: u64, addresses: &[u64])
     }
 }
 
-/// Puts an address into a part of a set, if the part has room for it.
+/// Inserts an address if it lies within this part of a bit set.
 #[inline]
 fn insert_if_within(words: &mut [u64], start: u64, address: u64)
     requires { start + room words.old < 2 ^ 64 }
@@ -28,7 +28,7 @@ fn insert_if_within(words: &mut [u64], start: u64, address: u64)
     }
 }
 
-/// Sets bit `i` of some words.
+/// Sets bit `i` of these words.
 #[inline]
 fn insert(words: &mut [u64], i: u64)
     requires { i < room words.old }

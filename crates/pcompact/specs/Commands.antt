@@ -1,4 +1,4 @@
--- The commands of the program. Each has a module of its own, with what a good call prints.
+-- The commands of the program. Each has a module of its own, with the text that a successful call prints.
 pub mod Collect
 pub mod Verify
 pub mod Record
@@ -35,12 +35,12 @@ all_commands =
     ∷ timeline_command
     ∷ []
 
--- the first of these commands that has this name prints such a text
+-- the first of these commands with this name prints such a text
 abbrev pub IsPrintedByOneOf : List Command → List ℕ → List ℕ → Type 0
 IsPrintedByOneOf [] name text = ⊥
 IsPrintedByOneOf (command ∷ others) name text =
     MatchBool (bytes_eq command.name name) (command.prints text) (IsPrintedByOneOf others name text)
 
--- a good call of the command of this name prints such a text
+-- a successful call of the command of this name prints such a text
 abbrev pub IsPrintedBy : List ℕ → List ℕ → Type 0
 IsPrintedBy name text = IsPrintedByOneOf all_commands name text

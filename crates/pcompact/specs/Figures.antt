@@ -1,4 +1,4 @@
--- The figures of a collection, as two commands print them.
+-- The figures of a collection, as `collect` and `record` print them.
 use Rattle.std.specs.Prelude.{◌≡◌, ℕ, List, ◌++◌, codes, decimal}
 use Rattle.heap_image.specs.HeapImage.{HeapImage, IsValid}
 use Rattle.collector.specs.Collections.{figures_of}

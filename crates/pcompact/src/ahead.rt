@@ -1,29 +1,28 @@
-//! `Ahead`: what stands behind the front of an image's file, read before the image is.
+//! The body of an image's file, read by several threads before the collector reads the image.
 ghost use Rattle.std.specs.Prelude.{◌≤◌, ◌<◌, None, IfSome};
 ghost use Rattle.heap_image.specs.Body.{body_words};
 ghost use Rattle.heap_image.specs.Extents.{IsBodyOf};
 
-use heap_image::limits::{MAX_HEAP_WORDS, MAX_REGION_LOG};
-use heap_image::{Body, BodySize, Extent, FRONT_BYTES, FileStore, body_at};
+use heap_image::{Body, Extent, FRONT_BYTES, FileStore, body_at};
 use std::alloc::Global;
 use std::os::unix::fs::FileExt;
 use std::thread::Threads;
 
-/// Fewer words are read in order.
+/// A body of fewer words is read in order.
 const LEAST_WORDS: u64 = 131_072;
 
-/// What stands behind the front of an image's file, which several threads have read side by side.
+/// The body of an image's file, which several threads have read side by side.
 #[derive(Drop)]
 pub struct Ahead {
-    /// Where it lies.
+    /// Where the body lies in the file.
     pub extent: Extent,
     pub body: Body,
     ghost is: { IsBodyOf None extent body },
 }
 
 impl Ahead {
-    /// What a file of so many bytes has behind the front, read by so many threads at most. None for one thread, where the file
-    /// doesn't begin as that of a large image, or where a thread can't read its part.
+    /// Reads the body of a file of `len` bytes by at most `workers` threads. None for fewer than two workers, if the
+    /// file doesn't begin as that of a large image, or if a thread can't read its part.
     pub fn read<F: FileExt + Sync>(
         alloc: Global,
         file: &F,
@@ -48,29 +47,15 @@ impl Ahead {
     }
 }
 
-/// Where all lies that stands behind this front, if it may be that of a large image. Whether it is one is for the reader to
-/// say.
+/// The extent of the body after this front, if it is the front of a large image.
 fn extent_of(front: &[u8; FRONT_BYTES]) -> Option<Extent>
     ensures log { IfSome result (λ extent. extent.size.region_log ≤ 16) }
     ensures few { IfSome result (λ extent. body_words extent.size ≤ 8388608) }
 {
-    let region_log = u32::from_le_bytes([front[8], front[9], front[10], front[11]]);
-    let numbers = u32::from_le_bytes([front[12], front[13], front[14], front[15]]);
-    let words = u64::from_le_bytes([
-        front[16], front[17], front[18], front[19], front[20], front[21], front[22], front[23],
-    ]);
-    if region_log > MAX_REGION_LOG || words < LEAST_WORDS || words > MAX_HEAP_WORDS {
+    let extent = Extent::after_front(front)?;
+    let words = (extent.size.regions as u64) << extent.size.region_log;
+    if words < LEAST_WORDS {
         return None;
     }
-    if u64::from(numbers) > words {
-        return None;
-    }
-    Some(Extent {
-        at: FRONT_BYTES as u64,
-        size: BodySize {
-            region_log,
-            regions: (words >> region_log) as usize,
-            numbers: numbers as usize,
-        },
-    })
+    Some(extent)
 }

@@ -1,16 +1,15 @@
-//! `CollectionTimes`.
 use crate::timed_gate::TimedGate;
 use collector::Figures;
 use command_support::{Laps, Moved, Phase, TimedIntake, TimedOutlet};
 use heap_image::{Intake, Outlet};
 use std::time::{Clock, Duration};
 
-/// When the phases of a collection ended, from one device to another, as far as that is known.
+/// When the phases of a collection from one device to another ended, as far as that is known.
 #[derive(Clone, Copy)]
 pub struct CollectionTimes {
     read: Option<Duration>,
     checked: Option<Duration>,
-    /// Where no region was filled this is the time at which the writing began.
+    /// If no region was filled, when the writing began.
     prepared: Option<Duration>,
     filled: Option<Duration>,
     cleaned_up: Option<Duration>,
@@ -18,7 +17,7 @@ pub struct CollectionTimes {
 }
 
 impl CollectionTimes {
-    /// The times that these have noted.
+    /// The times that the devices and the gate have recorded.
     pub fn of<H: Clock, I: Intake + Drop, O: Outlet + Drop>(
         image: &TimedIntake<'_, H, I>,
         gate: &TimedGate<'_, H>,
@@ -45,13 +44,13 @@ impl CollectionTimes {
             .then(Phase::Write, self.written)
     }
 
-    /// What a collection with these figures moved: the live words behind the dense prefix.
+    /// What a collection with these figures moved: the live words after the dense prefix.
     pub fn moved(&self, figures: Figures) -> Moved {
         let words = figures.new_top.saturating_sub(figures.prefix_end);
         Moved::new(words, self.in_memory())
     }
 
-    /// How long the collection took in memory: from the image that is checked to the one that is written.
+    /// How long the collection took in memory, from the end of the check to the beginning of the writing.
     fn in_memory(&self) -> Option<Duration> {
         Some(self.cleaned_up?.saturating_sub(self.checked?))
     }

@@ -1,6 +1,5 @@
-//! The commands of the program. A command is a file of its own, with its work, first over files and
-//! then over any devices. Beside that file a command has a line in each of the two lists below. Its
-//! words stand in the crate `command_line`.
+//! The commands of the program. Each is a module, here or in `heap_commands`, and has an arm below. The crate
+//! `command_line` parses its arguments.
 ghost use Rattle.std.specs.Prelude.{◌≡◌, codes, ℕ, List, IfOk, IfErr};
 ghost use Rattle.command_line.specs.Request.{IsFor};
 ghost use Rattle.pcompact.specs.Commands.{IsPrintedBy};
@@ -22,7 +21,7 @@ use std::sync::Wait;
 use std::thread::Threads;
 use std::time::Clock;
 
-/// Does what is asked for, but for its end. A picture is for this screen.
+/// Runs the requested command, and returns what it prints. A picture is made for this screen.
 pub fn answer<'a, R: Files + AllocGlobal + Threads + Wait + Clock + Sync>(
     rt: &R,
     screen: Screen,
@@ -37,19 +36,19 @@ where
 {
     match request {
         Request::Board => board::answer(rt),
-        Request::Summary(asked) => summarize::answer(rt, asked),
-        Request::Collect(asked) => collect::answer(rt, asked),
-        Request::Verify(asked) => verify::answer(rt, asked),
-        Request::Record(asked) => record::answer(rt, asked),
-        Request::Replay(asked) => replay::answer(rt, asked),
-        Request::Upgrade(asked) => upgrade::answer(rt, asked),
-        Request::Import(asked) => import::answer(rt, asked),
-        Request::Generate(asked) => generate::answer(rt, asked),
-        Request::Order(asked) => order::answer(rt, asked),
-        Request::Text(asked) => text::answer(rt, asked),
-        Request::Assemble(asked) => assemble::answer(rt, asked),
-        Request::Map(asked) => map::answer(rt, screen, asked),
-        Request::Timeline(asked) => timeline::answer(rt, screen, asked),
+        Request::Summary(request) => summarize::answer(rt, request),
+        Request::Collect(request) => collect::answer(rt, request),
+        Request::Verify(request) => verify::answer(rt, request),
+        Request::Record(request) => record::answer(rt, request),
+        Request::Replay(request) => replay::answer(rt, request),
+        Request::Upgrade(request) => upgrade::answer(rt, request),
+        Request::Import(request) => import::answer(rt, request),
+        Request::Generate(request) => generate::answer(rt, request),
+        Request::Order(request) => order::answer(rt, request),
+        Request::Text(request) => text::answer(rt, request),
+        Request::Assemble(request) => assemble::answer(rt, request),
+        Request::Map(request) => map::answer(rt, screen, request),
+        Request::Timeline(request) => timeline::answer(rt, screen, request),
         Request::Show(text) => Ok(WorkDone::printing(text.into_bytes())),
     }
 }

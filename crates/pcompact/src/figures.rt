@@ -1,4 +1,3 @@
-//! `FiguresLine`.
 ghost use Rattle.std.specs.Prelude.{◌≡◌, ◌≤◌, [], string_bytes};
 ghost use Rattle.std_alloc.specs.String.{string_capacity};
 ghost use Rattle.pcompact.specs.Figures.{figures_line};
@@ -6,17 +5,17 @@ ghost use Rattle.pcompact.specs.Figures.{figures_line};
 use collector::Figures;
 use heap_commands::line::{push_number, push_text};
 
-/// Room for the line, with each figure as long as a number can be.
+/// Room for the line, with 20 digits for each figure.
 pub const LINE_ROOM: usize = 81;
 
-/// The figures of a collection, and the line that tells them.
+/// The figures of a collection, and the line that prints them.
 #[derive(Drop)]
 pub struct FiguresLine {
     pub figures: Figures,
     pub line: String,
 }
 
-/// The figures with their line, in a text that has room for it and is empty.
+/// Writes the line to an empty text that has room for it.
 pub fn with_line(figures: Figures, mut line: String) -> FiguresLine
     requires room { 81 ≤ string_capacity line }
     requires empty { string_bytes line ≡ [] }

@@ -1,5 +1,5 @@
-//! `Host`, `HostFile` and `Printer`: the system, with standard output among its files.
-use command_support::{FileId, SystemFile};
+//! The system that commands run on, with standard output among its files.
+use command_support::{FileId, FileLock, SystemFile};
 use std::alloc::Allocator;
 use std::fs::{FileTimes, Metadata, OpenFile, OpenOptions, Permissions};
 use std::io;
@@ -12,24 +12,24 @@ use std::sync::atomic::{AtomicBool, Ordering};
 use std::thread::Threads;
 use std::time::{Clock, Duration};
 
-/// Where the system tells of standard output.
+/// The path of standard output's file.
 const STANDARD_OUTPUT: &str = "/proc/self/fd/1";
 
-/// The system that commands work on. A file that they open for writing and that is standard output is written through
-/// standard output itself: a second opening of it would have a place of its own, and what one writes would fall on what the
-/// other has written.
+/// The system that commands run on. A file that is opened for writing and is standard output is written through
+/// standard output itself: a second opening would have a file position of its own, and each would overwrite what the
+/// other wrote.
 ///
-/// No command asks for what is left out here.
+/// The methods of `Files` that no command calls are left out.
 #[derive(Drop)]
 pub struct Host<R> {
     rt: R,
     stdout: Stdout,
-    /// Whether a file that is written is standard output.
+    /// Whether standard output was opened as a file to write.
     is_taken: AtomicBool,
 }
 
 impl<R> Host<R> {
-    /// This system, which has this standard output.
+    /// This system, with this standard output.
     pub fn new(rt: R, stdout: Stdout) -> Host<R> {
         Host {
             rt,
@@ -136,7 +136,7 @@ impl<R: Files> Files for Host<R> {
 #[derive(Drop)]
 pub struct HostFile<F: Drop> {
     file: F,
-    /// Standard output, where that is what the file is and where it is written.
+    /// Standard output, if the file is standard output and is written.
     stdout: Option<Stdout>,
 }
 
@@ -209,12 +209,16 @@ impl<F: SystemFile + Drop> SystemFile for HostFile<F> {
         self.file.set_owner(owner, group)
     }
 
+    fn acquire_lock(&self) -> io::Result<FileLock> {
+        self.file.acquire_lock()
+    }
+
     fn is_standard_output(&self) -> bool {
         self.stdout.is_some()
     }
 }
 
-/// What a command prints to: standard output, or standard error where a file that it has written is standard output.
+/// Where a command prints: to standard output, or to standard error if it has written standard output as a file.
 #[derive(Drop)]
 pub struct Printer<'h, R> {
     host: &'h Host<R>,
@@ -223,7 +227,7 @@ pub struct Printer<'h, R> {
 }
 
 impl<'h, R> Printer<'h, R> {
-    /// That of this system, which has this standard error.
+    /// A printer to this system's standard output, or to this standard error.
     pub fn new(host: &'h Host<R>, stderr: Stderr) -> Printer<'h, R> {
         Printer {
             host,

@@ -1,4 +1,3 @@
-//! `ImageFile`.
 use crate::ahead::Ahead;
 use command_support::Watched;
 use heap_image::{Body, BodySize, Failed, Intake};
@@ -8,11 +7,11 @@ use std::io::{Read, Seek};
 use std::os::unix::fs::FileExt;
 use std::thread::Threads;
 
-/// The bytes of an image's file, which no contract tells.
+/// The file of an image. Its bytes are unknown to contracts.
 ///
-/// Of a large image in a regular file several threads read what stands behind the front first, side by side. Any other
-/// file, as a pipe, is read in order, and so is all of a regular one where a thread can't read its part: what is then wrong
-/// is found as of a pipe.
+/// The body of a large image in a regular file is read ahead by several threads side by side. Any other file, such as
+/// a pipe, is read in order. So is a whole regular file of which a thread can't read its part: what is wrong is then
+/// found as for a pipe.
 #[derive(Drop)]
 pub struct ImageFile<'a, F: Drop> {
     watched: Watched<'a, F>,
@@ -21,7 +20,7 @@ pub struct ImageFile<'a, F: Drop> {
 }
 
 impl<'a, F: Drop> ImageFile<'a, F> {
-    /// The bytes of this file, of which so many threads at most have read what stands behind the front.
+    /// Reads the body ahead by at most `workers` threads, if it is a large one in a regular file.
     pub fn read_ahead<H: AllocGlobal + Threads + Sync>(
         host: &H,
         watched: Watched<'a, F>,

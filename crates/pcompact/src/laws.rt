@@ -1,5 +1,5 @@
-//! What the contract of the program says of each command: laws, which take its part out of the clause about what a good
-//! call prints.
+//! What the contract of the program says of each command: laws that take its part out of the clause on what a
+//! successful call prints.
 ghost use Rattle.std.specs.Prelude.{◌≡◌, codes, ℕ, List};
 ghost use Rattle.board_sweep.specs.Report.{IsBoardText};
 ghost use Rattle.heap_commands.specs.Assemble.{IsCountLine};

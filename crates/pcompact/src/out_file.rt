@@ -1,4 +1,3 @@
-//! `OutFile`.
 ghost use Rattle.std.specs.Prelude.{◌≡◌, ◌≤◌, IfOk, IfSome, Ok, length};
 
 use crate::figures::FiguresLine;
@@ -7,21 +6,21 @@ use heap_image::{Failed, Fault, Outlet};
 use std::fs::OpenFile;
 use std::io::{Seek, Write};
 
-/// The bytes of a file that a collected image is written to, which no contract tells.
+/// The file that a collected image is written to. Its bytes are unknown to contracts.
 ///
-/// A regular file has holes where zeros are left out: they take no room on the disk, and read as zeros. Any other, as a
-/// pipe, is given each zero.
+/// In a regular file zeros are left out as holes, which take no room on the disk and read as zeros. To any other
+/// file, such as a pipe, each zero is written.
 #[derive(Drop)]
 pub struct OutFile<'a, 'f, F: Drop> {
     watched: &'f mut Watched<'a, F>,
     may_have_holes: bool,
     failed: bool,
-    /// How many zeros lie between the last byte that was given and the next one.
+    /// The number of zeros left out after the last byte that was written.
     left_out: u64,
 }
 
 impl<'a, 'f, F: OpenFile + Write + Seek + Drop> OutFile<'a, 'f, F> {
-    /// The bytes of this file, of which none was given yet.
+    /// A file to which nothing is written yet.
     pub fn new(watched: &'f mut Watched<'a, F>, may_have_holes: bool) -> OutFile<'a, 'f, F> {
         OutFile {
             watched,
@@ -31,30 +30,30 @@ impl<'a, 'f, F: OpenFile + Write + Seek + Drop> OutFile<'a, 'f, F> {
         }
     }
 
-    /// Ends the file, also where its last bytes are zeros that were left out, and hands on what a collection told. Fault 13
-    /// where the device fails.
-    pub fn end(&mut self, told: Result<FiguresLine, Fault>) -> Result<FiguresLine, Fault>
-        ensures { IfOk result (λ line. told ≡ Ok line) }
+    /// Writes the zeros at the end that were left out, and passes on the outcome of a collection. Fault 13 if the file
+    /// fails.
+    pub fn end(&mut self, outcome: Result<FiguresLine, Fault>) -> Result<FiguresLine, Fault>
+        ensures { IfOk result (λ line. outcome ≡ Ok line) }
     {
-        let line = told?;
-        match self.pass_left_out() {
+        let line = outcome?;
+        match self.write_hole() {
             Some(()) => Ok(line),
             None => Err(Fault::Io),
         }
     }
 
-    /// Writes bytes behind the zeros that were left out. None where the file fails.
-    fn write_behind(&mut self, bytes: &[u8]) -> Option<usize>
+    /// Writes bytes after the zeros that were left out. None if the file fails.
+    fn write_after_hole(&mut self, bytes: &[u8]) -> Option<usize>
         ensures within { IfSome result (λ n. n ≤ length bytes.now) }
         ensures kept { self.new.failed ≡ self.old.failed }
     {
-        self.pass_left_out()?;
+        self.write_hole()?;
         self.watched.write(bytes).ok()
     }
 
-    /// Passes over the zeros that were left out, and writes the last of them: then the file is as long as it has to be,
-    /// whether or not more follows. None where the file fails or takes no byte.
-    fn pass_left_out(&mut self) -> Option<()>
+    /// Skips the zeros that were left out but for the last, which is written, so that the file has its length even if
+    /// no more follows. None if the file fails or takes no byte.
+    fn write_hole(&mut self) -> Option<()>
         ensures { self.new.failed ≡ self.old.failed }
     {
         let Some(hole) = self.left_out.checked_sub(1) else {
@@ -80,7 +79,7 @@ impl<F: OpenFile + Write + Seek + Drop> Outlet for OutFile<'_, '_, F> {
         if self.failed {
             return Err(Failed);
         }
-        match self.write_behind(bytes) {
+        match self.write_after_hole(bytes) {
             Some(n) if n > 0 || bytes.is_empty() => Ok(n),
             _ => {
                 self.failed = true;

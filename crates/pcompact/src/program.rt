@@ -1,4 +1,4 @@
-//! The whole program, over the writers that it is handed.
+//! The whole program, over any two writers.
 ghost use Rattle.std.specs.Prelude.{◌≡◌, ◌≤◌, ◌∷◌, ◌⊎◌, [], codes, ℕ, List, IfOk, OnOk, IfErr, IsTrue};
 ghost use Rattle.std.specs.Io.KnownBytes.{Appends};
 ghost use Rattle.command_line.specs.CommandLine.{AreWords, AreCallOf, HaveWord};
@@ -22,13 +22,12 @@ use std::sync::Wait;
 use std::thread::Threads;
 use std::time::Clock;
 
-/// Runs the program on the words after its name, and answers the exit status.
+/// Runs the program on its arguments, without the program's name, and returns the exit status.
 ///
-/// `out` and `err` stand for standard output and standard error, and `screen` for what the first shows. What a command prints is written
-/// to `out` whole, once its work is done, and flushed; a write or flush of `out` that fails is
-/// fault 13. Files that are to replace others take their places after that. A failed write to `err`
-/// changes nothing. Where the words ask for it, more lines on `err` follow the one that is owed, or tell, once all is done, what
-/// the work took.
+/// `out` and `err` are standard output and standard error, and `screen` says what the first can show. What a command
+/// prints is written to `out` whole, once its work is done, and flushed; if that fails, the command fails with fault
+/// 13. Files written with `--atomic` are renamed into place after that. A failed write to `err` changes nothing. With
+/// `--verbose`, details follow the error line on `err`; with `--stats`, timings are printed there at the end.
 ///
 /// `rt` opens files, allocates, starts threads, waits for them and reads the clock.
 pub fn run<R: Files + AllocGlobal + Threads + Wait + Clock + Sync, A: Write, B: Write>(
@@ -53,88 +52,92 @@ where
     let request = match command_line::read(rt.alloc(), words) {
         Ok(request) => request,
         Err(unread) => {
-            let failure = refused(rt.alloc(), words, unread);
-            return tell(&Trouble::new(failure), false, err);
+            let failure = unread_failure(rt.alloc(), words, unread);
+            return report(&Trouble::new(failure), false, err);
         }
     };
     let verbose = request.is_verbose();
-    // An option is a word, so the second half says no more than the first; the contract speaks of words.
+    // `asks_stats` implies that the option is an argument; the second test lets the contract speak of arguments.
     let measured = request.asks_stats() && have_word(words, "--stats");
     let done = match commands::answer(rt, screen, request) {
         Ok(done) => done,
-        Err(trouble) => return tell(&trouble, verbose, err),
+        Err(trouble) => return report(&trouble, verbose, err),
     };
     let stats = done.stats;
-    if let Err(trouble) = end(rt, done, out) {
-        return tell(&trouble, verbose, err);
+    if let Err(trouble) = finish(rt, done, out) {
+        return report(&trouble, verbose, err);
     }
     if measured {
-        tell_stats(rt, stats, err);
+        report_stats(rt, stats, err);
     }
     0
 }
 
-/// Why words give no request.
-fn refused(alloc: Global, words: &[String], unread: Unread) -> Failure
+/// The failure of arguments that aren't a request.
+fn unread_failure(alloc: Global, words: &[String], unread: Unread) -> Failure
     ensures { unread ≡ Unread.Memory → result ≡ out_of_memory }
 {
     match Failure::of_unread(alloc, unread) {
-        Failure::Usage(text) => misused(alloc, words, text),
+        Failure::Usage(text) => usage_failure(alloc, words, text),
         other => other,
     }
 }
 
-/// What is wrong with words, which this text says. It shows them, and they must not break its lines: where one isn't shown as
-/// it is, what is wrong is told of what is shown in their place.
-fn misused(alloc: Global, words: &[String], text: String) -> Failure {
+/// The usage failure with this text, which quotes the arguments. They must not break its lines: if one has characters
+/// that aren't printable, the text is made again of the arguments as they are shown.
+fn usage_failure(alloc: Global, words: &[String], text: String) -> Failure {
     if words.iter().all(is_plain) {
         return Failure::Usage(text);
     }
-    match misused_as_shown(alloc, words) {
+    match usage_failure_as_shown(alloc, words) {
         Ok(failure) => failure,
         Err(refused) => Failure::from(refused),
     }
 }
 
-/// Whether a word is shown as it is.
+/// Whether an argument is shown as it is.
 fn is_plain(word: &String) -> bool {
     Printable(word.as_str()).is_plain()
 }
 
-/// What is wrong with what is shown in place of words.
-fn misused_as_shown(alloc: Global, words: &[String]) -> Result<Failure, AllocError> {
+/// The usage failure of the arguments as they are shown.
+fn usage_failure_as_shown(alloc: Global, words: &[String]) -> Result<Failure, AllocError> {
     let mut shown = Vec::new(alloc);
     for word in words {
         shown.push(format!(in alloc; "{}", Printable(word.as_str()))?)?;
     }
-    why_refused(alloc, shown.as_slice())
+    failure_of(alloc, shown.as_slice())
 }
 
-/// Why words give no request that give none.
-fn why_refused(alloc: Global, words: &[String]) -> Result<Failure, AllocError> {
+/// The failure of arguments that aren't a request.
+fn failure_of(alloc: Global, words: &[String]) -> Result<Failure, AllocError> {
     match command_line::read(alloc, words) {
         Ok(_request) => Failure::usage(alloc, "pcompact: no such command\n"),
         Err(unread) => Ok(Failure::of_unread(alloc, unread)),
     }
 }
 
-/// Whether one of the words has this text.
+/// Whether one of the arguments is this text.
 fn have_word(words: &[String], text: &str) -> bool
     ensures { IsTrue result → HaveWord text.now words.now }
 {
     words.iter().any(|word| word.as_str() == text)
 }
 
-/// Says on `err` what the work took. Where `err` takes no text nothing changes.
-fn tell_stats<H: Files + Threads + Clock, B: Write>(host: &H, stats: Option<Stats>, err: &mut B) {
+/// Prints the timings to `err`. If that fails, nothing changes.
+fn report_stats<H: Files + Threads + Clock, B: Write>(host: &H, stats: Option<Stats>, err: &mut B) {
     if let Some(stats) = stats {
-        let _ = stats.tell(host, err);
+        let _ = stats.print(host, err);
         let _ = err.flush();
     }
 }
 
-/// Shows what a command prints. Then the files take their places that are to replace others.
-fn end<'a, H: Files, A: Write>(host: &H, done: WorkDone<'a>, out: &mut A) -> Result<(), Trouble<'a>>
+/// Prints the text of a command, and then renames its files into place.
+fn finish<'a, H: Files, A: Write>(
+    host: &H,
+    done: WorkDone<'a>,
+    out: &mut A,
+) -> Result<(), Trouble<'a>>
     ensures shown { OnOk result (Appends (A.contents out.old) (A.contents out.new) done.entry.text.items) }
     ensures fault { IfErr result (λ trouble. trouble.failure ≡ failed_device) }
 {
@@ -148,7 +151,7 @@ fn end<'a, H: Files, A: Write>(host: &H, done: WorkDone<'a>, out: &mut A) -> Res
     }
 }
 
-/// Writes the text whole and flushes it.
+/// Writes the whole text and flushes it.
 fn show<A: Write>(text: &[u8], out: &mut A) -> io::Result<()>
     ensures { OnOk result (Appends (A.contents out.old) (A.contents out.new) text.now) }
 {
@@ -156,9 +159,9 @@ fn show<A: Write>(text: &[u8], out: &mut A) -> io::Result<()>
     out.flush()
 }
 
-/// Says on `err` why the program fails, at length where that is asked for, and answers the exit
-/// status: 2 for words that are no command, else 1. Where `err` takes no text the status is the same.
-pub fn tell<B: Write>(trouble: &Trouble<'_>, verbose: bool, err: &mut B) -> u8
+/// Prints to `err` why the program fails, with details if `verbose`, and returns the exit status: 2 for wrong usage,
+/// else 1. The status doesn't depend on whether the writes succeed.
+pub fn report<B: Write>(trouble: &Trouble<'_>, verbose: bool, err: &mut B) -> u8
     ensures { result ≡ status_of trouble.now.failure }
 {
     let _ = match &trouble.failure {
@@ -170,7 +173,7 @@ pub fn tell<B: Write>(trouble: &Trouble<'_>, verbose: bool, err: &mut B) -> u8
         Failure::Text(error) => writeln!(err, "pcompact: TEXT {error}"),
     };
     if verbose {
-        let _ = trouble.tell_more(err);
+        let _ = trouble.print_details(err);
     }
     let _ = err.flush();
     trouble.failure.status()

@@ -1,24 +1,24 @@
-//! `TimedGate`.
 use collector::Gate;
 use command_support::Stopwatch;
 use std::sync::atomic::{AtomicU64, Ordering};
 use std::time::{Clock, Duration};
 
-/// No time yet.
+/// The value of `begun` before the first fill.
 const NEVER: u64 = u64::MAX;
 
-/// The gate that refuses nobody, and notes when the first fill began and the last one ended.
+/// A gate that refuses no fill, and records when the first fill began and when the last one ended.
 #[derive(Drop)]
 pub struct TimedGate<'h, H> {
     clock: &'h H,
     watch: Stopwatch,
-    /// In nanoseconds, as the other.
+    /// When the first fill began, in nanoseconds.
     begun: AtomicU64,
+    /// When the last fill ended, in nanoseconds. 0 before the first.
     ended: AtomicU64,
 }
 
 impl<'h, H: Clock> TimedGate<'h, H> {
-    /// The gate by this stopwatch, before any fill.
+    /// A gate that takes its times from this stopwatch.
     pub fn new(clock: &'h H, watch: Stopwatch) -> TimedGate<'h, H> {
         TimedGate {
             clock,
@@ -28,7 +28,7 @@ impl<'h, H: Clock> TimedGate<'h, H> {
         }
     }
 
-    /// When the first fill began.
+    /// When the first fill began. None if no fill has begun.
     pub fn begun(&self) -> Option<Duration> {
         match self.begun.load(Ordering::Relaxed) {
             NEVER => None,
@@ -36,7 +36,7 @@ impl<'h, H: Clock> TimedGate<'h, H> {
         }
     }
 
-    /// When the last fill had ended.
+    /// When the last fill ended. None if no fill has ended.
     pub fn ended(&self) -> Option<Duration> {
         match self.ended.load(Ordering::Relaxed) {
             0 => None,

@@ -1,10 +1,6 @@
-//! `Workers`.
-
-/// The workers of a collection.
+/// How many workers a collection has, and the gate that they pass.
 #[derive(Clone, Copy)]
 pub struct Workers<'a, G> {
-    /// How many there are.
     pub count: u32,
-    /// What lets them fill, and hears of it.
     pub gate: &'a G,
 }

@@ -1,4 +1,4 @@
-//! Where the objects of heaps go.
+//! Tests of new addresses.
 ghost use Rattle.std.specs.Prelude.{◌≡◌};
 
 use crate::checks::{equal, holds_at};
@@ -10,10 +10,10 @@ use std::test::Fail;
 use std::thread::Threads;
 use summary::Survey;
 
-/// A heap, and its figures: the prefix end, the new top and the number of regions to fill, and then the new addresses.
+/// A heap and its figures: the prefix end, the new top, the number of regions to fill, and the new addresses.
 type Row = (Sizes, &'static [Object], &'static [u64]);
 
-/// The figures of an image with this survey.
+/// The figures of an image by its survey.
 fn figures(alloc: Global, image: &Image, survey: &Survey) -> Result<Vec<u64>, Fault>
     requires { survey.now ≡ image.now }
 {
@@ -28,7 +28,6 @@ fn figures(alloc: Global, image: &Image, survey: &Survey) -> Result<Vec<u64>, Fa
     Ok(figures)
 }
 
-/// The figures of an image.
 fn image_figures<T: Threads + Sync>(
     threads: &T,
     alloc: Global,
@@ -46,7 +45,7 @@ fn slides<T: Threads + Sync>(threads: &T, alloc: Global, row: &Row) -> Result<bo
     Ok(found.as_slice() == expected)
 }
 
-/// The base heap, by its allowance.
+/// The base heap with some allowances.
 const BASE_ROWS: [Row; 4] = [
     ((3, 32, 0), &BASE, &[0, 19, 3, 0, 3, 7, 9]),
     ((3, 32, 1), &BASE, &[0, 19, 3, 0, 3, 7, 9]),
@@ -62,7 +61,7 @@ fn objects_of_the_base_heap_slide(rt: HostRuntime) -> Result<(), Fail> {
     Ok(())
 }
 
-/// Heaps whose prefix ends at or before their last live word's region.
+/// Heaps whose prefix ends at or before the region of their last live word.
 const PREFIX_ROWS: [Row; 4] = [
     ((3, 16, 8), &[(0, 4), (10, 2)], &[8, 10, 2, 0, 8]),
     ((3, 24, 14), &[(2, 2), (20, 3)], &[16, 19, 3, 2, 16]),
@@ -78,7 +77,7 @@ fn prefixes_are_cut_at_the_last_live_end(rt: HostRuntime) -> Result<(), Fail> {
     Ok(())
 }
 
-/// Heaps that are one object, one region, or have blocks that begin within objects.
+/// Heaps of one object or one region, and heaps with blocks that begin within objects.
 const BLOCK_ROWS: [Row; 6] = [
     ((3, 32, 0), &[(0, 32)], &[32, 32, 4, 0]),
     ((3, 8, 0), &[(0, 1), (2, 1), (3, 5)], &[0, 7, 1, 0, 1, 2]),
@@ -100,7 +99,7 @@ fn blocks_and_whole_heaps(rt: HostRuntime) -> Result<(), Fail> {
     Ok(())
 }
 
-/// The new top that the survey of an image tells, and the first object that its marks tell from address 6 on.
+/// From the survey of an image: the new top, and the first address from 6 on at which an object begins.
 fn survey_findings<T: Threads + Sync>(
     threads: &T,
     alloc: Global,

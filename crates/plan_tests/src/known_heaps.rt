@@ -1,4 +1,4 @@
-//! Heaps whose plans are known, and how a test has one and its plan.
+//! Builders of images and plans for the tests.
 ghost use Rattle.std.specs.Prelude.{◌≡◌, IfOk};
 
 use heap_image::{Fault, Image};
@@ -18,7 +18,7 @@ pub const BASE_SIZES: Sizes = (3, 32, 0);
 /// The region log, the number of words and the allowance of a heap.
 pub type Sizes = (u64, u64, u64);
 
-/// The image of such a heap, whose objects have no references and only zeros behind their headers.
+/// The image of a heap whose objects have no references and only zeros after their headers.
 pub fn image_of<T: Threads + Sync>(
     threads: &T,
     alloc: Global,

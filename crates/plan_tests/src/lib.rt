@@ -1,6 +1,6 @@
-//! The tests of `summary`, through its public calls alone.
+//! Tests of the public calls of `summary`.
 //!
-//! They stand in a crate of their own so that a check of them doesn't prove `summary` again.
+//! They are in a crate of their own so that checking them doesn't prove `summary` again.
 #![tactic(auto)]
 
 #[cfg(test)]

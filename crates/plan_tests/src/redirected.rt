@@ -1,4 +1,4 @@
-//! What becomes of references.
+//! Tests of redirected references.
 ghost use Rattle.std.specs.Prelude.{◌≡◌};
 
 use crate::checks::{holds, holds_at};
@@ -11,10 +11,10 @@ use std::test::Fail;
 use std::thread::Threads;
 use summary::Plan;
 
-/// A heap, and what becomes of null, and then of a reference to each live object.
+/// A heap, and what null and a reference to each live object become.
 type Row = (Sizes, &'static [Object], &'static [u64]);
 
-/// What becomes of null, and then of a reference to each live object, by this plan.
+/// What null and a reference to each live object become by this plan.
 fn references(alloc: Global, image: &Image, plan: &Plan) -> Result<Vec<u64>, Fault>
     requires { plan.now ≡ image.now }
 {
@@ -26,7 +26,7 @@ fn references(alloc: Global, image: &Image, plan: &Plan) -> Result<Vec<u64>, Fau
     Ok(references)
 }
 
-/// The same of an image.
+/// What they become by the plan of an image.
 fn image_references<T: Threads + Sync>(
     threads: &T,
     alloc: Global,
@@ -36,7 +36,7 @@ fn image_references<T: Threads + Sync>(
     references(alloc, image, &plan)
 }
 
-/// Whether the references of a row's heap become what it says.
+/// Whether the references of a row's heap become those of the row.
 fn redirects<T: Threads + Sync>(threads: &T, alloc: Global, row: &Row) -> Result<bool, Fail> {
     let (sizes, objects, expected) = *row;
     let image = image_of(threads, alloc, sizes, objects)?;
@@ -76,7 +76,7 @@ fn references_to_the_last_word(rt: HostRuntime) -> Result<(), Fail> {
     Ok(())
 }
 
-/// Whether a reference to each live object is redirected in a region as it is alone.
+/// Whether `redirect` gives a reference to each live object in a region the same value as `redirected`.
 fn redirects_in_regions(alloc: Global, image: &Image, plan: &Plan) -> Result<bool, Fault>
     requires { plan.now ≡ image.now }
 {
@@ -91,7 +91,6 @@ fn redirects_in_regions(alloc: Global, image: &Image, plan: &Plan) -> Result<boo
     Ok(true)
 }
 
-/// The same by the plan of this image.
 fn image_redirects_in_regions<T: Threads + Sync>(
     threads: &T,
     alloc: Global,

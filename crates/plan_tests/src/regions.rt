@@ -1,4 +1,4 @@
-//! What plans tell of single regions.
+//! Tests of what plans say about single regions.
 use crate::checks::{equal, holds, holds_at};
 use crate::known_heaps::{BASE, BASE_SIZES, Sizes, plan_of};
 use heap_samples::Object;
@@ -48,7 +48,7 @@ fn reads(plan: &Plan, d: u32, expected: &[u32]) -> bool {
     d < plan.regions() && plan.reads(d).eq(expected.iter().copied())
 }
 
-/// Of an object of 20 words at 1 each region, and those that it reads.
+/// For an object of 20 words at address 1: each region, and the regions that it reads.
 const READS: [(u32, &[u32]); 4] = [(0, &[0, 1]), (1, &[1, 2]), (2, &[2]), (3, &[])];
 
 #[test]
@@ -60,7 +60,7 @@ fn regions_that_an_object_crosses_read_the_next(rt: HostRuntime) -> Result<(), F
     Ok(())
 }
 
-/// What a plan tells of region 1, where there is one.
+/// The data of region 1, if there is one.
 fn second_region(plan: &Plan) -> Option<RegionData> {
     if plan.regions() > 1 {
         Some(plan.region(1))

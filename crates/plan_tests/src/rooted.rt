@@ -1,4 +1,4 @@
-//! Heaps with roots: what they reach is compacted, and each root follows its object.
+//! Tests of compactions with roots: reachable objects are kept, and each root follows its object.
 use crate::checks::holds_at;
 use crate::known_heaps::BASE;
 use heap_image::{Image, decode_by_threads};
@@ -8,10 +8,10 @@ use std::test::Fail;
 use std::thread::Threads;
 use summary::compact_plainly;
 
-/// An allowance and roots of the base heap; the roots of its compaction, and the live addresses of that.
+/// An allowance and roots of the base heap, and the roots and live addresses of its compaction.
 type Row = (u64, &'static [u64], &'static [u64], &'static [u64]);
 
-/// The base heap, whose objects have no references here, with this allowance and these roots.
+/// The base heap without references, with this allowance and these roots.
 fn base_with<T: Threads + Sync>(
     threads: &T,
     alloc: Global,
@@ -23,7 +23,7 @@ fn base_with<T: Threads + Sync>(
     Ok(decode_by_threads(alloc, text.as_slice(), threads)?)
 }
 
-/// The compaction of that heap.
+/// The compaction of the base heap with this allowance and these roots.
 fn compaction<T: Threads + Sync>(
     threads: &T,
     alloc: Global,
@@ -44,7 +44,7 @@ fn leads<T: Threads + Sync>(threads: &T, alloc: Global, row: &Row) -> Result<boo
 /// Roots to each object of the base heap.
 const ALL: &[u64] = &[21, 0, 13, 1, 6, 1];
 
-/// The base heap with these roots, by its allowance.
+/// The base heap with roots to all of its objects.
 const REACHED_ROWS: [Row; 3] = [
     (0, ALL, &[10, 0, 8, 1, 4, 1], &[0, 3, 7, 9]),
     (2, ALL, &[12, 0, 10, 1, 6, 1], &[0, 5, 9, 11]),
@@ -67,7 +67,7 @@ const UNREACHED_ROWS: [Row; 3] = [
 ];
 
 #[test]
-fn what_no_root_reaches_is_dead(rt: HostRuntime) -> Result<(), Fail> {
+fn unreachable_objects_are_dead(rt: HostRuntime) -> Result<(), Fail> {
     for (row, heap) in UNREACHED_ROWS.iter().enumerate() {
         holds_at(&rt, leads(&rt, rt.alloc(), heap)?, row);
     }

@@ -1,4 +1,4 @@
-//! Heaps made from seeds, whose plans are compared with plain counts over their live words.
+//! Compares the plans of pseudo-random heaps with plain counts over their live words.
 ghost use Rattle.std.specs.Prelude.{◌≡◌, ◌<◌};
 ghost use Rattle.heap_image.specs.HeapImage.{region_count};
 
@@ -12,7 +12,7 @@ use std::test::Fail;
 use std::thread::Threads;
 use summary::{Plan, RegionData, Survey, compact_plainly};
 
-/// Numbers that look like chance, the same in each run.
+/// A pseudo-random generator with a fixed seed.
 #[derive(Drop)]
 struct Seed(u64);
 
@@ -25,7 +25,7 @@ impl Seed {
         (self.0 >> 33).checked_rem(bound).unwrap_or(0)
     }
 
-    /// How many dead words come next: mostly none, at times those of some regions.
+    /// The number of dead words before the next object: mostly none, and at times up to three regions.
     fn gap(&mut self, region_words: u64) -> u64 {
         match self.below(6) {
             0 => self.below(region_words.wrapping_mul(3)),
@@ -34,18 +34,18 @@ impl Seed {
         }
     }
 
-    /// How many words the next object has: often one, at times those of some regions.
+    /// The number of words of the next object: often one, and at times up to three regions.
     fn size(&mut self, region_words: u64) -> u64 {
-        let behind = match self.below(6) {
+        let more = match self.below(6) {
             0 => self.below(region_words.wrapping_mul(3)),
             1 | 2 => 0,
             _ => self.below(region_words),
         };
-        behind.wrapping_add(1)
+        more.wrapping_add(1)
     }
 }
 
-/// The objects of a heap of so many words.
+/// The objects of a heap of `len` words.
 fn seeded_objects(
     alloc: Global,
     mut seed: Seed,
@@ -66,7 +66,7 @@ fn seeded_objects(
     Ok(objects)
 }
 
-/// A live word: where its object begins, where it is, and where it goes.
+/// A live word: the address of its object, its own address, and its new address.
 #[derive(Clone, Copy)]
 struct LiveWord {
     object: u64,
@@ -74,7 +74,7 @@ struct LiveWord {
     to: u64,
 }
 
-/// The live words of these objects, which go to these addresses.
+/// The live words of these objects, which move to these addresses.
 fn live_words(
     alloc: Global,
     objects: &[Object],
@@ -93,7 +93,7 @@ fn live_words(
     Ok(words)
 }
 
-/// The live words of a heap, and its sizes.
+/// The live words of a heap, and its sizes, with plain counts.
 #[derive(Drop)]
 struct Heap<'a> {
     words: &'a [LiveWord],
@@ -111,7 +111,7 @@ impl Heap<'_> {
         r.wrapping_mul(self.region_words)
     }
 
-    /// How many live words stand from address `a` on and before region `r`.
+    /// The number of live words from address `a` on and before region `r`.
     fn words_between(&self, a: u64, r: u64) -> u64 {
         let words = self.words.iter();
         words
@@ -119,7 +119,7 @@ impl Heap<'_> {
             .count() as u64
     }
 
-    /// How many live words of region `r` are of an object begun further left.
+    /// The number of live words of region `r` that belong to an object of a lower region.
     fn partial(&self, r: u64) -> u64 {
         let words = self.words.iter();
         words
@@ -136,18 +136,18 @@ impl Heap<'_> {
         }
     }
 
-    /// Whether a number is null, or 1 plus the address of a word that lies in the dense prefix or is live.
+    /// Whether a number is null, or 1 plus the address of a word that is in the dense prefix or is live.
     fn is_counted(&self, x: u64) -> bool {
         let mut words = self.words.iter();
         x <= self.prefix_end || words.any(|word| word.from.wrapping_add(1) == x)
     }
 
-    /// How many such numbers lie below this one.
+    /// The number of such numbers below `x`.
     fn counted_below(&self, x: u64) -> u64 {
         (0..x).filter(|y| self.is_counted(*y)).count() as u64
     }
 
-    /// Whether a word goes from region `s` to region `d`.
+    /// Whether a word moves from region `s` to region `d`.
     fn reads(&self, d: u64, s: u64) -> bool {
         let mut words = self.words.iter();
         words.any(|word| self.region_of(word.from) == s && self.region_of(word.to) == d)
@@ -159,7 +159,7 @@ impl Heap<'_> {
             .count() as u64
     }
 
-    /// The region whose word goes to the start of region `d`, if `d` lies behind the dense prefix.
+    /// The region whose word moves to the start of region `d`, if `d` is after the dense prefix.
     fn source(&self, d: u64) -> Option<u64> {
         if self.start_of(d) < self.prefix_end {
             return None;
@@ -168,7 +168,7 @@ impl Heap<'_> {
         Some(self.region_of(first.from))
     }
 
-    /// Whether a word of the object goes behind region `d`.
+    /// Whether a word of the object moves to a region after `d`.
     fn crosses(&self, object: u64, d: u64) -> bool {
         let mut words = self.words.iter();
         words.any(|word| word.object == object && self.region_of(word.to) > d)
@@ -183,7 +183,7 @@ impl Heap<'_> {
     }
 }
 
-/// The last region start that the last live word's end doesn't lie below, with at most so many dead words below it.
+/// The last region start up to the end of the last live word that has at most `allowance` dead words below it.
 fn prefix_end(words: &[LiveWord], region_words: u64, allowance: u64) -> u64 {
     let end = words.last().map_or(0, |word| word.from.wrapping_add(1));
     let mut prefix_end = 0;
@@ -196,7 +196,7 @@ fn prefix_end(words: &[LiveWord], region_words: u64, allowance: u64) -> u64 {
     prefix_end
 }
 
-/// Whether the plan tells of region `r` what is counted.
+/// Whether the plan's data of region `r` agree with the counts.
 fn region_agrees(plan: &Plan, heap: &Heap<'_>, r: u32) -> bool
     requires { r < region_count plan.now }
 {
@@ -211,7 +211,7 @@ fn region_agrees(plan: &Plan, heap: &Heap<'_>, r: u32) -> bool
         && plan.deferred(r) == heap.deferred(r64)
 }
 
-/// Whether region `d` reads the regions that are counted.
+/// Whether the plan's reads of region `d` agree with the counts.
 fn reads_agree(plan: &Plan, heap: &Heap<'_>, d: u32) -> bool
     requires { d < region_count plan.now }
 {
@@ -229,7 +229,7 @@ fn regions_agree(plan: &Plan, heap: &Heap<'_>) -> bool {
     true
 }
 
-/// Whether each object goes where its first word goes.
+/// Whether each object's new address is that of its first word.
 fn addresses_agree(image: &Image, marks: &Marks, plan: &Plan, heap: &Heap<'_>) -> bool
     requires marks { marks.now ≡ image.now }
     requires plan { plan.now ≡ image.now }
@@ -247,7 +247,7 @@ fn addresses_agree(image: &Image, marks: &Marks, plan: &Plan, heap: &Heap<'_>) -
     true
 }
 
-/// Whether null stays null, and a reference to each object becomes what is counted.
+/// Whether null stays null, and the redirected references agree with the counts.
 fn references_agree(image: &Image, plan: &Plan, heap: &Heap<'_>) -> bool
     requires { plan.now ≡ image.now }
 {
@@ -259,7 +259,7 @@ fn references_agree(image: &Image, plan: &Plan, heap: &Heap<'_>) -> bool
     plan.redirected(0) == 0
 }
 
-/// Whether the plan has the ends that are counted.
+/// Whether the plan's prefix end, new top and numbers of regions agree with the counts.
 fn ends_agree(plan: &Plan, heap: &Heap<'_>) -> bool {
     let top = heap.words.last().map_or(0, |word| word.to.wrapping_add(1));
     let filled = (0..heap.regions)
@@ -271,7 +271,7 @@ fn ends_agree(plan: &Plan, heap: &Heap<'_>) -> bool {
         && u64::from(plan.regions()) == heap.regions
 }
 
-/// Whether the plan of a surveyed image whose live words are these is the one that is counted.
+/// Whether the plan of a survey agrees with the counts over these live words.
 fn survey_agrees(image: &Image, survey: &Survey, words: &[LiveWord], region_words: u64) -> bool
     requires { survey.now ≡ image.now }
 {
@@ -288,7 +288,7 @@ fn survey_agrees(image: &Image, survey: &Survey, words: &[LiveWord], region_word
         && regions_agree(plan, &heap)
 }
 
-/// Whether the plan of an image whose live words are these is the one that is counted.
+/// Whether the plan of an image agrees with the counts over these live words.
 fn words_agree<T: Threads + Sync>(
     threads: &T,
     alloc: Global,
@@ -300,7 +300,7 @@ fn words_agree<T: Threads + Sync>(
     Ok(survey_agrees(image, &survey, words, region_words))
 }
 
-/// The live words of an image of these objects, with the places that its compaction has for them.
+/// The live words of an image of these objects, with their new addresses in its compaction.
 fn placed_words(
     alloc: Global,
     image: &Image,
@@ -310,7 +310,7 @@ fn placed_words(
     live_words(alloc, objects, new.live())
 }
 
-/// Whether the plan of an image of these objects is the one that is counted.
+/// Whether the plan of an image of these objects agrees with the counts.
 fn image_agrees<T: Threads + Sync>(
     threads: &T,
     alloc: Global,
@@ -322,7 +322,7 @@ fn image_agrees<T: Threads + Sync>(
     words_agree(threads, alloc, image, words.as_slice(), region_words)
 }
 
-/// Whether the plan of the heap that this seed makes, of eight regions, is the one that is counted.
+/// Whether the plan of the heap with this seed, of eight regions, agrees with the counts.
 fn seed_agrees<T: Threads + Sync>(
     threads: &T,
     alloc: Global,
@@ -337,7 +337,7 @@ fn seed_agrees<T: Threads + Sync>(
     Ok(image_agrees(threads, alloc, &image, objects.as_slice(), region_words)?)
 }
 
-/// The first of so many seeds of whose heap the plan is another than the one that is counted.
+/// The first seed below `seeds` whose heap has a plan that disagrees with the counts.
 fn first_that_differs<T: Threads + Sync>(
     threads: &T,
     alloc: Global,
@@ -353,7 +353,7 @@ fn first_that_differs<T: Threads + Sync>(
 }
 
 #[test]
-fn seeded_heaps_have_the_plans_that_are_counted(rt: HostRuntime) -> Result<(), Fail> {
+fn plans_of_random_heaps_agree_with_plain_counts(rt: HostRuntime) -> Result<(), Fail> {
     let small = first_that_differs(&rt, rt.alloc(), 60, (3, 8))?;
     let large = first_that_differs(&rt, rt.alloc(), 6, (8, 256))?;
     equal(&rt, (small, large), (None, None));

@@ -1,5 +1,5 @@
 -- How the parts of a move make up the whole.
---     with_words-append     words written behind those written before
+--     with_words-append     words written after those written before
 --     part-with_words       what stands above the written words is as it was
 --     with_words-more       c words more move down, after i of them have
 use Rattle.std.proofs.Common.{◌≡◌, ℕ, ◌+◌, ◌-◌, ◌≤◌, List, ◌++◌, length, take, drop, sym, ap, ◌∙◌, arith}

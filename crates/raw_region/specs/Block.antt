@@ -10,7 +10,7 @@ use base.Fml.{Fml, Lft, fsep, flt}
 use denote.Sharing.{said, beside}
 use denote.Struct.Lending.{lent_at}
 
--- the right to free what the heap gave for a τ at p, which is the same by each handle to it
+-- the right to free what the allocator gave for a τ at p, which is the same through each handle to it
 abbrev pub may_free : Ty → Ptr → Fml
 may_free = ghosts.dealloc_token (record { memory = record { seal = tt } })
 

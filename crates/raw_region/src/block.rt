@@ -1,4 +1,4 @@
-//! The block: a raw pointer, a length, and the memory that they own.
+//! The unsafe code of the crate: a raw pointer, a length, and the memory that they own.
 ghost use Rattle.std.specs.Prelude.{◌≡◌, ◌≤◌, ℕ, List, length, replicate, IfOk};
 ghost use Rattle.std.specs.Borrow.{sem};
 ghost use Rattle.raw_region.specs.Block.{block_owns, block_shares};
@@ -7,12 +7,12 @@ use std::alloc::{AllocError, Allocator, Global};
 use std::marker::{Model, Send, Sync};
 use std::slice;
 
-/// The most words that a region can have.
+/// The largest number of words of a region.
 pub const MAX_WORDS: usize = 65_536;
 
-/// `len` words in a block of the heap.
+/// An allocation of `len` words.
 ///
-/// It has no `Drop`, so that the check refuses code which lets one go: `release` is its only end.
+/// It has no `Drop`, so the check rejects code that drops a block: only `release` ends one.
 pub(crate) struct Block {
     at: *mut u64,
     len: usize,
@@ -32,7 +32,7 @@ unsafe impl Sync for Block {}
 impl Block {
     ghost use Rattle.raw_region.specs.BlockLending.{LendsBlock};
 
-    /// A new block, of zeros.
+    /// Allocates a block of zeros.
     pub(crate) fn zeroed(alloc: &Global, len: usize) -> Result<Block, AllocError>
         requires nonempty { 1 ≤ len }
         requires at_most { len ≤ MAX_WORDS }
@@ -67,7 +67,7 @@ impl Block {
         unsafe { slice::from_raw_parts_mut(self.at, self.len) }
     }
 
-    /// Gives the block back to the heap.
+    /// Frees the block.
     pub(crate) fn release(self, alloc: &Global) {
         let Block { at, len } = self;
         unsafe { alloc.deallocate(at as *mut u8, len * 8, 8) }

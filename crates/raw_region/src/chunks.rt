@@ -1,15 +1,15 @@
-//! Words that move down a slice over one another, by chunks of a fixed length.
+//! An overlapping move of words to lower indices of a slice, in chunks of a fixed length.
 ghost use Rattle.std.specs.Prelude.{◌≡◌, ◌+◌, ◌<◌, ◌≤◌, ◌++◌, drop, length};
 ghost use Rattle.raw_region.specs.Region.{with_words, part};
 
-// The lengths of a chunk, in words. What is shorter than the last goes word by word.
+// The lengths of chunks, in words. Fewer words than `SHORT` are moved one by one.
 const LONG: usize = 4_096;
 
 const MIDDLE: usize = 256;
 
 const SHORT: usize = 16;
 
-/// Moves the `n` words from index `from` on down to index `to` and on. The two ranges may overlap.
+/// Moves the `n` words at index `from` down to index `to`. The two ranges may overlap.
 pub(crate) fn move_down(words: &mut [u64], from: usize, to: usize, n: usize)
     requires downward { to ≤ from }
     requires source { from + n ≤ length words.old }
@@ -21,7 +21,7 @@ pub(crate) fn move_down(words: &mut [u64], from: usize, to: usize, n: usize)
     }
 }
 
-/// Moves the first of the `n` words, as many as there is a chunk for, and says how many.
+/// Moves the first of the `n` words, by the longest chunk that fits, and returns how many.
 fn move_first(words: &mut [u64], from: usize, to: usize, n: usize) -> usize
     requires some { 0 < n }
     requires downward { to ≤ from }
@@ -45,8 +45,8 @@ fn move_first(words: &mut [u64], from: usize, to: usize, n: usize) -> usize
     }
 }
 
-/// Moves `N` words by way of an array of their own, of which LLVM makes one `memmove`: it makes none
-/// of std's `copy_within`, which goes word by word.
+/// Moves `N` words through an array. LLVM compiles this to one `memmove`, but std's `copy_within` to
+/// a loop over single words.
 #[inline(always)]
 fn move_chunk<const N: usize>(words: &mut [u64], from: usize, to: usize)
     requires downward { to ≤ from }
@@ -57,7 +57,7 @@ fn move_chunk<const N: usize>(words: &mut [u64], from: usize, to: usize)
     put_chunk(&mut words[to..], chunk);
 }
 
-/// Puts the chunk in the place of the first `N` words.
+/// Replaces the first `N` words by the chunk.
 #[inline(always)]
 fn put_chunk<const N: usize>(words: &mut [u64], chunk: [u64; N])
     requires { N ≤ length words.old }

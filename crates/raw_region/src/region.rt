@@ -1,4 +1,4 @@
-//! The region: a list of words.
+//! The safe part of the crate: a list of words, built on `Block`.
 ghost use Rattle.std.specs.Prelude.{◌≡◌, ◌+◌, ◌<◌, ◌≤◌, length, replicate, slice_index, slice_set, IfOk, IsTrue};
 ghost use Rattle.std.specs.Borrow.{sem};
 ghost use Rattle.raw_region.specs.Region.{with_words, part};
@@ -8,13 +8,13 @@ use crate::chunks::move_down;
 use std::alloc::{AllocError, Global};
 use std::marker::Model;
 
-/// As many zeros as a region has words at most.
+/// The words of a cleared region, whose block still has the old ones.
 static ZEROS: [u64; MAX_WORDS] = [0; MAX_WORDS];
 
-/// From 1 to `MAX_WORDS` words of 64 bits. In a contract it is the list of them.
+/// From 1 to `MAX_WORDS` words of 64 bits. A contract sees the list of them.
 pub struct Region {
     block: Block,
-    /// Whether all words are 0, whatever stands in the block.
+    /// Whether all words are 0, whatever the block contains.
     is_clear: bool,
     alloc: Global,
 }
@@ -31,7 +31,7 @@ impl Model for Region {
 impl Region {
     ghost use Rattle.raw_region.specs.RegionLending.{LendsRegion};
 
-    /// A region of as many words, all 0. The only error is that the heap has no room.
+    /// Allocates a region of this many words, all 0. The only error is that memory runs out.
     pub fn new(alloc: Global, words: usize) -> Result<Region, AllocError>
         requires nonempty { 1 ≤ words }
         requires at_most { words ≤ MAX_WORDS }
@@ -46,7 +46,7 @@ impl Region {
         })
     }
 
-    /// How many words the region has. It never changes.
+    /// The number of words, which never changes.
     pub fn len(&self) -> usize
         ensures value { result ≡ length self.now }
         ensures nonempty { 1 ≤ length self.now }
@@ -55,7 +55,7 @@ impl Region {
         self.words().len()
     }
 
-    /// The words, to read.
+    /// The words. Those of a cleared region are read from a static array.
     pub fn words(&self) -> &[u64]
         ensures value { result.now ≡ self.now }
         ensures nonempty { 1 ≤ length self.now }
@@ -69,7 +69,7 @@ impl Region {
         }
     }
 
-    /// The words, to write. The region ends with those that the slice is left with.
+    /// The words, mutably. If the region is cleared, this first writes its zeros.
     pub fn words_mut(&mut self) -> &mut [u64]
         ensures* writes_back { sem 𝓛 (LendsRegion self.entry result) }
         ensures value { result.now ≡ self.old }
@@ -89,7 +89,7 @@ impl Region {
         self.words()[i]
     }
 
-    /// Makes `word` the one at index `i`.
+    /// Sets the word at index `i`.
     pub fn set(&mut self, i: usize, word: u64)
         requires { i < length self.old }
         ensures value { self.new ≡ slice_set self.old i word }
@@ -98,7 +98,7 @@ impl Region {
         self.words_mut()[i] = word;
     }
 
-    /// Makes all words 0, and writes none of them: the next call that writes a word does.
+    /// Makes all words 0 without writing them: the next call that writes a word does that.
     pub fn clear(&mut self)
         ensures value { self.new ≡ replicate (length self.old) 0 }
         ensures same_length { length self.new ≡ length self.old }
@@ -106,7 +106,7 @@ impl Region {
         self.is_clear = true;
     }
 
-    /// Whether the region was cleared and no word of it was written since. Then all its words are 0.
+    /// Whether the region was cleared and not written since. Then all its words are 0.
     pub fn is_cleared(&self) -> bool
         ensures { IsTrue result → self.now ≡ replicate (length self.now) 0 }
     {
@@ -114,7 +114,7 @@ impl Region {
         *is_clear
     }
 
-    /// Makes each of the `n` words from index `at` on `word`.
+    /// Sets each of the `n` words at index `at` to `word`.
     pub fn fill(&mut self, at: usize, n: usize, word: u64)
         requires { at + n ≤ length self.old }
         ensures value { self.new ≡ with_words self.old at (replicate n word) }
@@ -123,7 +123,7 @@ impl Region {
         self.words_mut()[at..at + n].fill(word);
     }
 
-    /// Copies the `n` words of `other` from index `from` on to index `at` and on.
+    /// Copies the `n` words of `other` at index `from` to index `at`.
     pub fn copy_from(&mut self, at: usize, other: &Region, from: usize, n: usize)
         requires room { at + n ≤ length self.old }
         requires source { from + n ≤ length other.now }
@@ -133,8 +133,8 @@ impl Region {
         self.words_mut()[at..at + n].copy_from_slice(&other.words()[from..from + n]);
     }
 
-    /// Copies the `n` words from index `from` on down to index `to` and on. The two ranges may
-    /// overlap: the words that arrive are those that stood there before the call.
+    /// Moves the `n` words at index `from` down to index `to`. The two ranges may overlap: the words
+    /// that arrive are those from before the call.
     pub fn slide(&mut self, from: usize, to: usize, n: usize)
         requires downward { to ≤ from }
         requires source { from + n ≤ length self.old }
@@ -145,7 +145,6 @@ impl Region {
     }
 }
 
-/// Makes all of some words 0.
 fn zero(words: &mut [u64])
     ensures { words.new ≡ replicate (length words.old) 0 }
 {

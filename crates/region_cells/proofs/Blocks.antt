@@ -8,7 +8,7 @@ use Rattle.summary.specs.Compaction.{moved}
 use Rattle.summary.specs.RegionData.{fill_count}
 use Rattle.region_cells.specs.Blocks.{moved_block}
 
--- A region to fill has its moved words, and any other has the same words as before. The premises are laws.
+-- A region to fill has its moved words, and any other region keeps its words. The premises are laws.
 pub block_left : (image : HeapImage) (r : ℕ)
     → is_to_fill image r ≡ ltb r (fill_count image)
     → block_of (moved image) r ≡ moved_block image r

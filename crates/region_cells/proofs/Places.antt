@@ -28,7 +28,7 @@ module _ (image : HeapImage) where
   first zero none = absurd (omega arith)
   first (suc n) some = refl
 
-  -- the places of a valid image tell the image
+  -- the places of a valid image determine the image
   pub image_in-places : IsValid image → image_in (places image) ≡ image
   image_in-places valid =
       let one : 1 ≤ region_words image = one-le-pow image.region_log 2 (omega arith) in

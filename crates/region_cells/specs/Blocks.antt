@@ -4,7 +4,7 @@ use Rattle.heap_image.specs.HeapImage.{HeapImage}
 use Rattle.summary.specs.Compaction.{moved_word}
 use Rattle.summary.specs.RegionData.{region_addresses}
 
--- below the new top the words that have moved there, in which deferred objects have their old references, and from it up
--- the old words
+-- The moved words below the new top, where deferred objects still have their old references, and the old words from the
+-- new top up.
 abbrev pub moved_block : HeapImage → ℕ → List ℕ
 moved_block image r = map (moved_word image) (region_addresses image r)

@@ -1,4 +1,4 @@
--- What the cells of an image keep.
+-- The invariant of the cells of an image.
 use Rattle.std.specs.Prelude.{◌≡◌, ℕ, ◌≤◌, List, [], ◌∷◌, map, None, option_map}
 use Rattle.std.specs.List.{range_with_len}
 use Rattle.std.specs.Vec.{vec_capacity}
@@ -7,7 +7,7 @@ use Rattle.heap_image.specs.declared.image.ImageParts.{ImageParts}
 use Rattle.summary.specs.RegionData.{fill_count}
 use Rattle.region_cells.specs.Views.{ImageRegion}
 
--- the image of which these are places; an empty one where there are none
+-- the image that these places belong to, or an empty image if there are none
 abbrev pub image_in : List ImageRegion → HeapImage
 image_in [] = record { region_log = 0; allowance = 0; words = []; live = []; roots = None }
 image_in (place ∷ places) = place.image
@@ -20,7 +20,7 @@ module _ (image : HeapImage) where
   abbrev pub places : List ImageRegion
   places = map place_of (range_with_len 0 (region_count image))
 
-  -- the parts of the image but its regions, for which there is room
+  -- the parts of the image without its regions, for which there is room
   pub record AreOtherParts (parts : ImageParts) : Type 0 where
     pub region_log : parts.region_log ≡ image.region_log
     pub allowance : parts.allowance ≡ image.allowance

@@ -5,7 +5,7 @@ use Rattle.region_cells.specs.declared.kept.Kept.{Kept}
 use Rattle.region_cells.specs.declared.kept.Kept.TheVariants.{Original}
 use Rattle.region_cells.specs.Views.{ImageRegion}
 
--- a claim to read, which shows the region as it was at the start
+-- a claim to read, which shows the original region
 pub record IsReading (place : ImageRegion) (right : ℕ) (value : Option Kept) (source : ℕ) : Type 0 where
   pub valid : IsValid place.image
   pub inside : source < region_count place.image

@@ -1,15 +1,15 @@
--- What contracts see of a region that is read, written or put back.
+-- How contracts view a region that is read, written or put back.
 use Rattle.std.specs.Prelude.{ℕ, List}
 use Rattle.heap_image.specs.HeapImage.{HeapImage, block_of}
 use Rattle.claim_board.specs.declared.opening.Opening.{Opening}
 use Rattle.claim_board.specs.declared.right.Right.{Right}
 
--- a region, by its number, of an image
+-- a region of an image, by its number
 pub record ImageRegion : Type 0 where
   pub image : HeapImage
   pub region : ℕ
 
--- a region of an image that is read by this opening
+-- a region of an image that is read with this opening
 pub record Reading : Type 0 where
   pub image : HeapImage
   pub opening : Opening
@@ -18,7 +18,7 @@ pub record Reading : Type 0 where
 abbrev pub source_words : Reading → List ℕ
 source_words s = block_of s.image s.opening.source
 
--- a region of an image that is written by this right, and its words so far
+-- a region of an image that is written with this right, and its current words
 pub record Writing : Type 0 where
   pub image : HeapImage
   pub right : Right

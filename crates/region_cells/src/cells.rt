@@ -1,4 +1,3 @@
-//! `Cells`: the regions of a heap, each read by many or written by one.
 ghost use Rattle.std.specs.Prelude.{◌≡◌, ℕ, ◌+◌, ◌<◌, ◌≤◌, ◌∷◌, [], ◌++◌, length, map, option_map, IfOk, IfErr, vec_len};
 ghost use Rattle.std.specs.List.{range_with_len};
 ghost use Rattle.std.specs.Vec.{vec_capacity};
@@ -8,7 +7,7 @@ ghost use Rattle.region_cells.specs.Blocks.{moved_block};
 ghost use Rattle.region_cells.specs.Cells.{places};
 
 use crate::kept::{Kept, Place};
-use crate::slots::{WRITING, hold, is_full, is_original, left_in, original};
+use crate::slots::{WRITING, final_region, is_full, is_original, lock_for_write, original};
 use crate::source::Source;
 use crate::target::Target;
 use claim_board::{Opening, Right};
@@ -23,14 +22,14 @@ use summary::Plan;
 use summary::laws::compaction::blocks_of_regions;
 use summary::laws::region_data::regions_to_fill;
 
-/// The regions of an image, each in a cell of its own, which many may read or one may write.
+/// The regions of an image, each in a cell that many may read or one may write.
 ///
-/// A contract sees cells as the image that they were made of, as it was then.
+/// Contracts view cells as the image that they were made from.
 #[derive(Drop)]
 pub struct Cells {
     slots: Vec<Counted<Kept>>,
     fill_regions: u32,
-    // All but the regions, for which there is room.
+    // `regions` is empty, with room for all of them.
     parts: ImageParts,
 }
 
@@ -46,9 +45,9 @@ impl Model for Cells {
 }
 
 impl Cells {
-    /// The cells of an image, each with its region as it was at the start.
+    /// Moves each region of the image into a cell, in its original state.
     ///
-    /// Takes the memory for the cells and for what [`into_regions`](Cells::into_regions) gives. Where it is refused, the
+    /// Allocates the cells and the list that [`into_regions`](Cells::into_regions) returns. If memory runs out, the
     /// image comes back unchanged.
     pub fn of(alloc: Global, image: Image, plan: &Plan) -> Result<Cells, Image>
         requires same { plan.now ≡ image }
@@ -75,10 +74,10 @@ impl Cells {
         })
     }
 
-    /// Opens the region of `opening` to read.
+    /// Opens the region of `opening` for reading.
     ///
-    /// Fault 15 comes if a writer has the region, had it, or gave it up. The opening is given up then. Waits only while
-    /// other readers change the count of those that read.
+    /// Returns fault 15, and gives the opening up, if a writer has or had the region. Waits only while other readers
+    /// change the reader count.
     pub fn read<R: Wait>(&self, opening: Opening, wait: &R) -> Result<Source<'_>, Fault>
         requires { opening.source < region_count self.now }
         ensures image { IfOk result (λ source. source.image ≡ self.now) }
@@ -105,10 +104,9 @@ impl Cells {
         unreachable!()
     }
 
-    /// Takes the region of `right` out to write it.
+    /// Takes the region of `right` out of its cell for writing.
     ///
-    /// Fault 15 comes, at once, if the region is being read, or a writer has it, had it, or gave it up. The right is
-    /// given up then.
+    /// Returns fault 15 at once, and gives the right up, if the region is being read, or a writer has or had it.
     pub fn write<R: Wait>(&self, right: Right, wait: &R) -> Result<Target<'_>, Fault>
         requires { right.region < region_count self.now }
         ensures image { IfOk result (λ target. target.image ≡ self.now) }
@@ -126,14 +124,14 @@ impl Cells {
             return Err(Fault::Overwritten(region));
         }
         let kept = hand.put(Kept::Spoiled, WRITING);
-        Target::new(hold(wait, slot), Snapshot::of(self), kept, right)
+        Target::new(lock_for_write(wait, slot), Snapshot::of(self), kept, right)
     }
 
-    /// Ends the cells, and gives the parts of the image once all regions to fill have moved: each region has its moved
-    /// words, and the live list is still the old one.
+    /// Takes the cells apart once all regions to fill have moved. The regions have their moved words; the live list is
+    /// still the old one.
     ///
-    /// Fault 15 names the least region that is to be filled and hasn't moved, or isn't to be filled and isn't as it was
-    /// at the start. The image is gone then.
+    /// Fault 15 names the lowest region that is to be filled and has not moved, or is not to be filled and has changed.
+    /// The image is lost then.
     pub fn into_regions(self) -> Result<ImageParts, Fault>
         ensures regions { IfOk result (λ parts. parts.regions.items ≡ map (moved_block self) (range_with_len 0 (region_count self))) }
         ensures live { IfOk result (λ parts. parts.live.items ≡ self.live) }
@@ -150,7 +148,7 @@ impl Cells {
         } = self;
         for (r, slot) in slots.into_iter().enumerate() {
             let r = r as u32;
-            let Some(region) = left_in(slot, r < fill_regions) else {
+            let Some(region) = final_region(slot, r < fill_regions) else {
                 return Err(Fault::Overwritten(r));
             };
             add(&mut parts.regions, region);
@@ -167,7 +165,7 @@ impl Cells {
     }
 }
 
-/// Puts each region into a slot of its own.
+/// Appends a slot for each region.
 fn put_all(slots: &mut Vec<Counted<Kept>>, regions: Vec<Region>, first: Place)
     requires valid { IsValid first.image }
     requires first { first.region ≡ 0 }
@@ -183,7 +181,7 @@ fn put_all(slots: &mut Vec<Counted<Kept>>, regions: Vec<Region>, first: Place)
     }
 }
 
-/// Pushes where there is room.
+/// Pushes an item for which room is reserved.
 fn add<T: Drop>(items: &mut Vec<T>, item: T)
     requires { vec_len items.old < vec_capacity items.old }
     ensures items { items.new.items ≡ items.old.items ++ item ∷ [] }

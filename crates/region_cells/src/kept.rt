@@ -1,4 +1,3 @@
-//! `Kept`: what a cell holds.
 ghost use Rattle.std.specs.Prelude.{◌≡◌, ◌+◌, ◌<◌, ◌^◌};
 
 use counted_slot::Fits;
@@ -7,18 +6,18 @@ use raw_region::Region;
 use std::marker::Model;
 use std::snapshot::Snapshot;
 
-/// A region, by what its words are.
+/// What a cell holds.
 #[derive(Drop)]
 pub(crate) enum Kept {
-    /// Its words are those at the start.
+    /// The region with its original words.
     Original(Region),
-    /// Its words are the moved ones.
+    /// The region with its moved words.
     Moved(Region),
-    /// A writer has the region, or gave it up: nobody sees its words.
+    /// Nothing that a reader may see: a writer has the region, or gave it up.
     Spoiled,
 }
 
-/// Which region a cell is for, and of which image.
+/// The region of an image that a cell belongs to.
 #[derive(Drop)]
 pub(crate) struct Place {
     image: Snapshot<Image>,
@@ -34,7 +33,6 @@ impl Model for Place {
 }
 
 impl Place {
-    /// The first region of an image.
     pub(crate) fn first(image: &Image) -> Place
         ensures { result ≡ record { image = image.now; region = 0 } }
     {
@@ -44,7 +42,7 @@ impl Place {
         }
     }
 
-    /// Goes on to the next region.
+    /// Moves to the next region.
     pub(crate) fn step(&mut self)
         requires { self.old.region + 1 < 2 ^ 32 }
         ensures { self.new ≡ record { image = self.old.image; region = self.old.region + 1 } }

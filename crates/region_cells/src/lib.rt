@@ -1,29 +1,29 @@
 //! The regions of a heap while many workers compact it: each may be read by many at the same time, or written by one.
 //!
-//! [`Cells::of`] puts each region of an image into a cell of its own. [`Cells::read`] opens one to read, as a
-//! [`Source`], with an opening of the board; [`Cells::write`] takes one out to write, as a [`Target`], with a right of
-//! the board. [`Cells::into_regions`] gives the regions back once those to be filled have moved.
+//! [`Cells::of`] moves each region of an image into a cell. [`Cells::read`] opens one for reading, as a [`Source`],
+//! with an opening from the board; [`Cells::write`] takes one out for writing, as a [`Target`], with a right from the
+//! board. [`Cells::into_regions`] returns the regions once those to be filled have moved.
 //!
-//! A cell holds its region as it was at the start, or with its moved words, or spoiled. A source is open only on a
-//! region as it was at the start; [`Target::put`] alone leaves a moved one, and needs the moved words; of a spoiled one
-//! nobody sees the words. No call waits for a reader or a writer to end: a call that comes at the wrong time ends with
-//! fault 15, and gives up what it was handed.
+//! A cell holds its region in its original state, moved, or spoiled. Only an original region can be read. Only
+//! [`Target::put`] makes one moved, and it requires the moved words. No one sees the words of a spoiled region. No call
+//! waits for a reader or a writer to finish: a call at the wrong time returns fault 15 and gives up its opening or
+//! right.
 //!
 //! # What a contract sees
 //!
-//! Cells are seen as the image that they were made of. A source is seen as the image and its opening, and so are its
-//! words: those of the region at the start. A target is seen as the image, its right and its words as they are now.
+//! Cells are viewed as the image that they were made from. A source is viewed as the image and its opening, which
+//! determine its words: the region's original ones. A target is viewed as the image, its right and its current words.
 //!
 //! # What is proved
 //!
-//! Every function: that a region is read only while nobody writes it, and written by one alone; that each region which
-//! a source shows has the words of the start; that [`Cells::into_regions`], if it gives regions, gives those of the
-//! moved heap, whatever ran in whatever order; and that a refusal of memory gives the image back unchanged. No contract
-//! says which state a cell has at a moment, so none says when fault 15 comes.
+//! A region is read only while no one writes it, and has one writer at a time; each region that a source shows has its
+//! original words; if [`Cells::into_regions`] returns regions, they are those of the moved heap, in whatever order the
+//! calls ran; and if memory runs out the image comes back unchanged. No contract says which state a cell has at any
+//! moment, so none says when fault 15 comes.
 //!
 //! # What is only tested
 //!
-//! When fault 15 comes, that two threads read one region at the same time, and that a call succeeds.
+//! When fault 15 comes, that two threads read one region at the same time, and that calls succeed.
 #![tactic(auto)]
 
 mod cells;

@@ -1,13 +1,12 @@
-//! `Placed`: that a region was put back.
 ghost use Rattle.std.specs.Prelude.{◌≡◌};
 
 use crate::cells::Cells;
 use std::marker::Model;
 use std::snapshot::Snapshot;
 
-/// That a region was put back with its moved words. Only [`Target::put`](crate::Target::put) makes one.
+/// Evidence that a region was put back with its moved words. Only [`Target::put`](crate::Target::put) makes one.
 ///
-/// A contract sees which region of which image it was.
+/// Contracts view it as the image and the region's number.
 #[derive(Drop)]
 pub struct Placed {
     cells: Snapshot<Cells>,

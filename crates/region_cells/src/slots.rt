@@ -1,4 +1,4 @@
-//! The slot of a cell, and the word that says who may have its region.
+//! The state word of a cell's slot, which says who may have its region.
 ghost use Rattle.std.specs.Prelude.{◌≡◌, ◌+◌, ◌%◌, ◌<◌, ◌≤◌, ◌↔◌, IsTrue, IfSome, if◌then◌else◌};
 ghost use Rattle.heap_image.specs.HeapImage.{block_of};
 ghost use Rattle.region_cells.specs.Blocks.{moved_block};
@@ -8,29 +8,29 @@ use counted_slot::{Claim, Counted, FREE, ONE_READER, PRESENT, TAKEN};
 use raw_region::Region;
 use std::sync::Wait;
 
-/// From this word on the region isn't as it was at the start: it has moved or is spoiled, or a writer has it.
+/// State words from this one up mean that the region is not original: it has moved, is spoiled, or a writer has it.
 pub(crate) const CHANGED: u64 = 0x1_0000_0000;
 
-/// The word of a cell whose region a writer has taken out.
+/// The state word while a writer has the region.
 pub(crate) const WRITING: u64 = 0x2_0000_0000;
 
-/// Whether a region under this word may be read, or written once its readers are gone.
+/// Whether the region is original: it may be read, or written once it has no readers.
 pub(crate) fn is_original(word: u64) -> bool
     ensures { IsTrue result ↔ ((word % 4 ≡ PRESENT) × (word < CHANGED)) }
 {
     word % 4 == PRESENT && word < CHANGED
 }
 
-/// Whether as many read under this word as it can count.
+/// Whether the word counts as many readers as it can.
 pub(crate) fn is_full(word: u64) -> bool
     ensures { IsTrue result ↔ (CHANGED ≤ word + ONE_READER) }
 {
     word >= CHANGED - ONE_READER
 }
 
-/// A slot that holds a region as it was at the start.
+/// A slot that holds an original region.
 ///
-/// Nobody else has the slot yet, so its turn is never lost. No contract says so; if it were, the cell would be spoiled.
+/// No one else has the slot yet, so the turn always wins. No contract says so; if it lost, the cell would be spoiled.
 pub(crate) fn original(region: Region, place: &Place) -> Counted<Kept>
     requires { region ≡ block_of place.now.image place.now.region }
     ensures { result ≡ place.now }
@@ -38,15 +38,16 @@ pub(crate) fn original(region: Region, place: &Place) -> Counted<Kept>
     let slot = Counted::new(Kept::Spoiled, place);
     let (found, hand) = slot.turn(FREE, TAKEN);
     if found == FREE {
-        let _spoiled = hand.put(Kept::Original(region), PRESENT);
+        hand.put(Kept::Original(region), PRESENT);
     } else {
         hand.done();
     }
     slot
 }
 
-/// Holds the slot of a region that this writer has taken out. Nobody else turns it, so the first turn wins.
-pub(crate) fn hold<'a, R: Wait>(wait: &R, slot: &'a Counted<Kept>) -> Claim<'a, Kept>
+/// Claims the slot of a region that this writer has taken out. No one else turns the slot meanwhile, so the first turn
+/// wins.
+pub(crate) fn lock_for_write<'a, R: Wait>(wait: &R, slot: &'a Counted<Kept>) -> Claim<'a, Kept>
     ensures right { result.right ≡ 2 }
     ensures tag { result.tag ≡ slot.now }
 {
@@ -60,8 +61,8 @@ pub(crate) fn hold<'a, R: Wait>(wait: &R, slot: &'a Counted<Kept>) -> Claim<'a, 
     unreachable!()
 }
 
-/// The region that a slot is left with: the moved one, or the one of the start. None if it holds another.
-pub(crate) fn left_in(slot: Counted<Kept>, has_moved: bool) -> Option<Region>
+/// The region of a slot at the end: moved if `has_moved`, else original. None if the slot is in another state.
+pub(crate) fn final_region(slot: Counted<Kept>, has_moved: bool) -> Option<Region>
     ensures { IfSome result (λ words. words ≡ (if has_moved then moved_block slot.image slot.region else block_of slot.image slot.region)) }
 {
     match slot.into_inner() {

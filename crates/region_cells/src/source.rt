@@ -1,4 +1,3 @@
-//! `Source`: a region that is read.
 ghost use Rattle.std.specs.Prelude.{◌≡◌, ◌+◌, ◌<◌, ◌≤◌, length, slice_index, IfOk, IfErr};
 ghost use Rattle.heap_image.specs.HeapImage.{IsValid, region_words, region_count, block_of};
 ghost use Rattle.heap_image.specs.declared.fault.Fault.TheVariants.{Overwritten};
@@ -13,13 +12,13 @@ use heap_image::Fault;
 use raw_region::Region;
 use std::marker::Model;
 
-/// A region that is read, with its words at the start. Several sources of one region may be open at the same time, and
-/// meanwhile nobody writes it.
+/// A region that is open for reading, with its original words. Several sources of one region may be open at the same
+/// time; no one writes it meanwhile.
 ///
-/// A source owns the opening with which it was got, so the pair of that opening cannot be drained before the source is
-/// closed. It cannot be dropped.
+/// A source owns its opening, so that opening's pair cannot be drained before the source is closed. It cannot be
+/// dropped.
 ///
-/// A contract sees the image and the opening.
+/// Contracts view it as the image and the opening.
 pub struct Source<'a> {
     hand: Claim<'a, Kept>,
     opening: Opening,
@@ -37,7 +36,7 @@ impl<'a> Model for Source<'a> {
 }
 
 impl<'a> Source<'a> {
-    /// The source of a reader's claim, if the cell has the region as it was at the start.
+    /// Makes a source from a reader's claim. Returns fault 15, and gives the opening up, unless the region is original.
     pub(crate) fn new(claim: Claim<'a, Kept>, opening: Opening) -> Result<Source<'a>, Fault>
         requires valid { IsValid claim.tag.image }
         requires inside { opening.source < region_count claim.tag.image }
@@ -77,7 +76,7 @@ impl<'a> Source<'a> {
         self.region().get(i)
     }
 
-    /// Copies the `n` words from index `from` on to index `at` and on of `target`.
+    /// Copies `n` words, from index `from` of this region to index `at` of `target`.
     pub fn copy_into(&self, target: &mut Target<'_>, from: usize, at: usize, n: usize)
         requires source { from + n ≤ region_words self.now.image }
         requires room { at + n ≤ region_words target.old.image }
@@ -87,7 +86,7 @@ impl<'a> Source<'a> {
         target.copy_from(at, self.region(), from, n);
     }
 
-    /// Ends the reading. What is left says that the words were copied out.
+    /// Closes the source. The result is the evidence that a drain of the pair requires.
     pub fn close(self) -> Closed
         ensures destination { result.destination ≡ self.entry.opening.destination }
         ensures source { result.source ≡ self.entry.opening.source }

@@ -1,4 +1,3 @@
-//! `Target`: a region that is written.
 ghost use Rattle.std.specs.Prelude.{◌≡◌, ◌+◌, ◌<◌, ◌≤◌, length, replicate, slice_index, slice_set, map, All, IsTrue, IfOk, IfErr};
 ghost use Rattle.heap_image.specs.HeapImage.{IsValid, region_words, region_count, block_of, is_null_or_live};
 ghost use Rattle.heap_image.specs.declared.fault.Fault.TheVariants.{Overwritten};
@@ -19,12 +18,11 @@ use std::marker::Model;
 use std::snapshot::Snapshot;
 use summary::Plan;
 
-/// A region that is written. Nobody else reads or writes it meanwhile.
+/// A region that is open for writing. No one else reads or writes it meanwhile.
 ///
-/// A target owns the right with which it was got, and cannot be dropped: it ends by [`put`](Target::put) or by
-/// [`give_up`](Target::give_up).
+/// A target owns its right and cannot be dropped: it ends with [`put`](Target::put) or [`give_up`](Target::give_up).
 ///
-/// A contract sees the image, the right and the words as they are now.
+/// Contracts view it as the image, the right and the current words.
 pub struct Target<'a> {
     hand: Claim<'a, Kept>,
     cells: Snapshot<Cells>,
@@ -44,7 +42,8 @@ impl<'a> Model for Target<'a> {
 }
 
 impl<'a> Target<'a> {
-    /// The target of a writer's claim and what the writer took out, if that is the region as it was at the start.
+    /// Makes a target from a writer's claim and what the cell held. Returns fault 15, and gives the right up, unless
+    /// that is the original region.
     pub(crate) fn new(
         hand: Claim<'a, Kept>,
         cells: Snapshot<Cells>,
@@ -69,7 +68,7 @@ impl<'a> Target<'a> {
             }),
             other => {
                 let region = right.region();
-                let _spoiled = hand.put(other, CHANGED);
+                hand.put(other, CHANGED);
                 right.give_up();
                 Err(Fault::Overwritten(region))
             }
@@ -85,7 +84,7 @@ impl<'a> Target<'a> {
         self.region.get(i)
     }
 
-    /// Makes `word` the one at index `i`.
+    /// Sets the word at index `i`.
     #[inline]
     pub fn set(&mut self, i: usize, word: u64)
         requires { i < region_words self.old.image }
@@ -95,7 +94,7 @@ impl<'a> Target<'a> {
         self.region.set(i, word);
     }
 
-    /// Copies the `n` words from index `from` on down to index `to` and on. The two ranges may overlap.
+    /// Copies `n` words within the region, from index `from` down to index `to`. The two ranges may overlap.
     pub fn slide(&mut self, from: usize, to: usize, n: usize)
         requires downward { to ≤ from }
         requires inside { from + n ≤ region_words self.old.image }
@@ -105,7 +104,7 @@ impl<'a> Target<'a> {
         self.region.slide(from, to, n);
     }
 
-    /// Makes each of the `n` words from index `at` on `word`.
+    /// Sets `n` words from index `at` to `word`.
     pub fn fill(&mut self, at: usize, n: usize, word: u64)
         requires { at + n ≤ region_words self.old.image }
         ensures value { self.new ≡ record self.old { words = with_words self.old.words at (replicate n word) } }
@@ -114,7 +113,7 @@ impl<'a> Target<'a> {
         self.region.fill(at, n, word);
     }
 
-    /// Redirects the `n` references from index `at` on.
+    /// Redirects the `n` references from index `at`.
     #[inline]
     pub fn redirect(&mut self, plan: &Plan, at: usize, n: usize)
         requires same { plan.now ≡ self.old.image }
@@ -126,7 +125,7 @@ impl<'a> Target<'a> {
         plan.redirect(&mut self.region, at, n);
     }
 
-    /// Copies the `n` words of `region` from index `from` on to index `at` and on.
+    /// Copies `n` words, from index `from` of `region` to index `at`.
     pub(crate) fn copy_from(&mut self, at: usize, region: &Region, from: usize, n: usize)
         requires room { at + n ≤ region_words self.old.image }
         requires source { from + n ≤ length region.now }
@@ -150,11 +149,11 @@ impl<'a> Target<'a> {
             right,
         } = self;
         let placed = Placed::new(cells, right.region());
-        let _spoiled = hand.put(Kept::Moved(region), CHANGED);
+        hand.put(Kept::Moved(region), CHANGED);
         (right.written(), placed)
     }
 
-    /// Leaves the region spoiled: nobody will see its words.
+    /// Leaves the region spoiled: no one sees its words any more.
     pub fn give_up(self) {
         let Target {
             hand,
@@ -162,7 +161,7 @@ impl<'a> Target<'a> {
             region: _,
             right,
         } = self;
-        let _spoiled = hand.put(Kept::Spoiled, CHANGED);
+        hand.put(Kept::Spoiled, CHANGED);
         right.give_up();
     }
 }

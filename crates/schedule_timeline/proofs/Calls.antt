@@ -1,10 +1,9 @@
--- Lists of calls, one call longer.
-use Rattle.std.proofs.Common.{◌≡◌, ◌∙◌, ◌<◌, ◌≤◌, ◌+◌, ◌++◌, ◌∷◌, [], ℕ, List, Bool, true, false, Option, Some, None, take, length, get_or, length-take, refl, ap, sym, subst, arith}
-use Rattle.std.specs.Prelude.{if◌then◌else◌, slice_get}
+-- The first call of a history, with one call more.
+use Rattle.std.proofs.Common.{◌≡◌, ◌∙◌, ◌<◌, ◌+◌, ◌++◌, ◌∷◌, [], ℕ, List, Bool, true, false, Option, Some, None, take, length, get_or, length-take, refl, ap, arith}
+use Rattle.std.specs.Prelude.{slice_get}
 use Rattle.std.specs.List.{cons_option, enumerate_from, filter_map}
 use Rattle.std.proofs.lemmas.List.{take_more}
 use Rattle.std.proofs.lemmas.List.Elements.{filter_map-append}
-use Rattle.std.proofs.lemmas.Grind.{common_steps}
 use Rattle.history.specs.declared.entry.Entry.{Entry}
 use Rattle.schedule_timeline.specs.declared.call.Call.{Call}
 use Rattle.schedule_timeline.specs.FirstCalls.{earlier_of}
@@ -15,7 +14,7 @@ enumerate_push {X} n [] x = ap (λ m. (m, x) ∷ []) (omega arith)
 enumerate_push {X} n (y ∷ ys) x =
     ap (λ (l : List (ℕ × X)). (n, y) ∷ l) (enumerate_push (n + 1) ys x ∙ ap (λ m. enumerate_from (n + 1) ys ++ (m, x) ∷ []) (omega arith))
 
--- what a list gives by its places, one element longer
+-- filter_map by places, with one element more
 pub filter_map_more : {X Y : Type 0} (h : ℕ × X → Option Y) (xs : List X) (i : ℕ) (d : X) → i < length xs
     → filter_map h (enumerate_from 0 (take (i + 1) xs)) ≡ filter_map h (enumerate_from 0 (take i xs)) ++ cons_option (h (i, get_or xs i d)) []
 filter_map_more {X} {Y} h xs i d inside =
@@ -26,7 +25,7 @@ filter_map_more {X} {Y} h xs i d inside =
     ∙ filter_map-append h (enumerate_from 0 (take i xs)) ((0 + length (take i xs), x) ∷ [])
     ∙ ap (λ m. filter_map h (enumerate_from 0 (take i xs)) ++ cons_option (h (m, x)) []) (omega (arith, long))
 
--- the first of a list and one more
+-- the first of a list, with one element more
 first_or : (calls : List Call) (call : Call) → slice_get (calls ++ call ∷ []) 0 ≡ earlier_of (slice_get calls 0) call
 first_or [] call = refl
 first_or (c ∷ cs) call = refl
@@ -36,7 +35,7 @@ first_same [] = refl
 first_same (c ∷ cs) = refl
 
 module _ (is : Entry → Bool) (log : List Entry) (i : ℕ) (d : Entry) where
-  -- a call that is none of those sought
+  -- a call for which the condition doesn't hold
   pub first_unless : i < length log → is (get_or log i d) ≡ false → first_call is (take (i + 1) log) ≡ first_call is (take i log)
   first_unless inside other =
       let none : call_if is (i, get_or log i d) ≡ None = rw other refl in
@@ -44,7 +43,7 @@ module _ (is : Entry → Bool) (log : List Entry) (i : ℕ) (d : Entry) where
       ∙ ap (λ (call : Option Call). calls_that is (take i log) ++ cons_option call []) none)
       ∙ first_same (calls_that is (take i log))
 
-  -- and one that is
+  -- a call for which it holds
   pub first_if : i < length log → is (get_or log i d) ≡ true → first_call is (take (i + 1) log) ≡ earlier_of (first_call is (take i log)) (call_at (i, get_or log i d))
   first_if inside found =
       let some : call_if is (i, get_or log i d) ≡ Some (call_at (i, get_or log i d)) = rw found refl in

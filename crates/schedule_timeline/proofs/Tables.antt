@@ -1,5 +1,5 @@
--- Tables of first calls, one call on.
-use Rattle.std.proofs.Common.{◌≡◌, ◌≢◌, ◌∙◌, ◌<◌, ◌≤◌, ◌+◌, ℕ, List, Bool, true, false, Option, Some, None, take, length, get_or, inl, inr, ap, sym, subst}
+-- Tables of first calls, after one call more.
+use Rattle.std.proofs.Common.{◌≡◌, ◌≢◌, ◌∙◌, ◌<◌, ◌+◌, ℕ, List, Option, Some, None, take, length, get_or, inl, inr, ap, sym, subst}
 use Rattle.std.specs.Prelude.{slice_index_or}
 use Rattle.std.proofs.lemmas.Bool.{cases_eq, eq-eqb, ne_eqb}
 use Rattle.history.specs.declared.entry.Entry.{Entry}
@@ -10,7 +10,7 @@ use Rattle.schedule_timeline.specs.Timeline.{call_at, does, first_call, is_regio
 use Rattle.schedule_timeline.proofs.Calls.{first_if, first_unless}
 
 module _ (deed : Deed) (regions : ℕ) (log : List Entry) (i : ℕ) (d : Entry) (calls calls' : List (Option Call)) where
-  -- a call that does it to no region
+  -- a call that does the deed to no region
   pub same : i < length log → AreFirst deed regions (take i log) calls
       → ((r : ℕ) → does deed r (get_or log i d) ≡ is_region r None) → calls' ≡ calls → AreFirst deed regions (take (i + 1) log) calls'
   same inside before none kept = record {
@@ -19,7 +19,7 @@ module _ (deed : Deed) (regions : ℕ) (log : List Entry) (i : ℕ) (d : Entry) 
         ∙ sym (first_unless (does deed r) log i d inside (none r));
   }
 
-  -- and one that does it to this region
+  -- a call that does it to this region
   pub noted : (region : ℕ) (call : Call) → i < length log → AreFirst deed regions (take i log) calls
       → ((r : ℕ) → does deed r (get_or log i d) ≡ is_region r (Some region)) → call ≡ call_at (i, get_or log i d)
       → length calls' ≡ length calls

@@ -1,4 +1,5 @@
 pub mod Timeline
-pub mod Figures
+pub mod TimelineFigures
 pub mod FirstCalls
+pub mod Log
 pub mod Page

@@ -1,11 +1,6 @@
-//! `Call`: which worker called, and when.
-
-/// Who called, and in which line of the schedule's text. The first line there tells the workers, so that the first call
-/// stands in line 2.
+/// A call of a worker, by its line in the text of the schedule. Line 1 is the header, so the first call is in line 2.
 #[derive(Debug, Clone, Copy, PartialEq, Eq)]
 pub struct Call {
-    /// The worker.
     pub worker: u32,
-    /// The line.
     pub line: u64,
 }

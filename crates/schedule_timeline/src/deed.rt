@@ -1,4 +1,3 @@
-//! `Deed`: what a call does to a region.
 ghost use Rattle.std.specs.Prelude.{◌≡◌, ℕ};
 ghost use Rattle.history.specs.History.{is_settling_of};
 ghost use Rattle.history.specs.Whole.{is_completion_of};
@@ -6,34 +5,32 @@ ghost use Rattle.schedule_timeline.specs.Timeline.{does, granted_region, is_regi
 
 use history::{Entry, Event, Reply};
 
-/// What a call may do to a region.
+/// What a call does to a region.
 #[derive(Debug, Clone, Copy, PartialEq, Eq)]
 pub(crate) enum Deed {
-    /// It grants it.
+    /// A claim that is granted.
     Grant,
-    /// It completes it.
     Completion,
-    /// It settles it.
     Settling,
 }
 
 impl Deed {
-    /// The region to which this call does so.
+    /// The region to which a call does this, if any.
     pub(crate) fn region(self, entry: &Entry) -> Option<u32>
         ensures { (r : ℕ) → does self r entry.now ≡ is_region r result }
     {
         match self {
-            Deed::Grant => granted(entry),
-            Deed::Completion => completed(entry.event),
-            Deed::Settling => settled(entry.event),
+            Deed::Grant => granted_region(entry),
+            Deed::Completion => completed_region(entry.event),
+            Deed::Settling => settled_region(entry.event),
         }
     }
 }
 
-/// The region that a call grants.
-pub(crate) fn granted(entry: &Entry) -> Option<u32>
+/// The region that a call grants, if any.
+pub(crate) fn granted_region(entry: &Entry) -> Option<u32>
     ensures value { result ≡ granted_region entry.now.event entry.now.reply }
-    ensures tells { (r : ℕ) → does Deed.Grant r entry.now ≡ is_region r result }
+    ensures deed { (r : ℕ) → does Deed.Grant r entry.now ≡ is_region r result }
 {
     match (entry.event, entry.reply) {
         (Event::Claim(region), Reply::Yes) => Some(region),
@@ -41,8 +38,8 @@ pub(crate) fn granted(entry: &Entry) -> Option<u32>
     }
 }
 
-/// The region that an event completes.
-fn completed(event: Event) -> Option<u32>
+/// The region that an event completes, if any.
+fn completed_region(event: Event) -> Option<u32>
     ensures { (r : ℕ) → is_completion_of r event ≡ is_region r result }
 {
     match event {
@@ -51,8 +48,8 @@ fn completed(event: Event) -> Option<u32>
     }
 }
 
-/// The region that an event settles.
-fn settled(event: Event) -> Option<u32>
+/// The region that an event settles, if any.
+fn settled_region(event: Event) -> Option<u32>
     ensures { (r : ℕ) → is_settling_of r event ≡ is_region r result }
 {
     match event {

@@ -1,8 +1,8 @@
-//! A timeline as SVG.
+//! Draws a timeline as SVG.
 ghost use Rattle.std.specs.Prelude.{◌≤◌, ◌^◌};
 
 use crate::bar::Bar;
-use crate::figures::Figures;
+use crate::figures::TimelineFigures;
 use crate::freeing::Freeing;
 use crate::group::Group;
 use crate::scale::Scale;
@@ -10,28 +10,25 @@ use crate::strips::write_freeing;
 use crate::timeline::Timeline;
 use std::alloc::{AllocError, Global};
 
-/// Where lanes begin, from the left.
+/// The x coordinate at which lanes begin.
 const LEFT: u64 = 90;
 
-/// How wide a lane is.
 const LANE_WIDTH: u64 = 900;
 
-/// Where the first lane begins, from the top.
+/// The y coordinate of the first lane.
 const TOP: u64 = 60;
 
-/// How high a lane is, with the space below it.
+/// The height of a lane with the space below it.
 const LANE_HEIGHT: u64 = 34;
 
-/// How high a bar is.
 const BAR_HEIGHT: u64 = 18;
 
-/// How many bars are drawn at most, but for one more a worker. Where there are more regions, a bar is of several.
+/// The largest number of bars, apart from one more for each worker. If there are more regions, a bar is for several.
 const MAX_BARS: usize = 600;
 
-/// How many drains are drawn at most that freed a region. Where there are more, some are left out.
+/// The largest number of drains. If more drains free a region, some are left out.
 const MAX_FREEINGS: usize = 300;
 
-/// The timeline as SVG.
 pub(crate) fn draw(alloc: Global, timeline: &Timeline) -> Result<String, AllocError> {
     let mut svg = String::new(alloc);
     let scale = Scale {
@@ -50,23 +47,23 @@ pub(crate) fn draw(alloc: Global, timeline: &Timeline) -> Result<String, AllocEr
     Ok(svg)
 }
 
-/// Where a line stands, from the left.
+/// The x coordinate of a line.
 fn left_of(scale: Scale, line: u64) -> u64
     ensures { result ≤ 990 }
 {
     LEFT + scale.point_of(line).min(LANE_WIDTH)
 }
 
-/// Where the lane of a worker begins, from the top.
+/// The y coordinate of the lane of a worker.
 fn top_of(worker: u32) -> u64
     ensures { result ≤ 2 ^ 38 }
 {
     u64::from(worker) * LANE_HEIGHT + TOP
 }
 
-/// Writes the beginning of the drawing, the figures and how bars look.
+/// Writes the head of the document, the styles and the figures.
 fn begin(svg: &mut String, timeline: &Timeline) -> Result<(), AllocError> {
-    let figures = Figures::of(timeline);
+    let figures = TimelineFigures::of(timeline);
     let (lines, workers) = (figures.lines, figures.workers);
     let height = top_of(workers) + 100;
     writeln!(
@@ -85,7 +82,6 @@ fn begin(svg: &mut String, timeline: &Timeline) -> Result<(), AllocError> {
     write_axis(svg, lines as u64)
 }
 
-/// How the parts of the drawing look.
 const STYLES: &str = r##"<style>
 .page { fill: #fff }
 .lane { fill: #f4f4f4; stroke: #999 }
@@ -103,7 +99,7 @@ const STYLES: &str = r##"<style>
 </defs>
 "##;
 
-/// Writes the first and the last line above the lanes.
+/// Writes the numbers of the first and the last line above the lanes.
 fn write_axis(svg: &mut String, lines: u64) -> Result<(), AllocError> {
     let y = TOP - 8;
     let (right, last) = (LEFT + LANE_WIDTH, lines.saturating_add(1));
@@ -114,7 +110,7 @@ fn write_axis(svg: &mut String, lines: u64) -> Result<(), AllocError> {
     )
 }
 
-/// Writes the lane of a worker, with a bar for so many regions each.
+/// Writes the lane of a worker. Each bar is for `several` regions, the last one for the rest.
 fn draw_lane(
     svg: &mut String,
     timeline: &Timeline,
@@ -145,7 +141,7 @@ fn draw_lane(
     Ok(())
 }
 
-/// Writes a bar for a group of regions, of which this is the last.
+/// Writes the bar of a group of regions, of which `last` is the last.
 fn draw_group(
     svg: &mut String,
     group: Group,
@@ -162,7 +158,7 @@ fn draw_group(
     }
 }
 
-/// Writes the bar of a region: up to its completion, and hatched up to its settling.
+/// Writes the bar of a region, hatched from its completion on.
 fn draw_bar(svg: &mut String, bar: &Bar, scale: Scale, y: u64) -> Result<(), AllocError>
     requires { y ≤ 2 ^ 38 }
 {
@@ -200,7 +196,7 @@ fn draw_bar(svg: &mut String, bar: &Bar, scale: Scale, y: u64) -> Result<(), All
     svg.push_str("</g>\n")
 }
 
-/// Writes in which lines a region was claimed, completed and settled.
+/// Writes the lines in which a region is claimed, completed and settled.
 fn write_moments(svg: &mut String, bar: &Bar) -> Result<(), AllocError> {
     write!(svg, ", claimed in line {}", bar.claimed.line)?;
     if let Some(completed) = bar.completed {
@@ -212,7 +208,7 @@ fn write_moments(svg: &mut String, bar: &Bar) -> Result<(), AllocError> {
     }
 }
 
-/// Writes a part of a bar, from one point to another.
+/// Writes a part of a bar, at least 1 wide.
 fn draw_part(svg: &mut String, class: &str, from: u64, to: u64, y: u64) -> Result<(), AllocError> {
     let width = to.saturating_sub(from).max(1);
     write!(
@@ -221,7 +217,7 @@ fn draw_part(svg: &mut String, class: &str, from: u64, to: u64, y: u64) -> Resul
     )
 }
 
-/// Writes one bar for several regions.
+/// Writes the bar of several regions.
 fn draw_several(svg: &mut String, group: Group, scale: Scale, y: u64) -> Result<(), AllocError>
     requires { y ≤ 2 ^ 38 }
 {
@@ -240,7 +236,7 @@ fn draw_several(svg: &mut String, group: Group, scale: Scale, y: u64) -> Result<
     svg.push_str("</g>\n")
 }
 
-/// Writes which drains freed a region, and who took it.
+/// Writes the drains that free a region: all, or one of each few if there are too many.
 fn draw_freeings(svg: &mut String, freeings: &[Freeing], scale: Scale) -> Result<(), AllocError> {
     let every = freeings.len().div_ceil(MAX_FREEINGS).max(1);
     for (i, freeing) in freeings.iter().enumerate() {
@@ -251,7 +247,7 @@ fn draw_freeings(svg: &mut String, freeings: &[Freeing], scale: Scale) -> Result
     Ok(())
 }
 
-/// Writes the mark of a drain below its lane, and a line to the claim of the region that it freed.
+/// Writes a dot for a drain below its lane, and a line to the claim of the region that it frees.
 fn draw_freeing(svg: &mut String, freeing: &Freeing, scale: Scale) -> Result<(), AllocError> {
     let x = left_of(scale, freeing.drain.line);
     let y = top_of(freeing.drain.worker) + BAR_HEIGHT;
@@ -268,7 +264,7 @@ fn draw_freeing(svg: &mut String, freeing: &Freeing, scale: Scale) -> Result<(),
     svg.push_str("</g>\n")
 }
 
-/// Writes what the parts mean, and what is merged or left out.
+/// Writes the legend, and what is merged or left out.
 fn draw_legend(svg: &mut String, timeline: &Timeline, several: usize) -> Result<(), AllocError> {
     let y = top_of(timeline.schedule.workers()) + 16;
     draw_classes(svg, y)?;
@@ -281,7 +277,7 @@ fn draw_legend(svg: &mut String, timeline: &Timeline, several: usize) -> Result<
     write_thinned(svg, timeline, several, y + 40)
 }
 
-/// Writes what the bars mean, so far below the top.
+/// Writes the legend of the bars at height `y`.
 fn draw_classes(svg: &mut String, y: u64) -> Result<(), AllocError>
     requires { y ≤ 2 ^ 39 }
 {
@@ -301,7 +297,7 @@ fn draw_classes(svg: &mut String, y: u64) -> Result<(), AllocError>
     Ok(())
 }
 
-/// Writes which bars are merged and which marks are left out.
+/// Writes how many regions a bar is for and how many drains are left out, if any.
 fn write_thinned(
     svg: &mut String,
     timeline: &Timeline,

@@ -1,18 +1,17 @@
-//! `Ending`: how a schedule ends.
 use std::fmt;
 
-/// How a schedule ends.
+/// Whether a schedule finishes its collection.
 #[derive(Debug, Clone, Copy, PartialEq, Eq)]
 pub enum Ending {
-    /// All regions to be filled are settled.
+    /// All regions to fill are settled.
     Finished,
-    /// Some region to be filled isn't settled.
+    /// Some region to fill isn't settled.
     Open,
 }
 
 impl fmt::Display for Ending {
     ghost use Rattle.std.specs.Prelude.{Some};
-    ghost use Rattle.schedule_timeline.specs.Figures.{ending_text};
+    ghost use Rattle.schedule_timeline.specs.TimelineFigures.{ending_text};
 
     ghost output = { λ ending. Some (ending_text ending) };
 

@@ -1,35 +1,32 @@
-//! `Figures`: what a timeline tells in numbers.
 ghost use Rattle.std.specs.Prelude.{◌≡◌};
-ghost use Rattle.schedule_timeline.specs.Figures.{AreFiguresOf};
+ghost use Rattle.schedule_timeline.specs.TimelineFigures.{AreFiguresOf};
 
 use crate::ending::Ending;
 use crate::timeline::Timeline;
 use std::fmt;
 
-/// A timeline in numbers.
+/// The figures of a timeline, which it prints in its first line.
 #[derive(Debug, Clone, Copy, PartialEq, Eq)]
-pub struct Figures {
-    /// How many workers there are.
+pub struct TimelineFigures {
     pub workers: u32,
-    /// How many calls they made, a line each.
+    /// The number of calls: the lines after the header.
     pub lines: usize,
-    /// How many regions were granted.
+    /// The number of granted regions.
     pub granted: usize,
-    /// How many of them were completed.
+    /// How many granted regions are completed.
     pub completed: usize,
-    /// How many of them were settled.
+    /// How many granted regions are settled.
     pub settled: usize,
-    /// How many drains freed a region.
+    /// The number of drains that free their source.
     pub freed: usize,
-    /// How many of the freed regions were granted.
+    /// How many of these sources are granted to a worker.
     pub taken: usize,
-    /// How the schedule ends.
     pub ending: Ending,
 }
 
-impl Figures {
-    /// Those of this timeline.
-    pub fn of(timeline: &Timeline) -> Figures
+impl TimelineFigures {
+    /// Counts the bars and marks of a timeline. It allocates nothing.
+    pub fn of(timeline: &Timeline) -> TimelineFigures
         ensures { AreFiguresOf timeline.now result }
     {
         let Timeline {
@@ -38,7 +35,7 @@ impl Figures {
             freeings,
             ending,
         } = timeline;
-        Figures {
+        TimelineFigures {
             workers: schedule.workers(),
             lines: schedule.len(),
             granted: bars.len(),
@@ -54,14 +51,14 @@ impl Figures {
     }
 }
 
-impl fmt::Display for Figures {
+impl fmt::Display for TimelineFigures {
     ghost use Rattle.std.specs.Prelude.{Some};
-    ghost use Rattle.schedule_timeline.specs.Figures.{figures_text};
+    ghost use Rattle.schedule_timeline.specs.TimelineFigures.{figures_text};
 
     ghost output = { λ figures. Some (figures_text figures) };
 
     fn fmt<W: fmt::Write>(&self, f: &mut fmt::Formatter<W>) -> fmt::Result {
-        let Figures {
+        let TimelineFigures {
             workers,
             lines,
             granted,

@@ -1,15 +1,13 @@
-//! `Freeing`: a drain after which nobody has to read its source any more.
 use crate::call::Call;
 
-/// A drain with the reply `Last`, and who took the region that it freed.
+/// A drain with the reply `Last`, which frees its source: the source has no pending readers, and may be claimed.
 #[derive(Debug, Clone, Copy, PartialEq, Eq)]
 pub struct Freeing {
-    /// The drain.
     pub drain: Call,
-    /// The region into which the words went.
+    /// The region that the words are copied to.
     pub destination: u32,
-    /// The region that was freed.
+    /// The region that the words come from, now free.
     pub source: u32,
-    /// The call that granted the source, where there is one.
+    /// The call that grants the source, if any.
     pub taken: Option<Call>,
 }

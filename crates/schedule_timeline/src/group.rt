@@ -1,23 +1,21 @@
-//! `Group`: regions that one bar of a drawing stands for.
 use crate::bar::Bar;
 
-/// Regions of one worker that one bar stands for, in the order of their claims.
+/// Regions of one worker that share one bar of a drawing, since there are too many for a bar each.
 #[derive(Debug, Clone, Copy, PartialEq, Eq)]
 pub(crate) struct Group {
-    /// How many there are.
     pub count: usize,
-    /// The least of them.
+    /// The lowest region.
     pub low: u32,
-    /// The greatest of them.
+    /// The highest region.
     pub high: u32,
     /// The line of the first claim.
     pub from: u64,
-    /// The last line of any of them.
+    /// The last line at which a bar of them ends.
     pub to: u64,
 }
 
 impl Group {
-    /// No region.
+    /// A group of no regions.
     pub(crate) fn empty() -> Group {
         Group {
             count: 0,
@@ -28,7 +26,7 @@ impl Group {
         }
     }
 
-    /// These and one more, of a schedule of so many lines.
+    /// The group with one more region, in a schedule of `lines` lines.
     pub(crate) fn with(self, bar: &Bar, lines: u64) -> Group {
         Group {
             count: self.count.saturating_add(1),

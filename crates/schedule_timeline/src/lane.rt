@@ -1,4 +1,3 @@
-//! `Lane`: what one worker does, cell by cell.
 use crate::bar::Bar;
 use crate::call::Call;
 use crate::mark::Mark;
@@ -6,19 +5,18 @@ use crate::scale::Scale;
 use crate::timeline::Timeline;
 use std::alloc::{AllocError, Global};
 
-/// What one worker does, cell by cell.
+/// The work of one worker, cell by cell.
 #[derive(Drop)]
 pub(crate) struct Lane {
     worker: u32,
     scale: Scale,
-    /// Of each cell in how many of its lines the worker has a region in hand.
-    pub(crate) held: Vec<u64>,
-    /// Of each cell what the worker does there.
+    /// For each cell, the number of its lines in which the worker has a region in hand, added up over the regions.
+    pub(crate) busy: Vec<u64>,
     pub(crate) marks: Vec<Mark>,
 }
 
 impl Lane {
-    /// The lane of a worker.
+    /// The lane of a worker. It allocates two elements a cell.
     pub(crate) fn of(
         alloc: Global,
         timeline: &Timeline,
@@ -29,7 +27,7 @@ impl Lane {
         let mut lane = Lane {
             worker,
             scale,
-            held: vec![in alloc; 0; cells]?,
+            busy: vec![in alloc; 0; cells]?,
             marks: vec![in alloc; Mark::Nothing; cells]?,
         };
         lane.add_bars(&timeline.bars);
@@ -40,12 +38,12 @@ impl Lane {
     fn add_bars(&mut self, bars: &[Bar]) {
         for bar in bars {
             if bar.claimed.worker == self.worker {
-                self.hold(bar);
+                self.add_bar(bar);
             }
         }
     }
 
-    /// Adds the marks of drains, and of claims of what a drain freed.
+    /// Adds the marks of drains that free a region and of claims of such regions.
     fn add_freeings(&mut self, timeline: &Timeline) {
         for freeing in timeline.freeings.iter() {
             self.mark(freeing.drain, Mark::Freeing);
@@ -55,28 +53,28 @@ impl Lane {
         }
     }
 
-    /// Adds a region that the worker has in hand.
-    fn hold(&mut self, bar: &Bar) {
+    /// Adds the marks of a bar, and its lines to the cells that it covers.
+    fn add_bar(&mut self, bar: &Bar) {
         self.mark(bar.claimed, Mark::Claim);
         let end = bar.last_line(self.scale.lines);
         if let Some(settled) = bar.settled {
             self.mark(settled, Mark::Settling);
         }
         let from = self.scale.cell_of(bar.claimed.line) as usize;
-        for cell in from..self.held.len() {
+        for cell in from..self.busy.len() {
             let begin = self.scale.start_of(cell as u64).max(bar.claimed.line);
-            let behind = self
+            let next = self
                 .scale
                 .start_of(cell as u64 + 1)
                 .min(end.saturating_add(1));
-            if behind <= begin {
+            if next <= begin {
                 break;
             }
-            self.held[cell] = self.held[cell].saturating_add(behind - begin);
+            self.busy[cell] = self.busy[cell].saturating_add(next - begin);
         }
     }
 
-    /// Marks what a call does, where it is one of this worker.
+    /// Adds the mark of a call, if it is a call of this worker.
     fn mark(&mut self, call: Call, mark: Mark) {
         let cell = self.scale.cell_of(call.line) as usize;
         if call.worker == self.worker && cell < self.marks.len() {

@@ -1,4 +1,4 @@
-//! Laws about schedules that the word machine takes. The function does nothing: its contract is the law.
+//! Laws about schedules that the word machine accepts. The function has no effect: its contract is the law.
 ghost use Rattle.std.specs.Prelude.{ℕ, List};
 ghost use Rattle.heap_image.specs.HeapImage.{HeapImage, region_count};
 ghost use Rattle.history.specs.Replay.{IsReplay};
@@ -8,7 +8,7 @@ ghost use Rattle.schedule_timeline.specs.FirstCalls.{AreGrantedBelow};
 
 use history::{moves_of_images, what_replays_keep};
 
-/// Only regions that the image has are granted.
+/// A call grants only a region of the image.
 pub fn grants_are_inside()
     ensures { (image : HeapImage) (workers : ℕ) (lines : List Line) (log : List Entry) → IsReplay image workers lines log
         → AreGrantedBelow (region_count image) log }

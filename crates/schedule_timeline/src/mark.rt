@@ -1,24 +1,21 @@
-//! `Mark`: what a worker does in a cell of its lane.
-
 /// What a worker does in a cell of its lane.
 #[derive(Debug, Clone, Copy, PartialEq, Eq)]
 pub(crate) enum Mark {
-    /// Nothing that is marked.
     Nothing,
     /// It claims a region.
     Claim,
-    /// It claims a region that a drain freed, and maybe others.
+    /// It claims a region that a drain freed; it may claim others, too.
     Taking,
-    /// Its drain frees a region.
+    /// A drain of it frees a region.
     Freeing,
     /// It settles a region.
     Settling,
-    /// Several of these.
+    /// Two or more kinds of these.
     Several,
 }
 
 impl Mark {
-    /// This and another, in one cell.
+    /// The mark of a cell that has both marks.
     pub(crate) fn with(self, other: Mark) -> Mark {
         match (self, other) {
             (Mark::Nothing, mark) | (mark, Mark::Nothing) => mark,
@@ -28,7 +25,6 @@ impl Mark {
         }
     }
 
-    /// Its letter.
     pub(crate) fn letter(self) -> &'static str {
         match self {
             Mark::Nothing => " ",
@@ -40,7 +36,7 @@ impl Mark {
         }
     }
 
-    /// The number by which terminals know its colour.
+    /// The terminal colour code of the letter; 0 is no colour.
     pub(crate) fn colour(self) -> &'static str {
         match self {
             Mark::Nothing => "0",

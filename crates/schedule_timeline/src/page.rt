@@ -1,15 +1,15 @@
-//! A timeline as a page that stands alone.
-ghost use Rattle.std.specs.Prelude.{◌<◌, ◌-◌, ◌^◌, IfOk};
+//! Writes a timeline as an HTML page that needs no other file.
+ghost use Rattle.std.specs.Prelude.{◌≡◌, ◌<◌, ◌-◌, ◌^◌, ◌++◌, ℕ, List, IfOk, OnOk, string_bytes};
 ghost use Rattle.history.specs.ScheduleText.{schedule_text};
 ghost use Rattle.schedule_timeline.specs.Page.{Has};
 
-use crate::page_layout::{BEHIND, BETWEEN, HEAD, TAIL};
+use crate::page_layout::{AFTER_SCHEDULE, BEFORE_SCHEDULE, HEAD, TAIL};
 use crate::page_script::SCRIPT;
-use history::{Schedule, write_schedule};
+use history::{Schedule, append_schedule};
 use std::alloc::{AllocError, Global};
 use summary::Plan;
 
-/// The page of a schedule, for the moves of this plan. It has the schedule's text.
+/// The page of a schedule and of the moves of a plan. It contains the schedule's text.
 pub(crate) fn page_of(
     alloc: Global,
     plan: &Plan,
@@ -18,32 +18,31 @@ pub(crate) fn page_of(
     ensures { IfOk result (λ page. Has (schedule_text schedule.now) page.items) }
 {
     let mut page = front_of(alloc, plan)?;
-    let text = write_schedule(alloc, schedule)?;
-    page.extend_from_slice(&text)?;
-    let back = back(alloc)?;
-    page.extend_from_slice(back.as_bytes())?;
-    Ok(page)
+    append_schedule(&mut page, schedule)?;
+    write_back(&mut page)?;
+    Ok(page.into_bytes())
 }
 
-/// What stands before the schedule.
-fn front_of(alloc: Global, plan: &Plan) -> Result<Vec<u8>, AllocError> {
+/// The part before the schedule's text: the layout and the moves.
+fn front_of(alloc: Global, plan: &Plan) -> Result<String, AllocError> {
     let mut front = String::new(alloc);
     front.push_str(HEAD)?;
     write_moves(&mut front, plan)?;
-    front.push_str(BETWEEN)?;
-    Ok(front.into_bytes())
+    front.push_str(BEFORE_SCHEDULE)?;
+    Ok(front)
 }
 
-/// What stands behind the schedule.
-fn back(alloc: Global) -> Result<String, AllocError> {
-    let mut back = String::new(alloc);
-    back.push_str(BEHIND)?;
-    back.push_str(SCRIPT)?;
-    back.push_str(TAIL)?;
-    Ok(back)
+/// Writes the part after the schedule's text: the script.
+fn write_back(page: &mut String) -> Result<(), AllocError>
+    ensures { OnOk result ((back : List ℕ) × (string_bytes page.new ≡ string_bytes page.old ++ back)) }
+{
+    page.push_str(AFTER_SCHEDULE)?;
+    page.push_str(SCRIPT)?;
+    page.push_str(TAIL)?;
+    Ok(())
 }
 
-/// Writes how many regions there are, how many of them are to be filled, and the pairs, a line each.
+/// Writes a line with the numbers of regions and of regions to fill, and a line for each pair of destination and source.
 fn write_moves(text: &mut String, plan: &Plan) -> Result<(), AllocError> {
     let regions = plan.regions();
     let filled = plan.fill_regions();
@@ -54,7 +53,7 @@ fn write_moves(text: &mut String, plan: &Plan) -> Result<(), AllocError> {
     Ok(())
 }
 
-/// Writes the pairs of a destination. Its sources lie above it.
+/// Writes the pairs of a destination. All its sources are above it.
 fn write_pairs(text: &mut String, plan: &Plan, destination: u32) -> Result<(), AllocError>
     requires { destination < 2 ^ 32 - 1 }
 {

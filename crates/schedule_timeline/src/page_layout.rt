@@ -1,6 +1,6 @@
-//! The parts of a page that are the same for each schedule, but for its script.
+//! The constant parts of a page, except its script.
 
-/// What stands before the moves: how the page looks, and its parts.
+/// The part before the moves: the styles and the elements.
 pub(crate) const HEAD: &str = r##"<!DOCTYPE html>
 <html lang="en">
 <head>
@@ -82,17 +82,17 @@ i.settled { background: #1f4e8c; color: #fff }
 <script type="text/plain" id="moves">
 "##;
 
-/// What stands between the moves and the schedule.
-pub(crate) const BETWEEN: &str = r##"</script>
+/// The part between the moves and the schedule.
+pub(crate) const BEFORE_SCHEDULE: &str = r##"</script>
 <script type="text/plain" id="schedule">
 "##;
 
-/// What stands behind the schedule, before the script.
-pub(crate) const BEHIND: &str = r##"</script>
+/// The part between the schedule and the script.
+pub(crate) const AFTER_SCHEDULE: &str = r##"</script>
 <script>
 "##;
 
-/// What stands behind the script.
+/// The part after the script.
 pub(crate) const TAIL: &str = r##"</script>
 </body>
 </html>

@@ -1,6 +1,4 @@
-//! The script of a page, in JavaScript.
-
-/// It shows each line of the schedule, and goes from one to another.
+/// The JavaScript of a page. It reads the moves and the schedule from the page, and shows the state after each line.
 pub(crate) const SCRIPT: &str = r##"'use strict';
 (() => {
   const FIRST = 2; // the line of the first call: line 1 tells the workers

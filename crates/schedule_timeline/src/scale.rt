@@ -1,20 +1,19 @@
-//! `Scale`: the lines of a schedule cut into pieces of a picture.
 ghost use Rattle.std.specs.Prelude.{◌≤◌};
 
 /// The line of the first call in the text of a schedule.
 pub(crate) const FIRST_LINE: u64 = 2;
 
-/// Lines laid out over a number of cells or points.
+/// Maps the lines of a schedule to the cells of a lane or to the points of a drawing.
 #[derive(Debug, Clone, Copy, PartialEq, Eq)]
 pub(crate) struct Scale {
-    /// How many lines there are.
+    /// The number of lines after the header.
     pub lines: u64,
-    /// How many cells or points there are for them.
+    /// The number of cells or points.
     pub cells: u64,
 }
 
 impl Scale {
-    /// The cell that has a line. Each cell begins with line `cell * lines / cells`, rounded down.
+    /// The cell of a line. Cell `i` begins at `i * lines / cells`, rounded down, lines counted from 0.
     pub(crate) fn cell_of(self, line: u64) -> u64 {
         let place = line.saturating_sub(FIRST_LINE);
         let reached = place.saturating_add(1).saturating_mul(self.cells);
@@ -22,7 +21,7 @@ impl Scale {
         cell.min(self.cells.saturating_sub(1))
     }
 
-    /// Where a line stands among so many points, of which no two lines need to differ.
+    /// The point of a line. Several lines may share a point.
     pub(crate) fn point_of(self, line: u64) -> u64
         ensures { result ≤ self.cells }
     {
@@ -31,7 +30,7 @@ impl Scale {
         point.min(self.cells)
     }
 
-    /// The first line of a cell, or the one behind the last line.
+    /// The first line of a cell; of the cell after the last one, the line after the last line.
     pub(crate) fn start_of(self, cell: u64) -> u64 {
         let place = cell.saturating_mul(self.lines) / self.cells.max(1);
         place.saturating_add(FIRST_LINE)

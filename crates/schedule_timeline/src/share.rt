@@ -1,39 +1,37 @@
-//! `Share`: in how much of a cell a worker has a region in hand.
 use heap_map::Glyphs;
 
-/// In how many of a cell's lines a worker has a region in hand, in thirds.
+/// The share of a cell's lines in which a worker has a region in hand, in thirds.
 #[derive(Debug, Clone, Copy, PartialEq, Eq)]
 pub(crate) enum Share {
     /// In none.
     Never,
-    /// In some, but less than a third.
+    /// In fewer than a third, but some.
     Seldom,
-    /// In a third, but less than two.
+    /// In at least one third, but fewer than two.
     Half,
-    /// In two thirds, but not in all.
+    /// In at least two thirds, but not all.
     Mostly,
     /// In all.
     Always,
 }
 
 impl Share {
-    /// That of so many lines held, of so many in all.
-    pub(crate) fn of(held: u64, lines: u64) -> Share {
-        let (held, lines) = (u128::from(held), u128::from(lines));
-        if held == 0 {
+    /// The share of `busy` lines of `lines`.
+    pub(crate) fn of(busy: u64, lines: u64) -> Share {
+        let (busy, lines) = (u128::from(busy), u128::from(lines));
+        if busy == 0 {
             Share::Never
-        } else if lines <= held {
+        } else if lines <= busy {
             Share::Always
-        } else if held * 3 < lines {
+        } else if busy * 3 < lines {
             Share::Seldom
-        } else if held * 3 < lines * 2 {
+        } else if busy * 3 < lines * 2 {
             Share::Half
         } else {
             Share::Mostly
         }
     }
 
-    /// Its character.
     pub(crate) fn glyph(self, glyphs: Glyphs) -> &'static str {
         match glyphs {
             Glyphs::Letters => self.letter(),
@@ -61,7 +59,7 @@ impl Share {
         }
     }
 
-    /// The number by which terminals know its colour.
+    /// The terminal colour code of the character; 0 is no colour.
     pub(crate) fn colour(self) -> &'static str {
         match self {
             Share::Never => "0",

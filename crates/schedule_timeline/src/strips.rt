@@ -1,4 +1,4 @@
-//! A timeline as text: two rows for each worker.
+//! Prints the lanes of a timeline as text: two rows for each worker.
 use crate::freeing::Freeing;
 use crate::lane::Lane;
 use crate::mark::Mark;
@@ -8,10 +8,10 @@ use crate::timeline::Timeline;
 use heap_map::{Glyphs, Style};
 use std::alloc::{AllocError, Global};
 
-/// Of how many freed regions a line tells who took them.
-const TOLD_FREEINGS: usize = 20;
+/// The largest number of freed regions that are listed.
+const MAX_LISTED: usize = 20;
 
-/// Writes the lanes, what their characters mean, and who took which freed region.
+/// Writes the lanes, the legend, and a list of freed regions. A lane has one cell per line, but no more than `width`.
 pub(crate) fn write_lanes(
     alloc: Global,
     text: &mut String,
@@ -32,7 +32,7 @@ pub(crate) fn write_lanes(
     write_freeings(text, &timeline.freeings)
 }
 
-/// Writes the two rows of a worker.
+/// Writes the two rows of a worker: shares and marks.
 fn write_lane(
     text: &mut String,
     style: Style,
@@ -41,10 +41,10 @@ fn write_lane(
     scale: Scale,
 ) -> Result<(), AllocError> {
     write!(text, "worker {worker:2} |")?;
-    for (cell, held) in lane.held.iter().enumerate() {
+    for (cell, busy) in lane.busy.iter().enumerate() {
         let first = scale.start_of(cell as u64);
-        let behind = scale.start_of((cell as u64).saturating_add(1));
-        let share = Share::of(*held, behind.saturating_sub(first));
+        let next = scale.start_of((cell as u64).saturating_add(1));
+        let share = Share::of(*busy, next.saturating_sub(first));
         write_coloured(text, style, share.colour(), share.glyph(style.glyphs))?;
     }
     text.push_str("|\n          |")?;
@@ -52,7 +52,7 @@ fn write_lane(
     text.push_str("|\n")
 }
 
-/// Writes what a worker does, cell by cell.
+/// Writes the row of marks.
 fn write_marks(text: &mut String, style: Style, marks: &[Mark]) -> Result<(), AllocError> {
     for mark in marks {
         write_coloured(text, style, mark.colour(), mark.letter())?;
@@ -60,7 +60,7 @@ fn write_marks(text: &mut String, style: Style, marks: &[Mark]) -> Result<(), Al
     Ok(())
 }
 
-/// Writes a character, in this colour where colours are wanted. Colour 0 is none.
+/// Writes a character, in a colour if the style is coloured. Colour 0 is no colour.
 fn write_coloured(
     text: &mut String,
     style: Style,
@@ -74,7 +74,7 @@ fn write_coloured(
     }
 }
 
-/// Writes what the characters mean.
+/// Writes the two lines of the legend.
 fn write_legend(text: &mut String, glyphs: Glyphs) -> Result<(), AllocError> {
     text.push_str("region in hand:")?;
     for (share, name) in [
@@ -89,19 +89,19 @@ fn write_legend(text: &mut String, glyphs: Glyphs) -> Result<(), AllocError> {
     text.push_str("\nmark: c claims t takes a freed region f frees one s settles x several\n")
 }
 
-/// Writes who took which freed region, of the first ones.
+/// Writes a line for each of the first freed regions, and the number of the others.
 fn write_freeings(text: &mut String, freeings: &[Freeing]) -> Result<(), AllocError> {
-    for freeing in freeings.iter().take(TOLD_FREEINGS) {
+    for freeing in freeings.iter().take(MAX_LISTED) {
         write_freeing(text, freeing)?;
         text.push_str("\n")?;
     }
-    match freeings.len().saturating_sub(TOLD_FREEINGS) {
+    match freeings.len().saturating_sub(MAX_LISTED) {
         0 => Ok(()),
         more => writeln!(text, "and {more} more"),
     }
 }
 
-/// Writes who freed a region and who took it.
+/// Writes which drain frees a region, and who claims the region.
 pub(crate) fn write_freeing(text: &mut String, freeing: &Freeing) -> Result<(), AllocError> {
     let Freeing {
         drain,

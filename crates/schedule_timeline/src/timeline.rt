@@ -1,20 +1,19 @@
-//! `Timeline`: a schedule as bars and marks.
-ghost use Rattle.std.specs.Prelude.{◌≡◌, ◌⊎◌, ℕ, List, IfOk, IfErr, map, string_bytes};
+ghost use Rattle.std.specs.Prelude.{◌≡◌, ◌<◌, ◌^◌, ◌⊎◌, ℕ, IfOk, IfErr, length, string_bytes};
 ghost use Rattle.heap_image.specs.declared.fault.Fault.{Fault};
 ghost use Rattle.history.specs.Replay.{IsRefusedAt};
-ghost use Rattle.history.specs.Schedule.{line_of};
 ghost use Rattle.history.specs.ScheduleText.{schedule_text};
-ghost use Rattle.history.specs.declared.entry.Entry.{Entry};
-ghost use Rattle.schedule_timeline.specs.Figures.{BeginsWithFigures, IsFiguresLine};
+ghost use Rattle.schedule_timeline.specs.TimelineFigures.{BeginsWithFigures, IsFiguresLine};
 ghost use Rattle.schedule_timeline.specs.FirstCalls.{AreGrantedBelow};
+ghost use Rattle.schedule_timeline.specs.Log.{HasAllReplies, log_of};
 ghost use Rattle.schedule_timeline.specs.Page.{Has};
 ghost use Rattle.schedule_timeline.specs.Timeline.{IsTimelineOf, bars_of, ending_of, freed_pair, freeings_of};
 
 use crate::bar::Bar;
-use crate::deed::{Deed, granted};
+use crate::deed::{Deed, granted_region};
 use crate::drawing::draw;
 use crate::ending::Ending;
-use crate::figures::Figures;
+use crate::entry_at::entry_at;
+use crate::figures::TimelineFigures;
 use crate::first_calls::{call_at, call_of, first_calls};
 use crate::freeing::Freeing;
 use crate::laws::grants_are_inside;
@@ -26,23 +25,27 @@ use history::{End, Entry, Event, Replayed, Reply, Schedule, replay};
 use std::alloc::{AllocError, Global};
 use summary::{Plan, Survey};
 
-/// A schedule that the word machine of an image takes, and what it shows: which worker had which region in hand, and
-/// which drains freed a region. A line of the schedule's text is a moment.
+/// The largest number of lines. No memory holds more.
+const MAX_LINES: usize = 0x7fff_ffff_ffff_ffff;
+
+/// A schedule that the word machine of an image accepts, with the bars of granted regions and the marks of drains that
+/// free a region. The lines of the schedule's text are the time.
 #[derive(Drop)]
 pub struct Timeline {
-    /// The schedule, each line with its reply.
+    /// The schedule. Each line has its reply.
     pub schedule: Schedule,
-    /// Of each region that was granted its bar, in the order of the grants.
+    /// A bar for each grant, in the order of the grants.
     pub bars: Vec<Bar>,
-    /// Of each drain that freed a region its mark, in their order.
+    /// A mark for each drain that frees a region, in the order of the drains.
     pub freeings: Vec<Freeing>,
-    /// How it ends.
     pub ending: Ending,
 }
 
 impl Timeline {
-    /// That of a schedule on an image. The schedule is replayed on a copy of it: fault 14 names the least line that isn't
-    /// taken, and fault 11 comes where memory was refused.
+    /// Replays a schedule on a copy of an image, and collects its bars and marks.
+    ///
+    /// Fails with [`Fault::Schedule`] and the number of the first line that the word machine refuses, or with
+    /// [`Fault::Memory`]. The timeline keeps the schedule in 12 bytes a line.
     pub fn of(
         alloc: Global,
         image: &Image,
@@ -55,27 +58,29 @@ impl Timeline {
     {
         grants_are_inside();
         let (lines, ending) = parts_of(replay(alloc, image, survey, schedule)?);
-        let log = entries_of(alloc, &lines)?;
+        if lines.len() > MAX_LINES {
+            return Err(Fault::Memory);
+        }
         let regions = survey.plan().regions();
         Ok(Timeline {
-            bars: bars_of(alloc, &log, regions)?,
-            freeings: freeings_of(alloc, &log, regions)?,
+            bars: bars_of(alloc, &lines, regions)?,
+            freeings: freeings_of(alloc, &lines, regions)?,
             schedule: lines,
             ending,
         })
     }
 
-    /// The line with its figures.
+    /// The line of figures, with its line feed.
     pub fn line(&self, alloc: Global) -> Result<String, AllocError>
         ensures { IfOk result (λ text. IsFiguresLine self.now (string_bytes text)) }
     {
         let mut text = String::new(alloc);
-        writeln!(text, "{}", Figures::of(self))?;
+        writeln!(text, "{}", TimelineFigures::of(self))?;
         Ok(text)
     }
 
-    /// The timeline as text: the line with its figures, then the lanes of the workers, in as many cells as there are
-    /// lines, but no more than this.
+    /// The timeline as text: the line of figures, two rows for each worker, the legend and a list of freed regions. A
+    /// row has one cell per line of the schedule, but no more than `width`.
     pub fn text(&self, alloc: Global, style: Style, width: u32) -> Result<String, AllocError>
         ensures { IfOk result (λ text. BeginsWithFigures self.now (string_bytes text)) }
     {
@@ -86,13 +91,13 @@ impl Timeline {
         Ok(text)
     }
 
-    /// The timeline as SVG, a page's drawing.
+    /// The timeline as an SVG document.
     pub fn svg(&self, alloc: Global) -> Result<String, AllocError> {
         draw(alloc, self)
     }
 
-    /// The timeline as a page that stands alone, for the plan of its image. It has the schedule's text, and a script
-    /// that goes through its lines.
+    /// The timeline as an HTML page, for the plan of its image. The page contains the schedule's text and a script that
+    /// steps through its lines.
     pub fn page(&self, alloc: Global, plan: &Plan) -> Result<Vec<u8>, AllocError>
         ensures { IfOk result (λ page. Has (schedule_text self.now.schedule) page.items) }
     {
@@ -100,7 +105,7 @@ impl Timeline {
     }
 }
 
-/// The lines of a replay, and how it ended.
+/// The schedule of a replay, and how it ends.
 fn parts_of(replayed: Replayed) -> (Schedule, Ending)
     ensures lines { result.0 ≡ replayed.lines }
     ensures ended { result.1 ≡ ending_of replayed.ended }
@@ -112,66 +117,54 @@ fn parts_of(replayed: Replayed) -> (Schedule, Ending)
     (replayed.lines, ending)
 }
 
-/// The calls of a schedule that tells all replies.
-fn entries_of(alloc: Global, schedule: &Schedule) -> Result<Vec<Entry>, AllocError>
-    ensures { IfOk result (λ log. (told : List Entry) → schedule.now.lines ≡ map line_of told → log.items ≡ told) }
+/// The bars of a schedule in which each line has its reply and only regions below `regions` are granted.
+fn bars_of(alloc: Global, schedule: &Schedule, regions: u32) -> Result<Vec<Bar>, AllocError>
+    requires replies { HasAllReplies schedule.now }
+    requires few { length schedule.now.lines < 2 ^ 63 }
+    requires below { AreGrantedBelow regions (log_of schedule.now) }
+    ensures { IfOk result (λ bars. bars.items ≡ bars_of (log_of schedule.now)) }
 {
-    let mut log = Vec::new(alloc);
-    for i in 0..schedule.len() {
-        let (worker, event, told) = schedule.line(i);
-        if let Some(reply) = told {
-            log.push(Entry {
-                worker,
-                event,
-                reply,
-            })?;
-        }
-    }
-    Ok(log)
-}
-
-/// The bars of a history in which regions below this number are granted.
-fn bars_of(alloc: Global, log: &[Entry], regions: u32) -> Result<Vec<Bar>, AllocError>
-    requires { AreGrantedBelow regions log.now }
-    ensures { IfOk result (λ bars. bars.items ≡ bars_of log.now) }
-{
-    let completed = first_calls(alloc, log, regions, Deed::Completion)?;
-    let settled = first_calls(alloc, log, regions, Deed::Settling)?;
+    let completions = first_calls(alloc, schedule, regions, Deed::Completion)?;
+    let settlings = first_calls(alloc, schedule, regions, Deed::Settling)?;
     let mut bars = Vec::new(alloc);
-    for (i, entry) in log.iter().enumerate() {
-        if let Some(region) = granted(entry) {
+    for i in 0..schedule.len() {
+        let entry = entry_at(schedule, i);
+        if let Some(region) = granted_region(&entry) {
             bars.push(Bar {
                 region,
-                claimed: call_at(i, entry),
-                completed: call_of(&completed, region),
-                settled: call_of(&settled, region),
+                claimed: call_at(i, &entry),
+                completed: call_of(&completions, region),
+                settled: call_of(&settlings, region),
             })?;
         }
     }
     Ok(bars)
 }
 
-/// The marks of a history in which regions below this number are granted.
-fn freeings_of(alloc: Global, log: &[Entry], regions: u32) -> Result<Vec<Freeing>, AllocError>
-    requires { AreGrantedBelow regions log.now }
-    ensures { IfOk result (λ freeings. freeings.items ≡ freeings_of log.now) }
+/// The marks of a schedule in which each line has its reply and only regions below `regions` are granted.
+fn freeings_of(alloc: Global, schedule: &Schedule, regions: u32) -> Result<Vec<Freeing>, AllocError>
+    requires replies { HasAllReplies schedule.now }
+    requires few { length schedule.now.lines < 2 ^ 63 }
+    requires below { AreGrantedBelow regions (log_of schedule.now) }
+    ensures { IfOk result (λ freeings. freeings.items ≡ freeings_of (log_of schedule.now)) }
 {
-    let granted = first_calls(alloc, log, regions, Deed::Grant)?;
+    let grants = first_calls(alloc, schedule, regions, Deed::Grant)?;
     let mut freeings = Vec::new(alloc);
-    for (i, entry) in log.iter().enumerate() {
-        if let Some((destination, source)) = freed_pair(entry) {
+    for i in 0..schedule.len() {
+        let entry = entry_at(schedule, i);
+        if let Some((destination, source)) = freed_pair(&entry) {
             freeings.push(Freeing {
-                drain: call_at(i, entry),
+                drain: call_at(i, &entry),
                 destination,
                 source,
-                taken: call_of(&granted, source),
+                taken: call_of(&grants, source),
             })?;
         }
     }
     Ok(freeings)
 }
 
-/// The pair whose source a call freed.
+/// The destination and the source of a drain that frees its source.
 fn freed_pair(entry: &Entry) -> Option<(u32, u32)>
     ensures { result ≡ freed_pair entry.now.event entry.now.reply }
 {

@@ -1,9 +1,9 @@
-//! Boards over moves that are handed in, and their passes.
+//! Boards over given tables of moves, and their passes.
 ghost use Rattle.std.specs.Prelude.{◌≡◌, ◌≤◌, ◌<◌, IfOk, OnOk, IfSome, OnSome};
 ghost use Rattle.history.specs.MoveTable.{region_count};
 ghost use Rattle.claim_board.specs.Boards.{moves as moves_of, identity, board_of, AllOf};
 
-use crate::checks::{equal, memory_is_told};
+use crate::checks::{equal, expect_memory_fault};
 use crate::scheduler::moves_with_prefix;
 use crate::tables::table_of;
 use claim_board::{Board, Drained, Pass, Recorder, Ticket};
@@ -11,13 +11,13 @@ use history::{CallFault, GivenMoves, Moves, Reply};
 use std::alloc::{AllocError, Global};
 use std::test::Fail;
 
-/// Which regions of the base heap are to be filled.
+/// For each region of the base heap, whether it is to be filled.
 pub const BASE_FILLED: [bool; 4] = [true, true, true, false];
 
-/// Which region reads which.
+/// The pairs (destination, source) of the base heap.
 pub const BASE_PAIRS: [(u32, u32); 4] = [(0, 1), (1, 2), (1, 3), (2, 3)];
 
-/// A board of these moves, and its passes.
+/// Makes a board of these moves, with its passes.
 #[tactic(auto, using(claim_board::proofs::Gathers::are_all))]
 pub fn board_of_moves(
     alloc: Global,
@@ -31,7 +31,7 @@ pub fn board_of_moves(
     Ok((board, passes))
 }
 
-/// A board of the moves with these flags and pairs, and its passes.
+/// Makes a board of the table with these flags and pairs, with its passes.
 pub fn board_with(
     alloc: Global,
     fill: &[bool],
@@ -45,7 +45,7 @@ pub fn board_with(
     Ok(board_of_moves(alloc, &moves, workers)?)
 }
 
-/// The last of the passes.
+/// Takes the last pass.
 pub fn take(board: &Board, passes: &mut Vec<Pass>) -> Option<Pass>
     requires { AllOf (identity board.now) passes.old.items }
     ensures pass { IfSome result (λ pass. board_of pass ≡ identity board.now) }
@@ -57,7 +57,7 @@ pub fn take(board: &Board, passes: &mut Vec<Pass>) -> Option<Pass>
     Some(pass)
 }
 
-/// The last two passes.
+/// Takes the last two passes.
 pub fn take_two(board: &Board, passes: &mut Vec<Pass>) -> Result<(Pass, Pass), Fail>
     requires { AllOf (identity board.now) passes.old.items }
     ensures pass { IfOk result (λ two. (board_of two.0 ≡ identity board.now) × (board_of two.1 ≡ identity board.now)) }
@@ -68,7 +68,7 @@ pub fn take_two(board: &Board, passes: &mut Vec<Pass>) -> Result<(Pass, Pass), F
     Ok((before, last))
 }
 
-/// Gives a pass back.
+/// Puts a pass back.
 #[tactic(auto, using(claim_board::proofs::Gathers::all_push))]
 pub fn put(board: &Board, passes: &mut Vec<Pass>, pass: Pass) -> Result<(), AllocError>
     requires { AllOf (identity board.now) passes.old.items × (board_of pass ≡ identity board.now) }
@@ -79,7 +79,7 @@ pub fn put(board: &Board, passes: &mut Vec<Pass>, pass: Pass) -> Result<(), Allo
     Ok(())
 }
 
-/// Whether there is a ticket. It is given up.
+/// Gives up the ticket, and returns whether there was one.
 pub fn is_claimed(ticket: Option<Ticket>) -> bool {
     match ticket {
         Some(ticket) => {
@@ -90,8 +90,8 @@ pub fn is_claimed(ticket: Option<Ticket>) -> bool {
     }
 }
 
-/// Whether the ticket gives its right, which is given up.
-fn is_right(ticket: &mut Ticket) -> bool {
+/// Takes the ticket's right and gives it up; returns whether there was one.
+fn take_right(ticket: &mut Ticket) -> bool {
     match ticket.right() {
         Some(right) => {
             right.give_up();
@@ -101,23 +101,24 @@ fn is_right(ticket: &mut Ticket) -> bool {
     }
 }
 
-/// What worker 0 met that claimed region 0 and drained its source, and worker 1 before and after they met.
+/// The results of two workers. Worker 0 claims region 0 and drains its source; worker 1 makes claims before and after
+/// their passes meet.
 #[derive(Clone, Copy, Debug, PartialEq, Eq)]
 struct Met {
-    /// What was opened.
+    /// The pair of the opening.
     pair: (u32, u32),
     drained: Drained,
-    /// How many sources were left of the ticket, and its region.
+    /// The ticket's number of sources left, and its region.
     left: (usize, u32),
-    /// Whether worker 1 was granted region 0, and after they met region 1.
+    /// Whether worker 1 was granted region 0 before the meeting, and region 1 after it.
     granted: (bool, bool),
-    /// How regions 0 and 1 stood for worker 1 between these claims.
+    /// The status of regions 0 and 1 for worker 1 between these claims.
     looks: (Reply, Reply),
-    /// Whether the ticket gave its right at first, and then again.
+    /// Whether the ticket had its right at the first request, and at the second.
     rights: (bool, bool),
 }
 
-/// Both workers call in turn. None where region 0 isn't granted, or reads no other.
+/// Makes the calls of both workers. `None` if region 0 isn't granted or reads no other region.
 fn meeting(board: &Board, zero: &mut Pass, one: &mut Pass) -> Option<Met>
     requires boards { (board_of zero.old ≡ identity board.now) × (board_of one.old ≡ identity board.now) }
     requires regions { 1 < region_count (moves_of board.now) }
@@ -135,7 +136,7 @@ fn meeting(board: &Board, zero: &mut Pass, one: &mut Pass) -> Option<Met>
     let looks = (board.look(one, 0), board.look(one, 1));
     let granted = (early, is_claimed(board.claim(one, 1)));
     let left = (ticket.left(), ticket.region());
-    let rights = (is_right(&mut ticket), is_right(&mut ticket));
+    let rights = (take_right(&mut ticket), take_right(&mut ticket));
     ticket.give_up();
     Some(Met {
         pair,
@@ -147,7 +148,7 @@ fn meeting(board: &Board, zero: &mut Pass, one: &mut Pass) -> Option<Met>
     })
 }
 
-/// What the two workers of a board met. Their passes are given back.
+/// The results of the two workers of a board. Puts their passes back.
 fn meet_and_part(board: &Board, passes: &mut Vec<Pass>) -> Result<Met, Fail>
     requires { AllOf (identity board.now) passes.old.items }
     ensures { OnOk result (AllOf (identity board.now) passes.new.items) }
@@ -179,7 +180,7 @@ fn two_passes_meet(rt: HostRuntime) -> Result<(), Fail> {
     Ok(())
 }
 
-/// What the last pass is told by a poll. The pass is given back where fewer than so many are left.
+/// Polls with the last pass. Puts the pass back if fewer than `kept` are left.
 fn poll(board: &Board, passes: &mut Vec<Pass>, kept: usize) -> Result<bool, Fail>
     requires { AllOf (identity board.now) passes.old.items }
     ensures { OnOk result (AllOf (identity board.now) passes.new.items) }
@@ -192,8 +193,14 @@ fn poll(board: &Board, passes: &mut Vec<Pass>, kept: usize) -> Result<bool, Fail
     Ok(all)
 }
 
-/// Of a board of one region, to be filled or not: what a poll says, and whether the board finishes with so many passes.
-fn polled(alloc: Global, fills: bool, workers: u32, kept: usize) -> Result<(bool, bool), Fail>
+/// For a board of one region, to be filled or not: the reply to a poll, and whether the board finishes with `kept`
+/// passes.
+fn poll_and_finish(
+    alloc: Global,
+    fills: bool,
+    workers: u32,
+    kept: usize,
+) -> Result<(bool, bool), Fail>
     requires { (1 ≤ workers) × (workers ≤ 64) }
 {
     let (board, mut passes) = board_with(alloc, &[fills], &[], workers)?;
@@ -202,14 +209,22 @@ fn polled(alloc: Global, fills: bool, workers: u32, kept: usize) -> Result<(bool
 }
 
 #[test]
-fn nothing_to_fill_and_a_pass_missing(rt: HostRuntime) -> Result<(), Fail> {
-    equal(&rt, polled(rt.alloc(), false, 1, 1)?, (true, true));
-    equal(&rt, polled(rt.alloc(), false, 2, 1)?, (true, false));
-    equal(&rt, polled(rt.alloc(), true, 1, 1)?, (false, false));
+fn a_board_with_nothing_to_fill_finishes_only_with_all_passes(rt: HostRuntime) -> Result<(), Fail> {
+    equal(&rt, poll_and_finish(rt.alloc(), false, 1, 1)?, (true, true));
+    equal(
+        &rt,
+        poll_and_finish(rt.alloc(), false, 2, 1)?,
+        (true, false),
+    );
+    equal(
+        &rt,
+        poll_and_finish(rt.alloc(), true, 1, 1)?,
+        (false, false),
+    );
     Ok(())
 }
 
-/// Whether each region stands as at the opening, and there is a pass for each of two workers.
+/// Whether each region has its first status, and there is a pass for each of two workers.
 fn is_opened(board: &Board, passes: &mut Vec<Pass>) -> bool
     requires { AllOf (identity board.now) passes.old.items }
 {
@@ -226,29 +241,29 @@ fn is_opened(board: &Board, passes: &mut Vec<Pass>) -> bool
     is_front && is_back && !board.poll(&mut pass) && passes.len() == 1
 }
 
-/// Whether a board of these moves is opened.
+/// Whether a new board of these moves is in its first state.
 fn makes_board(alloc: Global, moves: &GivenMoves) -> Result<bool, AllocError> {
     let (board, mut passes) = board_of_moves(alloc, moves, 2)?;
     Ok(is_opened(&board, &mut passes))
 }
 
-/// Whether a recorder of these moves has an empty list.
+/// Whether a new recorder of these moves has an empty list.
 fn makes_recorder(alloc: Global, moves: &GivenMoves) -> Result<bool, AllocError> {
     let schedule = Recorder::new(alloc, moves, 2)?.into_schedule();
     Ok(schedule.workers() == 2 && schedule.is_empty())
 }
 
-/// Whether both are made, of the base heap's moves with 2 dead words allowed.
+/// Whether both are right for the base heap with an allowance of 2 dead words.
 fn comes_through(alloc: Global) -> Result<bool, CallFault> {
     let moves = moves_with_prefix(alloc)?;
     let is_board = makes_board(alloc, &moves)?;
     Ok(makes_recorder(alloc, &moves)? && is_board)
 }
 
-/// The script tests/crate-allocations runs this with each allocation refused in turn.
+/// The script tests/build/test_crate_allocations.sh runs this with each allocation refused in turn.
 #[test]
-fn refused_memory_is_told(rt: HostRuntime) {
+fn refused_memory_is_reported(rt: HostRuntime) {
     let first = comes_through(rt.alloc());
     let second = comes_through(rt.alloc());
-    memory_is_told(&rt, [first, second], CallFault::Memory);
+    expect_memory_fault(&rt, [first, second], CallFault::Memory);
 }

@@ -1,4 +1,4 @@
-//! Why a line of a schedule is refused.
+//! `explain`: why a line of a schedule is refused.
 use crate::checks::equal_at;
 use crate::replays::{RECORDED, base_survey};
 use heap_image::Fault;
@@ -10,14 +10,14 @@ use std::test::Fail;
 use std::thread::Threads;
 use summary::Plan;
 
-/// What `explain` says of the schedule with this text.
+/// The refused line of a schedule, and why.
 fn cause_of(alloc: Global, plan: &Plan, lines: &str) -> Result<Option<(u64, LineCause)>, Fault> {
     let schedule = read_schedule(alloc, lines.as_bytes())?;
     let refused = explain(alloc, plan, &schedule)?;
     Ok(refused.map(|line| (line.number, line.cause)))
 }
 
-/// A schedule of the base heap, and which line is refused and why, if one is.
+/// A schedule of the base heap, and its refused line with the cause, if there is one.
 type Row<'a> = (&'a str, Option<(u64, LineCause)>);
 
 const REFUSED: [Row<'_>; 8] = [
@@ -49,30 +49,35 @@ const REFUSED: [Row<'_>; 8] = [
     ("schedule 1 2\n0 claim 4 ?\n", Some((2, NotAllowed))),
 ];
 
-/// Ends the test where a schedule is refused otherwise than its row says.
-fn causes_are(alloc: Global, rt: &impl Abort, plan: &Plan, rows: &[Row<'_>]) -> Result<(), Fault> {
+/// Fails the test if the refused line of a schedule isn't that of its row.
+fn check_causes(
+    alloc: Global,
+    rt: &impl Abort,
+    plan: &Plan,
+    rows: &[Row<'_>],
+) -> Result<(), Fault> {
     for (row, (lines, refused)) in rows.iter().enumerate() {
         equal_at(rt, cause_of(alloc, plan, lines)?, *refused, row);
     }
     Ok(())
 }
 
-/// The same, with the plan of the base heap.
-fn causes_of_base_are(
+/// Does the same with the plan of the base heap.
+fn check_causes_of_base(
     alloc: Global,
     rt: &(impl Abort + Threads + Sync),
     rows: &[Row<'_>],
 ) -> Result<(), Fault> {
     let survey = base_survey(alloc, rt)?;
-    causes_are(alloc, rt, survey.plan(), rows)
+    check_causes(alloc, rt, survey.plan(), rows)
 }
 
 #[test]
 fn each_refused_line_has_its_cause(rt: HostRuntime) -> Result<(), Fail> {
-    Ok(causes_of_base_are(rt.alloc(), &rt, &REFUSED)?)
+    Ok(check_causes_of_base(rt.alloc(), &rt, &REFUSED)?)
 }
 
 #[test]
 fn a_schedule_that_is_taken_has_no_cause(rt: HostRuntime) -> Result<(), Fail> {
-    Ok(causes_of_base_are(rt.alloc(), &rt, &[(RECORDED, None)])?)
+    Ok(check_causes_of_base(rt.alloc(), &rt, &[(RECORDED, None)])?)
 }

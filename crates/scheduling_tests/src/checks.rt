@@ -1,33 +1,33 @@
-//! Asserts behind calls: a body that has them written out takes the prover many times longer.
+//! Assertions as functions, because an assertion written out in a test makes its proof many times slower.
 ghost use Rattle.std.specs.Prelude.{IsTrue};
 
 use std::fmt::Debug;
 use std::process::Abort;
 
-/// Ends the test where the two differ.
+/// Fails the test if the two differ.
 pub fn equal<T: PartialEq + Debug + Drop>(rt: &impl Abort, got: T, want: T) {
     assert_eq!(rt; got, want);
 }
 
-/// Ends the test where the two differ, and says in which row.
+/// Fails the test if the two differ, and names the row.
 pub fn equal_at<T: PartialEq + Debug + Drop>(rt: &impl Abort, got: T, want: T, row: usize) {
     assert_eq!(rt; got, want, "in row {row}");
 }
 
-/// Ends the test where the items differ.
+/// Fails the test if the items differ.
 pub fn equal_items<T: PartialEq + Debug>(rt: &impl Abort, got: &[T], want: &[T]) {
     assert_eq!(rt; got, want);
 }
 
-/// Ends the test where this doesn't hold.
+/// Fails the test if the condition is false.
 pub fn holds(rt: &impl Abort, is: bool)
     ensures { IsTrue is }
 {
     assert!(rt; is);
 }
 
-/// Ends the test where an answer is neither true nor this fault, or none is true.
-pub fn memory_is_told<F: PartialEq + Debug + Copy>(
+/// Fails the test unless each result is true or this fault, and at least one is true.
+pub fn expect_memory_fault<F: PartialEq + Debug + Copy>(
     rt: &impl Abort,
     answers: [Result<bool, F>; 2],
     memory: F,

@@ -1,6 +1,6 @@
-//! The tests of `history` and `claim_board`, through their public calls alone.
+//! The tests of `history` and `claim_board`, through their public calls only.
 //!
-//! They stand in a crate of their own so that a check of them doesn't prove `history` and `claim_board` again.
+//! They are in a crate of their own so that checking them doesn't prove `history` and `claim_board` again.
 #![tactic(auto)]
 
 #[cfg(test)]

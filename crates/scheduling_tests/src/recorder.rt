@@ -1,10 +1,10 @@
-//! What a recorder keeps: the base heap's schedule of one worker, refusals, and refused memory.
+//! The calls that a recorder keeps: the base heap by one worker, refused calls, and refused memory.
 ghost use Rattle.std.specs.Prelude.{◌≡◌, ℕ, ◌<◌, ◌≤◌, IfOk};
 ghost use Rattle.history.specs.MoveTable.{region_count};
 ghost use Rattle.claim_board.specs.Recorders.{moves as moves_of, worker_count};
 
 use crate::boards::{BASE_FILLED, BASE_PAIRS, is_claimed};
-use crate::checks::{equal, equal_items, holds, memory_is_told};
+use crate::checks::{equal, equal_items, expect_memory_fault, holds};
 use crate::replays::RECORDED;
 use claim_board::{Desk, Drained, Recorder, Ticket};
 use heap_image::Fault;
@@ -13,7 +13,7 @@ use std::alloc::{AllocError, Global};
 use std::sync::Wait;
 use std::test::Fail;
 
-/// A recorder, the moves of the base heap, and the worker that fills.
+/// A recorder of the base heap, its moves, and the worker that fills.
 #[derive(Drop)]
 struct Setting {
     moves: GivenMoves,
@@ -24,7 +24,7 @@ struct Setting {
     ghost one_of_them: { worker < worker_count recorder },
 }
 
-/// A recorder of so many workers, of which the last fills.
+/// Makes a recorder of this number of workers, of which the last fills.
 fn start(alloc: Global, workers: u32) -> Result<Setting, Fault>
     requires { (1 ≤ workers) × (workers ≤ 64) }
     ensures { IfOk result (λ s. worker_count s.recorder ≡ workers) }
@@ -40,8 +40,8 @@ fn start(alloc: Global, workers: u32) -> Result<Setting, Fault>
     })
 }
 
-/// Notes the words that come from the region itself, and then of each other source its words and
-/// its drain. Whether each drain was the last of its source.
+/// Notes the words that come from the region itself, and then for each other source notes its words
+/// and drains it. Returns whether each drain was the last of its source.
 fn copy_all<W: Wait>(
     setting: &Setting,
     ticket: &mut Ticket,
@@ -65,7 +65,7 @@ fn copy_all<W: Wait>(
     Ok(are_last)
 }
 
-/// Completes and settles the region of the ticket. Whether all regions are settled then.
+/// Completes and settles the region of the ticket. Returns whether all regions are settled then.
 fn end<W: Wait>(setting: &Setting, mut ticket: Ticket, wait: &W) -> Result<bool, Fault> {
     let recorder = &setting.recorder;
     let mut seat = setting.worker;
@@ -77,8 +77,8 @@ fn end<W: Wait>(setting: &Setting, mut ticket: Ticket, wait: &W) -> Result<bool,
     recorder.settle(&mut seat, done, wait)
 }
 
-/// The worker claims the region, copies, completes and settles. Whether each drain was the last of its source, and
-/// whether all regions are settled then.
+/// Claims a region, copies its words, completes and settles it. Returns whether each drain was the last of its source,
+/// and whether all regions are settled then.
 fn fill<W: Wait>(
     setting: &Setting,
     region: u32,
@@ -101,7 +101,7 @@ fn fill<W: Wait>(
     }
 }
 
-/// The schedule's text.
+/// The text of the recorded schedule.
 fn text_of(alloc: Global, setting: Setting) -> Result<Vec<u8>, AllocError> {
     let Setting {
         moves: _,
@@ -111,7 +111,7 @@ fn text_of(alloc: Global, setting: Setting) -> Result<Vec<u8>, AllocError> {
     write_schedule(alloc, &recorder.into_schedule())
 }
 
-/// One worker fills the base heap. What each fill answers.
+/// Fills the base heap by one worker. Returns the result of each fill.
 fn fill_base<W: Wait>(setting: &Setting, wait: &W) -> Result<[(bool, bool); 3], Fault> {
     let first = fill(setting, 0, 6, &[2], wait)?;
     let second = fill(setting, 1, 1, &[4, 3], wait)?;
@@ -119,8 +119,11 @@ fn fill_base<W: Wait>(setting: &Setting, wait: &W) -> Result<[(bool, bool); 3], 
     Ok([first, second, third])
 }
 
-/// What the fills of the base heap by one worker answer, what a poll says then, and the text of the schedule.
-fn recorded<W: Wait>(alloc: Global, wait: &W) -> Result<([(bool, bool); 3], bool, Vec<u8>), Fault> {
+/// Fills the base heap by one worker. Returns the result of each fill, the reply to a poll, and the schedule's text.
+fn record_base<W: Wait>(
+    alloc: Global,
+    wait: &W,
+) -> Result<([(bool, bool); 3], bool, Vec<u8>), Fault> {
     let setting = start(alloc, 1)?;
     let answers = fill_base(&setting, wait)?;
     let all = setting.recorder.poll(&mut 0, wait)?;
@@ -129,14 +132,14 @@ fn recorded<W: Wait>(alloc: Global, wait: &W) -> Result<([(bool, bool); 3], bool
 
 #[test]
 fn one_worker_records_the_base_heap(rt: HostRuntime) -> Result<(), Fail> {
-    let (answers, all, text) = recorded(rt.alloc(), &rt)?;
+    let (answers, all, text) = record_base(rt.alloc(), &rt)?;
     equal(&rt, answers, [(true, false), (false, false), (true, true)]);
     holds(&rt, all);
     equal_items(&rt, text.as_slice(), RECORDED.as_bytes());
     Ok(())
 }
 
-/// The last worker fills region 0, and then the other one looks at it.
+/// Fills region 0 by the last worker, and lets the other worker look at it.
 fn fill_and_look<W: Wait>(setting: &Setting, wait: &W) -> Result<((bool, bool), Reply), Fault>
     requires { worker_count setting.now.recorder ≡ 2 }
 {
@@ -156,8 +159,8 @@ fn each_call_is_recorded_for_the_worker_of_its_seat(rt: HostRuntime) -> Result<(
     Ok(())
 }
 
-/// Which of the claims of regions 1 and 0 are granted to worker 1.
-fn claims<W: Wait>(recorder: &Recorder, wait: &W) -> Result<(bool, bool), Fault>
+/// Claims regions 1 and 0 by worker 1. Returns which claims are granted.
+fn claim_two<W: Wait>(recorder: &Recorder, wait: &W) -> Result<(bool, bool), Fault>
     requires workers { worker_count recorder.now ≡ 2 }
     requires regions { region_count (moves_of recorder.now) ≡ 4 }
 {
@@ -165,8 +168,8 @@ fn claims<W: Wait>(recorder: &Recorder, wait: &W) -> Result<(bool, bool), Fault>
     Ok((first, is_claimed(recorder.claim(&mut 1, 0, wait)?)))
 }
 
-/// How regions 0 and 3 stand for worker 0, and what a poll says.
-fn looks<W: Wait>(recorder: &Recorder, wait: &W) -> Result<([Reply; 2], bool), Fault>
+/// The status of regions 0 and 3 for worker 0, and the reply to a poll.
+fn look_at_two<W: Wait>(recorder: &Recorder, wait: &W) -> Result<([Reply; 2], bool), Fault>
     requires workers { worker_count recorder.now ≡ 2 }
     requires regions { region_count (moves_of recorder.now) ≡ 4 }
 {
@@ -175,33 +178,33 @@ fn looks<W: Wait>(recorder: &Recorder, wait: &W) -> Result<([Reply; 2], bool), F
     Ok(([near, far], recorder.poll(&mut 0, wait)?))
 }
 
-/// What both find.
-fn claims_and_looks<W: Wait>(
+/// Makes these claims and then these looks.
+fn claim_and_look<W: Wait>(
     recorder: &Recorder,
     wait: &W,
 ) -> Result<((bool, bool), ([Reply; 2], bool)), Fault>
     requires workers { worker_count recorder.now ≡ 2 }
     requires regions { region_count (moves_of recorder.now) ≡ 4 }
 {
-    let granted = claims(recorder, wait)?;
-    Ok((granted, looks(recorder, wait)?))
+    let granted = claim_two(recorder, wait)?;
+    Ok((granted, look_at_two(recorder, wait)?))
 }
 
 #[test]
 fn looks_and_refused_claims_are_recorded_and_a_poll_is_not(rt: HostRuntime) -> Result<(), Fail> {
     let setting = start(rt.alloc(), 2)?;
-    let found = claims_and_looks(&setting.recorder, &rt)?;
-    let stand = [Reply::Claimed, Reply::Outside(2)];
-    equal(&rt, found, ((false, true), (stand, false)));
+    let found = claim_and_look(&setting.recorder, &rt)?;
+    let looks = [Reply::Claimed, Reply::Outside(2)];
+    equal(&rt, found, ((false, true), (looks, false)));
     let text = text_of(rt.alloc(), setting)?;
     let lines = "schedule 1 2\n1 claim 1 no\n1 claim 0 yes\n0 look 0 claimed\n0 look 3 out2\n";
     equal_items(&rt, text.as_slice(), lines.as_bytes());
     Ok(())
 }
 
-/// Worker 1 notes words of the region that worker 0 has claimed, and worker 0 completes it without
-/// a drain.
-fn oversteps<W: Wait>(recorder: &Recorder, wait: &W) -> Result<(Fault, Fault), Fault>
+/// Lets worker 1 note words of a region that worker 0 has claimed, and worker 0 complete the region
+/// without a drain. Returns the faults of both.
+fn make_illegal_calls<W: Wait>(recorder: &Recorder, wait: &W) -> Result<(Fault, Fault), Fault>
     requires workers { worker_count recorder.now ≡ 2 }
     requires regions { region_count (moves_of recorder.now) ≡ 4 }
 {
@@ -225,26 +228,26 @@ fn oversteps<W: Wait>(recorder: &Recorder, wait: &W) -> Result<(Fault, Fault), F
 }
 
 #[test]
-fn what_is_not_allowed_is_fault_15_and_leaves_the_list(rt: HostRuntime) -> Result<(), Fail> {
+fn an_illegal_call_is_fault_15_and_leaves_the_list(rt: HostRuntime) -> Result<(), Fail> {
     let setting = start(rt.alloc(), 2)?;
-    let faults = oversteps(&setting.recorder, &rt)?;
+    let faults = make_illegal_calls(&setting.recorder, &rt)?;
     equal(&rt, faults, (Fault::Overwritten(0), Fault::Overwritten(0)));
     let text = text_of(rt.alloc(), setting)?;
     equal_items(&rt, text.as_slice(), b"schedule 1 2\n0 claim 0 yes\n");
     Ok(())
 }
 
-/// Whether the schedule's text is right, and what was answered.
+/// Whether the schedule's text and the replies are right.
 fn comes_through<W: Wait>(alloc: Global, wait: &W) -> Result<bool, Fault> {
-    let (answers, all, text) = recorded(alloc, wait)?;
+    let (answers, all, text) = record_base(alloc, wait)?;
     let is_answered = answers == [(true, false), (false, false), (true, true)] && all;
     Ok(is_answered && text.as_slice() == RECORDED.as_bytes())
 }
 
-/// The script tests/crate-allocations runs this with each allocation refused in turn.
+/// The script tests/build/test_crate_allocations.sh runs this with each allocation refused in turn.
 #[test]
-fn refused_memory_is_told(rt: HostRuntime) {
+fn refused_memory_is_reported(rt: HostRuntime) {
     let first = comes_through(rt.alloc(), &rt);
     let second = comes_through(rt.alloc(), &rt);
-    memory_is_told(&rt, [first, second], Fault::Memory);
+    expect_memory_fault(&rt, [first, second], Fault::Memory);
 }

@@ -1,5 +1,5 @@
-//! Schedules of the base heap, checked and replayed.
-use crate::checks::{equal_at, equal_items, holds, memory_is_told};
+//! Checks and replays of schedules of the base heap.
+use crate::checks::{equal_at, equal_items, expect_memory_fault, holds};
 use heap_image::{Fault, decode_by_threads, encode};
 use heap_samples::{Base, MOVED_LIVE, MOVED_WORDS, Settings, image_text};
 use history::{End, Replayed, Schedule, check, read_schedule, replay, write_schedule};
@@ -9,7 +9,7 @@ use std::test::Fail;
 use std::thread::Threads;
 use summary::Survey;
 
-/// The words of the compaction of the base heap with 2 dead words allowed.
+/// The words of the compaction of the base heap with an allowance of 2 dead words.
 pub const WITH_PREFIX: [u64; 32] = [
     0x0100_0002_0000_0003,
     6,
@@ -45,10 +45,10 @@ pub const WITH_PREFIX: [u64; 32] = [
     0,
 ];
 
-/// Where its live objects begin.
+/// The new live list of that compaction.
 const PREFIX_LIVE: [u64; 4] = [0, 5, 9, 11];
 
-/// The base heap recorded with one worker.
+/// The recorded schedule of one worker on the base heap.
 pub const RECORDED: &str = "schedule 1 1
 0 claim 0 yes
 0 copy 0 6 ok
@@ -71,7 +71,7 @@ pub const RECORDED: &str = "schedule 1 1
 0 settle 2 all
 ";
 
-/// The base heap with 2 dead words allowed, by two workers.
+/// A schedule of two workers on the base heap with an allowance of 2 dead words.
 pub const BY_TWO: &str = "schedule 1 2
 0 claim 0 ?
 0 copy 0 8 ?
@@ -90,20 +90,20 @@ pub const BY_TWO: &str = "schedule 1 2
 0 settle 2 all
 ";
 
-/// The survey of the image with this text.
+/// Surveys the image with these bytes.
 fn survey_of(alloc: Global, threads: &(impl Threads + Sync), text: &[u8]) -> Result<Survey, Fault> {
     let image = decode_by_threads(alloc, text, threads)?;
     Survey::of(alloc, &image, threads)
 }
 
-/// The survey of the base heap.
+/// Surveys the base heap.
 pub fn base_survey(alloc: Global, threads: &(impl Threads + Sync)) -> Result<Survey, Fault> {
     let base = Base::WithLiveList.text(alloc, 0)?;
     survey_of(alloc, threads, base.as_slice())
 }
 
-/// What `replay` gives over the image with this text.
-fn replayed(
+/// Replays a schedule over the image with these bytes.
+fn replay_on(
     alloc: Global,
     threads: &(impl Threads + Sync),
     text: &[u8],
@@ -114,17 +114,17 @@ fn replayed(
     replay(alloc, &image, &survey, schedule)
 }
 
-/// What `replay` gives over the base heap.
-fn replayed_on_base(
+/// Replays a schedule over the base heap.
+fn replay_on_base(
     alloc: Global,
     threads: &(impl Threads + Sync),
     schedule: &Schedule,
 ) -> Result<Replayed, Fault> {
     let base = Base::WithLiveList.text(alloc, 0)?;
-    replayed(alloc, threads, base.as_slice(), schedule)
+    replay_on(alloc, threads, base.as_slice(), schedule)
 }
 
-/// Whether the replay ended with the image of this text.
+/// Whether the replay ended with the image of these bytes.
 fn is_finished(alloc: Global, ended: &End, text: &[u8]) -> Result<bool, AllocError> {
     let End::Finished(image) = ended else {
         return Ok(false);
@@ -132,7 +132,7 @@ fn is_finished(alloc: Global, ended: &End, text: &[u8]) -> Result<bool, AllocErr
     Ok(encode(alloc, image)?.as_slice() == text)
 }
 
-/// Whether a schedule ends with the second of these texts over the image with the first.
+/// Whether a replay over the image with the bytes `before` ends with that of `after`.
 pub fn finishes(
     alloc: Global,
     threads: &(impl Threads + Sync),
@@ -141,22 +141,22 @@ pub fn finishes(
     after: &[u8],
 ) -> Result<bool, Fault> {
     let schedule = read_schedule(alloc, lines.as_bytes())?;
-    let all = replayed(alloc, threads, before, &schedule)?;
+    let all = replay_on(alloc, threads, before, &schedule)?;
     Ok(is_finished(alloc, &all.ended, after)?)
 }
 
-/// How a schedule comes out over the base heap.
+/// The outcome of a schedule over the base heap.
 #[derive(Clone, Copy, Debug, PartialEq, Eq)]
 enum Course {
-    /// All regions to be filled are settled, for `replay` with the compacted image.
+    /// All regions to be filled are settled; `replay` makes the compacted image.
     Finishes,
     StaysOpen,
-    /// At this line of the text.
+    /// The machine refuses this line of the text.
     IsRefused(u64),
 }
 
-/// What `check` says over the image with this text.
-fn checked(
+/// Checks a schedule over the image with these bytes.
+fn check_on(
     alloc: Global,
     threads: &(impl Threads + Sync),
     text: &[u8],
@@ -166,17 +166,17 @@ fn checked(
     check(alloc, survey.plan(), schedule)
 }
 
-/// What it says over the base heap.
+/// The outcome of `check` over the base heap.
 fn course_by_check(
     alloc: Global,
     threads: &(impl Threads + Sync),
     schedule: &Schedule,
 ) -> Result<Course, Fault> {
     let base = Base::WithLiveList.text(alloc, 0)?;
-    course_of_check(checked(alloc, threads, base.as_slice(), schedule))
+    course_of_check(check_on(alloc, threads, base.as_slice(), schedule))
 }
 
-/// The course of which `check` says this.
+/// The outcome that a result of `check` means.
 fn course_of_check(checked: Result<bool, Fault>) -> Result<Course, Fault> {
     match checked {
         Ok(true) => Ok(Course::Finishes),
@@ -186,7 +186,7 @@ fn course_of_check(checked: Result<bool, Fault>) -> Result<Course, Fault> {
     }
 }
 
-/// How a replay of the base heap came out. Another image than the compacted one is no course.
+/// The outcome of a replay of the base heap. Fails if the image isn't the compacted one.
 fn course_of(alloc: Global, all: &Replayed) -> Result<Course, Fault> {
     let compacted = image_text(alloc, Settings::of_base(0), &MOVED_WORDS, &MOVED_LIVE)?;
     if matches!(all.ended, End::Open) {
@@ -198,20 +198,20 @@ fn course_of(alloc: Global, all: &Replayed) -> Result<Course, Fault> {
     }
 }
 
-/// What `replay` says.
+/// The outcome of `replay` over the base heap.
 fn course_by_replay(
     alloc: Global,
     threads: &(impl Threads + Sync),
     schedule: &Schedule,
 ) -> Result<Course, Fault> {
-    match replayed_on_base(alloc, threads, schedule) {
+    match replay_on_base(alloc, threads, schedule) {
         Ok(all) => course_of(alloc, &all),
         Err(Fault::Schedule(line)) => Ok(Course::IsRefused(line)),
         Err(fault) => Err(fault),
     }
 }
 
-/// What both say of the schedule with this text.
+/// The outcomes of both for the schedule with this text.
 fn courses(
     alloc: Global,
     threads: &(impl Threads + Sync),
@@ -222,8 +222,8 @@ fn courses(
     Ok([by_check, course_by_replay(alloc, threads, &schedule)?])
 }
 
-/// Ends the test where a schedule comes out otherwise than its row says.
-fn courses_are(
+/// Fails the test if the outcome of a schedule isn't that of its row.
+fn check_courses(
     alloc: Global,
     rt: &(impl Abort + Threads + Sync),
     rows: &[(&str, Course)],
@@ -235,13 +235,13 @@ fn courses_are(
 }
 
 #[test]
-fn all_regions_are_settled_by_the_last_line(rt: HostRuntime) -> Result<(), Fail> {
+fn a_schedule_finishes_only_with_its_last_line(rt: HostRuntime) -> Result<(), Fail> {
     let open = RECORDED.strip_suffix("0 settle 2 all\n").ok_or("a line")?;
     let rows = [(RECORDED, Course::Finishes), (open, Course::StaysOpen)];
-    Ok(courses_are(rt.alloc(), &rt, &rows)?)
+    Ok(check_courses(rt.alloc(), &rt, &rows)?)
 }
 
-/// Schedules with a line that isn't allowed, and the least such line.
+/// Schedules with a refused line, and the number of the first such line.
 const REFUSED: [(&str, Course); 11] = [
     (
         "schedule 1 1\n0 claim 0 yes\n0 claim 1 yes\n",
@@ -284,12 +284,12 @@ const REFUSED: [(&str, Course); 11] = [
 ];
 
 #[test]
-fn the_least_line_that_is_not_allowed_is_named(rt: HostRuntime) -> Result<(), Fail> {
-    Ok(courses_are(rt.alloc(), &rt, &REFUSED)?)
+fn the_first_refused_line_is_named(rt: HostRuntime) -> Result<(), Fail> {
+    Ok(check_courses(rt.alloc(), &rt, &REFUSED)?)
 }
 
-/// Schedules, and the lines of their replays.
-const TOLD: [(&str, &str); 3] = [
+/// Schedules, and the schedules of their replays.
+const REPLAYS: [(&str, &str); 3] = [
     (RECORDED, RECORDED),
     (
         "schedule 1 1\n0 claim 0 yes\n0 claim 1 ?\n",
@@ -301,29 +301,29 @@ const TOLD: [(&str, &str); 3] = [
     ),
 ];
 
-/// The lines of a replay, as a text, and whether it stays open.
-fn told(
+/// The schedule's text after a replay, and whether some region is left unsettled.
+fn replay_text(
     alloc: Global,
     threads: &(impl Threads + Sync),
     lines: &str,
 ) -> Result<(Vec<u8>, bool), Fault> {
     let schedule = read_schedule(alloc, lines.as_bytes())?;
-    let all = replayed_on_base(alloc, threads, &schedule)?;
+    let all = replay_on_base(alloc, threads, &schedule)?;
     let is_open = matches!(all.ended, End::Open);
     Ok((write_schedule(alloc, &all.lines)?, is_open))
 }
 
 #[test]
-fn a_replay_tells_each_reply_that_was_left_open(rt: HostRuntime) -> Result<(), Fail> {
-    for (row, (lines, wanted)) in TOLD.iter().enumerate() {
-        let (found, is_open) = told(rt.alloc(), &rt, lines)?;
+fn a_replay_fills_in_each_open_reply(rt: HostRuntime) -> Result<(), Fail> {
+    for (row, (lines, wanted)) in REPLAYS.iter().enumerate() {
+        let (found, is_open) = replay_text(rt.alloc(), &rt, lines)?;
         equal_items(&rt, found.as_slice(), wanted.as_bytes());
         equal_at(&rt, is_open, row > 0, row);
     }
     Ok(())
 }
 
-/// Whether a schedule of two workers is taken over the base heap with 2 dead words allowed, and leaves fillers.
+/// Whether a schedule of two workers finishes over the base heap with an allowance of 2 dead words, and makes fillers.
 fn comes_through(alloc: Global, threads: &(impl Threads + Sync)) -> Result<bool, Fault> {
     let before = Base::WithLiveList.text(alloc, 2)?;
     let after = image_text(alloc, Settings::of_base(2), &WITH_PREFIX, &PREFIX_LIVE)?;
@@ -332,14 +332,14 @@ fn comes_through(alloc: Global, threads: &(impl Threads + Sync)) -> Result<bool,
     Ok(is_settled && is_moved)
 }
 
-/// What `check` says of it.
+/// Whether `check` says that this schedule finishes.
 fn is_settled(
     alloc: Global,
     threads: &(impl Threads + Sync),
     before: &[u8],
 ) -> Result<bool, Fault> {
     let schedule = read_schedule(alloc, BY_TWO.as_bytes())?;
-    checked(alloc, threads, before, &schedule)
+    check_on(alloc, threads, before, &schedule)
 }
 
 #[test]
@@ -348,10 +348,10 @@ fn a_prefix_gets_its_fillers(rt: HostRuntime) -> Result<(), Fail> {
     Ok(())
 }
 
-/// The script tests/crate-allocations runs this with each allocation refused in turn.
+/// The script tests/build/test_crate_allocations.sh runs this with each allocation refused in turn.
 #[test]
-fn refused_memory_is_told(rt: HostRuntime) {
+fn refused_memory_is_reported(rt: HostRuntime) {
     let first = comes_through(rt.alloc(), &rt);
     let second = comes_through(rt.alloc(), &rt);
-    memory_is_told(&rt, [first, second], Fault::Memory);
+    expect_memory_fault(&rt, [first, second], Fault::Memory);
 }

@@ -1,5 +1,5 @@
-//! Schedules replayed over heaps with roots.
-use crate::checks::{equal_at, memory_is_told};
+//! Replays over heaps with roots.
+use crate::checks::{equal_at, expect_memory_fault};
 use crate::replays::{BY_TWO, RECORDED, WITH_PREFIX, finishes};
 use heap_image::Fault;
 use heap_samples::{BASE_WORDS, MOVED_WORDS, Settings, rooted_text};
@@ -7,10 +7,10 @@ use std::alloc::Global;
 use std::test::Fail;
 use std::thread::Threads;
 
-/// The words of a heap in regions of 8 words, and its roots.
+/// The words of a heap with regions of 8 words, and its roots.
 type Rooted<'a> = (&'a [u64; 32], &'a [u64]);
 
-/// Whether a schedule ends with the second heap over the first, both with this allowance.
+/// Whether a replay of a schedule over the first heap ends with the second, both with this allowance.
 fn slides(
     alloc: Global,
     threads: &(impl Threads + Sync),
@@ -24,7 +24,7 @@ fn slides(
     finishes(alloc, threads, lines, before.as_slice(), after.as_slice())
 }
 
-/// Roots of the base heap, and those of its compaction.
+/// Roots of the base heap, and the roots of its compaction.
 const ROOTS: [(&[u64], &[u64]); 2] = [
     (&[21, 0], &[10, 0]),
     (&[1, 21, 0, 1, 13], &[1, 10, 0, 1, 8]),
@@ -42,7 +42,7 @@ fn roots_are_redirected(rt: HostRuntime) -> Result<(), Fail> {
 }
 
 #[test]
-fn with_no_live_object_nothing_is_left_to_do(rt: HostRuntime) -> Result<(), Fail> {
+fn without_live_objects_the_empty_schedule_finishes(rt: HostRuntime) -> Result<(), Fail> {
     let none: [&[u64]; 2] = [&[], &[0]];
     for (row, roots) in none.iter().enumerate() {
         let old = (&BASE_WORDS, *roots);
@@ -53,17 +53,17 @@ fn with_no_live_object_nothing_is_left_to_do(rt: HostRuntime) -> Result<(), Fail
     Ok(())
 }
 
-/// Whether the schedule of two workers is replayed over a heap whose first region stays.
+/// Whether the schedule of two workers finishes over a heap whose first region stays.
 fn comes_through(alloc: Global, threads: &(impl Threads + Sync)) -> Result<bool, Fault> {
     let old = (&BASE_WORDS, [21, 0].as_slice());
     let new = (&WITH_PREFIX, [12, 0].as_slice());
     slides(alloc, threads, (BY_TWO, 2), old, new)
 }
 
-/// The script tests/crate-allocations runs this with each allocation refused in turn.
+/// The script tests/build/test_crate_allocations.sh runs this with each allocation refused in turn.
 #[test]
-fn refused_memory_is_told(rt: HostRuntime) {
+fn refused_memory_is_reported(rt: HostRuntime) {
     let first = comes_through(rt.alloc(), &rt);
     let second = comes_through(rt.alloc(), &rt);
-    memory_is_told(&rt, [first, second], Fault::Memory);
+    expect_memory_fault(&rt, [first, second], Fault::Memory);
 }

@@ -1,6 +1,6 @@
-//! The scheduler of one thread, the book and the locked board: worked rows, with replies known from outside.
-use crate::checks::{equal_at, equal_items, holds, memory_is_told};
-use crate::tables::{given, table_of};
+//! The one-thread scheduler, the book and the locked board: calls with expected replies.
+use crate::checks::{equal_at, equal_items, expect_memory_fault, holds};
+use crate::tables::{table_of, try_table};
 use history::{
     Book, CallFault, Event, GivenMoves, Illegal, IndexedMoves, LockedBoard, Moves, Reply,
     Scheduler, write_schedule,
@@ -10,18 +10,18 @@ use std::process::Abort;
 use std::sync::Wait;
 use std::test::Fail;
 
-/// A worker, what it calls, and what a scheduler answers.
+/// A worker, its event and the expected result.
 type Call = (u32, Event, Result<Reply, Illegal>);
 
-/// Ends the test where the scheduler answers a call otherwise, or has no such worker.
-fn answers(rt: &impl Abort, scheduler: &mut Scheduler, calls: &[Call]) {
+/// Makes the calls; fails the test if a result differs or the scheduler has no such worker.
+fn check_calls(rt: &impl Abort, scheduler: &mut Scheduler, calls: &[Call]) {
     for (row, (worker, event, answer)) in calls.iter().enumerate() {
         holds(rt, *worker < scheduler.workers());
         equal_at(rt, scheduler.step(*worker, *event), *answer, row);
     }
 }
 
-/// Three regions, of which each reads the next one.
+/// One worker on three regions, each of which reads the next.
 const THREE_REGIONS: [Call; 24] = [
     (0, Event::Claim(1), Ok(Reply::No)),
     (0, Event::Claim(0), Ok(Reply::Yes)),
@@ -53,11 +53,11 @@ const THREE_REGIONS: [Call; 24] = [
 fn one_worker_fills_three_regions(rt: HostRuntime) -> Result<(), Fail> {
     let moves = table_of(rt.alloc(), &[true, true, true], &[(0, 1), (1, 2)])?;
     let mut scheduler = Scheduler::new(rt.alloc(), &moves, 1)?;
-    answers(&rt, &mut scheduler, &THREE_REGIONS);
+    check_calls(&rt, &mut scheduler, &THREE_REGIONS);
     Ok(())
 }
 
-/// The base heap, whose last region isn't to be filled.
+/// Two workers on the base heap, whose last region isn't to be filled.
 const BASE: [Call; 15] = [
     (0, Event::Look(1), Ok(Reply::Open(1))),
     (0, Event::Look(3), Ok(Reply::Outside(2))),
@@ -77,15 +77,15 @@ const BASE: [Call; 15] = [
 ];
 
 #[test]
-fn a_region_outside_is_read_and_never_claimed(rt: HostRuntime) -> Result<(), Fail> {
+fn a_region_outside_is_drained_and_never_granted(rt: HostRuntime) -> Result<(), Fail> {
     let pairs = [(0, 1), (1, 2), (1, 3), (2, 3)];
     let moves = table_of(rt.alloc(), &[true, true, true, false], &pairs)?;
     let mut scheduler = Scheduler::new(rt.alloc(), &moves, 2)?;
-    answers(&rt, &mut scheduler, &BASE);
+    check_calls(&rt, &mut scheduler, &BASE);
     Ok(())
 }
 
-/// What two workers call of a locked board of two regions, and what it answers.
+/// The calls of two workers on a locked board of two regions, with the expected results.
 const LOCKED: [(u32, Event, Result<Reply, CallFault>); 15] = [
     (0, Event::Claim(1), Ok(Reply::No)),
     (0, Event::Claim(0), Ok(Reply::Yes)),
@@ -104,7 +104,7 @@ const LOCKED: [(u32, Event, Result<Reply, CallFault>); 15] = [
     (0, Event::Poll, Ok(Reply::All)),
 ];
 
-/// The calls that are taken, with their replies.
+/// The schedule of the calls that don't fail.
 const LOCKED_TEXT: &str = "schedule 1 2
 0 claim 1 no
 0 claim 0 yes
@@ -121,8 +121,8 @@ const LOCKED_TEXT: &str = "schedule 1 2
 0 poll all
 ";
 
-/// Ends the test where the board answers one of these calls otherwise, or isn't done by them.
-fn is_done_by_calls<R: Abort + Wait>(rt: &R, board: &LockedBoard) {
+/// Makes these calls; fails the test if a result differs or the board isn't done exactly after the last.
+fn check_locked_calls<R: Abort + Wait>(rt: &R, board: &LockedBoard) {
     holds(rt, !board.done(rt));
     for (row, (worker, event, answer)) in LOCKED.iter().enumerate() {
         equal_at(rt, board.call(*worker, *event, rt), *answer, row);
@@ -134,37 +134,40 @@ fn is_done_by_calls<R: Abort + Wait>(rt: &R, board: &LockedBoard) {
 fn a_locked_board_keeps_its_calls(rt: HostRuntime) -> Result<(), Fail> {
     let moves = table_of(rt.alloc(), &[true, true], &[(0, 1)])?;
     let board = LockedBoard::new(rt.alloc(), &moves, 2)?;
-    is_done_by_calls(&rt, &board);
+    check_locked_calls(&rt, &board);
     let text = write_schedule(rt.alloc(), &board.into_schedule())?;
     equal_items(&rt, text.as_slice(), LOCKED_TEXT.as_bytes());
     Ok(())
 }
 
-/// The moves of the base heap with 2 dead words allowed.
+/// The moves of the base heap with an allowance of 2 dead words.
 pub fn moves_with_prefix(alloc: Global) -> Result<GivenMoves, CallFault> {
     let fill = [true, true, true, false];
-    given(alloc, &fill, &[(1, 2), (1, 3), (2, 3)])?.ok_or(CallFault::Illegal)
+    try_table(alloc, &fill, &[(1, 2), (1, 3), (2, 3)])?.ok_or(CallFault::Illegal)
 }
 
-/// What a scheduler of two workers answers to a look at region 3.
-fn scheduler_looks<M: Moves>(alloc: Global, moves: &M) -> Result<Reply, CallFault> {
+/// The reply of a scheduler of two workers to a look at region 3.
+fn look_by_scheduler<M: Moves>(alloc: Global, moves: &M) -> Result<Reply, CallFault> {
     let mut scheduler = Scheduler::new(alloc, moves, 2)?;
     Ok(scheduler.step(1, Event::Look(3))?)
 }
 
-/// What a book of two workers answers to it.
-fn book_looks<M: Moves>(alloc: Global, moves: &M) -> Result<Reply, CallFault> {
+/// The reply of a book of two workers to a look at region 3.
+fn look_by_book<M: Moves>(alloc: Global, moves: &M) -> Result<Reply, CallFault> {
     let mut book = Book::new(alloc, moves, 2)?;
     book.apply(1, Event::Look(3))
 }
 
-/// What both answer.
-fn looks(alloc: Global) -> Result<(Reply, Reply), CallFault> {
+/// The replies of both.
+fn look_by_both(alloc: Global) -> Result<(Reply, Reply), CallFault> {
     let moves = IndexedMoves::new(alloc, moves_with_prefix(alloc)?)?;
-    Ok((scheduler_looks(alloc, &moves)?, book_looks(alloc, &moves)?))
+    Ok((
+        look_by_scheduler(alloc, &moves)?,
+        look_by_book(alloc, &moves)?,
+    ))
 }
 
-/// A look at region 3. Where memory was refused it is made again.
+/// Looks at region 3. Tries again if memory ran out.
 fn look_on(board: &LockedBoard, wait: &impl Wait) -> Result<Reply, CallFault> {
     match board.call(1, Event::Look(3), wait) {
         Err(CallFault::Memory) => board.call(1, Event::Look(3), wait),
@@ -172,7 +175,7 @@ fn look_on(board: &LockedBoard, wait: &impl Wait) -> Result<Reply, CallFault> {
     }
 }
 
-/// Whether a locked board keeps its one call, such a look.
+/// Whether a locked board keeps its only call, a look at region 3.
 fn keeps_a_look(alloc: Global, wait: &impl Wait) -> Result<bool, CallFault> {
     let board = LockedBoard::new(alloc, &moves_with_prefix(alloc)?, 2)?;
     look_on(&board, wait)?;
@@ -180,17 +183,17 @@ fn keeps_a_look(alloc: Global, wait: &impl Wait) -> Result<bool, CallFault> {
     Ok(text.as_slice() == b"schedule 1 2\n1 look 3 out2\n".as_slice())
 }
 
-/// Whether all three answer rightly.
+/// Whether all three give the expected results.
 fn comes_through(alloc: Global, wait: &impl Wait) -> Result<bool, CallFault> {
-    let replies = looks(alloc)?;
+    let replies = look_by_both(alloc)?;
     let is_kept = keeps_a_look(alloc, wait)?;
     Ok(replies == (Reply::Outside(2), Reply::Outside(2)) && is_kept)
 }
 
-/// The script tests/crate-allocations runs this with each allocation refused in turn.
+/// The script tests/build/test_crate_allocations.sh runs this with each allocation refused in turn.
 #[test]
-fn refused_memory_is_told(rt: HostRuntime) {
+fn refused_memory_is_reported(rt: HostRuntime) {
     let first = comes_through(rt.alloc(), &rt);
     let second = comes_through(rt.alloc(), &rt);
-    memory_is_told(&rt, [first, second], CallFault::Memory);
+    expect_memory_fault(&rt, [first, second], CallFault::Memory);
 }

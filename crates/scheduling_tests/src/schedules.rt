@@ -1,4 +1,4 @@
-//! What is read from the text of a schedule.
+//! Parsing of schedules.
 use crate::checks::{equal, holds};
 use history::{Event, Reply, read_schedule};
 use std::test::Fail;

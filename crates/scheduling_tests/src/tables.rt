@@ -1,4 +1,4 @@
-//! Tables of moves: which are refused, and what given and indexed ones tell.
+//! Tables of moves: which lists are refused, and the look-ups of plain and indexed tables.
 ghost use Rattle.std.specs.Prelude.{◌≡◌, ◌<◌};
 ghost use Rattle.history.specs.MoveTable.{region_count};
 
@@ -8,8 +8,8 @@ use std::alloc::{AllocError, Global};
 use std::process::Abort;
 use std::test::Fail;
 
-/// The table of these flags and pairs, if they are one.
-pub fn given(
+/// Makes the table of these flags and pairs, if they form one.
+pub fn try_table(
     alloc: Global,
     fill: &[bool],
     pairs: &[(u32, u32)],
@@ -19,16 +19,16 @@ pub fn given(
     Ok(GivenMoves::new(fill, pairs))
 }
 
-/// The table of these flags and pairs.
+/// Makes the table of these flags and pairs.
 pub fn table_of(alloc: Global, fill: &[bool], pairs: &[(u32, u32)]) -> Result<GivenMoves, Fail> {
-    Ok(given(alloc, fill, pairs)?.ok_or("a table")?)
+    Ok(try_table(alloc, fill, pairs)?.ok_or("a table")?)
 }
 
 fn is_table(alloc: Global, fill: &[bool], pairs: &[(u32, u32)]) -> Result<bool, AllocError> {
-    Ok(given(alloc, fill, pairs)?.is_some())
+    Ok(try_table(alloc, fill, pairs)?.is_some())
 }
 
-/// Whether so many regions, all to be filled, are a table with no pair.
+/// Whether this number of regions, all to be filled, form a table without pairs.
 fn is_table_of(alloc: Global, regions: usize) -> Result<bool, AllocError> {
     let fill = vec![in alloc; true; regions]?;
     Ok(GivenMoves::new(fill, Vec::new(alloc)).is_some())
@@ -36,7 +36,7 @@ fn is_table_of(alloc: Global, regions: usize) -> Result<bool, AllocError> {
 
 const FOUR: [bool; 4] = [true, true, true, true];
 
-/// Flags and pairs that are no table.
+/// Flags and pairs that don't form a table.
 const REFUSED: [(&[bool], &[(u32, u32)]); 8] = [
     (&[], &[]),
     (&FOUR, &[(0, 0)]),
@@ -49,7 +49,7 @@ const REFUSED: [(&[bool], &[(u32, u32)]); 8] = [
 ];
 
 #[test]
-fn what_is_no_table_is_refused(rt: HostRuntime) -> Result<(), Fail> {
+fn lists_that_form_no_table_are_refused(rt: HostRuntime) -> Result<(), Fail> {
     for (row, (fill, pairs)) in REFUSED.iter().enumerate() {
         equal_at(&rt, is_table(rt.alloc(), fill, pairs)?, false, row);
     }
@@ -67,7 +67,7 @@ fn a_table_has_16384_regions_at_most(rt: HostRuntime) -> Result<(), Fail> {
 }
 
 #[test]
-fn a_table_tells_what_was_handed_in(rt: HostRuntime) -> Result<(), Fail> {
+fn a_table_has_its_flags_and_pairs(rt: HostRuntime) -> Result<(), Fail> {
     let fill = [true, true, false, false];
     let table = table_of(rt.alloc(), &fill, &[(0, 1), (0, 3), (1, 3)])?;
     holds(&rt, table.regions() == 4);
@@ -82,14 +82,14 @@ fn a_table_tells_what_was_handed_in(rt: HostRuntime) -> Result<(), Fail> {
     Ok(())
 }
 
-/// Region 0 reads four others, and two regions read each of the last two.
+/// Region 0 reads four others, and each of the last two has two readers.
 const MANY_SOURCES: [(u32, u32); 6] = [(0, 1), (0, 2), (0, 4), (0, 5), (1, 5), (3, 4)];
 
-/// Which of its regions are to be filled.
+/// For each region of that table, whether it is to be filled.
 const FILLED: [bool; 6] = [true, true, false, true, false, false];
 
-/// Ends the test where the two tell a region differently.
-fn tell_the_same(rt: &impl Abort, one: &GivenMoves, other: &IndexedMoves, region: u32)
+/// Fails the test if the two tables differ in a look-up of this region.
+fn compare_region(rt: &impl Abort, one: &GivenMoves, other: &IndexedMoves, region: u32)
     requires one { region < region_count one.now }
     requires other { region < region_count other.now }
 {
@@ -104,28 +104,28 @@ fn tell_the_same(rt: &impl Abort, one: &GivenMoves, other: &IndexedMoves, region
     }
 }
 
-/// An index of a copy of an index of the table.
-fn indexed_twice(alloc: Global, table: &GivenMoves) -> Result<IndexedMoves, AllocError> {
+/// Indexes a copy of an index of the table.
+fn index_twice(alloc: Global, table: &GivenMoves) -> Result<IndexedMoves, AllocError> {
     let indexed = IndexedMoves::of(alloc, table)?;
     IndexedMoves::new(alloc, GivenMoves::copy_of(alloc, &indexed)?)
 }
 
 #[test]
-fn an_index_tells_the_same_table(rt: HostRuntime) -> Result<(), Fail> {
+fn an_index_has_the_same_look_ups(rt: HostRuntime) -> Result<(), Fail> {
     let table = table_of(rt.alloc(), &FILLED, &MANY_SOURCES)?;
-    let indexed = indexed_twice(rt.alloc(), &table)?;
+    let indexed = index_twice(rt.alloc(), &table)?;
     holds(&rt, table.regions() == 6 && indexed.regions() == 6);
     for region in 0..6 {
-        tell_the_same(&rt, &table, &indexed, region);
+        compare_region(&rt, &table, &indexed, region);
     }
     Ok(())
 }
 
-/// Which source of region 0 is the next one from each number on.
+/// The next source of region 0 from each number on.
 const SOURCES: [Option<u32>; 7] = [Some(1), Some(1), Some(2), Some(4), Some(4), Some(5), None];
 
-/// Ends the test where the index finds another source of region 0.
-fn find_all(rt: &impl Abort, indexed: &IndexedMoves)
+/// Fails the test if the index finds another source of region 0.
+fn check_sources(rt: &impl Abort, indexed: &IndexedMoves)
     requires { 0 < region_count indexed.now }
 {
     for (from, source) in SOURCES.iter().enumerate() {
@@ -133,8 +133,8 @@ fn find_all(rt: &impl Abort, indexed: &IndexedMoves)
     }
 }
 
-/// The next source of each of three regions, and how many regions read each of three.
-fn found(indexed: &IndexedMoves) -> ([Option<u32>; 3], [u32; 3])
+/// The next sources of regions 1, 2 and 3, and the numbers of readers of regions 0, 2 and 5.
+fn look_up_others(indexed: &IndexedMoves) -> ([Option<u32>; 3], [u32; 3])
     requires { region_count indexed.now ≡ 6 }
 {
     let sources = [
@@ -151,7 +151,11 @@ fn an_index_finds_each_source_from_anywhere(rt: HostRuntime) -> Result<(), Fail>
     let table = table_of(rt.alloc(), &FILLED, &MANY_SOURCES)?;
     let indexed = IndexedMoves::new(rt.alloc(), table)?;
     holds(&rt, indexed.regions() == 6);
-    find_all(&rt, &indexed);
-    equal(&rt, found(&indexed), ([Some(5), None, None], [0, 1, 2]));
+    check_sources(&rt, &indexed);
+    equal(
+        &rt,
+        look_up_others(&indexed),
+        ([Some(5), None, None], [0, 1, 2]),
+    );
     Ok(())
 }

@@ -1,4 +1,4 @@
-//! Workers in threads of their own: two at one region, and many on boards over moves made at random.
+//! Workers in their own threads: two that claim one region, and many on boards over random moves.
 ghost use Rattle.std.specs.Prelude.{◌≡◌, ◌<◌, ◌≤◌, All, IfOk, OnOk};
 ghost use Rattle.history.specs.MoveTable.{region_count};
 ghost use Rattle.claim_board.specs.Boards.{moves as moves_of, identity, board_of, AllOf};
@@ -13,11 +13,11 @@ use std::test::Fail;
 use std::thread;
 use std::thread::Threads;
 
-/// So many turns a thread waits for another.
+/// The number of turns for which a thread waits for another.
 const TURNS: u32 = 1_000_000;
 
-/// Raises the one flag, and waits for the other.
-fn meets_flag(mine: &AtomicU64, theirs: &AtomicU64) -> bool {
+/// Sets one flag and waits for the other; returns whether it was set.
+fn wait_for_flag(mine: &AtomicU64, theirs: &AtomicU64) -> bool {
     mine.store(1, Ordering::SeqCst);
     for _ in 0..TURNS {
         if theirs.load(Ordering::SeqCst) == 1 {
@@ -28,8 +28,8 @@ fn meets_flag(mine: &AtomicU64, theirs: &AtomicU64) -> bool {
     false
 }
 
-/// Whether region 0 is granted, and the other flag was raised.
-fn claims_then_waits(
+/// Claims region 0 and then waits for the other flag. Returns whether the region was granted and the flag set.
+fn claim_then_wait(
     board: &Board,
     mut pass: Pass,
     mine: &AtomicU64,
@@ -38,11 +38,11 @@ fn claims_then_waits(
     requires { (board_of pass ≡ identity board.now) × (0 < region_count (moves_of board.now)) }
 {
     let claimed = is_claimed(board.claim(&mut pass, 0));
-    (claimed, meets_flag(mine, theirs))
+    (claimed, wait_for_flag(mine, theirs))
 }
 
-/// The same, the other way round.
-fn waits_then_claims(
+/// Waits for the other flag and then claims region 0. Returns whether the region was granted and the flag set.
+fn wait_then_claim(
     board: &Board,
     mut pass: Pass,
     mine: &AtomicU64,
@@ -50,12 +50,17 @@ fn waits_then_claims(
 ) -> (bool, bool)
     requires { (board_of pass ≡ identity board.now) × (0 < region_count (moves_of board.now)) }
 {
-    let met = meets_flag(mine, theirs);
+    let met = wait_for_flag(mine, theirs);
     (is_claimed(board.claim(&mut pass, 0)), met)
 }
 
-/// What both find, each in a thread of its own.
-fn both<R: Threads>(rt: &R, board: &Board, a: Pass, b: Pass) -> ((bool, bool), (bool, bool))
+/// Runs both, each in its own thread.
+fn claim_by_both<R: Threads>(
+    rt: &R,
+    board: &Board,
+    a: Pass,
+    b: Pass,
+) -> ((bool, bool), (bool, bool))
     requires { (board_of a ≡ identity board.now) × (board_of b ≡ identity board.now) × (0 < region_count (moves_of board.now)) }
 {
     let first = AtomicU64::new(0);
@@ -66,15 +71,15 @@ fn both<R: Threads>(rt: &R, board: &Board, a: Pass, b: Pass) -> ((bool, bool), (
         rt,
         move || -> (bool, bool)
             requires { (board_of a ≡ identity board.now) × (0 < region_count (moves_of board.now)) }
-        { claims_then_waits(board, a, one, other) },
+        { claim_then_wait(board, a, one, other) },
         move || -> (bool, bool)
             requires { (board_of b ≡ identity board.now) × (0 < region_count (moves_of board.now)) }
-        { waits_then_claims(board, b, other, one) },
+        { wait_then_claim(board, b, other, one) },
     )
 }
 
-/// What two workers of a board find.
-fn found<R: Threads>(
+/// Lets two workers of a board claim its only region.
+fn claim_in_threads<R: Threads>(
     rt: &R,
     board: &Board,
     passes: &mut Vec<Pass>,
@@ -84,7 +89,7 @@ fn found<R: Threads>(
     let is_there = board.moves().regions() == 1;
     let (a, b) = take_two(board, passes)?;
     if is_there {
-        Ok(both(rt, board, a, b))
+        Ok(claim_by_both(rt, board, a, b))
     } else {
         Err(Fail::new("there is one region"))
     }
@@ -93,7 +98,7 @@ fn found<R: Threads>(
 #[test]
 fn a_region_claimed_in_another_thread_is_refused(rt: HostRuntime) -> Result<(), Fail> {
     let (board, mut passes) = board_with(rt.alloc(), &[true], &[], 2)?;
-    let found = found(&rt, &board, &mut passes)?;
+    let found = claim_in_threads(&rt, &board, &mut passes)?;
     equal(&rt, found, ((true, true), (false, true)));
     Ok(())
 }
@@ -102,10 +107,10 @@ const ROUNDS: u32 = 200;
 
 const REGIONS: u32 = 150;
 
-/// So many sweeps a worker makes at most.
+/// The most sweeps of a worker.
 const SWEEPS: u32 = 1_000_000;
 
-/// Numbers that look like chance, the same in each run.
+/// Pseudo-random numbers, the same in each run.
 #[derive(Drop)]
 struct Seed(u64);
 
@@ -119,7 +124,7 @@ impl Seed {
     }
 }
 
-/// Which regions are to be filled: most.
+/// For each region, whether it is to be filled; most are.
 fn seeded_fills(alloc: Global, seed: &mut Seed) -> Result<Vec<bool>, AllocError> {
     let mut fill = Vec::new(alloc);
     for _ in 0..REGIONS {
@@ -128,7 +133,7 @@ fn seeded_fills(alloc: Global, seed: &mut Seed) -> Result<Vec<bool>, AllocError>
     Ok(fill)
 }
 
-/// Each region to be filled reads some of the four regions above it.
+/// Pairs of each region to be filled with some of the four regions above it.
 fn seeded_pairs(
     alloc: Global,
     seed: &mut Seed,
@@ -144,7 +149,7 @@ fn seeded_pairs(
     Ok(pairs)
 }
 
-/// Adds pairs of the destination with sources that fewer than two others read.
+/// Adds pairs of the destination with sources that have fewer than two readers.
 fn add_sources(
     pairs: &mut Vec<(u32, u32)>,
     readers: &mut [u32],
@@ -163,7 +168,7 @@ fn add_sources(
     Ok(())
 }
 
-/// Moves made by the seed, and their number of pairs.
+/// Random moves, and their number of pairs.
 fn seeded_moves(alloc: Global, seed: &mut Seed) -> Result<(GivenMoves, usize), Fail> {
     let fill = seeded_fills(alloc, seed)?;
     let pairs = seeded_pairs(alloc, seed, fill.as_slice())?;
@@ -171,7 +176,7 @@ fn seeded_moves(alloc: Global, seed: &mut Seed) -> Result<(GivenMoves, usize), F
     Ok((GivenMoves::new(fill, pairs).ok_or("a table")?, count))
 }
 
-/// What a worker has done: the regions that it filled, its drains, and how often it was told that all are settled.
+/// The regions that a worker filled, its number of drains, and how often a settling said that all are settled.
 #[derive(Drop)]
 struct Tally {
     filled: Vec<u32>,
@@ -187,7 +192,7 @@ fn no_tally(alloc: Global) -> Tally {
     }
 }
 
-/// Claims a region, drains its sources, completes and settles it. What finds no room is left out.
+/// Claims a region, drains its sources, completes and settles it. Drops the note if memory runs out.
 fn fill(board: &Board, pass: &mut Pass, region: u32, tally: &mut Tally)
     requires { (board_of pass.old ≡ identity board.now) × (region < region_count (moves_of board.now)) }
     ensures { board_of pass.new ≡ identity board.now }
@@ -214,7 +219,7 @@ fn fill(board: &Board, pass: &mut Pass, region: u32, tally: &mut Tally)
     let _ = tally.filled.push(region);
 }
 
-/// Fills each region that it is granted, once over all regions.
+/// Claims each region once, and fills those that are granted.
 fn sweep(board: &Board, pass: &mut Pass, tally: &mut Tally)
     requires { board_of pass.old ≡ identity board.now }
     ensures { board_of pass.new ≡ identity board.now }
@@ -224,7 +229,7 @@ fn sweep(board: &Board, pass: &mut Pass, tally: &mut Tally)
     }
 }
 
-/// Waits until so many workers have begun, so that they all claim at the same time.
+/// Waits until this number of workers have begun, so that they all claim at the same time.
 fn begin(begun: &AtomicU64, workers: u64) {
     begun.fetch_add(1, Ordering::SeqCst);
     for _ in 0..TURNS {
@@ -235,7 +240,7 @@ fn begin(begun: &AtomicU64, workers: u64) {
     }
 }
 
-/// A worker at the end of its round.
+/// A worker at the end of a round.
 #[derive(Drop)]
 struct Worker {
     pass: Pass,
@@ -258,7 +263,7 @@ fn work(alloc: Global, board: &Board, mut pass: Pass) -> Worker
     Worker { pass, tally }
 }
 
-/// All workers work, each in a thread of its own where one can be started.
+/// Runs all workers, each in its own thread if one can be started.
 fn work_all<R: Threads + Sync>(
     rt: &R,
     alloc: Global,
@@ -280,7 +285,7 @@ fn work_all<R: Threads + Sync>(
     )
 }
 
-/// Adds what one worker has done to what others have.
+/// Adds one worker's tally to the sum.
 fn add(sum: &mut Tally, tally: &Tally) -> Result<(), AllocError> {
     sum.filled.extend_from_slice(tally.filled.as_slice())?;
     sum.drains = sum.drains.wrapping_add(tally.drains);
@@ -288,7 +293,7 @@ fn add(sum: &mut Tally, tally: &Tally) -> Result<(), AllocError> {
     Ok(())
 }
 
-/// Gathers the workers' passes, and adds up what they have done.
+/// Collects the workers' passes and adds up their tallies.
 fn gather(
     board: &Board,
     mut workers: Vec<Worker>,
@@ -308,7 +313,7 @@ fn gather(
     Ok(())
 }
 
-/// Lets all workers work. Their passes, and what they have done, taken together.
+/// Runs all workers. Returns their passes and the sum of their tallies.
 fn worked<R: Threads + Sync>(
     rt: &R,
     alloc: Global,
@@ -325,7 +330,7 @@ fn worked<R: Threads + Sync>(
     Ok((gathered, sum))
 }
 
-/// Each region to be filled stands once in the list, and no other one does.
+/// Whether each region to be filled is in the list once, and no other region is.
 fn are_filled_once(moves: &GivenMoves, filled: &[u32]) -> bool {
     for region in 0..moves.regions() {
         let times = filled.iter().filter(|r| **r == region).count();
@@ -336,7 +341,8 @@ fn are_filled_once(moves: &GivenMoves, filled: &[u32]) -> bool {
     true
 }
 
-/// What so many workers of a board of these moves have done. None where the board doesn't finish.
+/// Runs this number of workers on a board of these moves. Returns the sum of their tallies, or `None` if the board
+/// doesn't finish.
 fn round<R: Threads + Sync>(
     rt: &R,
     alloc: Global,
@@ -354,7 +360,7 @@ fn round<R: Threads + Sync>(
     }
 }
 
-/// Whether each region is filled once and each of so many pairs drained, and one worker was told that all are settled.
+/// Whether each region is filled once, `pairs` drains are made, and exactly one settling says that all are settled.
 fn is_whole(moves: &GivenMoves, pairs: usize, sum: &Tally) -> bool {
     are_filled_once(moves, sum.filled.as_slice()) && sum.drains == pairs && sum.lasts == 1
 }

@@ -1,4 +1,4 @@
-//! A worker with one ticket, and with several at once: each answer, and how the board stands after it.
+//! A worker with one ticket, and with several at once: each reply, and the state of the board after it.
 ghost use Rattle.std.specs.Prelude.{◌≡◌, ℕ, ◌<◌, IfSome, OnOk};
 ghost use Rattle.history.specs.MoveTable.{region_count};
 ghost use Rattle.claim_board.specs.Boards.{moves as moves_of, identity, board_of, caller, AllOf};
@@ -14,12 +14,12 @@ use std::alloc::{AllocError, Global};
 use std::process::Abort;
 use std::test::Fail;
 
-/// Each answer in turn, and after it, as another worker sees it, how each region stands and what a poll says.
+/// Each reply in turn, followed by another worker's looks at each region and its poll.
 #[derive(Drop)]
 struct Notes {
     watch: Pass,
-    told: Vec<Reply>,
-    /// What each ticket had left before its first drain.
+    replies: Vec<Reply>,
+    /// For each ticket, the number of sources left before its first drain.
     left: Vec<usize>,
 }
 
@@ -28,28 +28,28 @@ fn no_notes(alloc: Global, watch: Pass) -> Notes
 {
     Notes {
         watch,
-        told: Vec::new(alloc),
+        replies: Vec::new(alloc),
         left: Vec::new(alloc),
     }
 }
 
-/// What a settling or a poll answers, as a reply.
+/// The result of a settling or a poll as a reply.
 fn all_or_more(all: bool) -> Reply {
     if all { All } else { More }
 }
 
-/// Notes a reply, and how the board stands then. What finds no room is left out.
+/// Notes a reply and the state of the board after it. Drops notes if memory runs out.
 fn note(board: &Board, notes: &mut Notes, reply: Reply)
     requires { board_of notes.old.watch ≡ identity board.now }
     ensures { board_of notes.new.watch ≡ identity board.now }
 {
-    let _ = notes.told.push(reply);
+    let _ = notes.replies.push(reply);
     for region in 0..board.moves().regions() {
-        let standing = board.look(&mut notes.watch, region);
-        let _ = notes.told.push(standing);
+        let status = board.look(&mut notes.watch, region);
+        let _ = notes.replies.push(status);
     }
     let all = board.poll(&mut notes.watch);
-    let _ = notes.told.push(all_or_more(all));
+    let _ = notes.replies.push(all_or_more(all));
 }
 
 fn claims(board: &Board, pass: &mut Pass, region: u32, notes: &mut Notes) -> Option<Ticket>
@@ -75,7 +75,7 @@ fn looks(board: &Board, pass: &mut Pass, region: u32, notes: &mut Notes)
     note(board, notes, reply);
 }
 
-/// What a drain answers, as a reply.
+/// The result of a drain as a reply.
 fn reply_of(answer: Drained) -> Reply {
     match answer {
         Drained::Last => Last,
@@ -99,7 +99,7 @@ fn drains(board: &Board, pass: &mut Pass, ticket: &mut Ticket, notes: &mut Notes
     }
 }
 
-/// Completes the region of a ticket of which all sources are drained.
+/// Completes the region of a ticket whose sources are all drained.
 fn completes<R: Abort>(
     rt: &R,
     board: &Board,
@@ -147,7 +147,7 @@ struct Held {
     two: Ticket,
 }
 
-/// Claims and drains regions 0, 1 and 2 of the base heap, with looks and refused claims between.
+/// Claims and drains regions 0, 1 and 2 of the base heap, with looks and refused claims in between.
 fn holds_base<R: Abort>(rt: &R, board: &Board, pass: &mut Pass, notes: &mut Notes) -> Held
     requires board { (board_of pass.old ≡ identity board.now) × (board_of notes.old.watch ≡ identity board.now) }
     requires regions { region_count (moves_of board.now) ≡ 4 }
@@ -172,7 +172,7 @@ fn holds_base<R: Abort>(rt: &R, board: &Board, pass: &mut Pass, notes: &mut Note
     Held { zero, one, two }
 }
 
-/// Claims and drains regions 0, 1 and 2, of three, once region 1 was refused.
+/// Claims and drains the regions of a board of three, after a refused claim of region 1.
 fn holds_three<R: Abort>(rt: &R, board: &Board, pass: &mut Pass, notes: &mut Notes) -> Held
     requires board { (board_of pass.old ≡ identity board.now) × (board_of notes.old.watch ≡ identity board.now) }
     requires regions { region_count (moves_of board.now) ≡ 3 }
@@ -215,7 +215,7 @@ fn ends<R: Abort>(rt: &R, board: &Board, pass: &mut Pass, held: Held, notes: &mu
     two
 }
 
-/// Claims a region and, where it is granted, drains its sources, completes and settles it.
+/// Claims a region and, if it is granted, drains its sources, completes and settles it.
 fn fills<R: Abort>(rt: &R, board: &Board, pass: &mut Pass, region: u32, notes: &mut Notes)
     requires { (board_of pass.old ≡ identity board.now) × (board_of notes.old.watch ≡ identity board.now) × (region < region_count (moves_of board.now)) }
     ensures { (board_of pass.new ≡ identity board.now) × (board_of notes.new.watch ≡ identity board.now) }
@@ -230,13 +230,13 @@ fn fills<R: Abort>(rt: &R, board: &Board, pass: &mut Pass, region: u32, notes: &
 /// The order in which a worker fills a board.
 #[derive(Clone, Copy)]
 enum Order {
-    /// The base heap's regions one after the other, with refused claims, looks and polls between.
+    /// The base heap's regions one after the other, with refused claims, looks and polls in between.
     OneByOne,
     /// The base heap's regions all at once.
     AtOnce,
-    /// The same, but region 2 is never settled.
+    /// Like `AtOnce`, but region 2 is never settled.
     AllButTheLast,
-    /// All at once of a board of three regions.
+    /// The regions of a board of three all at once.
     ThreeAtOnce,
 }
 
@@ -259,7 +259,7 @@ fn one_by_one<R: Abort>(rt: &R, board: &Board, pass: &mut Pass, notes: &mut Note
     looks(board, pass, 0, notes);
 }
 
-/// Claims and drains all, and then completes all. Region 2 is settled last, or never.
+/// Claims and drains all regions, and then completes them. Region 2 is settled last, or never.
 fn at_once<R: Abort>(rt: &R, board: &Board, pass: &mut Pass, notes: &mut Notes, settles_all: bool)
     requires { (board_of pass.old ≡ identity board.now) × (board_of notes.old.watch ≡ identity board.now) }
     ensures { (board_of pass.new ≡ identity board.now) × (board_of notes.new.watch ≡ identity board.now) }
@@ -286,32 +286,32 @@ fn three_at_once<R: Abort>(rt: &R, board: &Board, pass: &mut Pass, notes: &mut N
     polls(board, pass, notes);
 }
 
-/// What the worker notes, and what each ticket had left at first.
+/// All noted replies, and the number of sources left of each ticket at first.
 #[derive(Drop)]
-struct Told {
+struct Noted {
     replies: Vec<Reply>,
     left: Vec<usize>,
 }
 
-/// Gives both passes back.
+/// Puts both passes back.
 fn give_back(
     board: &Board,
     passes: &mut Vec<Pass>,
     pass: Pass,
     notes: Notes,
-) -> Result<Told, AllocError>
+) -> Result<Noted, AllocError>
     requires passes { AllOf (identity board.now) passes.old.items }
     requires boards { (board_of pass ≡ identity board.now) × (board_of notes.watch ≡ identity board.now) }
     ensures { OnOk result (AllOf (identity board.now) passes.new.items) }
 {
     let Notes {
         watch,
-        told: replies,
+        replies,
         left,
     } = notes;
     put(board, passes, pass)?;
     put(board, passes, watch)?;
-    Ok(Told { replies, left })
+    Ok(Noted { replies, left })
 }
 
 /// Fills the board in this order.
@@ -327,14 +327,14 @@ fn fill_all<R: Abort>(rt: &R, board: &Board, pass: &mut Pass, notes: &mut Notes,
     }
 }
 
-/// Worker 0 fills the board in this order, and worker 1 watches it.
-fn filled<R: Abort>(
+/// Lets worker 0 fill the board in this order, watched by worker 1.
+fn fill_and_watch<R: Abort>(
     rt: &R,
     alloc: Global,
     board: &Board,
     passes: &mut Vec<Pass>,
     order: Order,
-) -> Result<Told, Fail>
+) -> Result<Noted, Fail>
     requires { AllOf (identity board.now) passes.old.items }
     ensures { OnOk result (AllOf (identity board.now) passes.new.items) }
 {
@@ -344,17 +344,17 @@ fn filled<R: Abort>(
     Ok(give_back(board, passes, pass, notes)?)
 }
 
-/// What is told of the order's board, and whether the board finishes.
-fn outcome<R: Abort>(rt: &R, alloc: Global, order: Order) -> Result<(Told, bool), Fail> {
+/// The replies of this order on its board, and whether the board finishes.
+fn outcome<R: Abort>(rt: &R, alloc: Global, order: Order) -> Result<(Noted, bool), Fail> {
     let (board, mut passes) = match order {
         Order::ThreeAtOnce => board_with(alloc, &[true, true, true], &[(0, 1), (1, 2)], 2)?,
         _ => board_with(alloc, &BASE_FILLED, &BASE_PAIRS, 2)?,
     };
-    let told = filled(rt, alloc, &board, &mut passes, order)?;
-    Ok((told, board.finish(passes).is_some()))
+    let noted = fill_and_watch(rt, alloc, &board, &mut passes, order)?;
+    Ok((noted, board.finish(passes).is_some()))
 }
 
-/// What the base heap's board answers where its regions are filled one by one.
+/// The replies of the base heap's board if its regions are filled one by one.
 const ONE_BY_ONE: [[Reply; 6]; 22] = [
     [More, Open(0), Open(1), Open(1), Outside(2), More],
     [No, Open(0), Open(1), Open(1), Outside(2), More],
@@ -380,7 +380,7 @@ const ONE_BY_ONE: [[Reply; 6]; 22] = [
     [Filled, Filled, Filled, Filled, Outside(0), All],
 ];
 
-/// What it answers where they are filled at once.
+/// The replies of the base heap's board if its regions are filled at once.
 const AT_ONCE: [[Reply; 6]; 19] = [
     [Yes, Claimed, Open(1), Open(1), Outside(2), More],
     [No, Claimed, Open(1), Open(1), Outside(2), More],
@@ -403,7 +403,7 @@ const AT_ONCE: [[Reply; 6]; 19] = [
     [All, Filled, Filled, Filled, Outside(0), All],
 ];
 
-/// What a board of three regions, each reading the next one, answers where they are filled at once.
+/// The replies of a board of three regions, each reading the next, if they are filled at once.
 const THREE_AT_ONCE: [[Reply; 5]; 14] = [
     [No, Open(0), Open(1), Open(1), More],
     [Yes, Claimed, Open(1), Open(1), More],
@@ -423,34 +423,34 @@ const THREE_AT_ONCE: [[Reply; 5]; 14] = [
 
 #[test]
 fn one_pass_fills_the_base_heap(rt: HostRuntime) -> Result<(), Fail> {
-    let (told, finishes) = outcome(&rt, rt.alloc(), Order::OneByOne)?;
-    equal_items(&rt, told.replies.as_slice(), ONE_BY_ONE.as_flattened());
-    equal_items(&rt, told.left.as_slice(), &[1, 2, 1]);
+    let (noted, finishes) = outcome(&rt, rt.alloc(), Order::OneByOne)?;
+    equal_items(&rt, noted.replies.as_slice(), ONE_BY_ONE.as_flattened());
+    equal_items(&rt, noted.left.as_slice(), &[1, 2, 1]);
     holds(&rt, finishes);
     Ok(())
 }
 
 #[test]
-fn three_tickets_at_once_of_the_base_heap(rt: HostRuntime) -> Result<(), Fail> {
-    let (told, finishes) = outcome(&rt, rt.alloc(), Order::AtOnce)?;
-    equal_items(&rt, told.replies.as_slice(), AT_ONCE.as_flattened());
-    equal_items(&rt, told.left.as_slice(), &[1, 2, 1]);
+fn three_tickets_at_once_fill_the_base_heap(rt: HostRuntime) -> Result<(), Fail> {
+    let (noted, finishes) = outcome(&rt, rt.alloc(), Order::AtOnce)?;
+    equal_items(&rt, noted.replies.as_slice(), AT_ONCE.as_flattened());
+    equal_items(&rt, noted.left.as_slice(), &[1, 2, 1]);
     holds(&rt, finishes);
     Ok(())
 }
 
 #[test]
-fn three_tickets_at_once_of_three_regions(rt: HostRuntime) -> Result<(), Fail> {
-    let (told, finishes) = outcome(&rt, rt.alloc(), Order::ThreeAtOnce)?;
-    equal_items(&rt, told.replies.as_slice(), THREE_AT_ONCE.as_flattened());
-    equal_items(&rt, told.left.as_slice(), &[1, 1, 0]);
+fn three_tickets_at_once_fill_three_regions(rt: HostRuntime) -> Result<(), Fail> {
+    let (noted, finishes) = outcome(&rt, rt.alloc(), Order::ThreeAtOnce)?;
+    equal_items(&rt, noted.replies.as_slice(), THREE_AT_ONCE.as_flattened());
+    equal_items(&rt, noted.left.as_slice(), &[1, 1, 0]);
     holds(&rt, finishes);
     Ok(())
 }
 
 #[test]
-fn no_finish_with_region_2_unsettled(rt: HostRuntime) -> Result<(), Fail> {
-    let (_told, finishes) = outcome(&rt, rt.alloc(), Order::AllButTheLast)?;
+fn a_board_with_region_2_unsettled_does_not_finish(rt: HostRuntime) -> Result<(), Fail> {
+    let (_noted, finishes) = outcome(&rt, rt.alloc(), Order::AllButTheLast)?;
     holds(&rt, !finishes);
     Ok(())
 }

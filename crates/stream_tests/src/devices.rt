@@ -1,8 +1,8 @@
-//! Devices that give and take in small pieces, or fail after so many bytes.
+//! Devices that read and write in small pieces, or fail after a number of bytes.
 use std::io;
 use std::io::{Read, Write};
 
-/// A reader that gives at most `step` bytes at a time, and fails once it has given `limit`.
+/// A reader that returns at most `step` bytes at a time, and fails after `limit` bytes.
 #[derive(Drop)]
 pub(crate) struct Trickle<'a> {
     bytes: &'a [u8],
@@ -11,7 +11,7 @@ pub(crate) struct Trickle<'a> {
 }
 
 impl<'a> Trickle<'a> {
-    /// Gives all bytes, so many at a time.
+    /// Returns all bytes, `step` at a time.
     pub(crate) fn of(bytes: &'a [u8], step: usize) -> Trickle<'a> {
         Trickle {
             bytes,
@@ -20,7 +20,7 @@ impl<'a> Trickle<'a> {
         }
     }
 
-    /// Fails once it has given so many bytes.
+    /// Fails after `limit` bytes.
     pub(crate) fn until(bytes: &'a [u8], limit: usize) -> Trickle<'a> {
         Trickle {
             bytes,
@@ -29,7 +29,7 @@ impl<'a> Trickle<'a> {
         }
     }
 
-    /// How many bytes it has not given.
+    /// The number of unread bytes.
     pub(crate) fn left(&self) -> usize {
         self.bytes.len()
     }
@@ -49,8 +49,8 @@ impl Read for Trickle<'_> {
     }
 }
 
-/// A writer that compares what it takes with a text. It takes at most `step` bytes at a time, and no more than `limit`:
-/// then it fails, or takes none.
+/// A writer that compares what it receives with a text. It accepts at most `step` bytes at a time and `limit` in all;
+/// then it fails, or accepts 0.
 #[derive(Drop)]
 pub(crate) struct Checked<'a> {
     rest: &'a [u8],
@@ -61,12 +61,12 @@ pub(crate) struct Checked<'a> {
 }
 
 impl<'a> Checked<'a> {
-    /// Takes all that comes.
+    /// Accepts everything.
     pub(crate) fn against(text: &'a [u8]) -> Checked<'a> {
         Checked::in_steps(text, usize::MAX)
     }
 
-    /// Takes all that comes, so many bytes at a time.
+    /// Accepts everything, `step` bytes at a time.
     pub(crate) fn in_steps(text: &'a [u8], step: usize) -> Checked<'a> {
         Checked {
             rest: text,
@@ -77,7 +77,7 @@ impl<'a> Checked<'a> {
         }
     }
 
-    /// Takes so many bytes, and then fails or takes none.
+    /// Accepts `limit` bytes, and then fails or accepts 0.
     pub(crate) fn until(text: &'a [u8], limit: usize, fails: bool) -> Checked<'a> {
         Checked {
             rest: text,
@@ -88,8 +88,8 @@ impl<'a> Checked<'a> {
         }
     }
 
-    /// How many bytes of the text it hasn't taken, if those that it has taken are the first.
-    pub(crate) fn lacks(&self) -> Option<usize> {
+    /// The number of bytes of the text that are not written, if the written ones are a prefix of it.
+    pub(crate) fn unwritten(&self) -> Option<usize> {
         self.is_right.then_some(self.rest.len())
     }
 }

@@ -1,4 +1,4 @@
-//! Tests of devices that leave out the zeros of regions that a collection has cleared.
+//! Devices that skip the zeros of regions that a collection has cleared.
 use crate::checks::{equal, equal_at};
 use crate::texts::{Texts, with_prefix};
 use collector::{OpenGate, collect_stream};
@@ -9,11 +9,11 @@ use std::sync::Wait;
 use std::test::Fail;
 use std::thread::Threads;
 
-/// Keeps the bytes that it takes, and the zeros that it leaves out; it fails where it would keep more than `limit`.
+/// Keeps the bytes that it receives and the zeros that it skips. Fails if it would receive more than `limit` bytes.
 #[derive(Drop)]
 struct Holes {
     bytes: Vec<u8>,
-    /// How many of the bytes are zeros that were left out.
+    /// The number of bytes that are skipped zeros.
     left_out: usize,
     limit: usize,
     failed: bool,
@@ -64,7 +64,7 @@ impl Outlet for Holes {
     }
 }
 
-/// What the device has after a collection by two workers, and whether this ended well.
+/// Collects with two workers. Returns the device and the result.
 fn collected<R: Threads + Wait + Sync>(
     alloc: Global,
     rt: &R,
@@ -78,16 +78,16 @@ fn collected<R: Threads + Wait + Sync>(
 }
 
 #[test]
-fn the_zeros_of_cleared_regions_are_left_out(rt: HostRuntime) -> Result<(), Fail> {
+fn the_zeros_of_cleared_regions_are_skipped(rt: HostRuntime) -> Result<(), Fail> {
     let texts = with_prefix(rt.alloc(), Base::WithLiveList, &rt)?;
     let (holes, answer) = collected(rt.alloc(), &rt, &texts, usize::MAX);
-    // The heap has 32 words in regions of 8, and its new top is 21: the last region lies above it.
+    // The heap has 32 words in regions of 8, and its new top is 21, so the last region lies above it.
     equal(&rt, (answer, holes.left_out), (Ok(()), 64));
     equal(&rt, holes.bytes.as_slice(), texts.after.as_slice());
     Ok(())
 }
 
-/// Whether the device has the beginning of the text, and behind it only zeros, where it fails after so many bytes.
+/// Whether a device that fails after `limit` bytes has a prefix of the text, followed only by zeros.
 fn is_begun<R: Threads + Wait + Sync>(alloc: Global, rt: &R, texts: &Texts, limit: usize) -> bool {
     let (holes, answer) = collected(alloc, rt, texts, limit);
     let (kept, rest) = holes.bytes.split_at(holes.bytes.len().min(limit));
@@ -96,7 +96,7 @@ fn is_begun<R: Threads + Wait + Sync>(alloc: Global, rt: &R, texts: &Texts, limi
 }
 
 #[test]
-fn a_device_that_leaves_out_zeros_fails_at_each_byte(rt: HostRuntime) -> Result<(), Fail> {
+fn a_device_that_skips_zeros_fails_at_any_byte(rt: HostRuntime) -> Result<(), Fail> {
     let texts = with_prefix(rt.alloc(), Base::WithLiveList, &rt)?;
     for limit in 0..texts.after.len() {
         equal_at(

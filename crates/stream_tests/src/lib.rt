@@ -1,6 +1,7 @@
-//! The tests of `collector`, through its public calls alone: streams, records without a gate, queues and refused memory.
+//! The tests of `collector`, through its public calls alone: streams, records without a gate, queues and failing
+//! allocations.
 //!
-//! Those of its gates stand in `collector_tests`, which the gate of the repository proves at the same time.
+//! The tests of its gates are in `collector_tests`, which is proved at the same time.
 #![tactic(auto)]
 
 #[cfg(test)]

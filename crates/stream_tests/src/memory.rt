@@ -1,4 +1,4 @@
-//! What the calls answer where memory is refused. The script tests/crate-allocations runs each of these tests with each
+//! The results of calls when memory runs out. The script tests/build/test_crate_allocations.sh runs each of these tests with each
 //! allocation refused in turn.
 use crate::checks::holds;
 use crate::devices::Checked;
@@ -27,8 +27,8 @@ pub(crate) fn is_base(alloc: Global, base: Base, image: &Image) -> Result<bool, 
     Ok(encode(alloc, image)? == text)
 }
 
-/// The fault that came with an image, or false if that isn't this base heap.
-pub(crate) fn told_of_base(
+/// The fault of a refusal that kept this image, or `Ok(false)` if the image isn't this base heap.
+pub(crate) fn fault_with_base(
     alloc: Global,
     base: Base,
     image: &Image,
@@ -52,25 +52,26 @@ pub(crate) fn is_compacted(
     Ok(verify(alloc, &before, after, threads)? == Verdict::Same)
 }
 
-/// Whether each answer is true or out of memory, and one is true.
+/// Whether each answer is `Ok(true)` or out of memory, and at least one is `Ok(true)`.
 pub(crate) fn are_right(answers: &[Result<bool, Fault>]) -> bool {
     let mut all = answers.iter();
-    let is_told = |answer: &Result<bool, Fault>| *answer == Ok(true)
+    let is_right = |answer: &Result<bool, Fault>| *answer == Ok(true)
         || *answer == Err(Fault::Memory);
-    all.all(is_told) && answers.contains(&Ok(true))
+    all.all(is_right) && answers.contains(&Ok(true))
 }
 
-/// Whether a collection of the base heap gives its compaction. Its only error is out of memory that keeps the image.
+/// Whether a collection of the base heap gives its compaction. Its only error is running out of memory, with the image
+/// kept.
 fn collects<R: Threads + Wait + Sync>(alloc: Global, rt: &R, base: Base) -> Result<bool, Fault> {
     match collect(alloc, image(alloc, base, rt)?, 2, &OpenGate, rt, rt) {
         Ok((outcome, _finished)) => is_compacted(alloc, base, &outcome.image, rt),
-        Err(Refusal::Kept(image, fault)) => told_of_base(alloc, base, &image, fault),
+        Err(Refusal::Kept(image, fault)) => fault_with_base(alloc, base, &image, fault),
         Err(Refusal::Lost(_)) => Ok(false),
     }
 }
 
 #[test]
-fn collect_where_refused_memory_is_told(rt: HostRuntime) {
+fn collect_where_refused_memory_is_reported(rt: HostRuntime) {
     let base = Base::WithLiveList;
     let answers = [
         collects(rt.alloc(), &rt, base),
@@ -80,7 +81,7 @@ fn collect_where_refused_memory_is_told(rt: HostRuntime) {
 }
 
 #[test]
-fn collect_with_roots_where_refused_memory_is_told(rt: HostRuntime) {
+fn collect_with_roots_where_refused_memory_is_reported(rt: HostRuntime) {
     let base = Base::WithRoots;
     let answers = [
         collects(rt.alloc(), &rt, base),
@@ -89,13 +90,14 @@ fn collect_with_roots_where_refused_memory_is_told(rt: HostRuntime) {
     holds(&rt, are_right(&answers));
 }
 
-/// Whether the text of the base heap's compaction is written. Its only error is out of memory, with nothing written.
+/// Whether the text of the base heap's compaction is written. Its only error is running out of memory, with nothing
+/// written.
 fn streams<R: Threads + Wait + Sync>(alloc: Global, rt: &R, base: Base) -> Result<bool, Fault> {
     let texts = with_prefix(alloc, base, rt)?;
     let mut reader = FromRead::new(texts.before.as_slice());
     let mut writer = ToWrite::new(Checked::against(&texts.after));
     let answer = collect_stream(alloc, &mut reader, &mut writer, 2, &OpenGate, rt, rt);
-    let unwritten = writer.into_inner().lacks();
+    let unwritten = writer.into_inner().unwritten();
     match answer {
         Ok(_figures) => Ok(unwritten == Some(0)),
         Err(Fault::Memory) if unwritten == Some(texts.after.len()) => Err(Fault::Memory),
@@ -104,7 +106,7 @@ fn streams<R: Threads + Wait + Sync>(alloc: Global, rt: &R, base: Base) -> Resul
 }
 
 #[test]
-fn stream_where_refused_memory_is_told(rt: HostRuntime) {
+fn stream_where_refused_memory_is_reported(rt: HostRuntime) {
     let base = Base::WithLiveList;
     let answers = [
         streams(rt.alloc(), &rt, base),
@@ -114,7 +116,7 @@ fn stream_where_refused_memory_is_told(rt: HostRuntime) {
 }
 
 #[test]
-fn stream_with_roots_where_refused_memory_is_told(rt: HostRuntime) {
+fn stream_with_roots_where_refused_memory_is_reported(rt: HostRuntime) {
     let base = Base::WithRoots;
     let answers = [
         streams(rt.alloc(), &rt, base),
@@ -123,7 +125,7 @@ fn stream_with_roots_where_refused_memory_is_told(rt: HostRuntime) {
     holds(&rt, are_right(&answers));
 }
 
-/// Whether the base heap's compaction is found the same, and the base heap itself is not.
+/// Whether the base heap's compaction verifies as the same, and the base heap itself doesn't.
 fn verifies(alloc: Global, threads: &(impl Threads + Sync), base: Base) -> Result<bool, Fault> {
     let before = image(alloc, base, threads)?;
     is_verified(alloc, threads, &before)
@@ -150,7 +152,7 @@ fn are_verified(
 }
 
 #[test]
-fn verify_where_refused_memory_is_told(rt: HostRuntime) {
+fn verify_where_refused_memory_is_reported(rt: HostRuntime) {
     let base = Base::WithLiveList;
     let answers = [
         verifies(rt.alloc(), &rt, base),
@@ -160,7 +162,7 @@ fn verify_where_refused_memory_is_told(rt: HostRuntime) {
 }
 
 #[test]
-fn verify_with_roots_where_refused_memory_is_told(rt: HostRuntime) {
+fn verify_with_roots_where_refused_memory_is_reported(rt: HostRuntime) {
     let base = Base::WithRoots;
     let answers = [
         verifies(rt.alloc(), &rt, base),
@@ -169,7 +171,7 @@ fn verify_with_roots_where_refused_memory_is_told(rt: HostRuntime) {
     holds(&rt, are_right(&answers));
 }
 
-/// Whether a queue takes as many numbers as its room, and hands them out.
+/// Whether a queue accepts as many numbers as its room, and hands them out.
 fn queues(alloc: Global) -> Result<bool, AllocError> {
     let mut ready = Ready::new(alloc, 2)?;
     let thief = ready.thief()?;
@@ -179,7 +181,7 @@ fn queues(alloc: Global) -> Result<bool, AllocError> {
 }
 
 #[test]
-fn queue_where_refused_memory_is_told(rt: HostRuntime) {
+fn queue_where_refused_memory_is_reported(rt: HostRuntime) {
     let answers = [queues(rt.alloc()), queues(rt.alloc())];
     holds(&rt, !answers.contains(&Ok(false)));
     holds(&rt, answers.contains(&Ok(true)));

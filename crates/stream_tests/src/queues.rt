@@ -1,4 +1,4 @@
-//! The queues of regions that are ready: what two threads steal, and whom a worker asks.
+//! The queues of ready regions: what two threads steal, and the order in which a worker tries the queues.
 use crate::checks::{equal, holds};
 use collector::{Ready, Thief};
 use crossbeam_deque::Steal;
@@ -7,8 +7,8 @@ use std::test::Fail;
 use std::thread;
 use std::thread::Threads;
 
-/// What a thread steals in so many tries.
-fn stolen(alloc: Global, thief: &Thief) -> Result<Vec<u32>, AllocError> {
+/// The numbers that a thread steals in 10,000 tries.
+fn steal_many(alloc: Global, thief: &Thief) -> Result<Vec<u32>, AllocError> {
     let mut numbers = Vec::new(alloc);
     for _ in 0..10_000 {
         if let Steal::Success(r) = thief.steal() {
@@ -18,7 +18,7 @@ fn stolen(alloc: Global, thief: &Thief) -> Result<Vec<u32>, AllocError> {
     Ok(numbers)
 }
 
-/// A queue of 100 numbers without its first one; whether all were taken, whether one more was, and the first.
+/// A queue of 100 numbers after one pop: whether all pushes succeeded, whether one more did, and the popped number.
 fn full_queue(alloc: Global) -> Result<((bool, bool), Option<u32>, Ready), AllocError> {
     let mut ready = Ready::new(alloc, 100)?;
     let mut all = true;
@@ -30,29 +30,33 @@ fn full_queue(alloc: Global) -> Result<((bool, bool), Option<u32>, Ready), Alloc
     Ok((pushed, popped, ready))
 }
 
-/// What two threads steal, in ascending order.
-fn stolen_by_two(
+/// The numbers that two threads steal, ascending.
+fn steal_by_two(
     alloc: Global,
     threads: &(impl Threads + Sync),
     ready: &Ready,
 ) -> Result<Vec<u32>, AllocError> {
     let (first, second) = (ready.thief()?, ready.thief()?);
-    let (mine, other) = thread::join(threads, || stolen(alloc, &first), || stolen(alloc, &second));
-    joined(mine?, other?)
+    let (mine, other) = thread::join(
+        threads,
+        || steal_many(alloc, &first),
+        || steal_many(alloc, &second),
+    );
+    join_sorted(mine?, other?)
 }
 
-fn joined(mut all: Vec<u32>, other: Vec<u32>) -> Result<Vec<u32>, AllocError> {
+fn join_sorted(mut all: Vec<u32>, other: Vec<u32>) -> Result<Vec<u32>, AllocError> {
     all.extend_from_slice(other.as_slice())?;
     all.sort()?;
     Ok(all)
 }
 
-/// A `steal` that always answers `Empty`, so that nobody can steal, meets its contract. It fails here.
+/// A `steal` that always returns `Empty` meets the contract, and fails here.
 #[test]
 fn two_threads_steal_each_number_once(rt: HostRuntime) -> Result<(), Fail> {
     let (pushed, popped, mut ready) = full_queue(rt.alloc())?;
     equal(&rt, (pushed, popped), ((true, false), Some(0)));
-    let all = stolen_by_two(rt.alloc(), &rt, &ready)?;
+    let all = steal_by_two(rt.alloc(), &rt, &ready)?;
     holds(&rt, all.iter().copied().eq(1..100));
     equal(&rt, ready.pop(), None);
     Ok(())
@@ -67,8 +71,8 @@ fn queue_of(alloc: Global, numbers: &[u32]) -> Result<Ready, AllocError> {
     Ok(ready)
 }
 
-/// What a worker takes in five tries whose own queue stands between two others.
-fn taken_between(
+/// What worker 1 of three takes in five tries.
+fn take_five(
     mut own: Ready,
     (lowest, highest): (&Ready, &Ready),
 ) -> Result<[Option<u32>; 5], AllocError> {
@@ -83,10 +87,10 @@ fn taken_between(
 }
 
 #[test]
-fn a_worker_takes_its_own_first_and_then_those_behind_it(rt: HostRuntime) -> Result<(), Fail> {
+fn a_worker_takes_its_own_first_and_then_the_next_workers(rt: HostRuntime) -> Result<(), Fail> {
     let (lowest, highest) = (queue_of(rt.alloc(), &[4, 5])?, queue_of(rt.alloc(), &[7])?);
     let own = queue_of(rt.alloc(), &[6])?;
-    let taken = taken_between(own, (&lowest, &highest))?;
+    let taken = take_five(own, (&lowest, &highest))?;
     equal(&rt, taken, [Some(6), Some(7), Some(4), Some(5), None]);
     Ok(())
 }

@@ -1,10 +1,10 @@
-//! Recorded collections from bytes to bytes: what stands in both texts, and how far they are written where a device fails.
+//! Recorded collections from bytes to bytes: both texts, and how far they are written if a device fails.
 use crate::checks::{equal, equal_at, holds};
 use crate::devices::{Checked, Trickle};
 use crate::memory::are_right;
 use crate::recordings::BASE_SCHEDULE;
 use crate::texts::{Texts, figures, slid};
-use collector::{Figures, OpenGate, record_stream};
+use collector::{Figures, OpenGate, Workers, record_stream};
 use heap_image::{Fault, FromRead, ToWrite};
 use heap_samples::Base;
 use std::alloc::Global;
@@ -12,8 +12,8 @@ use std::sync::Wait;
 use std::test::Fail;
 use std::thread::Threads;
 
-/// What a recorded collection answered, and how many bytes of the compaction and of the lines weren't written, if what was
-/// written is the beginnings of them.
+/// The result of a recorded collection, and the numbers of bytes of the compaction and of the lines that are not
+/// written, if the written ones are prefixes.
 type Recorded = (Result<Figures, Fault>, Option<usize>, Option<usize>);
 
 /// A recorded collection of these bytes by one worker.
@@ -26,21 +26,19 @@ fn record_from<R: Threads + Wait + Sync>(
 ) -> Recorded {
     let mut reader = FromRead::new(Trickle::of(bytes, 7));
     let (mut writer, mut lines) = (ToWrite::new(writer), ToWrite::new(lines));
-    let answer = record_stream(
-        alloc,
-        &mut reader,
-        &mut writer,
-        &mut lines,
-        1,
-        &OpenGate,
-        rt,
-        rt,
-    );
-    let (compaction, lines) = (writer.into_inner().lacks(), lines.into_inner().lacks());
-    (answer, compaction, lines)
+    let workers = Workers {
+        count: 1,
+        gate: &OpenGate,
+        threads: rt,
+        wait: rt,
+    };
+    let answer = record_stream(alloc, &mut reader, &mut writer, &mut lines, workers);
+    let compaction = writer.into_inner().unwritten();
+    (answer, compaction, lines.into_inner().unwritten())
 }
 
-/// A recorded collection of the first text, whose devices compare what they take with the second one and the schedule.
+/// A recorded collection of `texts.before`, whose devices compare what they receive with `texts.after` and the
+/// schedule.
 fn record_whole<R: Threads + Wait + Sync>(alloc: Global, rt: &R, texts: &Texts) -> Recorded {
     let writer = Checked::against(&texts.after);
     let lines = Checked::against(BASE_SCHEDULE.as_bytes());
@@ -55,7 +53,7 @@ fn both_texts_of_the_base_heap_are_written(rt: HostRuntime) -> Result<(), Fail> 
     Ok(())
 }
 
-/// Whether the device for the lines has a beginning of so many bytes, behind the whole compaction, where it takes no more.
+/// Whether a device for the lines that accepts `limit` bytes gets that prefix, and the whole compaction is written.
 fn ends_in_the_lines<R: Threads + Wait + Sync>(
     alloc: Global,
     rt: &R,
@@ -71,7 +69,7 @@ fn ends_in_the_lines<R: Threads + Wait + Sync>(
 }
 
 #[test]
-fn lines_that_fail_at_any_byte_leave_the_compaction(rt: HostRuntime) -> Result<(), Fail> {
+fn lines_that_fail_at_any_byte_keep_the_compaction(rt: HostRuntime) -> Result<(), Fail> {
     let texts = slid(rt.alloc(), Base::WithLiveList)?;
     for limit in 0..BASE_SCHEDULE.len() {
         let is_right = ends_in_the_lines(rt.alloc(), &rt, &texts, limit);
@@ -80,7 +78,7 @@ fn lines_that_fail_at_any_byte_leave_the_compaction(rt: HostRuntime) -> Result<(
     Ok(())
 }
 
-/// Whether the compaction's device has a beginning of so many bytes, and no line is written, where it takes no more.
+/// Whether a device for the compaction that accepts `limit` bytes gets that prefix, and no line is written.
 fn ends_in_the_compaction<R: Threads + Wait + Sync>(
     alloc: Global,
     rt: &R,
@@ -104,8 +102,8 @@ fn a_writer_that_fails_leaves_no_line(rt: HostRuntime) -> Result<(), Fail> {
     Ok(())
 }
 
-/// Whether both texts of the base heap are written. Its only error is out of memory, with nothing written.
-fn comes_through<R: Threads + Wait + Sync>(alloc: Global, rt: &R) -> Result<bool, Fault> {
+/// Whether both texts of the base heap are written. Its only error is running out of memory, with nothing written.
+fn records<R: Threads + Wait + Sync>(alloc: Global, rt: &R) -> Result<bool, Fault> {
     let texts = slid(alloc, Base::WithLiveList)?;
     let (answer, compaction, lines) = record_whole(alloc, rt, &texts);
     let unwritten = (Some(texts.after.len()), Some(BASE_SCHEDULE.len()));
@@ -116,12 +114,9 @@ fn comes_through<R: Threads + Wait + Sync>(alloc: Global, rt: &R) -> Result<bool
     }
 }
 
-/// The script tests/crate-allocations runs this with each allocation refused in turn.
+/// The script tests/build/test_crate_allocations.sh runs this with each allocation refused in turn.
 #[test]
-fn record_stream_where_refused_memory_is_told(rt: HostRuntime) {
-    let answers = [
-        comes_through(rt.alloc(), &rt),
-        comes_through(rt.alloc(), &rt),
-    ];
+fn record_stream_where_refused_memory_is_reported(rt: HostRuntime) {
+    let answers = [records(rt.alloc(), &rt), records(rt.alloc(), &rt)];
     holds(&rt, are_right(&answers));
 }

@@ -1,4 +1,4 @@
-//! Recorded collections in memory: the schedule of one worker, and the replay of any.
+//! Recorded collections in memory: the schedule of one worker, and replays.
 ghost use Rattle.std.specs.Prelude.{◌≡◌};
 
 use crate::checks::equal;
@@ -12,7 +12,7 @@ use std::test::Fail;
 use std::thread::Threads;
 use summary::Survey;
 
-/// What one worker does with the base heap.
+/// The schedule of one worker that collects the base heap with allowance 0.
 pub(crate) const BASE_SCHEDULE: &str = "schedule 1 1
 0 claim 0 yes
 0 copy 0 6 ok
@@ -47,7 +47,7 @@ fn is_slid(alloc: Global, after: &Image, threads: &(impl Threads + Sync)) -> Res
     Ok(verify(alloc, &before, after, threads)? == Verdict::Same)
 }
 
-/// The text of one worker's schedule, and whether its image is the right one.
+/// The text of one worker's schedule, and whether the image is the compaction.
 fn by_one<R: Threads + Wait + Sync>(alloc: Global, rt: &R) -> Result<(Vec<u8>, bool), Fail> {
     match record(alloc, base(alloc, rt)?, 1, &OpenGate, rt, rt) {
         Ok((outcome, schedule)) => {
@@ -66,7 +66,7 @@ fn one_worker_records_the_base_heap(rt: HostRuntime) -> Result<(), Fail> {
     Ok(())
 }
 
-/// Whether the schedule, replayed over the image, ends with the compacted one.
+/// Whether a replay of the schedule over the image ends with its compaction.
 pub(crate) fn replays(
     alloc: Global,
     threads: &(impl Threads + Sync),

@@ -1,5 +1,5 @@
-//! Collections from bytes to bytes: devices that give and take in small pieces or fail at each byte, and what is written
-//! before a collection has ended well.
+//! Collections from bytes to bytes: devices that read and write in small pieces or fail at any byte, and nothing
+//! written before a collection has succeeded.
 use crate::checks::equal;
 use crate::devices::{Checked, Trickle};
 use crate::texts::{Texts, figures, slid, with_prefix, without_the_last};
@@ -14,14 +14,14 @@ use std::sync::atomic::{AtomicBool, Ordering};
 use std::test::Fail;
 use std::thread::Threads;
 
-/// What a collection from bytes to bytes answered, and what it left.
+/// The result of a collection from bytes to bytes, and the state of its devices.
 #[derive(Clone, Copy)]
 struct Stream {
     answer: Result<Figures, Fault>,
     read_failed: bool,
     unread: usize,
     write_failed: bool,
-    /// How many bytes of the right text weren't written, if all that was written is its beginning.
+    /// The number of bytes of the right text that are not written, if the written ones are a prefix of it.
     unwritten: Option<usize>,
 }
 
@@ -40,11 +40,12 @@ fn streamed<R: Threads + Wait + Sync>(
         read_failed,
         unread: reader.into_inner().left(),
         write_failed,
-        unwritten: writer.into_inner().lacks(),
+        unwritten: writer.into_inner().unwritten(),
     }
 }
 
-/// The figures of a collection whose devices move so many bytes at a time, if it has ended well, read all and written all.
+/// The figures of a collection whose devices move `step` bytes at a time, if it succeeds and reads and writes
+/// everything.
 fn whole<R: Threads + Wait + Sync>(
     alloc: Global,
     rt: &R,
@@ -60,7 +61,7 @@ fn whole<R: Threads + Wait + Sync>(
     }
 }
 
-/// How many bytes the devices of three collections move at a time.
+/// The numbers of bytes that the devices move at a time.
 const STEPS: [usize; 3] = [1, 7, usize::MAX];
 
 #[test]
@@ -89,10 +90,10 @@ fn what_the_roots_reach_goes_from_bytes_to_bytes(rt: HostRuntime) -> Result<(), 
     Ok(())
 }
 
-/// The base heap in both versions, and how many bytes its text has.
+/// The base heap in both versions, and the length of its text in bytes.
 const BASES: [(Base, usize); 2] = [(Base::WithLiveList, 320), (Base::WithRoots, 304)];
 
-/// Whether nothing is written where the reader fails once it has given `limit` bytes.
+/// Whether nothing is written if the reader fails after `limit` bytes.
 fn is_unwritten<R: Threads + Wait + Sync>(
     alloc: Global,
     rt: &R,
@@ -107,7 +108,7 @@ fn is_unwritten<R: Threads + Wait + Sync>(
         && stream.unwritten == Some(texts.after.len())
 }
 
-/// The first byte at which a reader that fails lets something be written, or none.
+/// The first byte at which something is written although the reader fails there, if any.
 fn first_written<R: Threads + Wait + Sync>(alloc: Global, rt: &R, texts: &Texts) -> Option<usize> {
     for limit in 0..=texts.before.len() {
         if !is_unwritten(alloc, rt, texts, limit) {
@@ -127,7 +128,7 @@ fn a_reader_that_fails_at_any_byte_lets_nothing_be_written(rt: HostRuntime) -> R
     Ok(())
 }
 
-/// Whether the first `limit` bytes are written, all having been read, where the writer then fails, or takes none.
+/// Whether all is read and the first `limit` bytes are written if the writer then fails, or accepts 0.
 fn is_begun<R: Threads + Wait + Sync>(
     alloc: Global,
     rt: &R,
@@ -144,7 +145,7 @@ fn is_begun<R: Threads + Wait + Sync>(
         && left == Some(texts.after.len())
 }
 
-/// The first byte at which a writer that takes no more has something else than the beginning, or none.
+/// The first byte at which a writer that accepts no more has something else than the prefix, if any.
 fn first_not_begun<R: Threads + Wait + Sync>(
     alloc: Global,
     rt: &R,
@@ -161,7 +162,7 @@ fn first_not_begun<R: Threads + Wait + Sync>(
 }
 
 #[test]
-fn a_writer_that_fails_at_any_byte_has_the_beginning(rt: HostRuntime) -> Result<(), Fail> {
+fn a_writer_that_fails_at_any_byte_has_the_prefix(rt: HostRuntime) -> Result<(), Fail> {
     for (base, len) in BASES {
         let texts = slid(rt.alloc(), base)?;
         equal(&rt, texts.after.len(), len);
@@ -170,7 +171,7 @@ fn a_writer_that_fails_at_any_byte_has_the_beginning(rt: HostRuntime) -> Result<
     Ok(())
 }
 
-/// Lets nobody fill: either from the first write on, or at all.
+/// Refuses every fill if it is shut, and otherwise every fill after the first write.
 #[derive(Drop)]
 struct Watch<'a> {
     is_written: &'a AtomicBool,
@@ -187,13 +188,13 @@ impl Gate for Watch<'_> {
     fn after_complete(&self, _worker: u32, _region: u32) {}
 }
 
-/// A writer that tells once it is written to.
+/// A writer that sets a flag once it is written to.
 #[derive(Drop)]
-struct Telling<'a> {
+struct Flagging<'a> {
     is_written: &'a AtomicBool,
 }
 
-impl Write for Telling<'_> {
+impl Write for Flagging<'_> {
     fn write(&mut self, buf: &[u8]) -> io::Result<usize> {
         self.is_written.store(true, Ordering::SeqCst);
         Ok(buf.len())
@@ -204,7 +205,7 @@ impl Write for Telling<'_> {
     }
 }
 
-/// How many regions a collection of this text fills by so many workers, or its fault, and whether anything was written.
+/// The number of regions that a collection of this text fills, or its fault, and whether anything was written.
 fn watched<R: Threads + Wait + Sync>(
     alloc: Global,
     rt: &R,
@@ -217,7 +218,7 @@ fn watched<R: Threads + Wait + Sync>(
         is_shut,
     };
     let mut reader = FromRead::new(text);
-    let mut writer = ToWrite::new(Telling {
+    let mut writer = ToWrite::new(Flagging {
         is_written: &is_written,
     });
     let answer = collect_stream(alloc, &mut reader, &mut writer, workers, &gate, rt, rt);
@@ -226,7 +227,7 @@ fn watched<R: Threads + Wait + Sync>(
 }
 
 #[test]
-fn nothing_is_written_before_a_collection_has_ended_well(rt: HostRuntime) -> Result<(), Fail> {
+fn nothing_is_written_before_a_collection_has_succeeded(rt: HostRuntime) -> Result<(), Fail> {
     let text = Base::WithLiveList.text(rt.alloc(), 2)?;
     for workers in [1, 2, 3] {
         let open = watched(rt.alloc(), &rt, &text, (workers, false));

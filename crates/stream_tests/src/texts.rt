@@ -1,4 +1,4 @@
-//! Texts of the base heap, and those that its collection must give.
+//! Texts of the base heap and of its compactions.
 use collector::Figures;
 use heap_image::{Fault, Image, decode_by_threads, encode};
 use heap_samples::{
@@ -15,7 +15,7 @@ pub(crate) struct Texts {
     pub(crate) after: Vec<u8>,
 }
 
-/// Of the base heap with allowance 0.
+/// The texts of the base heap with allowance 0.
 pub(crate) fn slid(alloc: Global, base: Base) -> Result<Texts, AllocError> {
     let before = base.text(alloc, 0)?;
     let after = moved(alloc, base)?;
@@ -30,7 +30,7 @@ fn moved(alloc: Global, base: Base) -> Result<Vec<u8>, AllocError> {
     }
 }
 
-/// Of the base heap with allowance 2, whose first region stays.
+/// The texts of the base heap with allowance 2, whose first region stays.
 pub(crate) fn with_prefix(
     alloc: Global,
     base: Base,
@@ -41,7 +41,7 @@ pub(crate) fn with_prefix(
     Ok(Texts { before, after })
 }
 
-/// The plain compaction of the image with this text.
+/// The text of the plain compaction of the image with this text.
 fn compacted(
     alloc: Global,
     text: &[u8],
@@ -56,7 +56,7 @@ fn text_compacted(alloc: Global, image: &Image) -> Result<Vec<u8>, Fault> {
     Ok(encode(alloc, &after)?)
 }
 
-/// Of the base heap with a root that doesn't reach the last object.
+/// The texts of the base heap with a root that doesn't reach the last object.
 pub(crate) fn without_the_last(alloc: Global) -> Result<Texts, AllocError> {
     let (mut words, mut moved) = (BASE_WORDS, MOVED_WORDS);
     words[2] = 0;
@@ -67,7 +67,6 @@ pub(crate) fn without_the_last(alloc: Global) -> Result<Texts, AllocError> {
     Ok(Texts { before, after })
 }
 
-/// Where the dense prefix ends, where the first free address is, and how many regions were filled.
 pub(crate) fn figures(prefix_end: u64, new_top: u64, filled: u32) -> Figures {
     Figures {
         prefix_end,

@@ -1,4 +1,4 @@
-//! No workers, or too many: the image is kept as it was.
+//! Collections by no workers, or too many, keep the image unchanged.
 use crate::checks::equal;
 use crate::memory::{image, is_base};
 use collector::{OpenGate, Refusal, collect, record};
@@ -10,35 +10,35 @@ use std::test::Fail;
 use std::thread::Threads;
 
 /// Whether a refusal keeps the base heap, and its fault.
-fn kept(alloc: Global, refusal: Refusal) -> Result<(bool, Fault), Fail> {
+fn check_refusal(alloc: Global, refusal: Refusal) -> Result<(bool, Fault), Fail> {
     match refusal {
         Refusal::Kept(image, fault) => Ok((is_base(alloc, Base::WithLiveList, &image)?, fault)),
         Refusal::Lost(_) => Err(Fail::from("not kept")),
     }
 }
 
-/// The same of a collection by so many workers, which must be refused.
-fn kept_by_collect<R: Threads + Wait + Sync>(
+/// The same for a collection by `workers` workers, which must be refused.
+fn collect_by<R: Threads + Wait + Sync>(
     alloc: Global,
     workers: u32,
     rt: &R,
 ) -> Result<(bool, Fault), Fail> {
     let image = image(alloc, Base::WithLiveList, rt)?;
     match collect(alloc, image, workers, &OpenGate, rt, rt) {
-        Err(refusal) => kept(alloc, refusal),
+        Err(refusal) => check_refusal(alloc, refusal),
         Ok(_) => Err(Fail::from("not refused")),
     }
 }
 
-/// The same of a recorded collection.
-fn kept_by_record<R: Threads + Wait + Sync>(
+/// The same for a recorded collection.
+fn record_by<R: Threads + Wait + Sync>(
     alloc: Global,
     workers: u32,
     rt: &R,
 ) -> Result<(bool, Fault), Fail> {
     let image = image(alloc, Base::WithLiveList, rt)?;
     match record(alloc, image, workers, &OpenGate, rt, rt) {
-        Err(refusal) => kept(alloc, refusal),
+        Err(refusal) => check_refusal(alloc, refusal),
         Ok(_) => Err(Fail::from("not refused")),
     }
 }
@@ -46,9 +46,9 @@ fn kept_by_record<R: Threads + Wait + Sync>(
 #[test]
 fn no_workers_or_too_many_keep_the_image(rt: HostRuntime) -> Result<(), Fail> {
     for workers in [0, 65] {
-        let found = kept_by_collect(rt.alloc(), workers, &rt)?;
+        let found = collect_by(rt.alloc(), workers, &rt)?;
         equal(&rt, found, (true, Fault::Workers));
-        let found = kept_by_record(rt.alloc(), workers, &rt)?;
+        let found = record_by(rt.alloc(), workers, &rt)?;
         equal(&rt, found, (true, Fault::Workers));
     }
     Ok(())

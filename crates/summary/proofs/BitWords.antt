@@ -1,4 +1,4 @@
--- Words of bits that tell whether numbers pass a test.
+-- Words of bits that say which numbers pass a test.
 use Rattle.std.proofs.Common.{◌≡◌, ℕ, zero, suc, ◌+◌, ◌-◌, ◌*◌, ◌/◌, ◌%◌, ◌^◌, ◌≤◌, ◌<◌, Bool, ◌||◌, min, max, eqb, List, [], ◌∷◌, ◌++◌, length, get_or, inl, inr, refl, sym, ◌∙◌, ap, arith, bit_or}
 use Rattle.std.specs.Int.{bit_at}
 use Rattle.std.proofs.lemmas.Bool.{cases_lt}
@@ -30,7 +30,7 @@ low-bit n k j l =
     ap (λ m. bit_at m j) (sym (and_mask n k)) ∙ both ∙ least
 
 module _ (test : ℕ → Bool) (i bits : ℕ) (are : AreBits test (64 * i + 1) bits) where
-  -- the bits moved up by one behind a new first one
+  -- the bits shifted up by one, with a new lowest bit
   pub moved-bits : (first word : ℕ) → eqb first 1 ≡ test (64 * i) → bit_at word 0 ≡ first → ((j : ℕ) → j < 63 → bit_at word (j + 1) ≡ bit_at bits j) → AreBits test (64 * i) word
   moved-bits first word is here others zero l =
       let at : 64 * i ≡ 64 * i + 0 = omega arith in

@@ -175,7 +175,7 @@ module _ (image : HeapImage) (sound : HasLiveList image) where
       let more : P / n * n ≤ a / n * n = mul-le (P / n) n (a / n) n up (omega arith) in
       omega arith
 
-  -- an object above the prefix end goes behind its region's destination and the live words before it there
+  -- an object above the prefix end goes to its region's destination plus the number of live words before it there
   pub new_address-region : (i : ℕ) → i < length image.live → prefix_end image ≤ place i → new_address image (place i) ≡ destination image (region_of image (place i)) + live_words image (region_start (place i)) (place i)
   new_address-region i l above =
       let some = (sound.sound i 0 l).header in
@@ -222,7 +222,7 @@ module _ (image : HeapImage) (sound : HasLiveList image) where
       let front : begun_left image s (s + j) ≡ true = partial-front image r j (omega arith) ∙ lt-ltb j (partial_words image r) (omega arith) in
       subst (λ q. begun_left image s q ≡ true) at front
 
-  -- an object that begins in a region begins behind its partial words
+  -- an object that begins in a region begins after its partial words
   pub partial-before : (i : ℕ) → i < length image.live → region_start (place i) + partial_words image (region_of image (place i)) ≤ place i
   partial-before i l =
       let a : ℕ = place i in
@@ -247,7 +247,7 @@ module _ (image : HeapImage) (sound : HasLiveList image) where
             let no : ⊥ = omega arith in absurd no
       ]
 
-  -- an object above the prefix end goes behind its region's destination, the partial words, and the live words behind these
+  -- the same by the partial words of the region and the live words after them
   pub new_address-partial : (i : ℕ) → i < length image.live → prefix_end image ≤ place i
       → new_address image (place i) ≡ destination image (region_of image (place i)) + partial_words image (region_of image (place i)) + live_words image (region_start (place i) + partial_words image (region_of image (place i))) (place i)
   new_address-partial i l above =

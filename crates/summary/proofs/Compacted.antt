@@ -1,4 +1,4 @@
--- What is reached in the compacted heap.
+-- The objects reached in the compacted heap.
 use Rattle.std.proofs.Common.{◌≡◌, ℕ, ◌+◌, ◌-◌, ◌≤◌, ◌<◌, inl, inr, Bool, true, false, ◌&&◌, List, length, get_or, sym, ◌∙◌, ap, subst, arith, eqb}
 use Rattle.std.proofs.lemmas.Bool.{cases_eq, eq-eqb, eqb-true, ne_eqb, or_left, or_right, and_from, and_parts, cond-true, cond-false}
 use Rattle.std.proofs.lemmas.List.{get_or-map, length-map}

@@ -40,7 +40,7 @@ module _ (image : HeapImage) (sound : HasLiveList image) where
     ]
   ]
 
-  -- no word goes down farther than one behind it
+  -- no word moves farther down than a later one
   slid-near : (q r : ℕ) → q ≤ r → slid image r + q ≤ slid image q + r
   slid-near q r l = elim (cases_lt r (prefix_end image)) [
     | inl low ↦ let e = slid-low image r low in let f = slid-low image q (omega arith) in omega arith
@@ -56,7 +56,7 @@ module _ (image : HeapImage) (sound : HasLiveList image) where
         ]
   ]
 
-  -- nor does an object
+  -- nor does any object
   to-near : (i k : ℕ) → i ≤ k → k < length image.live → to k + place i ≤ to i + place k
   to-near i k l m =
       let one = new_address-slid image sound i 0 (omega arith) (sound.sound i 0 (omega arith)).header in
@@ -72,8 +72,7 @@ module _ (image : HeapImage) (sound : HasLiveList image) where
         ]
       ]
 
-  -- Of an object that goes below a limit, all objects that begin as many words behind it as it goes below the limit, or
-  -- fewer, go below the limit too.
+  -- If an object goes n words below a limit, all objects that begin at most n words after it go below the limit too.
   pub more_below : (n m near limit : ℕ) → n < length image.live → to n < limit → near ≡ place n + (limit - to n) → m ≡ prefix_len (λ a. ltb a near) (drop n image.live) → ((i : ℕ) → i < n → to i < limit)
       → (n + m ≤ length image.live) × ((i : ℕ) → i < n + m → to i < limit)
   more_below n m near limit l low is count known =

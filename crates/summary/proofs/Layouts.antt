@@ -64,7 +64,7 @@ module _ (image : HeapImage) (valid : IsValid image) where
   pub destination-step : (r : ℕ) → r < region_count image → P ≤ start r → destination image r + data_words image r ≡ destination image (r + 1)
   destination-step r l h = sym (destination-next image valid.live_list r h (region_in_heap image r l))
 
-  -- the first region behind the prefix
+  -- the first region after the prefix
   pub destination-first : (r : ℕ) → start r < P → P ≤ start (r + 1) → P ≡ destination image (r + 1)
   destination-first r l h =
       let n : ℕ = R in

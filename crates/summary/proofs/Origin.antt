@@ -34,7 +34,7 @@ find-passes t (y ∷ xs) x e = elim (cases_Bool (t y)) [
   | inr fails ↦ find-passes t xs x (sym (cond-false (t y) (Some y) (find t xs) fails) ∙ e)
 ]
 
--- the first address of a range that passes, where no earlier one does
+-- the first address of a range that passes, if no earlier one does
 find-range : (t : ℕ → Bool) (b n q : ℕ) → b ≤ q → q < b + n → t q ≡ true → ((k : ℕ) → k < q → t k ≡ true → ⊥) → find t (range_with_len b n) ≡ Some q
 find-range t b zero q l k h none = let no : ⊥ = omega arith in absurd no
 find-range t b (suc n) q l k h none = elim (cases_order b q) [
@@ -52,7 +52,7 @@ module _ (image : HeapImage) where
   abbrev B : ℕ
   B = prefix_end image
 
-  -- a live word counts for the words behind it
+  -- a live word counts for the words after it
   pub live_words-past : (q r : ℕ) → is_live_word image q ≡ true → B ≤ q → q < r → live_words image B q < live_words image B r
   live_words-past q r live b l =
       let rest : ℕ = r - (q + 1) in
@@ -86,7 +86,7 @@ module _ (image : HeapImage) (sound : HasLiveList image) where
       ∙ find-map (λ q. (q, slid image q)) (λ n. eqb n p) (filter (is_live_word image) (range_with_len 0 (heap_words image))) (λ q. refl)
       ∙ find-filter (is_live_word image) (λ q. eqb (slid image q) p) (range_with_len 0 (heap_words image))
 
-  -- what stands at the new place of a live word comes from that word
+  -- the word at the new address of a live word comes from that word
   pub origin-slid : (q : ℕ) → q < heap_words image → is_live_word image q ≡ true → origin image (slid image q) ≡ Some q
   origin-slid q l live =
       origin-find (slid image q)
@@ -106,7 +106,7 @@ module _ (image : HeapImage) (sound : HasLiveList image) where
   pub word_at-compact : (p : ℕ) → p < heap_words image → word_at (compact image) p ≡ compacted_word image p
   word_at-compact p l = get_or-map-range_with_len (compacted_word image) 0 (heap_words image) p p 0 l (zero-add p)
 
-  -- the new place of a live word holds that word, redirected where it is a reference
+  -- the new address of a live word holds that word, redirected if it is a reference
   pub compact-slid : (q : ℕ) → q < heap_words image → is_live_word image q ≡ true → slid image q < heap_words image → slid image q < new_top image → word_at (compact image) (slid image q) ≡ carried image (λ _. true) q
   compact-slid q l live n t =
       word_at-compact (slid image q) n

@@ -1,4 +1,4 @@
--- Of a region that isn't there.
+-- Regions out of range.
 use Rattle.std.proofs.Common.{◌≡◌, ℕ, ◌≤◌, get_or, arith, None}
 use Rattle.heap_image.specs.HeapImage.{HeapImage, IsValid, region_count}
 use Rattle.heap_image.proofs.LiveWords.{live_end-le}

@@ -1,4 +1,4 @@
--- Below the own start of a region its live words are of objects begun further left, and from it on of its own ones.
+-- Below a region's own start its live words belong to objects of earlier regions, and from it on to its own objects.
 use Rattle.std.proofs.Common.{◌≡◌, ℕ, ◌+◌, ◌-◌, ◌≤◌, ◌<◌, inl, inr, true, false, ◌&&◌, length, get_or, refl, sym, ◌∙◌, ap, subst, arith, ltb, eqb, min, List, [], ◌∷◌, ◌++◌}
 use Rattle.std.proofs.lemmas.Bool.{false≢true, cases_lt, lt-ltb, ltb-true, eq-eqb, eqb-true, and_parts, and_from, false_from_ne_true}
 use Rattle.std.proofs.lemmas.List.{get_or_default, get_or_append_left}
@@ -30,7 +30,7 @@ module _ (image : HeapImage) (sound : HasLiveList image) where
       let l : on.0 < length image.live = on.2 in
       (on.0, l, get_or_default image.live on.0 0 on.1 l ∙ on.3 ∙ eqb-true on.1 a on.4)
 
-  -- the object that is begun left of an address and has this word
+  -- the object that begins before an address and has this word
   left_owner : (s q : ℕ) → begun_left image s q ≡ true → (i : ℕ) × (i < length image.live) × (place i < s) × (place i ≤ q) × (q < end_of image (place i))
   left_owner s q h =
       let on = Any-from_list_any (λ c. ltb c s && is_word_of image c q) image.live h in
@@ -41,7 +41,7 @@ module _ (image : HeapImage) (sound : HasLiveList image) where
       let parts = is_in_parts x (size_at image x) q both.1 in
       (on.0, l, rw is (ltb-true x s both.0), rw is parts.0, rw is parts.1)
 
-  -- where no object begins from s up to a word, it is live if it is of one that is begun left of s
+  -- if no object begins from s up to a word, the word is live if it belongs to an object that begins before s
   left_is_live : (s q : ℕ) → ((k : ℕ) → s ≤ k → k ≤ q → is_begin image k ≡ false) → begun_left image s q ≡ is_live_word image q
   left_is_live s q none = same_Bool (begun_left image s q) (is_live_word image q)
       (λ h. let o = left_owner s q h in is_live image sound o.0 q o.1 o.3 o.4)
@@ -55,7 +55,7 @@ module _ (image : HeapImage) (sound : HasLiveList image) where
         | inr more ↦ absurd (false≢true (sym (none (place i) more low) ∙ begins_at i l))
       ])
 
-  -- an object that is begun left of another has no words of it or behind it
+  -- an object that begins before another has no words at or after the other's start
   left_ends : (s a q : ℕ) → s ≤ a → a ≤ q → is_begin image a ≡ true → begun_left image s q ≡ true → ⊥
   left_ends s a q l m begins h =
       let o = left_owner s q h in

@@ -38,7 +38,7 @@ list_any_and_true p (x ∷ xs) = ap (λ b. b || list_any p xs) (sym (and_true (p
     and_true false = refl
 
 module _ (image : HeapImage) where
-  -- a word is redirected where it is a reference of a live object
+  -- a word is redirected if it is a reference of a live object
   pub carried-any : (q : ℕ) → carried image (λ _. true) q ≡ cond (list_any (λ a. is_reference_of image a q) image.live) (redirected image (get_or image.words q 0)) (get_or image.words q 0)
   carried-any q = ap (λ b. cond b (redirected image (get_or image.words q 0)) (get_or image.words q 0)) (sym (list_any_and_true (λ a. is_reference_of image a q) image.live))
 
@@ -50,7 +50,7 @@ module _ (image : HeapImage) (sound : HasLiveList image) where
       let e = live_end-le image sound i l in
       lt-ltb (get_or image.live i 0) (heap_words image) (omega arith)))
 
-  -- p is a place of an object's new words
+  -- p is the new address of a word of an object
   pub origin-object : (i p : ℕ) → i < object_count image → new_address image (object_at image i) ≤ p → p < new_end_of image (object_at image i)
       → origin image p ≡ Some (object_at image i + (p - new_address image (object_at image i)))
   origin-object i p l from below =
@@ -59,7 +59,7 @@ module _ (image : HeapImage) (sound : HasLiveList image) where
       let e : p ≡ new_address image a + j = omega arith in
       ap (origin image) e ∙ (new_word image sound i j l (omega arith)).2
 
-  -- p is a place of no object's new words
+  -- p is the new address of no object's word
   pub origin-nowhere : (p : ℕ) → ((i : ℕ) → i < object_count image → new_address image (object_at image i) ≤ p → p < new_end_of image (object_at image i) → ⊥) → origin image p ≡ None
   origin-nowhere p none = each (origin image p) refl
     where
@@ -78,7 +78,7 @@ module _ (image : HeapImage) (sound : HasLiveList image) where
           let goes : slid image q ≡ new_address image (object_at image i) + j = ap (slid image) (sym at) ∙ w.1 in
           absurd (none i o.1 (omega arith) (omega arith))
 
-  -- a place below the new top to which no word goes lies in the dense prefix
+  -- an address below the new top to which no word goes lies in the dense prefix
   pub nowhere-in_prefix : (p : ℕ) → p < new_top image → origin image p ≡ None → p < prefix_end image
   nowhere-in_prefix p below e = elim (cases_lt p (prefix_end image)) [
     | inl low ↦ low

@@ -22,7 +22,7 @@ use Rattle.summary.proofs.Blocks.{count_by-all}
 use Rattle.summary.proofs.Destinations.{count_by-parts}
 use Rattle.summary.proofs.Words.{count_by-range-le, live_below, is_live, slid-low, slid-high}
 
--- tests that give one answer at each place of two ranges pass equally often
+-- tests that agree at each place of two ranges pass equally often
 count_by-along : (p r : ℕ → Bool) (a b n : ℕ) → ((j : ℕ) → j < n → p (a + j) ≡ r (b + j)) → count_by p (range_with_len a n) ≡ count_by r (range_with_len b n)
 count_by-along p r a b zero h = refl
 count_by-along p r a b (suc n) h =
@@ -66,7 +66,7 @@ low_bits-counted w (suc k) =
     let more' : 1 + k ≡ suc k = omega arith in
     ap (λ n. count_by p (range_with_len 0 n)) more ∙ omega arith ∙ ap (λ n. count_ones (w % 2 ^ n)) more'
 
--- the numbers that the low k bits of a word tell of
+-- the numbers for which the low k bits of a word stand
 bits-counted : (test : ℕ → Bool) (first word k : ℕ) → AreBits test first word → k ≤ 64 → count_by test (range_with_len first k) ≡ count_ones (word % 2 ^ k)
 bits-counted test first word k are l =
     count_by-along test (λ j. eqb (bit_at word j) 1) first 0 k (λ j m. (
@@ -74,7 +74,7 @@ bits-counted test first word k are l =
     sym (are j (omega arith)) ∙ ap (λ i. eqb (bit_at word i) 1) (sym z)))
     ∙ low_bits-counted word k
 
--- the numbers that the bits of a word below bit k tell of, by a mask
+-- the numbers for which the bits of a word below bit k stand, by a mask
 masked-counted : (test : ℕ → Bool) (first word k : ℕ) → AreBits test first word → k < 64
     → count_ones (bit_and word (1 * 2 ^ k % 18446744073709551616 - 1)) ≡ count_by test (range_with_len first k)
 masked-counted test first word k are l =
@@ -114,7 +114,7 @@ module _ (image : HeapImage) where
       let long = ap (counted_below image) next in
       omega arith
 
-  -- the numbers counted below an address and one more are null, and words as many as where that one slides
+  -- the numbers counted below an address plus 1 are null and as many words as the new address
   pub counted-slid : (a : ℕ) → counted_below image (suc a) ≡ suc (slid image a)
   counted-slid a =
       let c : ℕ → Bool = is_counted image in
@@ -192,7 +192,7 @@ module _ (image : HeapImage) (sound : HasLiveList image) where
         (at.0, at.2, get_or_default image.live at.0 (w - 1) at.1 at.2 ∙ at.3 ∙ sym is)
   ]
 
-  -- a reference lies in the heap, or just behind its last word
+  -- a reference lies in the heap, or just after its last word
   pub reference-inside : (w : ℕ) → is_null_or_live image w ≡ true → w ≤ heap_words image
   reference-inside w h = elim (cases_lt 0 w) [
     | inl some ↦ let inside = live_in_heap (w - 1) (leads w h (λ none. omega arith)) in omega arith

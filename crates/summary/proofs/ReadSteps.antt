@@ -23,7 +23,7 @@ position-None p xs k d e l = elim (cases_lt (position_or_len p xs) (length xs)) 
 wordless : (end : ℕ) (region : RegionData) → has_words region ≡ false → goes_below end region ≡ false
 wordless end region h = ap (λ b. b && ltb region.destination end) h
 
--- one that goes to an end or behind goes below none
+-- a region that goes to an end or after goes below no end
 beyond : (end : ℕ) (region : RegionData) → end ≤ region.destination → goes_below end region ≡ false
 beyond end region h = elim (cases_Bool (goes_below end region)) [
   | inl below ↦

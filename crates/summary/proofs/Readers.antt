@@ -87,7 +87,7 @@ module _ (image : HeapImage) (sound : HasLiveList image) where
       let same : slid image q / R * R ≡ d * R = ap (λ n. n * R) to in
       lt-ltb (start_of image d) (new_top image) (omega arith)
 
-  -- the region of a place reads that of its origin
+  -- the region of an address reads that of its origin
   pub origin-reads : (p q : ℕ) → origin image p ≡ Some q → reads image (region_of image p) (region_of image q) ≡ true
   origin-reads p q e =
       let h = origin-Some image sound p q e in
@@ -98,7 +98,7 @@ module _ (image : HeapImage) (sound : HasLiveList image) where
       let w = reads-word d s h in
       (slid image w.0, w.0, origin-slid image sound w.0 (live_below image sound w.0 w.1) w.1, w.2, w.3)
 
-  -- an origin lies at its place or above, and origins keep the order of places
+  -- an origin lies at its address or above, and origins keep the order of addresses
   pub origin-up : (p q : ℕ) → origin image p ≡ Some q → p ≤ q
   origin-up p q e =
       let h = origin-Some image sound p q e in
@@ -385,7 +385,7 @@ module _ (image : HeapImage) (sound : HasLiveList image) where
   abbrev others_of : ℕ → ℕ
   others_of s = cond (eqb s (last_target image s)) 0 1 + cond (eqb (first_target image s) (last_target image s)) 0 1
 
-  -- a region other than s between the targets, where m of them stand from the first target on
+  -- a region other than s between the targets, of which there are m from the first target on
   other_is_in : (s m : ℕ) → 0 < data_words image s → ((d : ℕ) → d ≤ last_target image s → (d ≡ s → ⊥) → d < first_target image s + m) → ((d : ℕ) → d < first_target image s + m → (d ≤ last_target image s) × (d < s))
       → (d : ℕ) → (not (eqb d s) && reads image d s) ≡ is_in (first_target image s) m d
   other_is_in s m some inside outside d = same_Bool (not (eqb d s) && reads image d s) (is_in (first_target image s) m d)

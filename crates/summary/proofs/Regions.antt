@@ -131,7 +131,7 @@ module _ (image : HeapImage) where
       let high : r < x + size_at image x = parts.1 in
       list_any-from_Any (λ a. ltb a s && is_word_of image a q) image.live (at.0, x, at.2, at.3, and_from (ltb x s) (is_word_of image x q) both.0 (and_from (leb x q) (ltb q (end_of image x)) (le-leb x q (omega arith)) (lt-ltb q (end_of image x) (omega arith))))
 
-  -- the words at the front of a region that are of an object begun further left are as many as the partial words
+  -- the words at the front of a region that belong to an object of an earlier region are its partial words
   pub partial-front : (r i : ℕ) → i < R → begun_left (start_of image r) (start_of image r + i) ≡ ltb i (partial_words image r)
   partial-front r i l = front_run (begun_left (start_of image r)) (start_of image r) R (λ q k m n. begun_left_down (start_of image r) q k m n) i l
 

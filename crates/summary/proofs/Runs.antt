@@ -25,7 +25,7 @@ module _ (image : HeapImage) where
   abbrev P : ℕ
   P = prefix_end image
 
-  -- where all words are live they all count, and where none is none does
+  -- if all words are live they all count, and if none is, none does
   pub live_words-all : (a b : ℕ) → a ≤ b → ((q : ℕ) → a ≤ q → q < b → is_live_word image q ≡ true) → live_words image a b ≡ b - a
   live_words-all a b l h = count_by-all (is_live_word image) a (b - a) (λ q m k. h q m (omega arith))
 
@@ -35,7 +35,7 @@ module _ (image : HeapImage) where
     | inr more ↦ let few = live_words-le image a b in omega arith
   ]
 
-  -- live words in a row go to places in a row
+  -- consecutive live words go to consecutive addresses
   pub slid-run : (q n : ℕ) → ((j : ℕ) → j < n → is_live_word image (q + j) ≡ true) → slid image (q + n) ≡ slid image q + n
   slid-run q n live = elim (cases_lt q P) [
     | inl low ↦
@@ -77,7 +77,7 @@ module _ (image : HeapImage) (sound : HasLiveList image) where
       let at = live j l in
       ap (origin image) (sym to) ∙ origin-slid image sound (q + j) (live_below image sound (q + j) at) at
 
-  -- the origin of a place to which a region's words go
+  -- the origin of an address to which a region's words go
   pub origin-in_region : (s k : ℕ) → prefix_end image ≤ start_of image s → k < data_words image s → (q : ℕ) × (origin image (destination image s + k) ≡ Some q) × (region_of image q ≡ s) × (live_words image (start_of image s) q ≡ k)
   origin-in_region s k above l =
       let w = data_nth image sound s k l in
@@ -93,7 +93,7 @@ module _ (image : HeapImage) (sound : HasLiveList image) where
   pub live_words-within : (i a b : ℕ) → i < length image.live → place i ≤ a → a ≤ b → b ≤ end_of image (place i) → live_words image a b ≡ b - a
   live_words-within i a b l from m to = live_words-all image a b m (λ q n k. is_live image sound i q l (omega arith) (omega arith))
 
-  -- a word that no object has is dead
+  -- a word that belongs to no object is dead
   pub dead-between : (i q : ℕ) → i < length image.live → end_of image (place i) ≤ q → (i + 1 < length image.live → q < place (i + 1)) → is_live_word image q ≡ false
   dead-between i q l from next = false_from_ne_true (is_live_word image q) (λ h.
       let o = owner image sound q h in
@@ -164,7 +164,7 @@ module _ (image : HeapImage) (sound : HasLiveList image) where
   and_same true c h = h
   and_same false c h = refl
 
-  -- the words of a list made address by address that stand where an object goes
+  -- the words of a list made address by address, at the addresses to which an object goes
   moved_slice : (f g : ℕ → ℕ) (i : ℕ) → i < length image.live → ((j : ℕ) → j < size_at image (place i) → f (new_address image (place i) + j) ≡ g (place i + j))
       → slice_range (map f (range_with_len 0 (heap_words image))) (new_address image (place i)) (new_address image (place i) + size_at image (place i)) ≡ map g (range_with_len (place i) (size_at image (place i)))
   moved_slice f g i l h =
@@ -193,7 +193,7 @@ module _ (image : HeapImage) (sound : HasLiveList image) where
       ∙ carried-object (λ a. not (is_deferred image a)) i q l (omega arith) (omega arith)
       ∙ ap (λ b. cond b (redirected image (word_at image q)) (word_at image q)) (and_same (is_reference_of image (place i) q) (not (is_deferred image (place i))) (ap not now)))
 
-  -- a deferred object is there as it was
+  -- a deferred object has its old words there
   pub moved-deferred : (i : ℕ) → i < length image.live → is_deferred image (place i) ≡ true → slice_range (moved image).words (new_address image (place i)) (new_address image (place i) + size_at image (place i)) ≡ slice_range image.words (place i) (end_of image (place i))
   moved-deferred i l late =
       moved_slice (moved_word image) (word_at image) i l (λ j k.
@@ -220,7 +220,7 @@ module _ (image : HeapImage) (sound : HasLiveList image) where
   map-zeros f b zero h = refl
   map-zeros f b (suc n) h = rw (h b (omega arith) (omega arith)) (ap (λ xs. 0 ∷ xs) (map-zeros f (b + 1) n (λ p l m. h p (omega arith) (omega arith))))
 
-  -- a list that has the fillers' words where the run stands
+  -- a list that has the fillers' words in the place of the run
   run_slice : (f : ℕ → ℕ) (a b : ℕ) → IsDeadRun image a b → ((p : ℕ) → p < prefix_end image → is_live_word image p ≡ false → f p ≡ filler_word image p)
       → slice_range (map f (range_with_len 0 (heap_words image))) a b ≡ filler_header (b - a) ∷ replicate (b - a - 1) 0
   run_slice f a b run same =
@@ -250,7 +250,7 @@ module _ (image : HeapImage) (sound : HasLiveList image) where
       ∙ slice_range-map-range (compacted_word image) (heap_words image) (new_top image) n (omega arith)
       ∙ map-zeros (compacted_word image) (new_top image) n (λ p l m. compacted-top p l)
 
-  -- each place below the new top is of one object at its new address, or of a dead run
+  -- each address below the new top belongs to one object at its new address, or to a dead run
   pub place-of : (p : ℕ) → prefix_end image ≤ p → p < new_top image → (i : ℕ) × (i < length image.live) × (new_address image (place i) ≤ p) × (p < new_address image (place i) + size_at image (place i))
   place-of p l m =
       let w = slid-onto image sound p l m in

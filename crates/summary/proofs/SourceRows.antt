@@ -157,7 +157,7 @@ module _ (image : HeapImage) (valid : IsValid image) where
             ∙ sym (filter-none (reads image d) from (n - from) (λ q l h. let no : ⊥ = omega arith in absurd no))
       ]
 
-  -- a region that isn't there reads none
+  -- a region out of range reads none
   pub begin_out_of_range : (d : ℕ) → region_count image ≤ d → BeginAt image d (region_count image)
   begin_out_of_range d high = record {
     inside = omega arith;

@@ -257,7 +257,7 @@ module _ (image : HeapImage) (sound : HasLiveList image) where
             ]
           ]
 
-  -- the partial words of a region, by the last object that begins further left
+  -- the partial words of a region, by the last object that begins before it
   pub partial-last : (r i : ℕ) → i < length image.live → place i < start r → (i + 1 < length image.live → start r ≤ place (i + 1)) → partial_words image r ≡ min (region_words image) (end_of image (place i) - start r)
   partial-last r i l left next =
       let n : ℕ = region_words image in
@@ -294,7 +294,7 @@ module _ (image : HeapImage) (sound : HasLiveList image) where
             ]
           ]
 
-  -- where none begins further left there are none
+  -- if no object begins before it there are none
   pub partial-none : (r : ℕ) → (0 < length image.live → start r ≤ place 0) → partial_words image r ≡ 0
   partial-none r first = count_by-none (begun_left image (start r)) (start r) (region_words image) (λ q m k. false_from_ne_true (begun_left image (start r) q) (λ h.
       let s : ℕ = start r in
@@ -315,7 +315,7 @@ module _ (image : HeapImage) (sound : HasLiveList image) where
   pub partial-crossing : (r i : ℕ) → i < length image.live → place i < start r → start r < end_of image (place i) → partial_words image r ≡ min (region_words image) (end_of image (place i) - start r)
   partial-crossing r i l left over = partial-last r i l left (λ m. let e = place-ordered i (i + 1) (omega arith) m in omega arith)
 
-  -- where no object crosses into the region there are none
+  -- if no object crosses into the region there are none
   pub partial-clear : (r : ℕ) → ((i : ℕ) → i < length image.live → place i < start r → end_of image (place i) ≤ start r) → partial_words image r ≡ 0
   partial-clear r clear = count_by-none (begun_left image (start r)) (start r) (region_words image) (λ q m k. false_from_ne_true (begun_left image (start r) q) (λ h.
       let s : ℕ = start r in

@@ -27,7 +27,7 @@ module _ (image : HeapImage) (sound : HasLiveList image) where
   abbrev place : ℕ → ℕ
   place i = get_or image.live i 0
 
-  -- two live words that go to one place are one word
+  -- two live words that go to the same address are the same word
   pub slid-injective : (q r : ℕ) → is_live_word image q ≡ true → is_live_word image r ≡ true → slid image q ≡ slid image r → q ≡ r
   slid-injective q r live alive e = elim (cases_order q r) [
     | inl same ↦ same
@@ -45,7 +45,7 @@ module _ (image : HeapImage) (sound : HasLiveList image) where
       let few : end_of image (place i) ≤ heap_words image = (sound.sound i 0 l).inside in
       (live, sym to, ap (origin image) to ∙ origin-slid image sound (place i + j) (omega arith) live)
 
-  -- whether a word is a reference of an object that a test passes is decided by the object that it is of
+  -- whether a word is a reference of an object that passes a test depends on the object to which it belongs
   pub reference-owner : (test : ℕ → Bool) (i q : ℕ) → i < length image.live → place i ≤ q → q < end_of image (place i) → list_any (λ a. is_reference_of image a q && test a) image.live ≡ (is_reference_of image (place i) q && test (place i))
   reference-owner test i q l from below = same_Bool (list_any (λ a. is_reference_of image a q && test a) image.live) (is_reference_of image (place i) q && test (place i))
       (λ h.
@@ -119,7 +119,7 @@ module _ (image : HeapImage) (sound : HasLiveList image) where
   abbrev early : ℕ → Bool
   early a = not (is_deferred image a)
 
-  -- a word as it is moved, and redirected afterwards where it is late, is the word redirected at once
+  -- moving a word and redirecting it afterwards if it is late is the same as redirecting it at once
   redirect_again : (r f : Bool) (h : ℕ → ℕ) (w : ℕ) → cond (r && f) (h (cond (r && not f) (h w) w)) (cond (r && not f) (h w) w) ≡ cond (r && true) (h w) w
   redirect_again true true h w = refl
   redirect_again true false h w = refl
@@ -199,7 +199,7 @@ module _ (image : HeapImage) (sound : HasLiveList image) where
       ∙ ap (carried image early) (add-zero a)
       ∙ cond-false (list_any (λ c. is_reference_of image c a && early c) image.live) (redirected image (word_at image a)) (word_at image a) (reference-owner early i a l (omega arith) (omega arith) ∙ none)
 
-  -- the references of an object: the old ones where it is deferred, and else redirected
+  -- the references of an object: the old ones if it is deferred, otherwise redirected
   pub moved-reference : (i f : ℕ) → i < length image.live → f < references_at image (place i)
       → moved_word image (new_address image (place i) + (1 + f)) ≡ cond (is_deferred image (place i)) (word_at image (place i + (1 + f))) (redirected image (word_at image (place i + (1 + f))))
   moved-reference i f l k =
@@ -215,8 +215,7 @@ module _ (image : HeapImage) (sound : HasLiveList image) where
       turned true x y = refl
       turned false x y = refl
 
-  -- The late references are those of the objects that are told for the regions, with as many references as the moved
-  -- header has.
+  -- The late references are those of the regions' deferred objects, with as many references as the moved header has.
   pub late-told : (p : ℕ) → is_late_reference image p ≡ true → (d : ℕ) × (x : ℕ) × (deferred image d ≡ Some x) × (x < p) × (p ≤ x + references_of (moved_word image x))
   late-told p h =
       let at = Any-from_list_any (begins_late p) image.live h in

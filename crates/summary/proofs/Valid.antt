@@ -61,7 +61,7 @@ module _ (image : HeapImage) (sound : HasLiveList image) where
       let top = top-le in
       ap (word_at (compact image)) (new_address-slid image sound i j l k) ∙ compact-slid image sound (place i + j) q live (omega arith) below
 
-  -- another object's references do not reach into this one
+  -- another object's references don't reach into this one
   header_is_no_reference : (i : ℕ) → i < length image.live → list_any (λ c. is_reference_of image c (place i) && true) image.live ≡ false
   header_is_no_reference i l = list_any_none (λ c. is_reference_of image c (place i) && true) image.live (All-from_get_or (λ c. (is_reference_of image c (place i) && true) ≡ false) image.live 0 (λ k m.
       and_left (is_reference_of image (place k) (place i)) true (outside k m)))
@@ -115,7 +115,7 @@ module _ (image : HeapImage) (sound : HasLiveList image) where
   pub count_same : length after.live ≡ length image.live
   count_same = length-map image.live (new_address image)
 
-  -- the next word behind the last of an object is in the heap, and not above the next object
+  -- the next word after the last of an object is in the heap, and not above the next object
   last_word : (i : ℕ) → i < length image.live → new_address image (place i) + size_at image (place i) ≤ N
   last_word i l =
       let some = (sound.sound i 0 l).header in

@@ -7,11 +7,11 @@ use Rattle.summary.specs.WordMoves.{origin}
 use Rattle.summary.specs.Fillers.{filler_word}
 
 module _ (image : HeapImage) where
-  -- null stays null, and a reference to an object becomes one to its new address
+  -- null stays null, and a reference to an object leads to its new address
   abbrev pub redirected : ℕ → ℕ
   redirected w = if w == 0 then 0 else new_address image (w - 1) + 1
 
-  -- q is one of the references of the object at a, which stand behind its header
+  -- q is one of the references of the object at a, which follow its header
   abbrev pub is_reference_of : ℕ → ℕ → Bool
   is_reference_of a q = nat_lt a q && nat_le q (a + references_at image a)
 
@@ -23,21 +23,21 @@ module _ (image : HeapImage) where
   abbrev pub is_deferred : ℕ → Bool
   is_deferred a = not (region_of image (new_address image a) == region_of image (new_end_of image a - 1))
 
-  -- the word at the old address q, redirected where it is a reference of a live object that the test passes
+  -- the word at the old address q, redirected if it is a reference of a live object that passes the test
   abbrev pub carried : (ℕ → Bool) → ℕ → ℕ
   carried test q = if list_any (λ a. is_reference_of a q && test a) image.live then redirected (word_at image q) else word_at image q
 
-  -- the word to be written at p, below the new top: the one that goes there, or else a filler's
+  -- the word to write at p, below the new top: the one that goes there, or else the word of a filler
   abbrev pub written : (ℕ → Bool) → Option ℕ → ℕ → ℕ
   written test (Some q) p = carried test q
   written test None p = filler_word image p
 
-  -- The word at p once all moves are made and the references of the live objects that the test passes are redirected.
-  -- From the new top up the old words stand.
+  -- The word at p after all moves are made and the references of the live objects that pass the test are redirected.
+  -- The words from the new top up are the old ones.
   abbrev pub word_by : (ℕ → Bool) → ℕ → ℕ
   word_by test p = if nat_lt p (new_top image) then written test (origin image p) p else word_at image p
 
-  -- the word at p before the update of the deferred objects, whose references still name old addresses
+  -- the word at p before the update of the deferred objects, whose references still have old addresses
   abbrev pub moved_word : ℕ → ℕ
   moved_word p = word_by (λ a. not (is_deferred a)) p
 
@@ -45,7 +45,7 @@ module _ (image : HeapImage) where
   abbrev pub compacted_word : ℕ → ℕ
   compacted_word p = if nat_lt p (new_top image) then written (λ _. true) (origin image p) p else 0
 
-  -- the image once all moves are made: its live list still has the old addresses
+  -- the image after all moves are made; its live list still has the old addresses
   abbrev pub moved : HeapImage
   moved = record image { words = map moved_word (range_with_len 0 (heap_words image)) }
 

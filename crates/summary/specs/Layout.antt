@@ -1,4 +1,4 @@
--- What is known of the regions before their sources are told.
+-- What is known about the regions before their sources.
 use Rattle.std.specs.Prelude.{◌≡◌, ℕ, ◌+◌, ◌<◌, ◌≤◌, IsTrue, List, length, map, slice_index, false, None}
 use Rattle.std.specs.List.{range_with_len}
 use Rattle.heap_image.specs.HeapImage.{HeapImage, region_words, region_count, start_of}
@@ -9,7 +9,7 @@ use Rattle.summary.specs.declared.region_data.RegionData.{RegionData}
 use Rattle.summary.specs.declared.region_counts.RegionCounts.{RegionCounts}
 use Rattle.summary.specs.declared.layout.Layout.{Layout}
 
--- The own start of region r: the first address in it at which a live object begins, or its end where none does.
+-- The own start of region r: the first address in it at which a live object begins, or its end if none does.
 pub record IsOwnStart (image : HeapImage) (r a : ℕ) : Type 0 where
   pub behind : start_of image r ≤ a
   pub inside : a ≤ start_of image r + region_words image
@@ -29,11 +29,11 @@ module _ (image : HeapImage) where
   abbrev pub AreRegionCounts : List RegionCounts → Type 0
   AreRegionCounts counts = counts ≡ map region_counts (range_with_len 0 (region_count image))
 
-  -- the data of a region, but for its source
+  -- the data of a region, without its source
   abbrev pub placed_region : ℕ → RegionData
   placed_region r = record (region_data image r) { source = None }
 
--- the data of all regions, but for their sources, the prefix end and the new top
+-- the data of all regions without their sources, the prefix end and the new top
 pub record IsLayout (image : HeapImage) (layout : Layout) : Type 0 where
   pub regions : layout.regions.items ≡ map (placed_region image) (range_with_len 0 (region_count image))
   pub prefix : layout.prefix_end ≡ prefix_end image

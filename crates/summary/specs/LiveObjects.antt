@@ -1,9 +1,9 @@
--- The live objects of an image, by their places in the live list.
+-- The live objects of an image, by their indices in the live list.
 use Rattle.std.specs.Prelude.{ℕ, ◌<◌, ◌≤◌, length, slice_index}
 use Rattle.heap_image.specs.HeapImage.{HeapImage}
 use Rattle.summary.specs.NewAddresses.{new_address}
 
--- how many live objects there are
+-- the number of live objects
 abbrev pub object_count : HeapImage → ℕ
 object_count image = length image.live
 

@@ -1,4 +1,4 @@
--- What the plain program keeps of an image: its prefix end, and where its live objects go.
+-- What the plain program keeps: the prefix end of an image, and the new addresses of its live objects.
 use Rattle.std.specs.Prelude.{◌≡◌, ℕ, ◌^◌, ◌<◌}
 use Rattle.heap_image.specs.HeapImage.{HeapImage}
 use Rattle.summary.specs.NewAddresses.{prefix_end, new_live, new_top}

@@ -1,4 +1,4 @@
--- What a plan keeps of an image, and the regions that a region reads.
+-- What a plan keeps about an image, and the regions that a region reads.
 use Rattle.std.specs.Prelude.{◌≡◌, ℕ, ◌-◌, List, map, filter, Option}
 use Rattle.std.specs.List.{range_with_len}
 use Rattle.heap_image.specs.HeapImage.{HeapImage, IsValid, region_count}
@@ -12,7 +12,7 @@ module _ (image : HeapImage) where
   abbrev pub sources : ℕ → List ℕ
   sources d = filter (reads image d) (range_with_len 0 (region_count image))
 
-  -- of these, the ones at or after a region
+  -- those at or after region `from`
   abbrev pub sources_from : ℕ → ℕ → List ℕ
   sources_from d from = filter (reads image d) (range_with_len from (region_count image - from))
 
@@ -20,7 +20,7 @@ module _ (image : HeapImage) where
   abbrev pub AreRegions : List RegionData → Type 0
   AreRegions regions = regions ≡ map (region_data image) (range_with_len 0 (region_count image))
 
-  -- for each region the new address of the deferred object that begins in it
+  -- for each region the new address of the deferred object whose new words begin in it
   abbrev pub AreDeferred : List (Option ℕ) → Type 0
   AreDeferred addresses = addresses ≡ map (deferred image) (range_with_len 0 (region_count image))
 
@@ -32,7 +32,7 @@ pub record IsTable (image : HeapImage) (log prefix top : ℕ) (regions : List Re
   pub top_is : top ≡ new_top image
   pub regions_are : AreRegions image regions
 
--- what a plan keeps beside the table of this image: its redirections are of the same image
+-- what a plan keeps besides the table of this image; its redirections are of the same image
 pub record IsPlan (image redirections : HeapImage) (addresses : List (Option ℕ)) : Type 0 where
   pub same : redirections ≡ image
   pub deferred_are : AreDeferred image addresses

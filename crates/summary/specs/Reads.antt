@@ -1,4 +1,4 @@
--- The regions that are left to be read.
+-- The regions that are still to be read.
 use Rattle.std.specs.Prelude.{◌≡◌, ℕ, ◌-◌, ◌+◌, ◌^◌, ◌≤◌, ◌<◌, Bool, ◌&&◌, nat_lt, List, filter, length, slice_index_or, None, false}
 use Rattle.std.specs.List.{range_with_len}
 use Rattle.heap_image.specs.HeapImage.{HeapImage, region_words, region_count, start_of}
@@ -16,12 +16,12 @@ goes_below end region = has_words region && nat_lt region.destination end
 abbrev pub no_data : RegionData
 no_data = record { partial = 0; live = 0; destination = 0; count = 0; source = None }
 
--- the numbers of the regions from this one on of which some words go below an end
+-- the numbers of the regions from this one on that have words going below an end
 abbrev pub sources_below : ℕ → ℕ → List RegionData → List ℕ
 sources_below end from regions = filter (λ s. goes_below end (slice_index_or regions s no_data)) (range_with_len from (length regions - from))
 
--- The regions that region d reads begin at this one or behind it, and from it on they are those of which some words go
--- below the end of d.
+-- No region before this one is read by region d, and from it on d reads the regions that have words going below the
+-- end of d.
 pub record BeginAt (image : HeapImage) (d first : ℕ) : Type 0 where
   pub inside : first ≤ region_count image
   pub before : (q : ℕ) → q < first → reads image d q ≡ false

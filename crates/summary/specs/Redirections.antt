@@ -6,7 +6,7 @@ use Rattle.heap_image.specs.HeapImage.{HeapImage, IsValid, is_live_word}
 use Rattle.mark_bitmap.specs.Marks.{bit_words}
 use Rattle.summary.specs.NewAddresses.{prefix_end}
 
--- the bits of the word tell of 64 numbers in a row whether they pass the test
+-- the bits of the word say which of 64 consecutive numbers pass the test
 abbrev pub AreBits : (ℕ → Bool) → ℕ → ℕ → Type 0
 AreBits test first word = (j : ℕ) → j < 64 → (bit_at word j == 1) ≡ test (first + j)
 
@@ -15,11 +15,11 @@ module _ (image : HeapImage) where
   abbrev pub is_counted : ℕ → Bool
   is_counted x = (x == 0) || (nat_lt (x - 1) (prefix_end image) || is_live_word image (x - 1))
 
-  -- how many of them lie below x
+  -- the number of these below x
   abbrev pub counted_below : ℕ → ℕ
   counted_below x = count_by is_counted (range_with_len 0 x)
 
-  -- what the redirections of this image keep: a bit for each number, and for each 64 of them the count of all before
+  -- what the redirections of this image keep: a bit for each number, and for each word of bits the count before it
   pub record AreRedirections (bits ranks : List ℕ) : Type 0 where
     pub valid : IsValid image
     pub room : length bits ≡ bit_words image

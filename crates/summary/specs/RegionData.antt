@@ -1,4 +1,4 @@
--- The summary of each region.
+-- The data of each region.
 use Rattle.std.specs.Prelude.{ℕ, ◌+◌, ◌-◌, Bool, not, ◌&&◌, nat_lt, nat_le, ◌==◌, if◌then◌else◌, List, Option, None, option_map, find, count_by}
 use Rattle.std.specs.List.{list_any, range_with_len}
 use Rattle.std.specs.Int.{div_ceil}
@@ -9,19 +9,19 @@ use Rattle.summary.specs.Compaction.{is_deferred}
 use Rattle.summary.specs.declared.region_data.RegionData.{RegionData}
 
 module _ (image : HeapImage) where
-  -- the region_addresses of a region
+  -- the addresses of a region
   abbrev pub region_addresses : ℕ → List ℕ
   region_addresses r = range_with_len (start_of image r) (region_words image)
 
-  -- q is a word of an object that begins left of region r
+  -- q is a word of an object that begins before region r
   abbrev pub is_begun_left : ℕ → ℕ → Bool
   is_begun_left r q = list_any (λ a. nat_lt a (start_of image r) && is_word_of image a q) image.live
 
-  -- the words at the front of a region that belong to a live object begun further left
+  -- the words at the front of a region that belong to a live object of an earlier region
   abbrev pub partial_words : ℕ → ℕ
   partial_words r = count_by (is_begun_left r) (region_addresses r)
 
-  -- the words in a region of the live objects that begin in it
+  -- the words of the live objects that begin in a region, up to its end
   abbrev pub own_words : ℕ → ℕ
   own_words r = count_by (λ q. list_any (λ a. nat_le (start_of image r) a && is_word_of image a q) image.live) (region_addresses r)
 
@@ -29,16 +29,16 @@ module _ (image : HeapImage) where
   abbrev pub data_words : ℕ → ℕ
   data_words r = partial_words r + own_words r
 
-  -- A region of the dense prefix has its own start. The live words of any other go behind the prefix, in order.
+  -- In the dense prefix a region's own start. The live words of any other region go after the prefix, in order.
   abbrev pub destination : ℕ → ℕ
   destination r = if nat_lt (start_of image r) (prefix_end image) then start_of image r
       else prefix_end image + count_by (λ m. nat_le (prefix_end image) m.0 && nat_lt m.0 (start_of image r)) (word_moves image)
 
-  -- how many other regions receive words of region s
+  -- the number of other regions that receive words of region s
   abbrev pub reader_count : ℕ → ℕ
   reader_count s = count_by (λ d. not (d == s) && reads image d s) (range_with_len 0 (region_count image))
 
-  -- the region whose word goes to the start of region d, for a region to fill behind the prefix
+  -- the region whose word goes to the start of region d, if d is to be filled and lies after the prefix
   abbrev pub source : ℕ → Option ℕ
   source d = if nat_le (prefix_end image) (start_of image d) && is_to_fill image d
       then option_map (region_of image) (origin image (start_of image d)) else None
@@ -56,7 +56,7 @@ module _ (image : HeapImage) where
   abbrev pub deferred : ℕ → Option ℕ
   deferred d = option_map (new_address image) (find (λ a. is_deferred image a && (region_of image (new_address image a) == d)) image.live)
 
-  -- how many regions are to be filled: those from 0 on that begin below the new top
+  -- the number of regions to fill: those from 0 on that begin below the new top
   abbrev pub fill_count : ℕ
   fill_count = div_ceil (new_top image) (region_words image)
 
@@ -67,8 +67,8 @@ module _ (image : HeapImage) where
   abbrev pub last_target : ℕ → ℕ
   last_target r = region_of image (destination r + data_words r - 1)
 
-  -- The number of other regions that receive so many words of region s, which go to this destination and behind: the
-  -- first of them, if it is not the last, and the last, if it is not s itself.
+  -- The number of other regions that receive the words of region s, which go to this destination and after: the first
+  -- receiver, if it is not the last, and the last, if it is not s itself.
   abbrev pub readers_from : ℕ → ℕ → ℕ → ℕ
   readers_from s to words = if words == 0 then 0
       else (if s == region_of image (to + words - 1) then 0 else 1) + (if region_of image to == region_of image (to + words - 1) then 0 else 1)

@@ -1,4 +1,4 @@
--- The sources of the regions, told one by one.
+-- The sources of the regions, set one by one.
 use Rattle.std.specs.Prelude.{◌≡◌, ℕ, ◌<◌, nat_lt, if◌then◌else◌, Option, Some, None}
 use Rattle.heap_image.specs.HeapImage.{HeapImage, region_count}
 use Rattle.summary.specs.RegionData.{region_data, source}

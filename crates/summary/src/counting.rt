@@ -1,4 +1,4 @@
-//! The counts of the regions: how many words of each are live, and of which objects.
+//! The counts of the regions: the live words of each, by where their objects begin.
 
 ghost use Rattle.std.specs.Prelude.{◌≡◌, ℕ, ◌<◌, ◌≤◌, false, IsTrue, IfOk};
 ghost use Rattle.heap_image.specs.HeapImage.{heap_words, region_count};
@@ -12,10 +12,10 @@ use rayon::prelude::*;
 use std::alloc::{AllocError, Global};
 use std::thread::Threads;
 
-/// How many regions are worth a thread of their own: to count fewer takes less time than to start one.
+/// The least number of regions for a thread of its own: counting fewer takes less time than starting a thread.
 const LEAST: usize = 8192;
 
-/// The counts of all regions, by so many threads at most.
+/// The counts of all regions, made by at most `workers` threads.
 pub(crate) fn count_regions(
     alloc: Global,
     image: &Image,
@@ -41,8 +41,8 @@ pub(crate) fn count_regions(
         .collect(threads, alloc)
 }
 
-/// The counts of one region, by population counts. The live words below its own start are of an object begun further
-/// left.
+/// The counts of one region, by population counts. The live words before its own start belong to an object of an earlier
+/// region.
 fn counts_of(image: &Image, marks: &Marks, r: u32, own_start: u64) -> RegionCounts
     requires same { marks.now ≡ image.now }
     requires inside { r < region_count image.now }
@@ -58,8 +58,8 @@ fn counts_of(image: &Image, marks: &Marks, r: u32, own_start: u64) -> RegionCoun
     }
 }
 
-/// The own start of each region: the address of the first object that begins in it, or its end where none does. Each is
-/// looked for from where the one before it was found, so that no mark is read twice.
+/// The own start of each region: the address of the first object that begins in it, or its end if none does. Each search
+/// begins where the one before it ended, so no mark is read twice.
 fn own_starts(alloc: Global, image: &Image, marks: &Marks) -> Result<Vec<u64>, AllocError>
     requires { marks.now ≡ image.now }
     ensures { IfOk result (λ starts. AreOwnStarts image.now starts.items) }
@@ -77,7 +77,7 @@ fn own_starts(alloc: Global, image: &Image, marks: &Marks) -> Result<Vec<u64>, A
     Ok(starts)
 }
 
-/// The first address from `from` on at which a live object begins, or the end of the heap where none does.
+/// The first address from `from` on at which a live object begins, or the end of the heap if none does.
 fn begin_from(image: &Image, marks: &Marks, from: u64) -> u64
     requires same { marks.now ≡ image.now }
     requires inside { from ≤ heap_words image.now }

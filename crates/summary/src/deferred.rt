@@ -13,9 +13,9 @@ use heap_image::Image;
 use mark_bitmap::Marks;
 use std::alloc::{AllocError, Global};
 
-/// For each region the new address of the deferred object that begins in it.
+/// For each region, the new address of the deferred object whose new words begin in it.
 ///
-/// One pass over the live list and the regions: too little work for a second thread to pay.
+/// Makes one pass over the live list and the regions, which is too little work for a second thread to pay.
 pub(crate) fn deferred_addresses(
     alloc: Global,
     image: &Image,
@@ -37,8 +37,8 @@ pub(crate) fn deferred_addresses(
     Ok(addresses)
 }
 
-/// The new address of the deferred object that begins in one region, where so many objects have a new address below the
-/// region's end. Only the last of these can cross that end.
+/// The new address of the deferred object that begins in region `d`, where `placed` objects have a new address below the
+/// region's end. Only the last of them can cross that end.
 fn deferred_in(
     image: &Image,
     marks: &Marks,
@@ -67,11 +67,11 @@ fn deferred_in(
     }
 }
 
-/// How many live objects have a new address below a limit: the first ones, since they keep their order. It is known of
-/// the first `from`.
+/// The number of live objects with a new address below `limit`. They are the first ones, since objects keep their order;
+/// the first `from` are known to be among them.
 ///
-/// No object is moved farther down than one behind it. So of an object that goes to `n` words below the limit, all
-/// within the next `n` words go below the limit too, and are passed over.
+/// No object moves farther down than a later one. So if an object goes `n` words below the limit, all objects that begin
+/// within the next `n` words go below it too and are skipped.
 fn placed_below(image: &Image, redirections: &Redirections, limit: u64, from: usize) -> usize
     requires redirections { redirections.now ≡ image.now }
     requires inside { limit ≤ heap_words image.now }
@@ -92,7 +92,7 @@ fn placed_below(image: &Image, redirections: &Redirections, limit: u64, from: us
     placed
 }
 
-/// How many addresses at the front of a list lie below a limit.
+/// The number of addresses at the front of a list that lie below a limit.
 fn front_below(live: &[u64], limit: u64) -> usize
     ensures { result ≡ prefix_len (λ a. nat_lt a limit) live.now }
 {

@@ -11,7 +11,7 @@ use crate::region_data::RegionData;
 use heap_image::{Image, header};
 use std::alloc::{AllocError, Global};
 
-/// Where the words of each region go. The sources are not told yet.
+/// Where the words of each region go, before the sources are known.
 #[derive(Drop)]
 pub struct Layout {
     /// The data of each region; no region has a source.
@@ -23,7 +23,7 @@ pub struct Layout {
 }
 
 impl Layout {
-    /// The layout of an image whose regions have these counts.
+    /// Lays out an image from the counts of its regions.
     pub fn of(alloc: Global, image: &Image, counts: &[RegionCounts]) -> Result<Layout, AllocError>
         requires { AreRegionCounts image.now counts.now }
         ensures { IfOk result (λ layout. IsLayout image.now layout) }
@@ -46,7 +46,7 @@ impl Layout {
     }
 }
 
-/// The data of region `r`, whose words go to `next` if it lies behind the dense prefix.
+/// The data of region `r`, whose words go to `next` if it lies after the dense prefix.
 fn placed(image: &Image, prefix: u64, next: u64, r: u64, counts: RegionCounts) -> RegionData
     requires prefix { prefix ≡ prefix_end image.now }
     requires inside { r < region_count image.now }
@@ -69,7 +69,7 @@ fn placed(image: &Image, prefix: u64, next: u64, r: u64, counts: RegionCounts) -
     }
 }
 
-/// How many other regions receive words of region `s`, which go to `destination` and behind.
+/// The number of other regions that receive words of region `s`, whose words go to `destination` and after.
 fn readers(image: &Image, s: u64, destination: u64, words: u64) -> u32
     requires { destination + words < 2 ^ 64 }
     ensures { result ≡ readers_from image.now s destination words }

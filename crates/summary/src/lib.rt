@@ -1,27 +1,27 @@
 //! What a collection will do to a heap: where the dense prefix ends, where each live object goes, and what each region
 //! holds and reads.
 //!
-//! [`Plan::of`] makes the plan of an image from its marks. It counts the regions by several threads, and takes memory
-//! for each region and 12 bytes for each 64 words. Its queries take no memory; each is answered at once, but for
-//! [`Plan::reads`], which goes from region to region. A reference is redirected by one count of bits, whether it is null,
-//! leads into the dense prefix or to an object that slides.
+//! [`Plan::of`] makes the plan of an image from its marks. Several threads count the regions. A plan takes memory for
+//! each region and 12 bytes for each 64 words of the heap. Its queries allocate nothing and are look-ups, except
+//! [`Plan::reads`], which steps from region to region. One count of bits redirects a reference, whether it is null,
+//! leads into the dense prefix or leads to an object that slides.
 //!
-//! The definitions stand in `specs/`. [`laws`] has their laws, by subject: among them that live objects keep their
-//! order and don't overlap, that nothing but live words lies between the prefix end and the new top, that each
-//! reference still leads to the object to which it led, and that the compacted heap is valid.
+//! The definitions are in `specs/`. [`laws`] has theorems about them, by subject: for example, live objects keep their
+//! order and don't overlap, only live words lie between the prefix end and the new top, each reference still leads to
+//! the same object, and the compacted heap is valid.
 //!
-//! [`compact_plainly`] is the compaction as a plain slow program, for tests: whatever it gives is proved to be the
-//! compaction of the definitions, word for word.
+//! [`compact_plainly`] is the compaction as a plain slow program, for tests. Its result is proved to be the compaction
+//! of the definitions, word for word.
 //!
 //! # What a contract sees
 //!
-//! A plan is seen as the image that it was made of, as it was then: `plan.now ≡ image.now` says that this is the plan
-//! of this image, and each query answers what the definitions say of it.
+//! A contract sees a plan as the image that it was made of, as it was then: `plan.now ≡ image.now` says that this is
+//! the plan of this image, and each query returns what the definitions say about the image.
 //!
 //! # What is proved
 //!
-//! Each law, and that each function gives exactly what the definitions say. Only tested, or not said by any contract:
-//! that memory is enough, in how many threads the counting runs, and how long a call takes.
+//! Each law, and that each function returns exactly what the definitions say. Only tested, or in no contract: that
+//! allocations succeed, the number of threads that count, and the time that a call takes.
 #![tactic(auto)]
 
 mod counting;

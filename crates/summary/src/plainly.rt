@@ -1,7 +1,7 @@
 //! `compact_plainly`: the compaction, each word by its definition.
 //!
-//! Nothing here is clever or fast: it takes as many steps as the heap has words, times the number of live objects.
-//! Tests compare with it.
+//! The program is simple and slow, for tests to compare with: its time grows with the number of heap words times the
+//! number of live objects.
 
 ghost use Rattle.std.specs.Prelude.{true, ◌≡◌, ◌+◌, ◌-◌, ◌*◌, ◌^◌, ◌<◌, ◌≤◌, IfOk, IfNone, map, option_map, count_by};
 ghost use Rattle.std.specs.List.{list_any, range_with_len};
@@ -43,10 +43,9 @@ impl Placement {
 }
 
 /// The compaction of an image: the dense prefix with fillers in its gaps, then all other live words in their order
-/// without a gap, and zeros up to the end. The new image has the new addresses as its live list, and the region log
-/// and the allowance of the old one.
+/// without a gap, and zeros up to the end. The live list has the new addresses; the region log and the allowance stay.
 ///
-/// The error comes only where memory is refused.
+/// Fails only if memory runs out.
 pub fn compact_plainly(alloc: Global, image: &Image) -> Result<Image, AllocError>
     ensures { IfOk result (λ new. new ≡ compact image.now) }
 {
@@ -67,7 +66,7 @@ pub fn compact_plainly(alloc: Global, image: &Image) -> Result<Image, AllocError
     Ok(parts.into_image())
 }
 
-/// The roots of an image of version 2, redirected.
+/// The redirected roots, or `None` for an image of version 1.
 fn new_roots(alloc: Global, image: &Image, prefix: u64) -> Result<Option<Vec<u64>>, AllocError>
     requires { IsPrefix image.now prefix }
     ensures { IfOk result (λ roots. option_map (λ v. v.items) roots ≡ option_map (map (redirected image.now)) image.now.roots) }
@@ -129,7 +128,7 @@ fn origin(image: &Image, places: &[u64], p: u64) -> Option<u64>
     None
 }
 
-/// The word at the old address `q`, redirected where it is a reference of a live object.
+/// The word at the old address `q`, redirected if it is a reference of a live object.
 fn carried(image: &Image, prefix: u64, q: u64) -> u64
     requires { IsPrefix image.now prefix }
     ensures { result ≡ carried image.now (λ _. true) q }
@@ -142,7 +141,7 @@ fn carried(image: &Image, prefix: u64, q: u64) -> u64
     }
 }
 
-/// Null stays null, and a reference to an object becomes one to its new address.
+/// Null stays null, and a reference to an object leads to its new address.
 fn redirected(image: &Image, prefix: u64, word: u64) -> u64
     requires { IsPrefix image.now prefix }
     ensures { result ≡ redirected image.now word }
@@ -154,7 +153,7 @@ fn redirected(image: &Image, prefix: u64, word: u64) -> u64
     }
 }
 
-/// A filler is a header at the first word of its gap, then zeros.
+/// The word at `p` of a filler: a header at the first word of its gap, then zeros.
 fn filler_word(image: &Image, prefix: u64, p: u64) -> u64
     requires prefix { IsPrefix image.now prefix }
     requires inside { p < prefix }
@@ -167,7 +166,7 @@ fn filler_word(image: &Image, prefix: u64, p: u64) -> u64
     }
 }
 
-/// How many dead words stand in a row from `p` on, up to the prefix end.
+/// The number of consecutive dead words from `p` on, up to the prefix end.
 fn gap_at(image: &Image, prefix: u64, p: u64) -> u64
     requires prefix { IsPrefix image.now prefix }
     requires inside { p < prefix }
@@ -182,7 +181,7 @@ fn gap_at(image: &Image, prefix: u64, p: u64) -> u64
     prefix - p
 }
 
-/// An object that begins in the dense prefix stays, and any other goes to the next free address.
+/// An object that begins in the dense prefix stays; any other goes to the next free address.
 fn new_address(image: &Image, prefix: u64, a: u64) -> u64
     requires { IsPrefix image.now prefix }
     ensures value { result ≡ new_address image.now a }
@@ -195,7 +194,7 @@ fn new_address(image: &Image, prefix: u64, a: u64) -> u64
     }
 }
 
-/// The next free address, once all live objects below `limit` are placed.
+/// The next free address after all live objects below `limit` are placed.
 fn next_at(image: &Image, prefix: u64, limit: u64) -> u64
     requires { IsPrefix image.now prefix }
     ensures value { result ≡ next_at image.now limit }
@@ -210,7 +209,7 @@ fn next_at(image: &Image, prefix: u64, limit: u64) -> u64
     next
 }
 
-/// The next free address, once the object at `a` is placed too.
+/// The next free address after the object at `a` is placed too.
 fn next_after(image: &Image, prefix: u64, next: u64, a: u64) -> u64
     requires prefix { IsPrefix image.now prefix }
     requires next_fits { next < 2 ^ 60 }
@@ -241,7 +240,7 @@ fn prefix_end(image: &Image) -> u64
     regions * region_words
 }
 
-/// How many of the `n` words from `from` on are dead.
+/// The number of dead words among the `n` words from `from` on.
 fn dead_words(image: &Image, from: u64, n: u64) -> u64
     requires fits { from + n < 2 ^ 64 }
     ensures value { result ≡ count_by (is_dead_word image.now) (range_with_len from n) }
@@ -300,7 +299,7 @@ fn size_at(image: &Image, a: u64) -> u64
     u64::from(header::size(word_or_zero(image, a)))
 }
 
-/// The word at an address, or 0 behind the heap.
+/// The word at an address, or 0 after the end of the heap.
 fn word_or_zero(image: &Image, a: u64) -> u64
     ensures { result ≡ word_at image.now a }
 {

@@ -47,10 +47,9 @@ impl Model for Plan {
 }
 
 impl Plan {
-    /// The plan of an image with these marks. The regions are counted by as many threads as there are
-    /// processors, at most.
+    /// Makes the plan of an image with these marks. At most one thread per processor counts the regions.
     ///
-    /// The only error is [`Fault::Memory`], where memory is refused.
+    /// The only error is [`Fault::Memory`], if an allocation fails.
     pub fn of(
         alloc: Global,
         image: &Image,
@@ -64,7 +63,7 @@ impl Plan {
         Plan::by_workers(alloc, image, marks, current_num_threads(threads), threads)
     }
 
-    /// As [`of`](Plan::of), by so many threads at most, the caller's among them; 0 is taken for 1.
+    /// Like [`of`](Plan::of), with at most `workers` threads, the caller included; 0 means 1.
     pub fn by_workers(
         alloc: Global,
         image: &Image,
@@ -145,7 +144,7 @@ impl Plan {
         self.redirections.new_address(a)
     }
 
-    /// A reference, as it is once its object has moved: null stays null.
+    /// The reference to the same object after the collection; null stays null.
     #[inline]
     pub fn redirected(&self, reference: u64) -> u64
         requires { IsTrue (is_null_or_live self.now reference) }
@@ -165,8 +164,8 @@ impl Plan {
             .redirect_all(&mut region.words_mut()[at..at + n]);
     }
 
-    /// The new address of the deferred object that begins in region `d` at its new address. None too if there is no such
-    /// region.
+    /// The new address of the deferred object whose new words begin in region `d`. `None` if there is no such object or
+    /// no such region.
     pub fn deferred(&self, d: u32) -> Option<u64>
         ensures { result ≡ deferred self.now d }
     {
@@ -183,8 +182,8 @@ impl Plan {
         self.table.new_top().div_ceil(self.table.region_words()) as u32
     }
 
-    /// The regions that region `d` reads, ascending. It is among them where it takes words from itself. A region that
-    /// isn't there reads none.
+    /// The regions that region `d` reads, ascending, including `d` itself if it takes words from itself. Empty if there
+    /// is no region `d`.
     pub fn reads(&self, d: u32) -> Reads<'_>
         ensures { result ≡ sources self.now d }
     {
@@ -198,8 +197,8 @@ impl Plan {
         Reads::of(&self.table, d, from)
     }
 
-    /// A line for each region: its number, partial and live words, destination, count and source, each at the right of
-    /// 8 places with a space between, and `-` for no source.
+    /// A line for each region: its number, partial and live words, destination, count and source, each right-aligned in
+    /// 8 columns, with a space between and `-` for no source.
     pub fn report(&self, alloc: Global) -> Result<String, AllocError>
         ensures { IfOk result (λ text. string_bytes text ≡ report self.now) }
     {

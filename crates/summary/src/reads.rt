@@ -10,9 +10,9 @@ use crate::region_data::RegionData;
 use crate::region_table::RegionTable;
 use std::marker::Model;
 
-/// The regions that a region reads, ascending. It is among them where it takes words from itself.
+/// The regions that a region reads, ascending, including the region itself if it takes words from itself.
 ///
-/// A contract sees the list of those that are left.
+/// A contract sees the list of the regions that are left.
 #[derive(Drop)]
 pub struct Reads<'a> {
     regions: &'a [RegionData],
@@ -32,10 +32,10 @@ impl<'a> Model for Reads<'a> {
 }
 
 impl<'a> Reads<'a> {
-    /// The regions at or after region `from` that region `d` reads: none if there is no region `d`.
+    /// The regions at or after region `from` that region `d` reads; none if there is no region `d`.
     ///
-    /// They begin with the source of `d`, or with `d` itself in the dense prefix, and are all regions with words from
-    /// there on whose destination is below the end of `d`.
+    /// The first region that `d` reads is its source, or `d` itself in the dense prefix. From there on, `d` reads each
+    /// region with live words whose destination is below the end of `d`.
     pub(crate) fn of(table: &'a RegionTable, d: u32, from: u32) -> Reads<'a>
         ensures { result ≡ sources_from table.now d from }
     {
@@ -73,8 +73,8 @@ fn first_with_words(regions: &[RegionData]) -> Option<usize>
     regions.iter().position(|region| region.words() > 0)
 }
 
-/// The first region that region `d` reads, or the number of regions if it reads none: `d` itself in the dense prefix,
-/// and else its source. A region that isn't there reads none.
+/// The first region that region `d` reads: `d` itself in the dense prefix, otherwise its source. The number of regions
+/// if `d` reads none or doesn't exist.
 fn first_read(table: &RegionTable, d: u32) -> usize
     ensures { BeginAt table.now d result }
 {

@@ -1,4 +1,4 @@
-//! `Redirections`: what becomes of each reference, by one count.
+//! `Redirections`: the new value of each reference, by one count of bits.
 
 ghost use Rattle.std.specs.Prelude.{◌≡◌, ℕ, ◌+◌, ◌*◌, ◌<◌, ◌≤◌, ◌==◌, nat_lt, map, All, IfOk, IsTrue, Contains};
 ghost use Rattle.std.specs.Int.{bit_at};
@@ -13,18 +13,18 @@ use std::alloc::{AllocError, Global};
 use std::marker::Model;
 use std::snapshot::Snapshot;
 
-/// What becomes of each reference of an image.
+/// The new value of each reference of an image.
 ///
-/// Bit 0 is null's, and bit `a + 1` that of address `a`, as in references. The bits of null, of all words below the prefix
-/// end and of all other live words are set. So a reference becomes the number of bits that are set below its own, and null,
-/// an object of the prefix and one that slides need no case of their own.
+/// Bit 0 stands for null and bit `a + 1` for address `a`, as in references. The bits of null, of all words below the
+/// prefix end and of all other live words are set. So the new value of a reference is the number of bits set below its
+/// own; null, an object of the prefix and an object that slides need no separate cases.
 ///
-/// A contract sees the image that they were made of, as it was then.
+/// A contract sees the image that the redirections were made of, as it was then.
 #[derive(Drop)]
 pub(crate) struct Redirections {
     image: Snapshot<Image>,
     bits: Vec<u64>,
-    /// For each word of bits, how many are set in all words before it.
+    /// For each word of `bits`, the number of bits set in all words before it.
     ranks: Vec<u32>,
 }
 
@@ -40,9 +40,9 @@ impl Model for Redirections {
 }
 
 impl Redirections {
-    /// The redirections of an image with these marks, whose dense prefix ends at `prefix`.
+    /// Makes the redirections of an image with these marks, whose dense prefix ends at `prefix`.
     ///
-    /// Takes 12 bytes for each 64 words of the heap.
+    /// Allocates 12 bytes for each 64 words of the heap.
     pub(crate) fn of(
         alloc: Global,
         image: &Image,
@@ -59,7 +59,7 @@ impl Redirections {
         let mut carried = 1;
         let mut rank = 0;
         for i in 0..words {
-            let shifted = bits_behind(marks, prefix, i);
+            let shifted = bits_after(marks, prefix, i);
             let word = with_first(shifted, carried);
             carried = shifted >> 63;
             bits.push(word)?;
@@ -84,7 +84,7 @@ impl Redirections {
         self.rank(a + 1) - 1
     }
 
-    /// A reference, as it is once its object has moved: null stays null.
+    /// The reference to the same object after the collection; null stays null.
     #[inline]
     pub(crate) fn redirected(&self, reference: u64) -> u64
         requires { IsTrue (is_null_or_live self.now reference) }
@@ -94,7 +94,7 @@ impl Redirections {
         self.rank(reference)
     }
 
-    /// Redirects each of these references.
+    /// Redirects each reference in place.
     pub(crate) fn redirect_all(&self, references: &mut [u64])
         requires { All (λ w. IsTrue (is_null_or_live self.now w)) references.old }
         ensures { references.new ≡ map (redirected self.now) references.old }
@@ -104,7 +104,7 @@ impl Redirections {
         }
     }
 
-    /// How many bits below bit `x` are set.
+    /// The number of bits set below bit `x`.
     #[inline]
     fn rank(&self, x: u64) -> u64
         requires { x ≤ heap_words self.now }
@@ -116,9 +116,9 @@ impl Redirections {
     }
 }
 
-/// The 64 bits behind the first one of word `i`: those of the addresses from `64 * i` on.
+/// The 64 bits after the first one of word `i`: those of the addresses from `64 * i` on.
 #[inline]
-fn bits_behind(marks: &Marks, prefix: u64, i: u64) -> u64
+fn bits_after(marks: &Marks, prefix: u64, i: u64) -> u64
     requires prefix { prefix ≡ prefix_end marks.now }
     requires inside { 64 * i ≤ heap_words marks.now }
     ensures { AreBits (is_counted marks.now) (64 * i + 1) result }
@@ -127,7 +127,7 @@ fn bits_behind(marks: &Marks, prefix: u64, i: u64) -> u64
     low_bits(prefix.saturating_sub(64 * i)) | live
 }
 
-/// The word whose lowest `n` bits are set, or all if there are no more.
+/// A word with its lowest `n` bits set, or all 64 if `n` is larger.
 #[inline]
 fn low_bits(n: u64) -> u64
     ensures { (j : ℕ) → j < 64 → (bit_at result j == 1) ≡ nat_lt j n }
@@ -135,7 +135,7 @@ fn low_bits(n: u64) -> u64
     if n < 64 { (1 << n) - 1 } else { u64::MAX }
 }
 
-/// The bits moved up by one, behind a new first one. The last is lost.
+/// The bits shifted up by one, with a new lowest bit. The highest bit is lost.
 #[inline]
 fn with_first(bits: u64, first: u64) -> u64
     requires { first ≤ 1 }

@@ -1,13 +1,13 @@
-//! `RegionCounts`.
+//! The counts of one region, before it is known where its words go.
 
 ghost use Rattle.std.specs.Prelude.{◌≡◌, ◌+◌};
 
-/// How many words of a region are live.
+/// The numbers of live words in a region.
 #[derive(Debug, Clone, Copy, PartialEq, Eq)]
 pub struct RegionCounts {
-    /// Words at the front of the region that belong to a live object begun further left.
+    /// Words at the front of the region that belong to a live object of an earlier region.
     pub partial: u32,
-    /// Words in the region of the live objects that begin in it.
+    /// Words of the live objects that begin in the region, up to its end.
     pub live: u32,
 }
 

@@ -9,7 +9,7 @@ ghost use Rattle.summary.specs.Plan.{AreRegions};
 use crate::layout::Layout;
 use crate::region_counts::RegionCounts;
 use crate::region_data::RegionData;
-use crate::sources::tell_sources;
+use crate::sources::set_sources;
 use heap_image::Image;
 use std::alloc::{AllocError, Global};
 use std::marker::Model;
@@ -39,7 +39,7 @@ impl Model for RegionTable {
 }
 
 impl RegionTable {
-    /// The table of an image whose regions have these counts.
+    /// Makes the table of an image from the counts of its regions.
     pub(crate) fn of(
         alloc: Global,
         image: &Image,
@@ -53,7 +53,7 @@ impl RegionTable {
             prefix_end,
             new_top,
         } = Layout::of(alloc, image, counts)?;
-        tell_sources(image, prefix_end, regions.as_mut_slice());
+        set_sources(image, prefix_end, regions.as_mut_slice());
         Ok(RegionTable {
             image: Snapshot::of(image),
             region_log: image.region_log(),

@@ -8,7 +8,7 @@ use crate::region_data::RegionData;
 use crate::region_table::RegionTable;
 use std::alloc::{AllocError, Global};
 
-/// A line for each region.
+/// The text of the table, a line for each region.
 pub(crate) fn report_of_table(alloc: Global, table: &RegionTable) -> Result<String, AllocError>
     ensures { IfOk result (λ text. string_bytes text ≡ report table.now) }
 {
@@ -19,7 +19,6 @@ pub(crate) fn report_of_table(alloc: Global, table: &RegionTable) -> Result<Stri
     Ok(text)
 }
 
-/// Writes the line of region `r`.
 fn write_line(text: &mut String, r: u64, region: RegionData) -> Result<(), AllocError>
     ensures { OnOk result (string_bytes text.new ≡ string_bytes text.old ++ row_of r region) }
 {
@@ -33,7 +32,7 @@ fn write_line(text: &mut String, r: u64, region: RegionData) -> Result<(), Alloc
     Ok(())
 }
 
-/// Writes a region's source, a space before it.
+/// Writes a space and a region's source, or `-` if it has none.
 fn write_source(text: &mut String, source: Option<u32>) -> Result<(), AllocError>
     ensures { OnOk result (string_bytes text.new
         ≡ string_bytes text.old ++ 32 ∷ in_column (option_map_or decimal source (codes "-"))) }
@@ -44,7 +43,7 @@ fn write_source(text: &mut String, source: Option<u32>) -> Result<(), AllocError
     }
 }
 
-/// Writes a number, a space before it.
+/// Writes a space and a number.
 fn write_next_column(text: &mut String, n: u64) -> Result<(), AllocError>
     ensures { OnOk result (string_bytes text.new ≡ string_bytes text.old ++ 32 ∷ in_column (decimal n)) }
 {
@@ -52,7 +51,7 @@ fn write_next_column(text: &mut String, n: u64) -> Result<(), AllocError>
     write_column(text, n)
 }
 
-/// Writes a number at the right of 8 places.
+/// Writes a number, right-aligned in 8 columns.
 fn write_column(text: &mut String, n: u64) -> Result<(), AllocError>
     ensures { OnOk result (string_bytes text.new ≡ string_bytes text.old ++ in_column (decimal n)) }
 {

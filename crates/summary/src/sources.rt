@@ -1,4 +1,4 @@
-//! The sources of the regions: from which region the word comes that goes to a region's start.
+//! The sources of the regions: the region whose word goes to the start of another.
 
 ghost use Rattle.std.specs.Prelude.{◌≡◌, ◌≢◌, ℕ, Some, ◌<◌, map, MatchOption};
 ghost use Rattle.std.specs.List.{range_with_len};
@@ -11,8 +11,8 @@ ghost use Rattle.summary.specs.Sources.{StartsOnly, told_region};
 use crate::region_data::RegionData;
 use heap_image::Image;
 
-/// Tells each region its source, where nothing but the sources is missing.
-pub fn tell_sources(image: &Image, prefix: u64, regions: &mut [RegionData])
+/// Sets the source of each region in a table that is complete but for the sources.
+pub fn set_sources(image: &Image, prefix: u64, regions: &mut [RegionData])
     requires prefix { prefix ≡ prefix_end image.now }
     requires regions { regions.old ≡ map (placed_region image.now) (range_with_len 0 (region_count image.now)) }
     ensures { regions.new ≡ map (region_data image.now) (range_with_len 0 (region_count image.now)) }
@@ -24,7 +24,7 @@ pub fn tell_sources(image: &Image, prefix: u64, regions: &mut [RegionData])
     }
 }
 
-/// The region to whose start a word of region `s` goes, if it lies behind the dense prefix.
+/// The region to whose start a word of region `s` goes, if `s` lies after the dense prefix.
 fn started_by(image: &Image, prefix: u64, s: u32, region: &RegionData) -> Option<u64>
     requires prefix { prefix ≡ prefix_end image.now }
     requires inside { s < region_count image.now }

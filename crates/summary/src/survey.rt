@@ -10,7 +10,7 @@ use std::alloc::Global;
 use std::marker::Model;
 use std::thread::Threads;
 
-/// What is found out about an image before anything moves: its marks, and the plan of its collection.
+/// What is known about an image before anything moves: its marks, and the plan of its collection.
 ///
 /// A contract sees them as the image that they were made of, as it was then.
 #[derive(Drop)]
@@ -31,9 +31,9 @@ impl Model for Survey {
 }
 
 impl Survey {
-    /// The survey of an image. As many threads as there are processors, at most, make the marks and count the regions.
+    /// Surveys an image. At most one thread per processor makes the marks and counts the regions.
     ///
-    /// The only error is [`Fault::Memory`], where memory is refused.
+    /// The only error is [`Fault::Memory`], if an allocation fails.
     pub fn of(
         alloc: Global,
         image: &Image,
@@ -45,7 +45,7 @@ impl Survey {
         Survey::by_workers(alloc, image, current_num_threads(threads), threads)
     }
 
-    /// As [`of`](Survey::of), by so many threads at most, the caller's among them; 0 is taken for 1.
+    /// Like [`of`](Survey::of), with at most `workers` threads, the caller included; 0 means 1.
     pub fn by_workers(
         alloc: Global,
         image: &Image,
@@ -59,10 +59,10 @@ impl Survey {
         Survey::with_marks(alloc, image, marks, workers, threads)
     }
 
-    /// The survey of an image with these marks. So many threads count the regions at most, the caller's among them; 0 is
-    /// taken for 1.
+    /// Surveys an image whose marks exist already. At most `workers` threads, the caller included, count the regions; 0
+    /// means 1.
     ///
-    /// The only error is [`Fault::Memory`], where memory is refused.
+    /// The only error is [`Fault::Memory`], if an allocation fails.
     pub fn with_marks(
         alloc: Global,
         image: &Image,
@@ -78,7 +78,6 @@ impl Survey {
         Ok(Survey { marks, plan })
     }
 
-    /// The plan.
     #[inline]
     pub fn plan(&self) -> &Plan
         ensures { result.now ≡ self.now }
@@ -86,7 +85,6 @@ impl Survey {
         &self.plan
     }
 
-    /// The marks.
     #[inline]
     pub fn marks(&self) -> &Marks
         ensures { result.now ≡ self.now }

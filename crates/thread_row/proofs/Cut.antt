@@ -17,7 +17,7 @@ hold_rest P base xs ys all = record {
       subst (λ i. P i (get_or ys k d)) place (subst (P (base + (length xs + k))) (get_or-append-add xs ys k d) (all.each (length xs + k) d (rw (length-append xs ys) (omega arith))));
 }
 
--- What the rest became, the whole became behind the first part.
+-- What the rest became, the whole became after the first part.
 behind : {X : Type 0} (R : ℕ → X → X → Type 0) (base : ℕ) (xs ys xs' ys' : List X) → BecomeFrom R base xs xs' → BecomeFrom R (base + length xs) ys ys' → (k : ℕ) (d : X) (j : ℕ) → length xs + j ≡ k → j < length ys → R (base + k) (get_or (xs ++ ys) k d) (get_or (xs' ++ ys') k d)
 behind R base xs ys xs' ys' first rest k d j is inside =
     let old : get_or (xs ++ ys) k d ≡ get_or ys j d = ap (λ i. get_or (xs ++ ys) i d) (sym is) ∙ get_or-append-add xs ys j d in

@@ -1,4 +1,4 @@
-//! Work in parts, all of whose threads the caller starts.
+//! Work on a list in parts, each in a thread that the caller starts.
 ghost use Rattle.std.specs.Prelude.{◌≡◌, ℕ, ◌+◌, ◌^◌, ◌<◌, ◌≤◌, length, slice_index_or};
 ghost use Rattle.std.specs.Fork.{AcceptsAt, ChangesAt, AcceptsEach, ChangesEach};
 ghost use Rattle.thread_row.specs.Parts.{HoldFrom, BecomeFrom};
@@ -7,18 +7,18 @@ ghost use denote.Param.Send.{IsSync, IsSend};
 use std::thread;
 use std::thread::{Threads, join, join_mut};
 
-/// Calls `g`, beside a thread that does nothing: it takes the place where the system would let the first thread wait that
-/// `g` starts. Where `g` starts threads, it should start all of them itself.
+/// Calls `g` beside an empty thread, which takes the place where the system would make the first thread wait that `g`
+/// starts. If `g` starts threads, it should start all of them itself.
 pub fn behind_an_empty_thread<R: Threads, G: FnOnce() -> B, B>(rt: &R, g: G) -> B
     requires { G.pre g }
     ensures { G.post g result }
 {
-    let (_, given) = join(rt, || {}, g);
-    given
+    let (_, value) = join(rt, || {}, g);
+    value
 }
 
-/// Calls `f(i, &mut s[i])` at each place, in at most `threads` threads, the caller's among them, which starts the others and
-/// one that does nothing. With one thread or one place it starts none.
+/// Calls `f(i, &mut s[i])` for each index, in at most `threads` threads, the caller's included. The caller starts the
+/// others and one empty thread. For one thread or one element it starts none.
 pub fn for_each_mut<R: Threads + Sync, T: Send, F: Fn(usize, &mut T) + Sync>(
     rt: &R,
     s: &mut [T],
@@ -37,17 +37,17 @@ pub fn for_each_mut<R: Threads + Sync, T: Send, F: Fn(usize, &mut T) + Sync>(
     Row { rt, f, share }.start(s);
 }
 
-/// What the threads share that work on a row.
+/// What the threads share.
 #[derive(Drop)]
 struct Row<'a, R: Threads + Sync, F: Sync> {
     rt: &'a R,
     f: &'a F,
-    /// How many places a thread takes.
+    /// The number of elements of a thread.
     share: usize,
 }
 
 impl<R: Threads + Sync, F: Sync> Row<'_, R, F> {
-    /// Calls `f` at each place, beside a thread that does nothing.
+    /// Calls `f` for each element, beside an empty thread.
     fn start<T: Send>(&self, s: &mut [T])
     where
         F: Fn(usize, &mut T),
@@ -62,7 +62,7 @@ impl<R: Threads + Sync, F: Sync> Row<'_, R, F> {
         join_mut(self.rt, &mut || {}, &mut parts);
     }
 
-    /// Calls `f` at each place of a part that begins at place `base` of the whole.
+    /// Calls `f` for each element of a part that begins at index `base` of the list.
     #[cycle(parts)]
     fn work<T: Send>(&self, base: usize, s: &mut [T])
     where
@@ -73,16 +73,16 @@ impl<R: Threads + Sync, F: Sync> Row<'_, R, F> {
         ensures { BecomeFrom (ChangesAt F.Fn self.now.f.now) base s.old s.new }
     {
         if s.len() <= self.share {
-            self.in_turn(base, s);
+            self.work_in_order(base, s);
             return;
         }
         let (first, rest) = s.split_at_mut(self.share);
-        self.both(base, first, rest);
+        self.work_both(base, first, rest);
     }
 
-    /// Calls `f` at each place of two parts, the first of them in a new thread.
+    /// Calls `f` for each element of two adjacent parts, the first of them in a new thread.
     #[cycle(parts)]
-    fn both<T: Send>(&self, base: usize, first: &mut [T], rest: &mut [T])
+    fn work_both<T: Send>(&self, base: usize, first: &mut [T], rest: &mut [T])
     where
         F: Fn(usize, &mut T),
         requires share { 0 < self.now.share }
@@ -97,7 +97,7 @@ impl<R: Threads + Sync, F: Sync> Row<'_, R, F> {
         let mut front = ||
             requires { (base + length first.now < 2 ^ 64) × HoldFrom (AcceptsAt F.Fn self.now.f.now) base first.now }
             ensures { BecomeFrom (ChangesAt F.Fn self.entry.now.f.now) base first.entry.now first.exit.now }
-        { self.in_turn(base, first) };
+        { self.work_in_order(base, first) };
         let mut back = ||
             requires { (0 < self.now.share) × (up + length rest.now < 2 ^ 64) × HoldFrom (AcceptsAt F.Fn self.now.f.now) up rest.now }
             ensures { BecomeFrom (ChangesAt F.Fn self.entry.now.f.now) up rest.entry.now rest.exit.now }
@@ -105,8 +105,8 @@ impl<R: Threads + Sync, F: Sync> Row<'_, R, F> {
         join_mut(self.rt, &mut front, &mut back);
     }
 
-    /// Calls `f` at each place of a part, in this thread.
-    fn in_turn<T: Send>(&self, base: usize, s: &mut [T])
+    /// Calls `f` for each element of a part, in this thread.
+    fn work_in_order<T: Send>(&self, base: usize, s: &mut [T])
     where
         F: Fn(usize, &mut T),
         requires room { base + length s.old < 2 ^ 64 }
@@ -117,13 +117,12 @@ impl<R: Threads + Sync, F: Sync> Row<'_, R, F> {
         let shifted = |k: usize, it: &mut T|
             requires { (base + k < 2 ^ 64) × AcceptsAt F.Fn f.now (base + k) it.old }
             ensures { ChangesAt F.Fn f.entry.now (base + k) it.old it.new }
-        { at_one(f, base + k, it) };
+        { call_at(f, base + k, it) };
         thread::for_each_mut(self.rt, s, 1, &shifted);
     }
 }
 
-/// Calls `f` at one place.
-fn at_one<T, F: Fn(usize, &mut T)>(f: &F, i: usize, it: &mut T)
+fn call_at<T, F: Fn(usize, &mut T)>(f: &F, i: usize, it: &mut T)
     requires { AcceptsAt F.Fn f.now i it.old }
     ensures { ChangesAt F.Fn f.now i it.old it.new }
 {

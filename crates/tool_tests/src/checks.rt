@@ -1,8 +1,8 @@
-//! Asserts behind calls: a body that has them written out takes the prover many times longer.
+//! Assertions as calls: a test body with inline assertions takes many times longer to prove.
 use std::fmt::Debug;
 use std::process::Abort;
 
-/// Ends the test where the two differ.
+/// Aborts the test if the values differ.
 pub fn equal<T: PartialEq + Debug + Drop>(rt: &impl Abort, got: T, want: T) {
     assert_eq!(rt; got, want);
 }

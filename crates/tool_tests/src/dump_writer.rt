@@ -1,21 +1,21 @@
-//! `Writer`: a dump while a test writes it, with ids of eight bytes.
+//! Writes dumps with ids of eight bytes.
 use std::alloc::{AllocError, Global};
 
-/// The bytes of a dump, or of the body of one record.
+/// The bytes of a dump, or of the body of a record.
 #[derive(Drop)]
 pub struct Writer {
     bytes: Vec<u8>,
 }
 
 impl Writer {
-    /// A body, without a record yet.
+    /// An empty body.
     pub fn new(alloc: Global) -> Writer {
         Writer {
             bytes: Vec::new(alloc),
         }
     }
 
-    /// A dump without a record.
+    /// A dump without records.
     pub fn dump(alloc: Global) -> Result<Writer, AllocError> {
         let mut writer = Writer::new(alloc);
         writer.put(b"JAVA PROFILE 1.0.2\0")?;
@@ -49,21 +49,21 @@ impl Writer {
         self.put(&(count.min(0xFFFF) as u16).to_be_bytes())
     }
 
-    /// A record of the dump.
+    /// Appends a record of the dump.
     pub fn record(&mut self, tag: u8, body: &[u8]) -> Result<(), AllocError> {
         self.put(&[tag, 0, 0, 0, 0])?;
         self.put_length(body.len())?;
         self.put(body)
     }
 
-    /// A root, with what its kind tells besides.
+    /// Appends a root. `more` has the other fields of its kind.
     pub fn root(&mut self, tag: u8, id: u64, more: &[u8]) -> Result<(), AllocError> {
         self.put(&[tag])?;
         self.put_id(id)?;
         self.put(more)
     }
 
-    /// A class of objects with these fields, with a static field that is a reference.
+    /// Appends a class with instance fields of these types, and one static field, a reference.
     pub fn class(&mut self, id: u64, reference: u64, fields: &[u8]) -> Result<(), AllocError> {
         self.put(&[0x20])?;
         self.put_id(id)?;
@@ -79,7 +79,7 @@ impl Writer {
         Ok(())
     }
 
-    /// An instance with these bytes of fields.
+    /// Appends an instance with these bytes of fields.
     pub fn instance(&mut self, id: u64, class: u64, fields: &[u8]) -> Result<(), AllocError> {
         self.put(&[0x21])?;
         self.put_id(id)?;
@@ -89,7 +89,7 @@ impl Writer {
         self.put(fields)
     }
 
-    /// An array of references.
+    /// Appends an array of references.
     pub fn references(&mut self, id: u64, elements: &[u64]) -> Result<(), AllocError> {
         self.put(&[0x22])?;
         self.put_id(id)?;
@@ -102,7 +102,7 @@ impl Writer {
         Ok(())
     }
 
-    /// An array of bytes.
+    /// Appends an array of bytes.
     pub fn bytes(&mut self, id: u64, elements: &[u8]) -> Result<(), AllocError> {
         self.put(&[0x23])?;
         self.put_id(id)?;

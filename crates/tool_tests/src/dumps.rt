@@ -1,5 +1,5 @@
-//! Dumps that a device gives slowly or fails to give, or that change between the two readings, and regions of a size
-//! that no command asks for. `tests/import_rows.py` has the words, figures and errors of other dumps.
+//! Dumps from slow and failing devices, dumps that change between the two readings, and a region size that no command
+//! line can give. `tests/cli/test_import.py` has the words, figures and errors of other dumps.
 use crate::checks::equal;
 use crate::dump_writer::Writer;
 use heap_dump::{ImportError, Imported, Options, Problem, import};
@@ -9,7 +9,7 @@ use std::io;
 use std::io::Read;
 use std::test::Fail;
 
-/// In regions of eight words, with allowance 5.
+/// Regions of eight words, and allowance 5.
 const SMALL: Options = Options {
     region_log: Some(3),
     allowance: 5,
@@ -65,7 +65,8 @@ fn last_records(alloc: Global) -> Result<Writer, AllocError> {
     Ok(heap)
 }
 
-/// A dump with an object of each kind: a gap of a word behind the class, and one of 513 before the last array.
+/// A dump with an object of each kind. There is a gap of one word after the class, and one of 513 words before the last
+/// array.
 fn sample(alloc: Global) -> Result<Vec<u8>, AllocError> {
     let mut dump = Writer::dump(alloc)?;
     dump.record(0x01, b"name")?;
@@ -85,7 +86,7 @@ fn has_words(image: &Image, words: &[u64]) -> bool {
     all
 }
 
-/// A reader that gives a byte at a time, and fails once it has given `limit`.
+/// A reader that gives one byte at a time, and fails after `limit` calls.
 #[derive(Drop)]
 struct Trickle<'a> {
     bytes: &'a [u8],
@@ -109,8 +110,8 @@ impl Read for Trickle<'_> {
     }
 }
 
-/// Whether a dump gives the words of the sample, where the second reading is slow and fails after so many bytes. None where
-/// the device is told to have failed.
+/// Whether a dump gives the words of the sample if the second reading is slow and fails after `limit` bytes. None if
+/// the failure of the device is reported.
 fn gives_sample_slowly(
     alloc: Global,
     bytes: &[u8],
@@ -131,7 +132,7 @@ fn gives_sample_slowly(
 }
 
 #[test]
-fn a_slow_reader_is_served_and_a_failing_one_told(rt: HostRuntime) -> Result<(), Fail> {
+fn a_slow_reader_is_served_and_a_failing_one_is_reported(rt: HostRuntime) -> Result<(), Fail> {
     let dump = sample(rt.alloc())?;
     let bytes = dump.as_slice();
     for limit in [0, 1, 19, 40, 41, bytes.len()] {
@@ -142,7 +143,8 @@ fn a_slow_reader_is_served_and_a_failing_one_told(rt: HostRuntime) -> Result<(),
     Ok(())
 }
 
-/// Why the two readings of a dump give no image, if they give none. Refused memory is an error of the test.
+/// The error of an import from these two readings, or None if it gives an image. Refused memory is an error of the
+/// test.
 fn refusal(
     alloc: Global,
     first: &[u8],
@@ -158,7 +160,7 @@ fn refusal(
     }
 }
 
-/// The sample in one record, without its last array where it `lacks` that, and with so many references in the other one.
+/// The sample in one record, with these references in its array of references, and without its last array if `lacks`.
 fn variant(alloc: Global, references: &[u64], lacks: bool) -> Result<Vec<u8>, AllocError> {
     let mut heap = Writer::new(alloc);
     heap.root(0x05, 312, &[])?;
@@ -173,8 +175,8 @@ fn variant(alloc: Global, references: &[u64], lacks: bool) -> Result<Vec<u8>, Al
     Ok(dump.into_bytes())
 }
 
-/// Where it is noticed that the second reading gives a variant of the sample, or None where it isn't.
-fn change_noticed(
+/// The offset at which it is reported that the second reading gives a variant of the sample, or None if it isn't.
+fn reported_change(
     alloc: Global,
     references: &[u64],
     lacks: bool,
@@ -194,16 +196,16 @@ fn change_noticed(
 }
 
 #[test]
-fn a_dump_that_changes_is_told(rt: HostRuntime) -> Result<(), Fail> {
-    let same = change_noticed(rt.alloc(), &[312, 0, 999], false)?;
+fn a_changed_dump_is_reported(rt: HostRuntime) -> Result<(), Fail> {
+    let same = reported_change(rt.alloc(), &[312, 0, 999], false)?;
     equal(&rt, same, None);
-    // An array of another size, and nothing else.
-    let smaller = change_noticed(rt.alloc(), &[312, 0], false)?;
+    // Only the size of an array differs.
+    let smaller = reported_change(rt.alloc(), &[312, 0], false)?;
     equal(&rt, smaller, Some(192));
-    let larger = change_noticed(rt.alloc(), &[312, 0, 999, 0], false)?;
+    let larger = reported_change(rt.alloc(), &[312, 0, 999, 0], false)?;
     equal(&rt, larger, Some(192));
-    // An object that isn't there any more, and nothing else: that is noticed at the end.
-    let fewer = change_noticed(rt.alloc(), &[312, 0, 999], true)?;
+    // Only an object is missing, which is reported at the end.
+    let fewer = reported_change(rt.alloc(), &[312, 0, 999], true)?;
     equal(&rt, fewer, Some(192));
     Ok(())
 }

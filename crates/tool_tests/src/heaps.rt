@@ -1,5 +1,5 @@
-//! Wishes that no command has: the program refuses such words before a heap is made. `tests/generate_rows.py` has the
-//! others, and the words of seeds.
+//! Invalid descriptions of heaps that no command line can give, because the program rejects such arguments earlier.
+//! `tests/cli/test_generate.py` has the others, and the words of seeds.
 use crate::checks::equal;
 use heap_maker::{GenerationError, Wanted, generate};
 use std::alloc::Global;
@@ -16,7 +16,7 @@ const SMALL: Wanted = Wanted {
     seed: 35,
 };
 
-/// Wishes that no image has, and what is said of them.
+/// Descriptions of heaps that no image can be, and the error messages.
 const REFUSED: [(Wanted, &str); 6] = [
     (
         Wanted { words: 0, ..SMALL },
@@ -59,7 +59,6 @@ const REFUSED: [(Wanted, &str); 6] = [
     ),
 ];
 
-/// Why there is no such heap.
 fn refusal(alloc: Global, wanted: &Wanted) -> Option<GenerationError> {
     match generate(alloc, wanted) {
         Ok(_) => None,
@@ -67,7 +66,7 @@ fn refusal(alloc: Global, wanted: &Wanted) -> Option<GenerationError> {
     }
 }
 
-/// What is said of a heap that is refused.
+/// The error message for this description.
 fn refusal_text(alloc: Global, wanted: &Wanted) -> Result<String, Fail> {
     match refusal(alloc, wanted) {
         Some(error) => Ok(format!(in alloc; "{error}")?),

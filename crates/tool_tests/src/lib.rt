@@ -1,6 +1,6 @@
-//! The tests of `heap_dump`, `heap_maker` and `heap_text`, through their public calls alone.
+//! Tests of the public calls of `heap_dump`, `heap_maker` and `heap_text`.
 //!
-//! They stand in a crate of their own so that a check of them doesn't prove these crates again.
+//! They are a crate of their own, so that a change of a test doesn't prove these crates again.
 #![tactic(auto)]
 
 #[cfg(test)]

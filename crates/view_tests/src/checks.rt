@@ -1,13 +1,13 @@
-//! Asserts behind calls: a body that has them written out takes the prover many times longer.
+//! Assertions as functions: a body with inline assertions takes the prover many times longer.
 use std::fmt::Debug;
 use std::process::Abort;
 
-/// Ends the test where the two differ.
+/// Fails the test if the two differ.
 pub fn equal<T: PartialEq + Debug + Drop>(rt: &impl Abort, got: T, want: T) {
     assert_eq!(rt; got, want);
 }
 
-/// Ends the test where the items differ.
+/// Fails the test if the items differ.
 pub fn equal_items<T: PartialEq + Debug>(rt: &impl Abort, got: &[T], want: &[T]) {
     assert_eq!(rt; got, want);
 }

@@ -1,6 +1,6 @@
-//! The tests of `work_order`, `heap_map` and `schedule_timeline`, through their public calls alone.
+//! Tests of `work_order`, `heap_map` and `schedule_timeline` through their public calls.
 //!
-//! They stand in a crate of their own so that a check of them doesn't prove these crates again.
+//! They have a crate of their own so that checking them doesn't prove those crates again.
 #![tactic(auto)]
 
 #[cfg(test)]

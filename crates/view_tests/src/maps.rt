@@ -1,9 +1,9 @@
-//! Which shade a cell has. `tests/map_rows.py` has what pictures show.
+//! Shades of cells. The tests of the command `map` compare whole pictures.
 use crate::checks::equal;
 use heap_map::{Area, Cell, Shade};
 use std::test::Fail;
 
-/// Of a cell of nine words the shade, by how many of them live.
+/// The shade of a cell of nine words, by the number of its live words.
 const SHADES: [(u64, Shade); 8] = [
     (0, Shade::Empty),
     (1, Shade::Low),

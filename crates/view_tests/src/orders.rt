@@ -1,4 +1,5 @@
-//! The order of work where nothing is to be filled. `tests/commands` has the lines of other heaps.
+//! The order of work of a heap without regions to fill. The tests of the
+//! command `order` compare other heaps.
 use crate::checks::equal;
 use heap_image::{Fault, Image};
 use heap_samples::base_image;
@@ -15,7 +16,6 @@ fn empty_order<T: Threads + Sync>(alloc: Global, threads: &T) -> Result<WorkOrde
     Ok(image_order(alloc, &image, threads)?)
 }
 
-/// The order of work of an image.
 fn image_order<T: Threads + Sync>(
     alloc: Global,
     image: &Image,
@@ -25,14 +25,13 @@ fn image_order<T: Threads + Sync>(
     Ok(WorkOrder::of(alloc, &plan)?)
 }
 
-/// The plan of an image.
 fn image_plan<T: Threads + Sync>(alloc: Global, image: &Image, threads: &T) -> Result<Plan, Fault> {
     let marks = Marks::of(alloc, image)?;
     Plan::of(alloc, image, &marks, threads)
 }
 
 #[test]
-fn one_worker_is_enough_where_nothing_is_to_be_filled(rt: HostRuntime) -> Result<(), Fail> {
+fn one_worker_is_enough_if_nothing_is_to_be_filled(rt: HostRuntime) -> Result<(), Fail> {
     let order = empty_order(rt.alloc(), &rt)?;
     equal(&rt, (order.speedup(), order.workers()), (100, 1));
     Ok(())

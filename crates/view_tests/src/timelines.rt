@@ -1,18 +1,18 @@
-//! The bars and freed regions of a timeline, with the worker and the line of each call. `tests/timeline` has what is
-//! printed and drawn of them.
+//! The bars and marks of a timeline, with the worker and the line of each call. The tests of the command
+//! `timeline` compare what is printed and drawn.
 ghost use Rattle.std.specs.Prelude.{◌≡◌};
 
 use crate::checks::{equal, equal_items};
 use heap_image::{Fault, Image};
 use heap_samples::{BASE_LIVE, base_image};
 use history::read_schedule;
-use schedule_timeline::{Bar, Call, Ending, Figures, Freeing, Timeline};
+use schedule_timeline::{Bar, Call, Ending, Freeing, Timeline, TimelineFigures};
 use std::alloc::Global;
 use std::test::Fail;
 use std::thread::Threads;
 use summary::Survey;
 
-/// Two workers on the base heap. The second has region 1 in hand in the end.
+/// A schedule of two workers on the base heap. Region 1 is in the hands of the second at the end.
 const SCHEDULE: &[u8] = b"schedule 1 2
 0 claim 0 yes
 0 copy 0 8 ok
@@ -24,7 +24,7 @@ const SCHEDULE: &[u8] = b"schedule 1 2
 1 poll ?
 ";
 
-/// The bars of its two regions.
+/// The bars of the schedule.
 const BARS: [Bar; 2] = [
     Bar {
         region: 0,
@@ -40,7 +40,7 @@ const BARS: [Bar; 2] = [
     },
 ];
 
-/// The region that it frees.
+/// The marks of the schedule.
 const FREEINGS: [Freeing; 1] = [Freeing {
     drain: Call { worker: 0, line: 5 },
     destination: 0,
@@ -54,7 +54,6 @@ fn base_timeline<T: Threads + Sync>(alloc: Global, threads: &T) -> Result<Timeli
     Ok(image_timeline(alloc, &image, threads)?)
 }
 
-/// The timeline of the schedule on an image.
 fn image_timeline<T: Threads + Sync>(
     alloc: Global,
     image: &Image,
@@ -78,7 +77,7 @@ fn bars_and_freed_regions_have_their_lines(rt: HostRuntime) -> Result<(), Fail> 
     equal_items(&rt, timeline.bars.as_slice(), &BARS);
     equal_items(&rt, timeline.freeings.as_slice(), &FREEINGS);
     equal(&rt, timeline.ending, Ending::Open);
-    let figures = Figures::of(&timeline);
+    let figures = TimelineFigures::of(&timeline);
     let counts = (figures.granted, figures.settled, figures.taken);
     equal(&rt, counts, (2, 1, 1));
     Ok(())

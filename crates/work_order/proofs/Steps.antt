@@ -1,4 +1,4 @@
--- The longest chain of a region, from those of the regions that it waits for.
+-- The longest chain from a region, by those from the regions that it waits for.
 use Rattle.std.proofs.Common.{◌≡◌, ◌≢◌, ◌^◌, ◌-◌, min, All, ◌⊎◌, ◌∙◌, ℕ, ◌+◌, ◌*◌, ◌<◌, ◌≤◌, max, List, [], ◌∷◌, ◌++◌, ◌==◌, IsTrue, true, not, ap, arith, inl, inr, length, length-append, refl, slice_index, slice_index_or, subst, sym}
 use Rattle.std.proofs.Math.ListN.{get_or-append}
 use Rattle.std.proofs.Math.Seq.{get_or-append_seam}
@@ -11,19 +11,19 @@ use Rattle.std.proofs.Math.Nat.{eq-or-lt_of_le, le-max_left, le-max_right, max-e
 use Rattle.heap_image.specs.HeapImage.{HeapImage, region_words}
 use Rattle.summary.specs.NewAddresses.{new_top}
 use Rattle.summary.specs.WordMoves.{is_to_fill, reads}
-use Rattle.work_order.specs.Chains.{AreLongest, IsAwaited, IsChain, IsLongestBehind, IsLongestChain, IsLongestFrom, fill_words, waits_for, words_of}
+use Rattle.work_order.specs.Chains.{AreLongest, IsAwaited, IsChain, IsLongestAfter, IsLongestChain, IsLongestFrom, fill_words, waits_for, words_of}
 
 module _ (image : HeapImage) where
   pub words-cons : (d : ℕ) (others : List ℕ) → words_of image (d ∷ others) ≡ fill_words image d + words_of image others
   words-cons d others = sum_by-cons (fill_words image) d others
 
-  -- a region and the longest chain behind it
-  pub longest-from : (s words : ℕ) → IsLongestBehind image s words → IsLongestFrom image s (fill_words image s + words)
-  longest-from s words behind = record {
-    others = behind.others;
-    awaited = behind.awaited;
-    has = words-cons s behind.others ∙ ap (λ n. fill_words image s + n) behind.has;
-    longest = λ rest awaited. let h = behind.longest rest awaited in let e = words-cons s rest in omega arith;
+  -- a region, and the longest chain after it
+  pub longest-from : (s words : ℕ) → IsLongestAfter image s words → IsLongestFrom image s (fill_words image s + words)
+  longest-from s words after = record {
+    others = after.others;
+    awaited = after.awaited;
+    has = words-cons s after.others ∙ ap (λ n. fill_words image s + n) after.has;
+    longest = λ rest awaited. let h = after.longest rest awaited in let e = words-cons s rest in omega arith;
   }
 
   -- a region that waits for none
@@ -31,10 +31,10 @@ module _ (image : HeapImage) where
   none-more s none [] awaited = omega arith
   none-more s none (d ∷ rest) awaited = absurd (none d awaited.0)
 
-  pub behind-none : (s : ℕ) → ((d : ℕ) → IsTrue (waits_for image s d) → ⊥) → IsLongestBehind image s 0
-  behind-none s none = record { others = []; awaited = tt; has = refl; longest = none-more s none }
+  pub after-none : (s : ℕ) → ((d : ℕ) → IsTrue (waits_for image s d) → ⊥) → IsLongestAfter image s 0
+  after-none s none = record { others = []; awaited = tt; has = refl; longest = none-more s none }
 
-  -- so many words at most stand behind region s by way of region i, and there is a chain behind it with so many
+  -- the greatest number of words of what follows region s in a chain through region i
   pub record IsVia (s i words : ℕ) : Type 0 where
     pub others : List ℕ
     pub awaited : IsAwaited image s others
@@ -69,7 +69,7 @@ module _ (image : HeapImage) where
             }
       ]
 
-  -- a region that waits for two others at most
+  -- a region that waits for at most two others
   both-more : (s i j m n : ℕ) → IsVia s i m → IsVia s j n → ((d : ℕ) → IsTrue (waits_for image s d) → (d ≡ i) ⊎ (d ≡ j))
       → (rest : List ℕ) → IsAwaited image s rest → words_of image rest ≤ max m n
   both-more s i j m n one other only [] awaited = omega arith
@@ -89,9 +89,9 @@ module _ (image : HeapImage) where
             subst (λ x. words_of image (x ∷ rest) ≤ max m n) (sym e) below
       ]
 
-  pub behind-both : (s i j m n : ℕ) → IsVia s i m → IsVia s j n → ((d : ℕ) → IsTrue (waits_for image s d) → (d ≡ i) ⊎ (d ≡ j))
-      → IsLongestBehind image s (max m n)
-  behind-both s i j m n one other only =
+  pub after-both : (s i j m n : ℕ) → IsVia s i m → IsVia s j n → ((d : ℕ) → IsTrue (waits_for image s d) → (d ≡ i) ⊎ (d ≡ j))
+      → IsLongestAfter image s (max m n)
+  after-both s i j m n one other only =
       elim (leb_tells m n) [
         | inl le ↦ record {
           others = other.others;
@@ -130,12 +130,12 @@ module _ (image : HeapImage) where
             ];
       }
 
-  -- of the region that is read the readers are two at most
+  -- a region has at most two readers
   pub one-of-two : (d first last : ℕ) → first ≤ d → d ≤ last → last ≤ first + 1 → (d ≡ first) ⊎ (d ≡ last)
   one-of-two d first last low high near =
       elim (eq-or-lt_of_le low) [ inl e ↦ inl (sym e) | inr less ↦ inr (omega arith) ]
 
-  -- each chain begins with one of these regions, and has no more words than the most of them
+  -- a chain begins with one of these regions, and has no more words than the longest from any of them
   chain-most : (chains : List ℕ) (most : ℕ) → AreLongest image chains → All (λ c. c ≤ most) chains
       → ((s : ℕ) → is_to_fill image s ≡ true → s < length chains) → (other : List ℕ) → IsChain image other → words_of image other ≤ most
   chain-most chains most longest bound filled [] is = omega arith
@@ -145,7 +145,7 @@ module _ (image : HeapImage) where
       let top : slice_index chains s ≤ most = bound s 0 inside in
       omega arith
 
-  -- the longest of the chains that begin with each region
+  -- the longest of all chains
   pub longest-chain : (chains : List ℕ) (most : ℕ) → AreLongest image chains → All (λ c. c ≤ most) chains
       → ((s : ℕ) → is_to_fill image s ≡ true → s < length chains) → ((s : ℕ) → s < length chains → is_to_fill image s ≡ true)
       → (i : ℕ) → i < length chains → slice_index chains i ≡ most → IsLongestChain image most
@@ -163,7 +163,7 @@ module _ (image : HeapImage) where
   none-most chains none filled [] is = omega arith
   none-most chains none filled (s ∷ rest) is = let inside = filled s is.0 in let no : ⊥ = omega arith in absurd no
 
-  -- no region is to be filled
+  -- if no region is to be filled, the longest chain has no words
   pub no-chain : (chains : List ℕ) → length chains ≡ 0 → ((s : ℕ) → is_to_fill image s ≡ true → s < length chains) → IsLongestChain image 0
   no-chain chains none filled = record {
     chain = [];
@@ -172,7 +172,7 @@ module _ (image : HeapImage) where
     longest = none-most chains none filled;
   }
 
-  -- where a word lies below the new top, a chain has one
+  -- if the longest chain has no words, there is no word below the new top
   pub no-word : (words : ℕ) → IsLongestChain image words → words ≡ 0 → new_top image ≡ 0
   no-word words longest none =
       elim (cases_order (new_top image) 0) [

@@ -1,17 +1,17 @@
--- What the longest chain means for many workers, and how it is printed.
+-- The bounds that the longest chain sets for many workers, and how they are printed.
 use Rattle.std.specs.Prelude.{◌≡◌, ℕ, ◌+◌, ◌*◌, ◌/◌, ◌%◌, ◌≤◌, ◌==◌, max, if◌then◌else◌, List, ◌++◌, codes, decimal}
 use Rattle.std.specs.Int.{div_ceil}
 
--- how many times as fast as one worker many are at most, in hundredths: the words in all by those of the longest chain,
--- rounded down, and once where there is no word
+-- the largest speed-up of many workers over one, in hundredths: all words divided by those of the longest chain,
+-- rounded down, and 1 if there is no word
 abbrev pub speedup_of : ℕ → ℕ → ℕ
 speedup_of words chain = if chain == 0 then 100 else words * 100 / chain
 
--- how many workers could do so many words in the time of so many
+-- the least number of workers that can fill all words in the time of the longest chain
 abbrev pub workers_of : ℕ → ℕ → ℕ
 workers_of words chain = if chain == 0 then 1 else max 1 (div_ceil words chain)
 
--- a number of workers that can do all the words in the time of the longest chain, as no fewer can
+-- this number of workers can fill all words in the time of the longest chain, and no fewer can
 pub record IsLeastEnough (words chain workers : ℕ) : Type 0 where
   pub some : 1 ≤ workers
   pub enough : words ≤ workers * chain
@@ -22,7 +22,7 @@ abbrev pub with_decimals : ℕ → List ℕ
 with_decimals hundredths =
     decimal (hundredths / 100) ++ (codes "." ++ (decimal (hundredths / 10 % 10) ++ decimal (hundredths % 10)))
 
--- the line that tells them, without its end
+-- the line with the figures, without its line feed
 abbrev pub order_text : ℕ → ℕ → List ℕ
 order_text words chain =
     codes "chain " ++ (decimal chain ++ (codes " words " ++ (decimal words ++ (codes " speedup "

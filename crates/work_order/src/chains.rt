@@ -1,36 +1,38 @@
-//! The longest chains of regions that wait for each other.
+//! Computes the longest chains of regions that wait for each other.
 ghost use Rattle.std.specs.Prelude.{◌≡◌, ◌*◌, ◌<◌, ◌≤◌, IfOk, IfSome, MatchOption, length, slice_index_or};
 ghost use Rattle.heap_image.specs.HeapImage.{IsValid, region_count};
 ghost use Rattle.summary.specs.RegionData.{data_words, fill_count, first_target, last_target};
-ghost use Rattle.work_order.specs.Chains.{AreLongest, IsLongestBehind, fill_words};
+ghost use Rattle.work_order.specs.Chains.{AreLongest, IsLongestAfter, fill_words};
 
 use std::alloc::{AllocError, Global};
 use summary::Plan;
+use summary::laws::plans::planned_image_is_valid;
 use summary::laws::readers::{reads_by_destination, reads_by_words};
 use summary::laws::region_data::regions_to_fill;
 
-/// Of each region to fill, the words of the longest chain that begins with it.
+/// For each region to fill, the words of the longest chain that begins with it.
 pub(crate) fn longest_chains(alloc: Global, plan: &Plan) -> Result<Vec<u64>, AllocError>
     ensures longest { IfOk result (λ chains. AreLongest plan.now chains.items) }
     ensures all { IfOk result (λ chains. length chains.items ≡ fill_count plan.now) }
     ensures valid { IsValid plan.now }
 {
     regions_to_fill();
-    let _regions = plan.regions();
+    planned_image_is_valid(plan);
     let mut chains = Vec::new(alloc);
     for region in 0..plan.fill_regions() {
-        let behind = longest_behind(plan, chains.as_slice(), region);
-        chains.push(fill_words(plan, region) + behind)?;
+        let after = longest_after(plan, chains.as_slice(), region);
+        chains.push(fill_words(plan, region) + after)?;
     }
     Ok(chains)
 }
 
-/// The words of the longest chain of those that a region waits for. `chains` has those of all regions below it.
-fn longest_behind(plan: &Plan, chains: &[u64], region: u32) -> u64
+/// The words of the longest chain that begins with a region that `region` waits for, or 0 if it waits for none.
+/// `chains` has the longest chains of all lower regions.
+fn longest_after(plan: &Plan, chains: &[u64], region: u32) -> u64
     requires here { region < region_count plan.now }
     requires below { AreLongest plan.now chains.now }
     requires all { length chains.now ≡ region }
-    ensures longest { IsLongestBehind plan.now region result }
+    ensures longest { IsLongestAfter plan.now region result }
     ensures few { result ≤ region * 65536 }
 {
     reads_by_words();
@@ -41,16 +43,16 @@ fn longest_behind(plan: &Plan, chains: &[u64], region: u32) -> u64
     chain_from(chains, first).max(chain_from(chains, last))
 }
 
-/// Where the live words of a region go.
+/// The regions to which the live words of a region move.
 #[derive(Clone, Copy)]
 struct Targets {
-    /// The region of the first word.
+    /// The region of the first live word.
     first: u64,
-    /// The region of the last one: the same, or the next.
+    /// The region of the last live word: the same, or the next.
     last: u64,
 }
 
-/// Where the live words of a region go, if it has any.
+/// The regions to which the live words of a region move, if it has any.
 fn targets_of(plan: &Plan, region: u32) -> Option<Targets>
     requires { region < region_count plan.now }
     ensures valid { IsValid plan.now }
@@ -71,14 +73,14 @@ fn targets_of(plan: &Plan, region: u32) -> Option<Targets>
     })
 }
 
-/// The words of the longest chain that begins with this region, or 0 where there is none of it.
+/// The words of the longest chain that begins with a region, or 0 if `chains` doesn't have it.
 fn chain_from(chains: &[u64], region: u64) -> u64
     ensures { result ≡ slice_index_or chains.now region 0 }
 {
     chains.get(region as usize).copied().unwrap_or(0)
 }
 
-/// How many words of a region lie below the new top.
+/// The number of words of a region below the new top: those that its fill leaves in it.
 fn fill_words(plan: &Plan, region: u32) -> u64
     ensures value { result ≡ fill_words plan.now region }
     ensures few { result ≤ 65536 }

@@ -1,12 +1,13 @@
-//! What parallelism the order of work of a collection allows.
+//! The parallelism that the order of work of a collection allows.
 //!
-//! A region may be overwritten only once the regions that take words of it have taken them. So regions wait for each
-//! other, and the longest chain of such waits bounds what many workers gain. [`WorkOrder::of`] measures it of a plan.
-//! `docs/SCHEDULER.md`, "The longest chain", says what is counted, with an example.
+//! A region may be overwritten only once all regions that read it have copied their words. So regions wait for each
+//! other, and the longest chain of such waits bounds the speed-up of many workers. [`WorkOrder::of`] computes it from a
+//! plan. `docs/SCHEDULER.md`, "The longest chain", defines what is counted, with an example.
 //!
-//! **Proved**, for all plans: the chain that is told is one, and none has more words; the words in all are those below
-//! the new top; the speed-up and the number of workers follow from both as `specs/WorkOrder.antt` says. **Only tested**:
-//! that memory is enough, and that the time is linear in the regions. See the README.
+//! **Proved**, for all plans: the chain's words are those of a chain, and no chain has more; the total is the number of
+//! words below the new top; the speed-up and the number of workers follow from both as in `specs/WorkOrder.antt`.
+//! **Only tested**: that allocations succeed when memory is available, and that the time is linear in the regions. See
+//! the README.
 #![tactic(auto)]
 
 mod chains;

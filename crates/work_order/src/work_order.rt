@@ -1,4 +1,3 @@
-//! `WorkOrder`: what parallelism the order of work allows.
 ghost use Rattle.std.specs.Prelude.{◌≡◌, ◌<◌, ◌≤◌, ℕ, All, Contains, IfOk, length};
 ghost use Rattle.summary.specs.NewAddresses.{new_top};
 ghost use Rattle.work_order.specs.Chains.{IsLongestChain};
@@ -10,22 +9,22 @@ use std::fmt;
 use summary::Plan;
 use summary::laws::region_data::regions_to_fill;
 
-/// What parallelism the order of work of a collection allows.
+/// The parallelism that the order of work of a collection allows.
 ///
-/// It counts words that fills leave in their regions, and takes fills whole: a region that waits for another begins when
-/// that one is filled.
+/// Work is counted in the words that a fill leaves in its region. A fill counts as a whole: a region that waits for another
+/// begins when that one is filled.
 #[derive(Debug, Clone, Copy, PartialEq, Eq)]
 pub struct WorkOrder {
     /// The words of the longest chain of regions that wait for each other.
     pub chain: u64,
-    /// The words in all.
+    /// The words of all regions to fill: the new top.
     pub words: u64,
     ghost some: { chain ≡ 0 → words ≡ 0 },
     ghost few: { words ≤ 4194304 },
 }
 
 impl WorkOrder {
-    /// That of this plan. Takes 8 bytes for each region to fill.
+    /// Computes the longest chain of a plan. Allocates 8 bytes for each region to fill.
     pub fn of(alloc: Global, plan: &Plan) -> Result<WorkOrder, AllocError>
         ensures chain { IfOk result (λ order. IsLongestChain plan.now order.chain) }
         ensures words { IfOk result (λ order. order.words ≡ new_top plan.now) }
@@ -37,7 +36,7 @@ impl WorkOrder {
         Ok(WorkOrder { chain, words })
     }
 
-    /// How many times as fast as one worker many are at most, in hundredths, rounded down.
+    /// The largest speed-up of many workers over one, in hundredths, rounded down.
     pub fn speedup(&self) -> u64
         ensures { result ≡ speedup_of self.now.words self.now.chain }
     {
@@ -48,7 +47,7 @@ impl WorkOrder {
         }
     }
 
-    /// The least number of workers that could do all words in the time of the longest chain: more don't pay.
+    /// The least number of workers that could fill all regions in the time of the longest chain. More don't pay.
     pub fn workers(&self) -> u64
         ensures value { result ≡ workers_of self.now.words self.now.chain }
         ensures least { IsLeastEnough self.now.words self.now.chain result }
@@ -61,7 +60,7 @@ impl WorkOrder {
     }
 }
 
-/// The largest of these numbers, or 0 where there are none.
+/// The largest of these numbers, or 0 if there are none.
 fn largest(numbers: &[u64]) -> u64
     ensures bound { All (λ n. n ≤ result) numbers.now }
     ensures reached { (i : ℕ) → i < length numbers.now → Contains numbers.now result }

@@ -10,12 +10,12 @@ use Rattle.collector.specs.Streams.{IsOfBytes}
 use Rattle.pcompact.specs.Figures.{IsFigures, figures_line}
 use Rattle.heap_commands.specs.Command.{Command}
 
--- all of the input was read, which is the text of some image; the text of its compaction was written; and its figures are shown
+-- the whole input was read and is the text of some image, the text of its compaction was written, and its figures are printed
 abbrev pub IsCollection : Option (List ℕ) → Option (List ℕ) → Option (List ℕ) → Option (List ℕ) → List ℕ → Type 0
 IsCollection left left' took took' shown = (image : HeapImage) × IsRead image left left'
     × Appends took took' (text (compact image)) × (shown ≡ figures_line (figures_of image))
 
--- a fault of an image's bytes is the first of the input's
+-- a fault of an image's bytes is the first fault of the input
 abbrev pub IsFirstOfBytes : Option (List ℕ) → Fault → Type 0
 IsFirstOfBytes input fault = IsOfBytes fault → IfSome input (λ bytes. first_fault bytes ≡ Some fault)
 

@@ -4,8 +4,8 @@ use Rattle.collector.specs.declared.outcome.Figures.{Figures}
 use Rattle.pcompact.specs.Figures.{IsFigures, figures_line}
 use Rattle.heap_commands.specs.Command.{Command}
 
--- All of the input was read, which is the text of some image. The text of its compaction was written, and that of a
--- schedule by which the word machine makes it. Its figures are shown.
+-- The whole input was read and is the text of some image. The text of its compaction was written, and that of a schedule by
+-- which the word machine makes it. Its figures are printed.
 abbrev pub IsRecording : ℕ → Option (List ℕ) → Option (List ℕ) → Option (List ℕ) → Option (List ℕ) → Option (List ℕ) → Option (List ℕ) → List ℕ → Type 0
 IsRecording workers left left' took took' written written' shown = (figures : Figures)
     × AreRecorded workers left left' took took' written written' figures × (shown ≡ figures_line figures)

@@ -17,15 +17,15 @@ abbrev pub IsVerdictOf : Option (List ℕ) → Option (List ℕ) → Option (Lis
 IsVerdictOf before before' after after' verdict = (was is : HeapImage) × IsValid was × IsValid is
     × Consumes before before' (text was) × Consumes after after' (text is) × IsVerdict (compact was) is verdict
 
--- the verdict that tells of a difference
+-- the verdict that names a difference
 abbrev pub verdict_of : Difference → Verdict
 verdict_of Difference.Shape = Shape
 verdict_of (Difference.Word address) = Word address
 verdict_of (Difference.Live index) = Live index
 verdict_of (Difference.Root index) = Root index
 
--- The fault is a reason to refuse the first input, or that of the second once all of the first was taken as the text of an
--- image, or memory was refused for the comparison.
+-- The fault is a reason to refuse the first input; or to refuse the second, once the whole first was read as the text of an
+-- image; or memory ran out in the comparison.
 abbrev pub IsUnverified : Option (List ℕ) → Option (List ℕ) → Option (List ℕ) → Unverified → Type 0
 IsUnverified before before' after (Unverified.Before fault) = IfSome before (λ bytes. IsReason bytes fault)
 IsUnverified before before' after (Unverified.After fault) = ((image : HeapImage) × IsValid image

@@ -1,4 +1,3 @@
-//! The command `collect`.
 ghost use Rattle.std.specs.Prelude.{◌≡◌, ◌≢◌, ◌⊎◌, codes, ℕ, List, IfOk, IfErr, OnErr, string_bytes};
 ghost use Rattle.heap_image.specs.declared.fault.Fault.{Fault};
 ghost use Rattle.collector.specs.Streams.{IsTextBegun};
@@ -24,58 +23,58 @@ use std::sync::Wait;
 use std::thread::Threads;
 use std::time::Clock;
 
-/// Collects one file into another, and answers what `collect` prints.
+/// Collects the image in one file to another file, and returns what `collect` prints.
 pub fn answer<'a, R: Files + AllocGlobal + Threads + Wait + Clock + Sync>(
     rt: &R,
-    asked: Collect<'a>,
+    request: Collect<'a>,
 ) -> Result<WorkDone<'a>, Trouble<'a>>
 where
     R::File: FileExt + SystemFile + Sync,
     ensures { IfOk result (λ done. IsFigures done.text.items) }
 {
-    let watch = Stopwatch::start(rt, asked.stats);
-    let (image, mut out) = image_and_out(rt, asked.image, asked.out, asked.atomic)?;
-    let image = ImageFile::read_ahead(rt, image, asked.workers);
+    let watch = Stopwatch::start(rt, request.stats);
+    let (image, mut out) = image_and_out(rt, request.image, request.out, request.atomic)?;
+    let image = ImageFile::read_ahead(rt, image, request.workers);
     let mut image = TimedIntake::new(rt, watch, image);
     let may_have_holes = out.may_have_holes;
     let written = OutFile::new(&mut out.file, may_have_holes);
     let mut output = TimedOutlet::new(rt, watch, written);
     let gate = TimedGate::new(rt, watch);
     let workers = Workers {
-        count: asked.workers,
+        count: request.workers,
         gate: &gate,
     };
-    let told = collect_into(rt, &mut image, &mut output, workers);
+    let outcome = collect_into(rt, &mut image, &mut output, workers);
     let times = CollectionTimes::of(&image, &gate, &output);
     let mut written = output.into_inner();
-    let told = written.end(told);
-    match told {
+    let outcome = written.end(outcome);
+    match outcome {
         Ok(FiguresLine { figures, line }) => {
             let moved = times.moved(figures);
-            let stats = Stats::of_collection(watch, times.laps(), moved, asked.workers);
+            let stats = Stats::of_collection(watch, times.laps(), moved, request.workers);
             Ok(ended(rt, line, out)?.with_stats(stats))
         }
         Err(fault) => {
-            let trouble = Trouble::from(fault).if_workers(asked.workers);
+            let trouble = Trouble::from(fault).if_workers(request.workers);
             let image = image.into_inner().into_inner();
             Err(failed_between(rt, trouble, &image, out))
         }
     }
 }
 
-/// Collects the image that the input is the text of, and writes the text of the compacted one.
-/// The line that it answers is for standard output: the figures of the collection.
+/// Reads an image, collects it, and writes its compaction. Returns the figures of the collection, with the line for
+/// standard output.
 ///
-/// Nothing takes memory once a byte is written.
+/// Nothing is allocated once a byte is written.
 pub fn collect_into<R: AllocGlobal + Threads + Wait + Sync, I: Intake, O: Outlet, G: Gate + Sync>(
     rt: &R,
     input: &mut I,
     output: &mut O,
     workers: Workers<'_, G>,
 ) -> Result<FiguresLine, Fault>
-    ensures collection { IfOk result (λ told. IsCollection (I.left input.old) (I.left input.new)
-        (O.took output.old) (O.took output.new) (string_bytes told.line)) }
-    ensures figures { IfOk result (λ told. string_bytes told.line ≡ figures_line told.figures) }
+    ensures collection { IfOk result (λ done. IsCollection (I.left input.old) (I.left input.new)
+        (O.took output.old) (O.took output.new) (string_bytes done.line)) }
+    ensures figures { IfOk result (λ done. string_bytes done.line ≡ figures_line done.figures) }
     // Nothing was written, or the collection had ended well.
     ensures written { OnErr result ((output.new ≡ output.old)
         ⊎ IsTextBegun (I.left input.old) (I.left input.new) (O.took output.old) (O.took output.new)) }

@@ -1,4 +1,3 @@
-//! The command `record`.
 ghost use Rattle.std.specs.Prelude.{◌≡◌, ◌≢◌, ◌⊎◌, codes, ℕ, List, IfOk, IfErr, OnErr, string_bytes};
 ghost use Rattle.heap_image.specs.declared.fault.Fault.{Fault};
 ghost use Rattle.collector.specs.Streams.{IsTextBegun, IsTextWritten};
@@ -26,19 +25,18 @@ use std::sync::Wait;
 use std::thread::Threads;
 use std::time::Clock;
 
-/// Collects one file into another and writes a third with the schedule, and answers what `record`
-/// prints.
+/// Collects the image in one file to another file, writes the schedule to a third, and returns what `record` prints.
 pub fn answer<'a, R: Files + AllocGlobal + Threads + Wait + Clock + Sync>(
     rt: &R,
-    asked: Record<'a>,
+    request: Record<'a>,
 ) -> Result<WorkDone<'a>, Trouble<'a>>
 where
     R::File: FileExt + SystemFile + Sync,
     ensures { IfOk result (λ done. IsFigures done.text.items) }
 {
-    let watch = Stopwatch::start(rt, asked.stats);
-    let (image, mut out, mut schedule) = image_out_and_schedule(rt, &asked)?;
-    let image = ImageFile::read_ahead(rt, image, asked.workers);
+    let watch = Stopwatch::start(rt, request.stats);
+    let (image, mut out, mut schedule) = image_out_and_schedule(rt, &request)?;
+    let image = ImageFile::read_ahead(rt, image, request.workers);
     let mut image = TimedIntake::new(rt, watch, image);
     let may_have_holes = out.may_have_holes;
     let written = OutFile::new(&mut out.file, may_have_holes);
@@ -46,29 +44,29 @@ where
     let mut lines = TimedOutlet::new(rt, watch, ToWrite::new(&mut schedule.file));
     let gate = TimedGate::new(rt, watch);
     let workers = Workers {
-        count: asked.workers,
+        count: request.workers,
         gate: &gate,
     };
-    let told = record_into(rt, &mut image, &mut output, &mut lines, workers);
+    let outcome = record_into(rt, &mut image, &mut output, &mut lines, workers);
     let times = CollectionTimes::of(&image, &gate, &output);
     let mut written = output.into_inner();
-    let told = written.end(told);
+    let outcome = written.end(outcome);
     let laps = times.laps().then(Phase::Schedule, lines.ended());
-    match told {
+    match outcome {
         Ok(FiguresLine { figures, line }) => {
             let moved = times.moved(figures);
-            let stats = Stats::of_collection(watch, laps, moved, asked.workers);
+            let stats = Stats::of_collection(watch, laps, moved, request.workers);
             Ok(both_ended(rt, line, out, schedule)?.with_stats(stats))
         }
         Err(fault) => {
-            let trouble = Trouble::from(fault).if_workers(asked.workers);
+            let trouble = Trouble::from(fault).if_workers(request.workers);
             let image = image.into_inner().into_inner();
             Err(failed_between_three(rt, trouble, &image, out, schedule))
         }
     }
 }
 
-/// Why `record` fails that met this trouble while it read an image and wrote two files.
+/// Abandons both files after this trouble, and says which file it is about.
 fn failed_between_three<'a, H: Files>(
     host: &H,
     trouble: Trouble<'a>,
@@ -84,31 +82,31 @@ fn failed_between_three<'a, H: Files>(
     failed(host, trouble, out)
 }
 
-/// A file to read, and two to write.
+/// The file to read, and the two to write.
 type ImageOutAndSchedule<'a, F> = (Watched<'a, F>, Output<'a, F>, Output<'a, F>);
 
-/// The three files. The first is opened before the others are made or emptied. No two may be one
-/// file, but for the first two where OUT is replaced.
+/// Opens the image, then creates or empties OUT and the schedule's file. No two may be one file, but for the first
+/// two with `--atomic`.
 fn image_out_and_schedule<'a, H: Files + AllocGlobal>(
     host: &H,
-    asked: &Record<'a>,
+    request: &Record<'a>,
 ) -> Result<ImageOutAndSchedule<'a, H::File>, Trouble<'a>>
 where
     H::File: SystemFile,
 {
     let named = Named {
-        image: FileWord::new(Role::Image, asked.image),
-        out: FileWord::new(Role::Out, asked.out),
-        schedule: FileWord::new(Role::Schedule, asked.schedule),
+        image: FileWord::new(Role::Image, request.image),
+        out: FileWord::new(Role::Out, request.out),
+        schedule: FileWord::new(Role::Schedule, request.schedule),
     };
-    names_must_differ(host.alloc(), named, asked.atomic)?;
+    names_must_differ(host.alloc(), named, request.atomic)?;
     let image = Watched::open(host, named.image)?;
-    let (out, schedule) = targets_beside(host, &image, named, asked.atomic)?;
+    let (out, schedule) = targets_beside(host, &image, named, request.atomic)?;
     let (out, schedule) = begin_both(host, out, schedule)?;
     Ok((image, out, schedule))
 }
 
-/// The words of the three files.
+/// The names of the three files, as the command line has them.
 #[derive(Clone, Copy)]
 struct Named<'a> {
     image: FileWord<'a>,
@@ -116,7 +114,7 @@ struct Named<'a> {
     schedule: FileWord<'a>,
 }
 
-/// The three must have other names, but for the first two where OUT is replaced.
+/// Rejects two equal names, but for IMAGE and OUT with `--atomic`.
 fn names_must_differ<'a>(alloc: Global, named: Named<'a>, atomic: bool) -> Result<(), Trouble<'a>> {
     if !atomic {
         must_differ(alloc, named.image, named.out)?;
@@ -125,10 +123,10 @@ fn names_must_differ<'a>(alloc: Global, named: Named<'a>, atomic: bool) -> Resul
     must_differ(alloc, named.out, named.schedule)
 }
 
-/// Two files to write, as they were found.
+/// The two files to write, before they are changed.
 type Targets<'a, F> = (FileTarget<'a, F>, FileTarget<'a, F>);
 
-/// The two files to write. Where two of the three are one file and may not be, both are left as they stood.
+/// Finds the two files to write. If two of the three are one file and may not be, both are left unchanged.
 fn targets_beside<'a, H: Files + AllocGlobal>(
     host: &H,
     image: &Watched<'a, H::File>,
@@ -147,10 +145,10 @@ fn targets_beside<'a, H: Files + AllocGlobal>(
     Ok((out, schedule))
 }
 
-/// Two files that are written.
+/// The two files to write, open.
 type Outputs<'a, F> = (Output<'a, F>, Output<'a, F>);
 
-/// Begins to write both files. No new file gets the name of one that is to be replaced.
+/// Begins to write both files. No temporary file gets the name of a file to be replaced.
 fn begin_both<'a, H: Files + AllocGlobal>(
     host: &H,
     out: FileTarget<'a, H::File>,
@@ -166,8 +164,7 @@ where
     }
 }
 
-/// Two of these that are one file and may not be. The image is told by its word and by which file it
-/// is; it may be replaced by OUT.
+/// Two of the three files that are one file and may not be. OUT may replace the image.
 fn one_file<'a, H: Files>(
     host: &H,
     (image, id): (FileWord<'a>, FileId),
@@ -185,7 +182,7 @@ fn one_file<'a, H: Files>(
     })
 }
 
-/// What `record` has done, which prints this line and has written two files.
+/// Ends both files. The command prints this line.
 fn both_ended<'a, H: Files>(
     host: &H,
     line: String,
@@ -218,10 +215,10 @@ where
     }
 }
 
-/// Collects the image that the input is the text of, writes the text of the compacted one, and then
-/// the schedule of all that the workers did. The line that it answers is for standard output: the figures.
+/// Reads an image, collects it, writes its compaction, and then the schedule of all that the workers did. Returns the
+/// figures of the collection, with the line for standard output.
 ///
-/// Nothing takes memory once a byte is written.
+/// Nothing is allocated once a byte is written.
 pub fn record_into<
     R: AllocGlobal + Threads + Wait + Sync,
     I: Intake,
@@ -235,10 +232,10 @@ pub fn record_into<
     lines: &mut L,
     workers: Workers<'_, G>,
 ) -> Result<FiguresLine, Fault>
-    ensures record { IfOk result (λ told. IsRecording workers.entry.count (I.left input.old) (I.left input.new)
+    ensures record { IfOk result (λ done. IsRecording workers.entry.count (I.left input.old) (I.left input.new)
         (O.took output.old) (O.took output.new)
-        (L.took lines.old) (L.took lines.new) (string_bytes told.line)) }
-    ensures figures { IfOk result (λ told. string_bytes told.line ≡ figures_line told.figures) }
+        (L.took lines.old) (L.took lines.new) (string_bytes done.line)) }
+    ensures figures { IfOk result (λ done. string_bytes done.line ≡ figures_line done.figures) }
     // Nothing was written, or the collection had ended well.
     ensures written { OnErr result ((output.new ≡ output.old)
         ⊎ IsTextBegun (I.left input.old) (I.left input.new) (O.took output.old) (O.took output.new)) }
@@ -253,6 +250,12 @@ pub fn record_into<
     let alloc = rt.alloc();
     let line = String::with_capacity(alloc, LINE_ROOM)?;
     let Workers { count, gate } = workers;
-    let figures = record_stream(alloc, input, output, lines, count, gate, rt, rt)?;
+    let crew = collector::Workers {
+        count,
+        gate,
+        threads: rt,
+        wait: rt,
+    };
+    let figures = record_stream(alloc, input, output, lines, crew)?;
     Ok(with_line(figures, line))
 }

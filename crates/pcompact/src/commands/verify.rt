@@ -1,4 +1,3 @@
-//! The command `verify`.
 ghost use Rattle.std.specs.Prelude.{◌≡◌, codes, ℕ, List, IfOk, IfErr, MatchOption};
 ghost use Rattle.collector.specs.declared.verdict.Verdict.TheVariants.{Same};
 ghost use Rattle.pcompact.specs.Commands.Verify.{IsVerdictOf, IsUnverified, verdict_of};
@@ -15,27 +14,27 @@ use std::rt::Files;
 use std::thread::Threads;
 use std::time::Clock;
 
-/// What `verify` prints where one file has the compaction of another.
+/// Compares the image in one file with the compaction of another, and returns what `verify` prints if they are equal.
 pub fn answer<'a, R: Files + AllocGlobal + Threads + Clock + Sync>(
     rt: &R,
-    asked: Verify<'a>,
+    request: Verify<'a>,
 ) -> Result<WorkDone<'a>, Trouble<'a>>
     ensures { IfOk result (λ done. done.text.items ≡ codes "same\n") }
 {
-    let (verdict, stats) = compared(rt, &asked)?;
+    let (verdict, stats) = compare(rt, &request)?;
     match difference(verdict) {
         None => {
             let text = Vec::from_slice(rt.alloc(), b"same\n")?;
             Ok(WorkDone::printing(text).with_stats(stats))
         }
         Some(difference) => {
-            let after = FileWord::new(Role::After, asked.after);
+            let after = FileWord::new(Role::After, request.after);
             Err(Trouble::new(Failure::Differs(difference)).about(after))
         }
     }
 }
 
-/// The difference that a verdict names. None where it names none.
+/// The difference that a verdict names, if it names one.
 fn difference(verdict: Verdict) -> Option<Difference>
     ensures { MatchOption result (verdict ≡ Same) (λ difference. verdict ≡ verdict_of difference) }
 {
@@ -48,14 +47,14 @@ fn difference(verdict: Verdict) -> Option<Difference>
     }
 }
 
-/// The verdict on two files, of which both are opened before one is read, and what it took.
-fn compared<'a, R: Files + AllocGlobal + Threads + Clock + Sync>(
+/// Opens both files, reads and compares them, and returns the verdict with its timings.
+fn compare<'a, R: Files + AllocGlobal + Threads + Clock + Sync>(
     rt: &R,
-    asked: &Verify<'a>,
+    request: &Verify<'a>,
 ) -> Result<(Verdict, Stats), Trouble<'a>> {
-    let watch = Stopwatch::start(rt, asked.stats);
-    let before = FileWord::new(Role::Before, asked.before);
-    let after = FileWord::new(Role::After, asked.after);
+    let watch = Stopwatch::start(rt, request.stats);
+    let before = FileWord::new(Role::Before, request.before);
+    let after = FileWord::new(Role::After, request.after);
     let (mut before, mut after) = two_inputs(rt, before, after)?;
     let mut was = TimedIntake::new(rt, watch, FromRead::new(&mut before));
     let mut is = TimedIntake::new(rt, watch, FromRead::new(&mut after));
@@ -72,7 +71,7 @@ fn compared<'a, R: Files + AllocGlobal + Threads + Clock + Sync>(
     }
 }
 
-/// Why the command fails that met this fault.
+/// Says which file a fault is about.
 fn trouble_of<'a, F: Drop>(
     unverified: Unverified,
     before: &Watched<'a, F>,
@@ -85,20 +84,21 @@ fn trouble_of<'a, F: Drop>(
     }
 }
 
-/// A fault of a comparison, and of which image it is.
+/// A fault of a comparison, and which image it is about.
 #[derive(Debug, Clone, Copy, PartialEq, Eq)]
 pub enum Unverified {
-    /// Of the image as it was, or of reading it.
+    /// A fault of the image before the collection, or of reading it.
     Before(Fault),
-    /// Of the image that should be its compaction, or of reading it.
+    /// A fault of the image after the collection, or of reading it.
     After(Fault),
-    /// Of neither: of comparing them.
+    /// A fault of the comparison.
     Neither(Fault),
 }
 
-/// Whether the image that comes second is the compaction of the first, or the first difference.
+/// Reads two images, and compares the second with the compaction of the first. The verdict is that they are equal, or
+/// the first difference.
 ///
-/// A fault is the first of `before`, else of `after`, or want of memory.
+/// A fault is the first of `before`, else the first of `after`, or that memory ran out.
 pub fn verify_images<R: Intake, S: Intake, T: Threads + Sync>(
     alloc: Global,
     before: &mut R,

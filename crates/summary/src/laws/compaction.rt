@@ -1,6 +1,4 @@
 //! The compacted heap as a whole.
-//!
-//! The functions do nothing: each one's contract is a law.
 
 ghost use Rattle.std.specs.Prelude.{◌≡◌, ◌+◌, ◌-◌, ◌<◌, ◌≤◌, ◌&&◌, true, ℕ, List, All, Option, slice_range, replicate, map, flat_map, cond, Bool};
 ghost use Rattle.std.specs.List.{range_with_len};
@@ -12,19 +10,19 @@ ghost use Rattle.summary.specs.Compaction.{redirected, is_reference_of, object_i
 ghost use Rattle.summary.specs.SameGraph.{IsSameGraph};
 ghost use Rattle.summary.specs.RegionData.{region_addresses, fill_count};
 
-/// The image after a collection is valid again.
+/// The compaction of a valid image is valid.
 pub fn compaction_is_valid()
     ensures { (image : HeapImage) → IsValid image → IsValid (compact image) }
 {}
 
-/// The live objects of the compacted heap are what is reached from its roots, if those of the heap are.
+/// If the live objects of the heap are those that its roots reach, the same holds in the compacted heap.
 pub fn compaction_keeps_the_reachable()
     ensures { (image : HeapImage) (roots : List ℕ) → HasLiveList image → All (λ w. w ≤ heap_words image) roots
         → image.live ≡ reachable image roots
         → (compact image).live ≡ reachable (compact image) (map (redirected image) roots) }
 {}
 
-/// What a collection does to the words and the live list doesn't depend on the roots, nor do its figures.
+/// The new words, the new live list and the figures of a collection don't depend on the roots.
 pub fn roots_change_nothing_else()
     ensures words { (image : HeapImage) (roots : Option (List ℕ))
         → (compact (record image { roots = roots })).words ≡ (compact image).words }
@@ -43,8 +41,8 @@ pub fn compaction_keeps_the_graph()
     ensures { (image : HeapImage) → HasLiveList image → IsSameGraph image (compact image) }
 {}
 
-/// Each reference of a live object leads, after the compaction, to the new address of the object to which it led,
-/// and null stays null.
+/// After the compaction each reference of a live object leads to the new address of the same object, and null stays
+/// null.
 pub fn references_lead_to_the_same_objects()
     ensures object { (image : HeapImage) → HasLiveList image → (i k f : ℕ) → i < object_count image
         → k < object_count image → f < references_at image (object_at image i)
@@ -56,7 +54,7 @@ pub fn references_lead_to_the_same_objects()
         → reference_at (compact image) (new_address image (object_at image i)) f ≡ 0 }
 {}
 
-/// In the compacted heap the new place of a live word holds that word, redirected where it is a reference.
+/// In the compacted heap the new address of a live word holds that word, redirected if it is a reference.
 pub fn compaction_by_words()
     ensures { (image : HeapImage) → HasLiveList image → (q : ℕ) → q < heap_words image
         → is_live_word image q ≡ true → slid image q < heap_words image
@@ -81,7 +79,7 @@ pub fn compaction_by_objects()
         ≡ replicate (heap_words image - new_top image) 0 }
 {}
 
-/// The block of a region is its words address by address.
+/// The block of a region is the list of the words at its addresses.
 pub fn blocks_of_regions()
     ensures compacted { (image : HeapImage) → (r : ℕ) → r < region_count image
         → block_of (compact image) r ≡ map (compacted_word image) (region_addresses image r) }

@@ -1,6 +1,4 @@
 //! Deferred objects, and the heap between the moves and their update.
-//!
-//! The functions do nothing: each one's contract is a law.
 
 ghost use Rattle.std.specs.Prelude.{◌≡◌, ◌+◌, ◌<◌, ◌≤◌, true, false, Some, None, not, ℕ, slice_range, map, cond};
 ghost use Rattle.std.specs.List.{range_with_len};
@@ -12,7 +10,7 @@ ghost use Rattle.summary.specs.Compaction.{redirected, object_image, is_deferred
 ghost use Rattle.summary.specs.RegionData.{region_addresses, deferred};
 ghost use Rattle.summary.specs.Updates.{is_late_reference, updated_word};
 
-/// At most one deferred object begins in a region at its new address, and that address is told for the region.
+/// The new words of at most one deferred object begin in a region, and `deferred` has its new address.
 pub fn one_deferred_object()
     ensures one { (image : HeapImage) → HasLiveList image → (i k : ℕ) → i < object_count image
         → k < object_count image → is_deferred image (object_at image i) ≡ true
@@ -33,7 +31,7 @@ pub fn one_deferred_object()
         → deferred image d ≡ None }
 {}
 
-/// At its new address a moved object has its old words, with its references redirected unless it is deferred.
+/// At its new address a moved object has its old words; its references are redirected unless it is deferred.
 pub fn moved_objects()
     ensures word { (image : HeapImage) → HasLiveList image → (i j : ℕ) → i < object_count image
         → j < size_at image (object_at image i)
@@ -49,8 +47,8 @@ pub fn moved_objects()
         (1 + f))) (redirected image (word_at image (object_at image i + (1 + f)))) }
 {}
 
-/// The moved heap has the image of each object that is not deferred at its new address, each deferred object as it
-/// was, and from the new top up the old words.
+/// At its new address the moved heap has the image of an object that is not deferred, and the old words of a deferred
+/// one. From the new top up it has the old words.
 pub fn moves_by_objects()
     ensures now { (image : HeapImage) → HasLiveList image → (i : ℕ) → i < object_count image
         → is_deferred image (object_at image i) ≡ false
@@ -64,8 +62,8 @@ pub fn moves_by_objects()
         → moved_word image p ≡ word_at image p }
 {}
 
-/// The moved words become the compacted ones where the references of the deferred objects are redirected and the
-/// words from the new top up cleared.
+/// Redirecting the references of the deferred objects and clearing the words from the new top up makes the compacted
+/// words from the moved ones.
 pub fn update_then_clear()
     ensures word { (image : HeapImage) → HasLiveList image → (p : ℕ)
         → updated_word image p ≡ compacted_word image p }

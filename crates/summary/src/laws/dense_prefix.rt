@@ -1,6 +1,4 @@
 //! The dense prefix: its end, its dead words and its fillers.
-//!
-//! The functions do nothing: each one's contract is a law.
 
 ghost use Rattle.std.specs.Prelude.{◌≡◌, ◌+◌, ◌-◌, ◌<◌, ◌≤◌, ◌∷◌, false, ℕ, slice_range, replicate};
 ghost use Rattle.heap_image.specs.Header.{filler_header};
@@ -10,13 +8,13 @@ ghost use Rattle.summary.specs.Fillers.{filler_word, IsDeadRun};
 ghost use Rattle.summary.specs.Compaction.{moved_word, compacted_word, moved, compact};
 ghost use Rattle.summary.specs.RegionData.{data_words};
 
-/// The prefix end has the property that defines it: it is the greatest region start that the allowance permits.
+/// The prefix end is the greatest region start that the allowance permits.
 pub fn prefix_end_is_greatest()
     ensures { (image : HeapImage) → IsPrefixEnd image (prefix_end image) }
 {}
 
-/// Dead and live words below an address are all words there; more addresses have no fewer dead ones; a region adds
-/// the words that are not its data.
+/// The dead and the live words below an address add up to all words there. The number of dead words grows with the
+/// address, for each region by the words that are not its data.
 pub fn dead_words_by_region()
     ensures live { (image : HeapImage) → (b : ℕ) → dead_words_below image b + live_words image 0 b ≡ b }
     ensures more { (image : HeapImage) → (b c : ℕ) → b ≤ c
@@ -26,8 +24,8 @@ pub fn dead_words_by_region()
         ≡ dead_words_below image (start_of image r) + region_words image }
 {}
 
-/// Each dead word of the dense prefix is in a longest run, cut at the prefix end, that becomes a filler: a header
-/// with the run's length, then zeros.
+/// Each dead word of the dense prefix is in a maximal run, cut at the prefix end, which becomes a filler: a header with
+/// the run's length, then zeros.
 pub fn fillers_by_runs()
     ensures run { (image : HeapImage) → (p : ℕ) → p < prefix_end image → is_live_word image p ≡ false
         → (a : ℕ) × (b : ℕ) × IsDeadRun image a b × (a ≤ p) × (p < b) }

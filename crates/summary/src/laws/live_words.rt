@@ -1,13 +1,11 @@
-//! Live words: whose they are, and how they are counted.
-//!
-//! The functions do nothing: each one's contract is a law.
+//! Live words: the objects to which they belong, and their counts.
 
 ghost use Rattle.std.specs.Prelude.{◌≡◌, ◌+◌, ◌-◌, ◌*◌, ◌/◌, ◌<◌, ◌≤◌, true, false, ℕ, map, sum};
 ghost use Rattle.std.specs.List.{range_with_len};
 ghost use Rattle.heap_image.specs.HeapImage.{HeapImage, HasLiveList, heap_words, end_of, is_live_word, live_words};
 ghost use Rattle.summary.specs.LiveObjects.{object_count, object_at};
 
-/// A live word is of one object; of two objects in the live list the first ends where the second begins, or below.
+/// A live word belongs to one object. Objects of the live list are in order and don't overlap.
 pub fn words_of_objects()
     ensures owner { (image : HeapImage) → HasLiveList image → (q : ℕ) → is_live_word image q ≡ true → (i : ℕ)
         × (i < object_count image) × (object_at image i ≤ q)
@@ -24,7 +22,7 @@ pub fn words_of_objects()
         → end_of image (object_at image i) ≤ object_at image k }
 {}
 
-/// All words of an object count, and none before the first object, behind the last or between two.
+/// All words of an object are live, and no word before the first object, after the last or between two.
 pub fn live_words_by_objects()
     ensures within { (image : HeapImage) → HasLiveList image → (i a b : ℕ) → i < object_count image
         → object_at image i ≤ a → a ≤ b → b ≤ end_of image (object_at image i)
@@ -39,7 +37,7 @@ pub fn live_words_by_objects()
         → (i + 1 < object_count image → q < object_at image (i + 1)) → is_live_word image q ≡ false }
 {}
 
-/// Live words are counted part by part, and by blocks of n words.
+/// The count of live words is the sum over parts, and over blocks of n words.
 pub fn live_words_by_blocks()
     ensures parts { (image : HeapImage) → (a b c : ℕ) → a ≤ b → b ≤ c
         → live_words image a c ≡ live_words image a b + live_words image b c }

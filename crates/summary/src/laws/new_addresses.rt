@@ -1,6 +1,4 @@
 //! New addresses of objects and the new top.
-//!
-//! The functions do nothing: each one's contract is a law.
 
 ghost use Rattle.std.specs.Prelude.{◌≡◌, ◌+◌, ◌<◌, ◌≤◌, ℕ, IsTrue, count_by};
 ghost use Rattle.std.specs.List.{range_with_len};
@@ -12,8 +10,8 @@ ghost use Rattle.summary.specs.RegionData.{partial_words, destination};
 ghost use Rattle.summary.specs.Compaction.{redirected};
 ghost use Rattle.summary.specs.Redirections.{is_counted};
 
-/// Live objects keep their order and do not overlap at their new addresses, none goes up, and none ends above the
-/// new top.
+/// At their new addresses live objects keep their order and don't overlap. None moves up, and none ends above the new
+/// top.
 pub fn objects_keep_their_order()
     ensures apart { (image : HeapImage) → HasLiveList image → (i k : ℕ) → i < k → k < object_count image
         → new_end_of image (object_at image i) ≤ new_address image (object_at image k) }
@@ -25,28 +23,28 @@ pub fn objects_keep_their_order()
         → new_end_of image (object_at image i) ≤ new_top image }
 {}
 
-/// Each place from the prefix end up to the new top is of a live object at its new address.
+/// Each address from the prefix end up to the new top belongs to a live object after the collection.
 pub fn no_gaps_above_the_prefix()
     ensures { (image : HeapImage) → HasLiveList image → (p : ℕ) → prefix_end image ≤ p → p < new_top image
         → (i : ℕ) × (i < object_count image) × (new_address image (object_at image i) ≤ p)
         × (p < new_end_of image (object_at image i)) }
 {}
 
-/// The new top is the prefix end and the live words above it.
+/// The new top is the prefix end plus the number of live words above it.
 pub fn new_top_by_counting()
     ensures { (image : HeapImage) → HasLiveList image
         → new_top image ≡ prefix_end image + live_words image (prefix_end image) (heap_words image) }
 {}
 
-/// Each word of a live object goes where counting says.
+/// A word of a live object goes to the prefix end plus the number of live words between the prefix end and it.
 pub fn new_address_by_counting()
     ensures { (image : HeapImage) → HasLiveList image → (i j : ℕ) → i < object_count image
         → j < size_at image (object_at image i)
         → new_address image (object_at image i) + j ≡ slid image (object_at image i + j) }
 {}
 
-/// An object above the prefix end goes behind its region's destination by the live words that stand before it in
-/// the region.
+/// An object above the prefix end goes to its region's destination plus the number of live words before it in the
+/// region.
 pub fn new_address_by_region()
     ensures region { (image : HeapImage) → HasLiveList image → (i : ℕ) → i < object_count image
         → prefix_end image ≤ object_at image i
@@ -71,8 +69,8 @@ pub fn new_address_by_region()
         (object_at image i) }
 {}
 
-/// A reference becomes the count of the numbers below it that are null, or 1 plus the address of a word that lies below
-/// the prefix end or is live.
+/// The new value of a reference is the count of the numbers below it that are null, or 1 plus the address of a word that
+/// is live or lies below the prefix end.
 pub fn redirection_by_counting()
     ensures { (image : HeapImage) → HasLiveList image → (w : ℕ) → IsTrue (is_null_or_live image w)
         → redirected image w ≡ count_by (is_counted image) (range_with_len 0 w) }

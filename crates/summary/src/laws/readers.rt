@@ -1,6 +1,4 @@
 //! Which regions read which.
-//!
-//! The functions do nothing: each one's contract is a law.
 
 ghost use Rattle.std.specs.Prelude.{◌≡◌, ◌+◌, ◌<◌, ◌≤◌, true, Some, ℕ};
 ghost use Rattle.heap_image.specs.HeapImage.{HeapImage, IsValid, HasLiveList, region_words, region_count, region_of, start_of, is_live_word};
@@ -8,8 +6,8 @@ ghost use Rattle.summary.specs.NewAddresses.{prefix_end};
 ghost use Rattle.summary.specs.WordMoves.{reads, is_to_fill, slid};
 ghost use Rattle.summary.specs.RegionData.{data_words, destination, reader_count, source, first_target, last_target, readers_by_destination};
 
-/// A region is read for each live word of it that goes to the reader; the reader is to be filled and does not lie
-/// above, and one of the dense prefix reads no other.
+/// One region reads another if a live word goes from the other to it. The reader is to be filled and doesn't lie above,
+/// and a region of the dense prefix reads only itself.
 pub fn reads_by_words()
     ensures word { (image : HeapImage) → HasLiveList image → (d s : ℕ) → reads image d s ≡ true → (q : ℕ)
         × (is_live_word image q ≡ true) × (region_of image (slid image q) ≡ d)
@@ -25,7 +23,8 @@ pub fn reads_by_words()
         → (d < region_count image) × (s < region_count image) }
 {}
 
-/// A region with data is read by the regions from that of its destination up to that of its last word's new place.
+/// The readers of a region with data are those from the region of its destination to the region to which its last word
+/// goes.
 pub fn reads_by_destination()
     ensures targets { (image : HeapImage) → HasLiveList image → (d s : ℕ) → reads image d s ≡ true
         → (0 < data_words image s) × (first_target image s ≤ d) × (d ≤ last_target image s) }
@@ -36,7 +35,7 @@ pub fn reads_by_destination()
         × (last_target image s ≤ first_target image s + 1) × (last_target image s ≤ s) }
 {}
 
-/// Of the regions with data, those that a region reads stand in a row, from its source on.
+/// The regions that a region reads are consecutive among the regions with data, from its source on.
 pub fn sources_in_a_row()
     ensures between { (image : HeapImage) → HasLiveList image → (d s t u : ℕ) → reads image d s ≡ true
         → reads image d u ≡ true → s ≤ t → t ≤ u → 0 < data_words image t → reads image d t ≡ true }
@@ -52,8 +51,7 @@ pub fn sources_in_a_row()
         → 0 < data_words image d → reads image d d ≡ true }
 {}
 
-/// How many other regions read one follows from its destination and its data; they are two at most, and the moves
-/// of regions can be scheduled.
+/// The number of other regions that read a region follows from its destination and its data; it is at most two.
 pub fn reader_count_by_destination()
     ensures count { (image : HeapImage) → IsValid image → (s : ℕ)
         → reader_count image s ≡ readers_by_destination image s }

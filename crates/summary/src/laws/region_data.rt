@@ -1,6 +1,4 @@
 //! The data of a region, its destination and its source.
-//!
-//! The functions do nothing: each one's contract is a law.
 
 ghost use Rattle.std.specs.Prelude.{◌≡◌, ◌+◌, ◌-◌, ◌<◌, ◌≤◌, ◌==◌, true, Some, ℕ, sum_by, cond, min, nat_lt};
 ghost use Rattle.heap_image.specs.HeapImage.{HeapImage, IsValid, HasLiveList, region_words, heap_words, region_count, region_of, start_of, end_of, is_live_word, live_words};
@@ -9,8 +7,8 @@ ghost use Rattle.summary.specs.NewAddresses.{prefix_end, new_top};
 ghost use Rattle.summary.specs.WordMoves.{is_to_fill, slid};
 ghost use Rattle.summary.specs.RegionData.{is_begun_left, partial_words, own_words, data_words, destination, source, fill_count};
 
-/// The partial and the own words are the live words of a region; the partial ones stand at its front, and an
-/// object that begins in it begins behind them.
+/// The partial and the own words are the live words of a region. The partial words are at its front, and an object that
+/// begins in the region begins after them.
 pub fn region_data_by_words()
     ensures counted { (image : HeapImage) → HasLiveList image → (r : ℕ)
         → partial_words image r + own_words image r
@@ -24,8 +22,8 @@ pub fn region_data_by_words()
         + partial_words image (region_of image (object_at image i)) ≤ object_at image i }
 {}
 
-/// The own words of a region are those of the objects that begin in it, up to its end; the partial ones are of the
-/// last object that begins further left.
+/// The own words of a region belong to the objects that begin in it, up to its end. The partial words belong to the last
+/// object that begins before it.
 pub fn region_data_by_objects()
     ensures own { (image : HeapImage) → HasLiveList image → (r : ℕ)
         → own_words image r
@@ -49,7 +47,7 @@ pub fn region_data_by_objects()
         → partial_words image r ≡ 0 }
 {}
 
-/// The live words of a region that is not of the dense prefix go behind the prefix and the live words in between.
+/// The destination of a region after the dense prefix is the prefix end plus the number of live words in between.
 pub fn destination_by_counting()
     ensures { (image : HeapImage) → HasLiveList image → (r : ℕ) → prefix_end image ≤ start_of image r
         → start_of image r ≤ heap_words image
@@ -57,8 +55,8 @@ pub fn destination_by_counting()
         ≡ prefix_end image + live_words image (prefix_end image) (start_of image r) }
 {}
 
-/// Up to the prefix end a region's destination is its start; from there on each is the one before and the data in
-/// between, up to the new top.
+/// Up to the prefix end a region's destination is its start. From there on it is the destination of the region before
+/// plus that region's data; the last sum is the new top.
 pub fn destinations_in_a_row()
     ensures prefix { (image : HeapImage) → HasLiveList image → (r : ℕ) → start_of image r ≤ prefix_end image
         → destination image r ≡ start_of image r }
@@ -68,8 +66,8 @@ pub fn destinations_in_a_row()
     ensures top { (image : HeapImage) → IsValid image → destination image (region_count image) ≡ new_top image }
 {}
 
-/// The live words of a region at or above the prefix end go to its destination and the places behind it, in order
-/// and without a gap.
+/// The live words of a region at or above the prefix end go to its destination and the addresses after it, in order and
+/// without a gap.
 pub fn region_words_go_in_a_row()
     ensures at { (image : HeapImage) → HasLiveList image → (r q : ℕ) → prefix_end image ≤ start_of image r
         → start_of image r ≤ q → is_live_word image q ≡ true
@@ -93,8 +91,8 @@ pub fn source_by_destination()
         × (start_of image d < destination image s + data_words image s) }
 {}
 
-/// The regions to fill are the first ones, as many as begin below the new top, which lies in the heap and not
-/// below the prefix end.
+/// The regions to fill are those that begin below the new top. The new top lies in the heap and not below the prefix
+/// end.
 pub fn regions_to_fill()
     ensures count { (image : HeapImage) → (d : ℕ) → is_to_fill image d ≡ nat_lt d (fill_count image) }
     ensures few { (image : HeapImage) → IsValid image → fill_count image ≤ region_count image }

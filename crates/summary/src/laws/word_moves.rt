@@ -1,6 +1,4 @@
-//! Where each live word goes, and where the word of a place comes from.
-//!
-//! The functions do nothing: each one's contract is a law.
+//! The new address of each live word, and the old address of each word after the collection.
 
 ghost use Rattle.std.specs.Prelude.{◌≡◌, ◌+◌, ◌<◌, ◌≤◌, true, false, Some, None, ℕ, map, filter};
 ghost use Rattle.std.specs.List.{range_with_len};
@@ -9,7 +7,7 @@ ghost use Rattle.summary.specs.NewAddresses.{prefix_end, new_top};
 ghost use Rattle.summary.specs.WordMoves.{word_moves, origin, reads, slid};
 ghost use Rattle.summary.specs.RegionData.{data_words, destination};
 
-/// The moves of words are one for each live word, in ascending order.
+/// There is one move for each live word, in ascending order.
 pub fn moves_by_counting()
     ensures { (image : HeapImage) → HasLiveList image
         → word_moves image
@@ -17,7 +15,8 @@ pub fn moves_by_counting()
         (heap_words image))) }
 {}
 
-/// No live word goes up, two go in their order and to different places, and none to the new top or above.
+/// No live word moves up, two live words keep their order and go to different addresses, and none goes to the new top or
+/// above.
 pub fn words_go_down()
     ensures down { (image : HeapImage) → (q : ℕ) → slid image q ≤ q }
     ensures ordered { (image : HeapImage) → (q r : ℕ) → is_live_word image q ≡ true → q < r
@@ -26,7 +25,7 @@ pub fn words_go_down()
         → slid image q < new_top image }
 {}
 
-/// Live words in a row go to places in a row, and dead words above the prefix end are left out.
+/// Consecutive live words go to consecutive addresses, and dead words above the prefix end are left out.
 pub fn runs_of_words()
     ensures live { (image : HeapImage) → (q n : ℕ) → ((j : ℕ) → j < n → is_live_word image (q + j) ≡ true)
         → slid image (q + n) ≡ slid image q + n }
@@ -40,7 +39,7 @@ pub fn runs_of_words()
         × (region_of image q ≡ s) × (live_words image (start_of image s) q ≡ k) }
 {}
 
-/// The word at the new place of a live word comes from that word, and from no other.
+/// The word at the new address of a live word comes from that word and from no other.
 pub fn origin_is_unique()
     ensures to { (image : HeapImage) → HasLiveList image → (q : ℕ) → q < heap_words image
         → is_live_word image q ≡ true → origin image (slid image q) ≡ Some q }
@@ -48,8 +47,8 @@ pub fn origin_is_unique()
         → (is_live_word image q ≡ true) × (slid image q ≡ p) }
 {}
 
-/// Each place from the prefix end up to the new top gets a word. Below, live words stay and nothing goes to the
-/// other places.
+/// Each address from the prefix end up to the new top gets a word. Below, live words stay and nothing goes to the other
+/// addresses.
 pub fn origin_by_place()
     ensures above { (image : HeapImage) → HasLiveList image → (p : ℕ) → prefix_end image ≤ p → p < new_top image
         → (q : ℕ) × (origin image p ≡ Some q) }
@@ -61,8 +60,8 @@ pub fn origin_by_place()
         → origin image p ≡ None }
 {}
 
-/// The origin of a place lies there or above, origins keep the order of places, and the region of a place reads
-/// that of its origin.
+/// The origin of an address lies there or above, origins keep the order of addresses, and the region of an address reads
+/// the region of its origin.
 pub fn origins_go_up()
     ensures up { (image : HeapImage) → HasLiveList image → (p q : ℕ) → origin image p ≡ Some q → p ≤ q }
     ensures ordered { (image : HeapImage) → HasLiveList image → (p q r t : ℕ) → origin image p ≡ Some q

@@ -42,7 +42,7 @@ pub complete-done-requires-clause-none_left : goal.complete-done-requires-clause
 complete-done-requires-clause-none_left g c =
     let i = c.loop-opening.invariant in
     let t = c.loop-opening.ticket in
-    let lawful = subst IsMoveTable c.requires.moves c.regions-regions.ensures.lawful in
+    let lawful = subst IsMoveTable c.requires.moves c.moves_are_lawful.ensures in
     let last = subst (λ (m : MoveTable). (s : ℕ) → t.next ≤ s → reads m t.region s ≡ false) c.requires.moves c.in_default.ensures.last in
     c.right.ensures.same.2 ∙ (c.in_default.ensures.same.1 ∙ c.swept_tickets_have_none_left.ensures (moves c.args.board.now) (caller c.loop-opening.pass) t lawful i.2 i.5 last)
 

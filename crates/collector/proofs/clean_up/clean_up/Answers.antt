@@ -9,7 +9,7 @@ use Rattle.fill.specs.MovedHeap.{cleared}
 use Rattle.collector.proofs.Telling.{same_image}
 use Rattle.collector.proofs.clean_up.clean_up.Goals as goal
 
--- all items of a vector are written anew
+-- a vector whose items are all replaced
 all_new : {X : Type 0} (n : ℕ) (new old : List X) → length new ≡ n → take n (new ++ drop (length new) old) ≡ new
 all_new n new old e = ap (λ k. take k (new ++ drop (length new) old)) (sym e) ∙ take-append_seam new (drop (length new) old)
 

@@ -5,7 +5,7 @@ use Rattle.collector.specs.declared.worker.Halt.TheVariants.{Stopped, Failed}
 use Rattle.collector.specs.Halts.{met_fault}
 use Rattle.collector.proofs.prepared.first_fault.Goals as goal
 
--- What a worker met itself is how it ended.
+-- The fault that a worker has met itself is the one that it ended with.
 ended_so : (end : Result Unit Halt) (P : Fault → Type 0) → ((fault : Fault) → end ≡ Err (Failed fault) → P fault) → IfSome (met_fault end) P
 unfolding met_fault
 ended_so (Ok _) P holds = search

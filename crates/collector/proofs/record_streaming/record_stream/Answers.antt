@@ -21,14 +21,14 @@ returns-in_err-give_all-in-Ok-clause-lines_last g c =
 
 pub returns-in_ok-give_all-in-Ok-clause-texts : goal.returns-in_ok-give_all-in-Ok-clause-texts
 returns-in_ok-give_all-in-Ok-clause-texts g c =
-    let told = g.L.Outlet.took c.args.lines.now in
-    let told' = g.L.Outlet.took c.give_all.new.writer in
+    let lines = g.L.Outlet.took c.args.lines.now in
+    let lines' = g.L.Outlet.took c.give_all.new.writer in
     record {
       image = c.in_ok-image.image;
       read = c.in_ok-image.ensures.read;
       collected = appended _ _ _ _ _ _ c.in_ok-image.ensures.read c.in-Ok.ensures.image c.in_ok-write_image_buffered-in-Ok.ensures.text;
       schedule = c.in-Ok.schedule;
       recorded = c.in-Ok.ensures.schedule;
-      lines = subst (λ (bytes : List ℕ). Appends told told' bytes) (c.as_slice.ensures.value ∙ c.in_ok-text-in-Ok.ensures) c.in_ok-give_all-in-Ok.ensures.bytes;
+      listed = subst (λ (bytes : List ℕ). Appends lines lines' bytes) (c.as_slice.ensures.value ∙ c.in_ok-text-in-Ok.ensures) c.in_ok-give_all-in-Ok.ensures.bytes;
       counted = c.in-Ok.ensures.figures;
     }

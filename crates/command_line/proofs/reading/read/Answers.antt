@@ -9,24 +9,24 @@ use Rattle.command_line.proofs.Calls.{calls_board, met_by_call}
 use Rattle.command_line.proofs.reading.read.Goals as goal
 
 pub returns-in-Ok-clause-calls : goal.returns-in-Ok-clause-calls
-returns-in-Ok-clause-calls c = λ name call. c.called.ensures.calls name
+returns-in-Ok-clause-calls c = λ name call. c.parse_request.ensures.calls name
     (met_by_call (app_of c.in_ok-words.field-0) (map string_bytes c.args.words.now) name c.in-Ok.matches
     c.in_ok-words.ensures c.in-Ok.ensures.matches call)
 
 pub returns-in-Ok-clause-board : goal.returns-in-Ok-clause-board
 returns-in-Ok-clause-board c = λ words_are.
     subst (λ (r : Result Request Unread). MatchResult r (IsFor (codes "board")) (λ unread. unread ≡ Memory))
-    (sym (c.called.ensures.board
+    (sym (c.parse_request.ensures.board
     (met_by_call (app_of c.in_ok-words.field-0) (map string_bytes c.args.words.now) (codes "board") c.in-Ok.matches
     c.in_ok-words.ensures c.in-Ok.ensures.matches (calls_board (map string_bytes c.args.words.now) words_are)))) refl
 
 pub returns-in-Err-clause-calls : goal.returns-in-Err-clause-calls
 returns-in-Err-clause-calls c = λ name call.
     subst (λ (r : Result Request Unread). MatchResult r (IsFor name) IsNoUsage)
-    (sym (c.answered.ensures (c.in-Err.ensures.passes (ap (λ a. takes a (map string_bytes c.args.words.now)) c.in_ok-words.ensures ∙ call.0)))) tt
+    (sym (c.interpret_error.ensures (c.in-Err.ensures.passes (ap (λ a. takes a (map string_bytes c.args.words.now)) c.in_ok-words.ensures ∙ call.0)))) tt
 
 pub returns-in-Err-clause-board : goal.returns-in-Err-clause-board
 returns-in-Err-clause-board c = λ words_are.
     subst (λ (r : Result Request Unread). MatchResult r (IsFor (codes "board")) (λ unread. unread ≡ Memory))
-    (sym (c.answered.ensures (c.in-Err.ensures.passes (ap (λ a. takes a (map string_bytes c.args.words.now)) c.in_ok-words.ensures
+    (sym (c.interpret_error.ensures (c.in-Err.ensures.passes (ap (λ a. takes a (map string_bytes c.args.words.now)) c.in_ok-words.ensures
     ∙ (calls_board (map string_bytes c.args.words.now) words_are).0)))) refl

@@ -19,7 +19,7 @@ word-requires-clause-inside c =
     let start = c.part_start.ensures in
     omega arith
 
--- the references that are gone over
+-- the references that are visited
 count : (c : After-from) → c.from.result ≡ references_of (moved_word c.args.plan.now c.in-Some.begin)
 count c =
     let image : HeapImage = c.args.plan.now in
@@ -55,7 +55,7 @@ loop-p-init c =
           ∙ ap (λ p. words_from image c.args.first (length c.args.regions.now) (late_up_to image d x p)) next;
     }
 
--- a reference that is come to: where it lies, and how many words the part has still
+-- a reference that is visited: its address, and how many words the part has left
 module _ (c : In-loop-p) where
   abbrev still : ℕ
   still = length c.loop-p.regions * region_words c.args.plan.now

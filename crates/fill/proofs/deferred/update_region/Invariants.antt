@@ -10,6 +10,6 @@ use Rattle.fill.proofs.deferred.update_region.Given as goal
 abbrev pub invariant-loop-p : goal.invariant-loop-p
 invariant-loop-p l = record {
   heap : FormHeap l.plan.region_log l.regions;
-  end : l.p-end ≡ l.behind + references_of (moved_word l.plan l.begin);
+  end : l.p-end ≡ l.start + references_of (moved_word l.plan l.begin);
   words : concat l.regions ≡ words_from l.plan l.first (length l.regions) (late_up_to l.plan l.d l.begin (start_of l.plan l.first + l.p));
 }

@@ -1,7 +1,7 @@
 use Rattle.std.proofs.Common.{◌+◌, ◌*◌}
 use Rattle.fill.proofs.deferred_parts.+parts.Given as goal
 
--- each thread's number falls with each call of `update`; `update_both` and a closure stand between two of these
+-- the number of threads falls with each call of `update`; `update_both` and a closure lie between two such calls
 abbrev pub decreases-DeferredParts::update : goal.decreases-DeferredParts::update
 decreases-DeferredParts::update g l = 3 * l.most + 1
 

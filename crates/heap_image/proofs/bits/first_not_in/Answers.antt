@@ -13,8 +13,8 @@ returns-then-rest-ne0 c =
     let from : ℕ = c.args.from in
     let word : ℕ = c.in-Some.word.now in
     let at : word ≡ get_or now (from / 64) 0 = c.in-Some.ensures.lookup.1 ∙ get_or_default now (from / 64) word 0 (ltb-true (from / 64) (length now) (sym c.in-Some.ensures.lookup.0)) in
-    first-in_word now from (from / 64) (bit_and c.lacking.result (low_mask (from % 64))) c.lowest.result
-    (lack-first now from word c.lacking.result c.lacking.ensures.bits at) (all-first now from)
+    first-in_word now from (from / 64) (bit_and c.complement.result (low_mask (from % 64))) c.lowest.result
+    (lack-first now from word c.complement.result c.complement.ensures.bits at) (all-first now from)
     c.lowest.ensures.below c.lowest.ensures.set c.lowest.ensures.least
 
 pub lowest-requires-in-Some-first_not_full : goal.lowest-requires-in-Some-first_not_full
@@ -24,7 +24,7 @@ lowest-requires-in-Some-first_not_full c =
     let i : ℕ = c.in-Some-first_not_full.i in
     let behind : List ℕ = take (length now - n) (drop n now) in
     let found : Some i ≡ position not_full behind = c.in-Some-first_not_full.ensures in
-    c.lacking-in-Some-first_not_full.ensures.some (found-lack behind i (sym found)).0
+    c.complement-in-Some-first_not_full.ensures.some (found-lack behind i (sym found)).0
 
 pub returns-in-Some-first_not_full : goal.returns-in-Some-first_not_full
 returns-in-Some-first_not_full c =
@@ -34,14 +34,14 @@ returns-in-Some-first_not_full c =
     let i : ℕ = c.in-Some-first_not_full.i in
     let word : ℕ = c.in-Some.word.now in
     let at : word ≡ get_or now (from / 64) 0 = c.in-Some.ensures.lookup.1 ∙ get_or_default now (from / 64) word 0 (ltb-true (from / 64) (length now) (sym c.in-Some.ensures.lookup.0)) in
-    let all : AllBefore now from n = all-second now from (bit_and c.lacking.result (low_mask (from % 64))) (lack-first now from word c.lacking.result c.lacking.ensures.bits at) c.if-rest-ne0.false in
+    let all : AllBefore now from n = all-second now from (bit_and c.complement.result (low_mask (from % 64))) (lack-first now from word c.complement.result c.complement.ensures.bits at) c.if-rest-ne0.false in
     let behind : List ℕ = take (length now - n) (drop n now) in
     let rest : behind ≡ drop n now = words_behind now now n refl in
     let found : Some i ≡ position not_full behind = c.in-Some-first_not_full.ensures in
     let found' : position not_full (drop n now) ≡ Some i = sym (found ∙ ap (position not_full) rest) in
     let there : get_or behind i 0 ≡ get_or now (n + i) 0 = ap (λ (w : List ℕ). get_or w i 0) rest ∙ get_or-drop n now i 0 in
-    first-in_word now from (n + i) c.lacking-in-Some-first_not_full.result c.lowest-in-Some-first_not_full.result
-    (lack-behind now from (n + i) (get_or behind i 0) c.lacking-in-Some-first_not_full.result c.lacking-in-Some-first_not_full.ensures.bits (omega arith) there)
+    first-in_word now from (n + i) c.complement-in-Some-first_not_full.result c.lowest-in-Some-first_not_full.result
+    (lack-behind now from (n + i) (get_or behind i 0) c.complement-in-Some-first_not_full.result c.complement-in-Some-first_not_full.ensures.bits (omega arith) there)
     (all-behind now from n i all (full-some (drop n now) i found'))
     c.lowest-in-Some-first_not_full.ensures.below c.lowest-in-Some-first_not_full.ensures.set c.lowest-in-Some-first_not_full.ensures.least
 
@@ -52,7 +52,7 @@ returns-in-None c =
     let n : ℕ = from / 64 + 1 in
     let word : ℕ = c.in-Some.word.now in
     let at : word ≡ get_or now (from / 64) 0 = c.in-Some.ensures.lookup.1 ∙ get_or_default now (from / 64) word 0 (ltb-true (from / 64) (length now) (sym c.in-Some.ensures.lookup.0)) in
-    let all : AllBefore now from n = all-second now from (bit_and c.lacking.result (low_mask (from % 64))) (lack-first now from word c.lacking.result c.lacking.ensures.bits at) c.if-rest-ne0.false in
+    let all : AllBefore now from n = all-second now from (bit_and c.complement.result (low_mask (from % 64))) (lack-first now from word c.complement.result c.complement.ensures.bits at) c.if-rest-ne0.false in
     let behind : List ℕ = take (length now - n) (drop n now) in
     let rest : behind ≡ drop n now = words_behind now now n refl in
     let found : None ≡ position not_full behind = c.in-None.ensures in

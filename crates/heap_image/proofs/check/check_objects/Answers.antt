@@ -15,7 +15,7 @@ returns-then-is_unsound-clause-fault c =
     header_first c.args.heap.now c.args.live.now c.len-words.result c.loop-a.a-index c.loop-a-test.true c.len-words.ensures.value c.loop-a.invariant.sound
     (unsound_tested c.args.heap.now c.args.live.now c.len-words.result c.loop-a.a-index c.loop-a-test.true c.len-words.ensures.value c.word-word.result c.word-word.ensures c.is_unsound.result c.is_unsound.ensures ∙ c.if-is_unsound.true)
 
--- the search of one object, by the number of references that its header tells
+-- the search of one object, by the number of references in its header
 searched : (heap : HeapImage) (live : List ℕ) (a word n : ℕ) (field : Option ℕ) → word ≡ get_or heap.words a 0 → n ≡ references_of word
     → field ≡ find (λ f. is_dangling (with_live heap live) (a, f)) (range_with_len 0 n)
     → find (is_dangling (with_live heap live)) (fields_of (with_live heap live) a) ≡ option_map (λ f. (a, f)) field

@@ -17,7 +17,7 @@ returns-in_err-regions-clause-fault g c =
     let p = err_from_is_err_and c.from_residual-in_err-regions.result c.from_residual-in_err-regions.ensures.1 in
     let front = c.in_ok-front.front in
     let fault = c.in_err-regions.field-0.0 in
-    rw (p.1, p.2) (body_reason front.rooted fault front.region_log front.count front.words front.allowance c.in_ok-front.ensures.limits (g.R.Intake.left c.args.reader.now) (g.R.Intake.left c.read_front.new.reader) c.in_ok-front.ensures.told c.in_err-regions.ensures.fault (λ e. (c.in_err-regions.ensures.truncated (ap Err e)).1))
+    rw (p.1, p.2) (body_reason front.rooted fault front.region_log front.count front.words front.allowance c.in_ok-front.ensures.limits (g.R.Intake.left c.args.reader.now) (g.R.Intake.left c.read_front.new.reader) c.in_ok-front.ensures.bytes c.in_err-regions.ensures.fault (λ e. (c.in_err-regions.ensures.truncated (ap Err e)).1))
 
 pub returns-in_err-regions-clause-kind : goal.returns-in_err-regions-clause-kind
 returns-in_err-regions-clause-kind g c =
@@ -28,13 +28,13 @@ pub returns-in_err-regions-clause-left : goal.returns-in_err-regions-clause-left
 returns-in_err-regions-clause-left g c =
     let p = err_from_is_err_and c.from_residual-in_err-regions.result c.from_residual-in_err-regions.ensures.1 in
     let fault = c.in_err-regions.field-0.0 in
-    rw (p.1, p.2) (body_leaves fault (g.R.Intake.left c.args.reader.now) (g.R.Intake.left c.read_front.new.reader) (g.R.Intake.left c.read_body.new.reader) _ c.read_body.ensures.lost.0 c.in_ok-front.ensures.told c.read_body.ensures.lost.1 c.in_err-regions.ensures.fault (λ e. (c.in_err-regions.ensures.truncated (ap Err e)).0))
+    rw (p.1, p.2) (body_leaves fault (g.R.Intake.left c.args.reader.now) (g.R.Intake.left c.read_front.new.reader) (g.R.Intake.left c.read_body.new.reader) _ c.read_body.ensures.lost.0 c.in_ok-front.ensures.bytes c.read_body.ensures.lost.1 c.in_err-regions.ensures.fault (λ e. (c.in_err-regions.ensures.truncated (ap Err e)).0))
 
 pub returns-in_err-regions-clause-memory : goal.returns-in_err-regions-clause-memory
 returns-in_err-regions-clause-memory g c =
     let p = err_from_is_err_and c.from_residual-in_err-regions.result c.from_residual-in_err-regions.ensures.1 in
     let front = c.in_ok-front.front in
-    rw (p.1, p.2) (λ e. memory_behind_front front.rooted front.region_log front.count front.words front.allowance c.in_ok-front.ensures.limits (g.R.Intake.left c.args.reader.now) (g.R.Intake.left c.read_front.new.reader) c.in_ok-front.ensures.told (c.in_err-regions.ensures.memory (ap Err e)))
+    rw (p.1, p.2) (λ e. memory_behind_front front.rooted front.region_log front.count front.words front.allowance c.in_ok-front.ensures.limits (g.R.Intake.left c.args.reader.now) (g.R.Intake.left c.read_front.new.reader) c.in_ok-front.ensures.bytes (c.in_err-regions.ensures.memory (ap Err e)))
 
 pub returns-in_err-found-clause-fault : goal.returns-in_err-found-clause-fault
 returns-in_err-found-clause-fault g c =
@@ -46,7 +46,7 @@ returns-in_err-found-clause-fault g c =
     let after = g.R.Intake.left c.read_body.new.reader in
     let done = c.in_ok-regions.ensures in
     let fits : HasFittingNumbers image = fitting_parts front.region_log front.allowance body.regions.items body.tail.items front.words front.count c.in_ok-front.ensures.limits done.words done.tail c.in_ok-front.ensures.fit done.fit done.tail_fit in
-    let read : Consumes before after (listed_text front.rooted image) = read_parts front.rooted front.region_log front.allowance body.regions.items body.tail.items front.words front.count done.words done.tail before (g.R.Intake.left c.read_front.new.reader) after c.in_ok-front.ensures.told done.bytes in
+    let read : Consumes before after (listed_text front.rooted image) = read_parts front.rooted front.region_log front.allowance body.regions.items body.tail.items front.words front.count done.words done.tail before (g.R.Intake.left c.read_front.new.reader) after c.in_ok-front.ensures.bytes done.bytes in
     let fault = c.in_err-found.field-0.0 in
     let told = subst (λ (heap : HeapImage). (fault ≡ Memory) ⊎ (first_some (live_list_faults (from_tail front.rooted (with_live heap body.tail.items))) ≡ Some fault)) c.new-heap.ensures c.in_err-found.ensures.fault in
     let why = check_of_parts front.rooted front.region_log front.allowance c.as_slice.result.now body.regions.items body.tail.items c.as_slice.ensures.value fault told in
@@ -69,7 +69,7 @@ returns-in_err-found-clause-left g c =
     let after = g.R.Intake.left c.read_body.new.reader in
     let done = c.in_ok-regions.ensures in
     let fits : HasFittingNumbers image = fitting_parts front.region_log front.allowance body.regions.items body.tail.items front.words front.count c.in_ok-front.ensures.limits done.words done.tail c.in_ok-front.ensures.fit done.fit done.tail_fit in
-    let read : Consumes before after (listed_text front.rooted image) = read_parts front.rooted front.region_log front.allowance body.regions.items body.tail.items front.words front.count done.words done.tail before (g.R.Intake.left c.read_front.new.reader) after c.in_ok-front.ensures.told done.bytes in
+    let read : Consumes before after (listed_text front.rooted image) = read_parts front.rooted front.region_log front.allowance body.regions.items body.tail.items front.words front.count done.words done.tail before (g.R.Intake.left c.read_front.new.reader) after c.in_ok-front.ensures.bytes done.bytes in
     let fault = c.in_err-found.field-0.0 in
     let told = subst (λ (heap : HeapImage). (fault ≡ Memory) ⊎ (first_some (live_list_faults (from_tail front.rooted (with_live heap body.tail.items))) ≡ Some fault)) c.new-heap.ensures c.in_err-found.ensures.fault in
     let why = check_of_parts front.rooted front.region_log front.allowance c.as_slice.result.now body.regions.items body.tail.items c.as_slice.ensures.value fault told in
@@ -85,7 +85,7 @@ returns-in_err-found-clause-memory g c =
     let after = g.R.Intake.left c.read_body.new.reader in
     let done = c.in_ok-regions.ensures in
     let fits : HasFittingNumbers image = fitting_parts front.region_log front.allowance body.regions.items body.tail.items front.words front.count c.in_ok-front.ensures.limits done.words done.tail c.in_ok-front.ensures.fit done.fit done.tail_fit in
-    let read : Consumes before after (listed_text front.rooted image) = read_parts front.rooted front.region_log front.allowance body.regions.items body.tail.items front.words front.count done.words done.tail before (g.R.Intake.left c.read_front.new.reader) after c.in_ok-front.ensures.told done.bytes in
+    let read : Consumes before after (listed_text front.rooted image) = read_parts front.rooted front.region_log front.allowance body.regions.items body.tail.items front.words front.count done.words done.tail before (g.R.Intake.left c.read_front.new.reader) after c.in_ok-front.ensures.bytes done.bytes in
     rw (p.1, p.2) (λ _. more_than_front front.rooted image fits before after read)
 
 pub returns-in_err-found-clause-io : goal.returns-in_err-found-clause-io
@@ -104,7 +104,7 @@ returns-clause-fits g c =
     let after = g.R.Intake.left c.read_body.new.reader in
     let done = c.in_ok-regions.ensures in
     let fits : HasFittingNumbers image = fitting_parts front.region_log front.allowance body.regions.items body.tail.items front.words front.count c.in_ok-front.ensures.limits done.words done.tail c.in_ok-front.ensures.fit done.fit done.tail_fit in
-    let read : Consumes before after (listed_text front.rooted image) = read_parts front.rooted front.region_log front.allowance body.regions.items body.tail.items front.words front.count done.words done.tail before (g.R.Intake.left c.read_front.new.reader) after c.in_ok-front.ensures.told done.bytes in
+    let read : Consumes before after (listed_text front.rooted image) = read_parts front.rooted front.region_log front.allowance body.regions.items body.tail.items front.words front.count done.words done.tail before (g.R.Intake.left c.read_front.new.reader) after c.in_ok-front.ensures.bytes done.bytes in
     let found = c.in_ok-found.ensures in
     let tail = tail_is front.rooted c.new-heap.result body.tail.items c.in_ok-found.found.live.items (option_map (λ v. v.items) c.in_ok-found.found.roots) found.live found.roots in
     subst (λ xs. HasFittingNumbers (image_of front.region_log front.allowance body.regions.items xs)) (sym tail) fits
@@ -118,7 +118,7 @@ returns-clause-text g c =
     let after = g.R.Intake.left c.read_body.new.reader in
     let done = c.in_ok-regions.ensures in
     let fits : HasFittingNumbers image = fitting_parts front.region_log front.allowance body.regions.items body.tail.items front.words front.count c.in_ok-front.ensures.limits done.words done.tail c.in_ok-front.ensures.fit done.fit done.tail_fit in
-    let read : Consumes before after (listed_text front.rooted image) = read_parts front.rooted front.region_log front.allowance body.regions.items body.tail.items front.words front.count done.words done.tail before (g.R.Intake.left c.read_front.new.reader) after c.in_ok-front.ensures.told done.bytes in
+    let read : Consumes before after (listed_text front.rooted image) = read_parts front.rooted front.region_log front.allowance body.regions.items body.tail.items front.words front.count done.words done.tail before (g.R.Intake.left c.read_front.new.reader) after c.in_ok-front.ensures.bytes done.bytes in
     let found = c.in_ok-found.ensures in
     let tail = tail_is front.rooted c.new-heap.result body.tail.items c.in_ok-found.found.live.items (option_map (λ v. v.items) c.in_ok-found.found.roots) found.live found.roots in
     subst (λ xs. Consumes before after (listed_text front.rooted (image_of front.region_log front.allowance body.regions.items xs))) (sym tail) read

@@ -5,7 +5,7 @@ pub returns-clause-wanted : goal.returns-clause-wanted
 returns-clause-wanted c =
     let made = c.in_ok-image.ensures in
     let known = c.in_ok-limits.ensures in
-    let limits = c.in_ok-parts.ensures.limits in
+    let limits = c.in_ok-heap.ensures.limits in
     record {
       valid = made.valid;
       version = made.version;

@@ -9,7 +9,7 @@ use Rattle.heap_map.specs.declared.style.Glyphs.TheVariants.{Blocks, Letters}
 use Rattle.heap_map.specs.Text.{area_letter, area_mark, block_of_shade, letter_of_shade, shade_mark, shade_of}
 use Rattle.heap_map.proofs.laws.rows_have_a_character_for_each_cell.Goals as goal
 
--- a row of marks of so many bytes each
+-- a row of marks with this number of bytes each
 row : (mark : Cell → List ℕ) (bytes : ℕ) → ((cell : Cell) → length (mark cell) ≡ bytes) → (cells : List Cell) → length (flat_map mark cells) ≡ bytes * length cells
 row mark bytes each [] = omega arith
 row mark bytes each (cell ∷ cells) =

@@ -1,7 +1,7 @@
 use Rattle.std.proofs.Common.{ℕ, List, ◌∙◌, codes, string_bytes}
 use Rattle.heap_image.specs.HeapImage.{HeapImage, heap_words, version_of}
 use Rattle.heap_text.specs.Text.{number_line}
-use Rattle.heap_text.proofs.TextSteps.{four_told, same_line}
+use Rattle.heap_text.proofs.TextSteps.{append_four, same_line}
 use Rattle.heap_text.proofs.writing.write_front.Goals as goal
 
 pub returns : goal.returns
@@ -12,7 +12,7 @@ returns c =
     let t2 : List ℕ = string_bytes c.write_line-2.new.text in
     let t3 : List ℕ = string_bytes c.write_line-3.new.text in
     let t4 : List ℕ = string_bytes c.write_line-4.new.text in
-    four_told t0 t1 t2 t3 t4 (number_line (codes "heap version") (version_of image)) (number_line (codes "region-log") image.region_log)
+    append_four t0 t1 t2 t3 t4 (number_line (codes "heap version") (version_of image)) (number_line (codes "region-log") image.region_log)
     (number_line (codes "words") (heap_words image)) (number_line (codes "allowance") image.allowance)
     (same_line (codes "heap version") t0 t1 c.from.result (version_of image) c.in_ok-write_line.ensures (c.from.ensures ∙ c.version.ensures))
     (same_line (codes "region-log") t1 t2 c.from-2.result image.region_log c.in_ok-write_line-2.ensures (c.from-2.ensures ∙ c.region_log.ensures.value))

@@ -2,6 +2,6 @@ use Rattle.std.proofs.Common.{◌≡◌, ◌++◌, drop, string_bytes}
 use Rattle.heap_text.specs.Text.{lines_from}
 use Rattle.heap_text.proofs.writing.write_lines.Given as goal
 
--- what is told and what is left make the whole
+-- what is written and what is left make the whole
 abbrev pub invariant-loop-place : goal.invariant-loop-place
 invariant-loop-place l = string_bytes l.text ++ lines_from l.image l.from (drop l.place-index l.place-items) ≡ string_bytes l.fn.text ++ lines_from l.image 0 l.image.live

@@ -4,7 +4,7 @@ use Rattle.heap_image.specs.HeapImage.{word_at}
 use Rattle.heap_text.specs.Text.{addresses_between, number_text}
 use Rattle.heap_text.proofs.writing.write_numbers.Given as goal
 
--- what is told and what is left make the whole
+-- what is written and what is left make the whole
 abbrev pub invariant-loop-place : goal.invariant-loop-place
 invariant-loop-place l =
     string_bytes l.text ++ flat_map (λ a. number_text (word_at l.image a)) (addresses_between l.place l.to) ≡ string_bytes l.initial.text ++ flat_map (λ a. number_text (word_at l.image a)) (addresses_between l.from l.to)

@@ -9,8 +9,8 @@ use Rattle.history.proofs.Carrying.{AreFlagsOf, late_test, new_fits, contains_at
 use Rattle.history.proofs.references.late_references.Goals as goal
 use Rattle.history.proofs.references.late_references.Goals.{then-is_deferred, else-is_deferred}
 
-pub set_behind-requires : goal.set_behind-requires
-set_behind-requires c =
+pub set_after-requires : goal.set_after-requires
+set_after-requires c =
     let image : HeapImage = c.args.image.now in
     let valid = c.live-a-items.ensures.valid in
     let same : c.live-a-items.result.now ≡ image.live = c.live-a-items.ensures.value in
@@ -36,12 +36,12 @@ loop-a-preserved c =
       | then-is_deferred w ↦
           let begin : w.new_address-begin.result ≡ new_address image a = w.new_address-begin.ensures ∙ (ap (λ (i : HeapImage). new_address i (get_or c.live-a-items.result.now c.loop-a.a-index 0)) c.requires.plan ∙ ap (new_address image) at) in
           let count : w.references.result ≡ references_at image a = w.references.ensures ∙ ap references_of (c.word-header.ensures ∙ ap (word_at image) at) in
-          let set : AreSet c.loop-a.flags.items w.set_behind.new.flags w.new_address-begin.result (w.new_address-begin.result + w.references.result) =
-          subst (λ (xs : List Bool). AreSet xs w.set_behind.new.flags w.new_address-begin.result (w.new_address-begin.result + w.references.result)) w.deref_mut.ensures.value w.set_behind.ensures in
-          let long : length w.set_behind.new.flags ≡ c.loop-a.flags.len = omega (arith, set.all, c.loop-a.flags.ok.0) in
-          let items : c.if-is_deferred.flags.items ≡ w.set_behind.new.flags = ap (λ v. v.items) w.flags-is ∙ with_items_is c.loop-a.flags w.set_behind.new.flags long in
+          let set : AreSet c.loop-a.flags.items w.set_after.new.flags w.new_address-begin.result (w.new_address-begin.result + w.references.result) =
+          subst (λ (xs : List Bool). AreSet xs w.set_after.new.flags w.new_address-begin.result (w.new_address-begin.result + w.references.result)) w.deref_mut.ensures.value w.set_after.ensures in
+          let long : length w.set_after.new.flags ≡ c.loop-a.flags.len = omega (arith, set.all, c.loop-a.flags.ok.0) in
+          let items : c.if-is_deferred.flags.items ≡ w.set_after.new.flags = ap (λ v. v.items) w.flags-is ∙ with_items_is c.loop-a.flags w.set_after.new.flags long in
           subst (λ (xs : List Bool). AreFlagsOf image (late_test image) (c.loop-a.a-index + 1) xs) (sym items)
-          (late_more image valid c.loop-a.a-index w.new_address-begin.result w.references.result c.loop-a.flags.items w.set_behind.new.flags inside c.loop-a.invariant set begin count (sym is ∙ w.if-is_deferred.true))
+          (late_more image valid c.loop-a.a-index w.new_address-begin.result w.references.result c.loop-a.flags.items w.set_after.new.flags inside c.loop-a.invariant set begin count (sym is ∙ w.if-is_deferred.true))
       | else-is_deferred w ↦
           subst (λ (xs : List Bool). AreFlagsOf image (late_test image) (c.loop-a.a-index + 1) xs) (sym (ap (λ v. v.items) w.flags-is))
           (late_same image valid c.loop-a.a-index c.loop-a.flags.items inside c.loop-a.invariant (sym is ∙ w.if-is_deferred.false))

@@ -1,7 +1,7 @@
 use Rattle.std.proofs.Common.{◌≡◌, ℕ, ◌+◌, ◌*◌, ◌<◌, length, ap, ◌∙◌, arith}
 use Rattle.std.proofs.lemmas.List.{length-set}
 use Rattle.heap_image.specs.HeapImage.{HeapImage, is_live_word}
-use Rattle.mark_bitmap.specs.Marks.{goes_on}
+use Rattle.mark_bitmap.specs.Marks.{continues_at}
 use Rattle.mark_bitmap.proofs.Runs.{one, byte-is, has-set, part_word-is}
 use Rattle.mark_bitmap.proofs.objects.mark_words.Goals as goal
 
@@ -10,7 +10,7 @@ loop-i-init c = (
   c.requires.alike,
   (λ k l. let no : ⊥ = omega arith in absurd no),
   (let place : 64 * c.args.start ≡ 64 * (c.args.start + 0) = omega arith in
-      c.from-carried.ensures ∙ byte-is c.goes_on.result ∙ ap one c.goes_on.ensures ∙ ap (λ n. one (goes_on c.args.image.now n)) place),
+      c.from-carried.ensures ∙ byte-is c.continues_at.result ∙ ap one c.continues_at.ensures ∙ ap (λ n. one (continues_at c.args.image.now n)) place),
 )
 
 pub overflow_sub-carried : goal.overflow_sub-carried
@@ -36,7 +36,7 @@ loop-i-preserved c =
     let place : c.args.start + i + 1 ≡ c.args.start + (i + 1) = omega arith in (
       length-set c.loop-i.live i c.live_word-word.result ∙ room,
       has-set c.loop-i.live i c.live_word-word.result (λ k. is_live_word image (64 * c.args.start + k)) (omega (arith, room)) c.loop-i.invariant.1 (λ j h. found.0 j h ∙ ap (λ n. one (is_live_word image n)) (omega arith)),
-      omega (arith, next) ∙ ap (λ n. one (goes_on image (64 * n))) place,
+      omega (arith, next) ∙ ap (λ n. one (continues_at image (64 * n))) place,
     )
 
 pub returns-clause-bits : goal.returns-clause-bits

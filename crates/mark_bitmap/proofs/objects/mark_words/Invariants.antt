@@ -1,7 +1,7 @@
 use Rattle.std.proofs.Common.{◌≡◌, ℕ, ◌+◌, ◌*◌, ◌<◌, length}
 use Rattle.heap_image.specs.HeapImage.{is_live_word}
 use Rattle.heap_image.specs.Bits.{has}
-use Rattle.mark_bitmap.specs.Marks.{goes_on}
+use Rattle.mark_bitmap.specs.Marks.{continues_at}
 use Rattle.mark_bitmap.proofs.Runs.{one}
 use Rattle.mark_bitmap.proofs.objects.mark_words.Given as goal
 
@@ -9,4 +9,4 @@ abbrev pub invariant-loop-i : goal.invariant-loop-i
 invariant-loop-i l =
     (length l.live ≡ length l.ends)
     × ((k : ℕ) → k < 64 * l.i → has l.live k ≡ is_live_word l.image (64 * l.start + k))
-    × (l.carried ≡ one (goes_on l.image (64 * (l.start + l.i))))
+    × (l.carried ≡ one (continues_at l.image (64 * (l.start + l.i))))

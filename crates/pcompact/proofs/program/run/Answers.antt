@@ -5,14 +5,14 @@ use Rattle.pcompact.proofs.program.run.Goals as goal
 
 pub returns-in-Err-clause-board_is_known : goal.returns-in-Err-clause-board_is_known
 returns-in-Err-clause-board_is_known g c = λ words_are.
-    let memory : c.refused-failure.result ≡ out_of_memory = c.refused-failure.ensures (c.in-Err.ensures.board words_are) in
-    let status : c.tell.result ≡ 1 = c.tell.ensures ∙ ap status_of (c.new.ensures ∙ memory) in
+    let memory : c.unread_failure-failure.result ≡ out_of_memory = c.unread_failure-failure.ensures (c.in-Err.ensures.board words_are) in
+    let status : c.report.result ≡ 1 = c.report.ensures ∙ ap status_of (c.new.ensures ∙ memory) in
     omega arith
 
 pub returns-in-Err-answer-clause-board_is_known : goal.returns-in-Err-answer-clause-board_is_known
 returns-in-Err-answer-clause-board_is_known g c = λ words_are.
-    let asked : IsFor (codes "board") c.in-Ok.request = c.in-Ok.ensures.board words_are in
-    let status : c.tell-in-Err-answer.result ≡ 1 = c.tell-in-Err-answer.ensures ∙ ap status_of (c.in-Err-answer.ensures.board asked) in
+    let board : IsFor (codes "board") c.in-Ok.request = c.in-Ok.ensures.board words_are in
+    let status : c.report-in-Err-answer.result ≡ 1 = c.report-in-Err-answer.ensures ∙ ap status_of (c.in-Err-answer.ensures.board board) in
     omega arith
 
 -- what the command printed

@@ -1,7 +1,6 @@
-use Rattle.std.proofs.Common.{rules, ◌≡◌, ◌∙◌, ◌<◌, ℕ, List, [], ◌∷◌, Bool, true, false, sym, subst, arith}
-use Rattle.std.specs.Prelude.{All, IsTrue, ◌&&◌}
+use Rattle.std.proofs.Common.{rules, ◌<◌, ℕ, List, [], ◌∷◌, subst, arith}
+use Rattle.std.specs.Prelude.{IsTrue, ◌&&◌}
 use Rattle.std.proofs.lemmas.List.Elements.{All-cons}
-use Rattle.heap_image.specs.HeapImage.{HeapImage, region_count as heap_regions}
 use Rattle.history.specs.MoveTable.{MoveTable, region_count}
 use Rattle.history.specs.History.{AreSteps, is_claim_of, is_grant, is_yes}
 use Rattle.history.specs.ImageMoves.{image_table}

@@ -1,4 +1,5 @@
 use Rattle.std.proofs.Common.{◌≡◌, ◌∙◌, ◌++◌, ℕ, List, append_assoc, ap}
+use Rattle.std.specs.Prelude.{string_bytes}
 use Rattle.history.specs.ScheduleText.{schedule_text}
 use Rattle.schedule_timeline.specs.Page.{Has}
 use Rattle.schedule_timeline.proofs.page.page_of.Goals as goal
@@ -10,6 +11,5 @@ between front text middle back whole first then = (front, back, then ∙ ap (λ 
 pub returns : goal.returns
 returns c =
     let text = schedule_text c.args.schedule.now in
-    between c.in_ok-page.page.items text _ _ _
-    (c.in_ok-extend_from_slice.ensures.items ∙ ap (λ (l : List ℕ). c.in_ok-page.page.items ++ l) (c.deref.ensures.value ∙ c.in_ok-text.ensures))
-    c.in_ok-extend_from_slice-2.ensures.items
+    let back = c.in_ok-write_back.ensures in
+    between (string_bytes c.in_ok-page.page) text _ back.0 _ c.in_ok-append_schedule.ensures (ap (λ v. v.items) c.into_bytes.ensures.value ∙ back.1)

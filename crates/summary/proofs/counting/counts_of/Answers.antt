@@ -5,7 +5,7 @@ use Rattle.summary.proofs.OwnStarts.{own_start-partial, own_start-own}
 use Rattle.summary.proofs.Regions.{data-le}
 use Rattle.summary.proofs.counting.counts_of.Goals as goal
 
--- the live words between two addresses, which are these
+-- the live words between these two addresses
 between : (image other : HeapImage) (n a b c d : ℕ) → n ≡ live_words other a b → other ≡ image → a ≡ c → b ≡ d → n ≡ live_words image c d
 between image other n a b c d is same e f = is ∙ ap (λ i. live_words i a b) same ∙ ap (λ k. live_words image k b) e ∙ ap (live_words image c) f
 

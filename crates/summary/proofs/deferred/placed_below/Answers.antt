@@ -7,7 +7,7 @@ use Rattle.summary.specs.NewAddresses.{new_address}
 use Rattle.summary.proofs.Crossings.{to-le, more_below}
 use Rattle.summary.proofs.deferred.placed_below.Goals as goal
 
--- the new address of an object that was asked for
+-- the new address of the object that is looked up
 asked : (image table : HeapImage) (live : List ℕ) (n to : ℕ) → live ≡ image.live → table ≡ image → to ≡ new_address table (get_or live n 0) → to ≡ new_address image (object_at image n)
 asked image table live n to same is found = found ∙ ap (λ (i : HeapImage). new_address i (get_or live n 0)) is ∙ ap (λ (l : List ℕ). new_address image (get_or l n 0)) same
 

@@ -10,13 +10,13 @@ loop-region-preserved c =
     let s = c.loop-region.region in
     let before : List ℕ = c.loop-region.chains.items in
     let so_far = c.loop-region.invariant in
-    let behind = c.longest_behind-behind.result in
+    let after = c.longest_after-after.result in
     let own = c.fill_words.result in
-    let from : IsLongestFrom image s (own + behind) =
-    subst (λ n. IsLongestFrom image s (n + behind)) (sym c.fill_words.ensures.value) (longest-from image s behind c.longest_behind-behind.ensures.longest) in
-    let few : own + behind ≤ (s + 1) * 65536 = omega (arith, c.fill_words.ensures.few, c.longest_behind-behind.ensures.few) in
-    let are : c.push.new.self.items ≡ before ++ ((own + behind) ∷ []) = c.in_ok-push.ensures.items in
+    let from : IsLongestFrom image s (own + after) =
+    subst (λ n. IsLongestFrom image s (n + after)) (sym c.fill_words.ensures.value) (longest-from image s after c.longest_after-after.ensures.longest) in
+    let few : own + after ≤ (s + 1) * 65536 = omega (arith, c.fill_words.ensures.few, c.longest_after-after.ensures.few) in
+    let are : c.push.new.self.items ≡ before ++ ((own + after) ∷ []) = c.in_ok-push.ensures.items in
     record {
-      longest = subst (λ xs. AreLongest image xs) (sym are) (one-longer image s (own + behind) before so_far.longest so_far.all from few);
-      all = ap length are ∙ length-append before ((own + behind) ∷ []) ∙ ap (λ n. n + 1) so_far.all;
+      longest = subst (λ xs. AreLongest image xs) (sym are) (one-longer image s (own + after) before so_far.longest so_far.all from few);
+      all = ap length are ∙ length-append before ((own + after) ∷ []) ∙ ap (λ n. n + 1) so_far.all;
     }

@@ -9,7 +9,7 @@ use Rattle.collector.proofs.Joined.{none, joined, later}
 use Rattle.collector.proofs.Placing.{place_end, is_placed, is_dead_run, behind_place, top_reached, end_inside, place_of, end_of_place}
 use Rattle.collector.proofs.comparison.Comparison.other_word.Goals as goal
 
--- one object, as the loop meets it
+-- one object, as the loop visits it
 module _ (image after : HeapImage) (known : AreKnown image) (items : List ℕ) (i next place : ℕ)
     (items_are : items ≡ image.live) (l : i < length items) (next_is : next ≡ behind (place_end image) i) (place_is : place ≡ new_address image (object_at image i)) where
   inside : i < object_count image

@@ -1,6 +1,6 @@
 use Rattle.collector.proofs.crew.Crew.fill_regions.Given as goal
 
--- the seat stays one of the desk
+-- the seat stays one of the desk's
 abbrev pub invariant-loop : goal.invariant-loop
 invariant-loop g l =
     (goal.iterator-loop g).can_next l.iterator'

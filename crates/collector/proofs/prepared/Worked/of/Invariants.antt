@@ -3,7 +3,7 @@ use Rattle.std.specs.Prelude.{All}
 use Rattle.std.specs.Vec.{vec_capacity}
 use Rattle.collector.proofs.prepared.Worked.of.Given as goal
 
--- the seats so far and those of the workers that are left are of the desk
+-- the seats so far and those of the remaining workers are the desk's
 abbrev pub invariant-loop-worker : goal.invariant-loop-worker
 invariant-loop-worker g l = record {
   workers : All (λ w. g.D.Desk.serves l.desk w.seat) l.workers.items;

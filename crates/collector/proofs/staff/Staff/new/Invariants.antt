@@ -1,7 +1,7 @@
 use Rattle.std.proofs.Common.{◌≡◌, length, map, vec_len}
 use Rattle.collector.proofs.staff.Staff.new.Given as goal
 
--- a worker in each seat so far, with a handle to its queue
+-- a worker for each seat so far, with a handle to its queue
 abbrev pub invariant-loop-seat : goal.invariant-loop-seat
 invariant-loop-seat g l =
     (goal.iterator-loop-seat g).can_next l.seat-iterator

@@ -12,7 +12,7 @@ use Rattle.claim_board.specs.Drains.{reply_of}
 use Rattle.claim_board.specs.Tickets.{IsTicketOf}
 use Rattle.fill.specs.declared.site.Site.{Site}
 use Rattle.fill.specs.Targets.{Becomes, IsUnwritten, IsCopied, IsMoved}
-use Rattle.fill.specs.SourceDrains.{HasDrained, TellsLast, other_sources_below}
+use Rattle.fill.specs.SourceDrains.{HasDrained, ReportsLast, other_sources_below}
 use Rattle.fill.proofs.Targets.{target_over}
 use Rattle.fill.proofs.Draining.{undrained, opened_source, skipped_sources, unread_above, last_sources_past, drained_more, drained_all}
 use Rattle.fill.proofs.filling.Filling.fill.Goals as goal
@@ -20,13 +20,13 @@ use Rattle.fill.proofs.filling.Filling.fill.Goals.{After-slide_own-to}
 
 -- the own words are written
 own_copied : (g : _) (c : After-slide_own-to g) → Becomes (IsCopied c.args.self.now.site.guide.now c.args.self.now.site.region (c.args.self.now.site.region + 1) c.slide_own-to.result) c.args.target.now c.slide_own-to.new.target
-own_copied g c = subst (λ (s : Site). Becomes (IsCopied s.guide.now s.region (s.region + 1) c.slide_own-to.result) c.args.target.now c.slide_own-to.new.target) c.behind_prefix-place.ensures c.slide_own-to.ensures
+own_copied g c = subst (λ (s : Site). Becomes (IsCopied s.guide.now s.region (s.region + 1) c.slide_own-to.result) c.args.target.now c.slide_own-to.new.target) c.after_prefix-place.ensures c.slide_own-to.ensures
 
-pub behind_prefix-place-requires : goal.behind_prefix-place-requires
-behind_prefix-place-requires g c = omega arith
+pub after_prefix-place-requires : goal.after_prefix-place-requires
+after_prefix-place-requires g c = omega arith
 
 pub slide_own-to-requires : goal.slide_own-to-requires
-slide_own-to-requires g c = subst (λ (s : Site). IsUnwritten s.guide.now s.region c.args.target.now) (sym c.behind_prefix-place.ensures) c.requires.target
+slide_own-to-requires g c = subst (λ (s : Site). IsUnwritten s.guide.now s.region c.args.target.now) (sym c.after_prefix-place.ensures) c.requires.target
 
 pub copy_opened-requires-clause-next : goal.copy_opened-requires-clause-next
 copy_opened-requires-clause-next g c =
@@ -124,16 +124,16 @@ loop-opening-preserved g c =
     let number : c.source-s.result ≡ s = c.source-s.ensures in
     let inside : s < table_regions (image_table image) = subst (λ (p : HeapImage). s < table_regions (image_table p)) c.plan.ensures o.inside in
     let regions = c.moves_of_images.ensures.regions image in
-    let told = subst (λ (q : ℕ). TellsLast (λ f q h. goal.F-step g f q tt h) q c.in_ok-answer.answer c.loop-opening.on_last c.tell.new.on_last) number c.tell.ensures.told in
+    let reported = subst (λ (q : ℕ). ReportsLast (λ f q h. goal.F-step g f q tt h) q c.in_ok-answer.answer c.loop-opening.on_last c.report_last.new.on_last) number c.report_last.ensures.reported in
     record {
       serves = a.seat;
-      callable = c.tell.ensures.callable;
+      callable = c.report_last.ensures.callable;
       region = a.same.0 ∙ (o.same.0 ∙ i.region);
       claimed = a.same.2 ∙ (o.same.3 ∙ i.claimed);
       is_ticket = a.ticket;
       swept = λ tells. c.one_more_source_is_drained.ensures (desk.moves c.args.self.now.desk.now) old new t c.drain.new.ticket s (reply_of c.in_ok-answer.answer) (i.swept tells) (a.same.0 ∙ o.same.0) next skipped_moves (gains tells);
-      drained = subst (λ (n : ℕ). HasDrained (λ f q h. goal.F-step g f q tt h) desk.tells (image_table image) d n (desk.caller c.args.seat.now) new c.args.on_last.now c.tell.new.on_last) (sym next)
-          (drained_more (λ f q h. goal.F-step g f q tt h) desk.tells (image_table image) d t.next s c.in_ok-answer.answer (desk.caller c.args.seat.now) old new c.args.on_last.now c.loop-opening.on_last c.tell.new.on_last i.drained low skipped read.0 told gains_here);
+      drained = subst (λ (n : ℕ). HasDrained (λ f q h. goal.F-step g f q tt h) desk.tells (image_table image) d n (desk.caller c.args.seat.now) new c.args.on_last.now c.report_last.new.on_last) (sym next)
+          (drained_more (λ f q h. goal.F-step g f q tt h) desk.tells (image_table image) d t.next s c.in_ok-answer.answer (desk.caller c.args.seat.now) old new c.args.on_last.now c.loop-opening.on_last c.report_last.new.on_last i.drained low skipped read.0 reported gains_here);
       inside = omega arith;
       next = omega arith;
       copied = subst (λ (n : ℕ). IsCopied image d (n + 1) c.in_ok-closed.end c.copy_opened.new.target) (sym number) x.copied.now;
@@ -159,13 +159,13 @@ returns-clause-ticket g c =
 
 pub redirect_objects-requires-clause-own : goal.redirect_objects-requires-clause-own
 redirect_objects-requires-clause-own g c =
-    let here : c.behind_prefix-place.result.site.region ≡ c.args.self.now.site.region = ap (λ s. s.region) c.behind_prefix-place.ensures in
+    let here : c.after_prefix-place.result.site.region ≡ c.args.self.now.site.region = ap (λ s. s.region) c.after_prefix-place.ensures in
     let next = c.loop-opening.invariant.next in
     omega arith
 
 pub redirect_objects-requires-clause-copied : goal.redirect_objects-requires-clause-copied
 redirect_objects-requires-clause-copied g c =
-    subst (λ (s : Site). IsCopied s.guide.now s.region c.loop-opening.from c.loop-opening.to c.loop-opening.target) (sym c.behind_prefix-place.ensures) c.loop-opening.invariant.copied
+    subst (λ (s : Site). IsCopied s.guide.now s.region c.loop-opening.from c.loop-opening.to c.loop-opening.target) (sym c.after_prefix-place.ensures) c.loop-opening.invariant.copied
 
 pub redirect_objects-requires-clause-last : goal.redirect_objects-requires-clause-last
 redirect_objects-requires-clause-last g c =
@@ -177,12 +177,12 @@ redirect_objects-requires-clause-last g c =
     let i = c.loop-opening.invariant in
     let next = i.next in
     let past = last_sources_past image valid law c.plan.result.now c.plan.ensures site.region t.region i.region t.next c.in_default.ensures.last in
-    subst (λ (s : Site). (q : ℕ) → c.loop-opening.from ≤ q → q < region_count s.guide.now → image_reads s.guide.now s.region q ≡ false) (sym c.behind_prefix-place.ensures)
+    subst (λ (s : Site). (q : ℕ) → c.loop-opening.from ≤ q → q < region_count s.guide.now → image_reads s.guide.now s.region q ≡ false) (sym c.after_prefix-place.ensures)
     (λ q l k. unread_above site.region q (reads (image_table image) site.region q) (image_reads image site.region q) (law site.region q) (omega arith) (past q (omega arith)))
 
 pub returns-clause-moved : goal.returns-clause-moved
 returns-clause-moved g c =
-    let moved = subst (λ (s : Site). Becomes (IsMoved s.guide.now s.region) c.loop-opening.target c.redirect_objects.new.target) c.behind_prefix-place.ensures c.redirect_objects.ensures in
+    let moved = subst (λ (s : Site). Becomes (IsMoved s.guide.now s.region) c.loop-opening.target c.redirect_objects.new.target) c.after_prefix-place.ensures c.redirect_objects.ensures in
     record { same = target_over c.args.target.now c.loop-opening.target c.redirect_objects.new.target c.loop-opening.invariant.same moved.same; now = moved.now }
 
 pub returns-clause-drained : goal.returns-clause-drained

@@ -13,7 +13,7 @@ use Rattle.fill.proofs.Writing.{split_set}
 use Rattle.fill.proofs.Gaps.{copied-first, copied-rest, copied-behind, split_zero}
 use Rattle.fill.proofs.in_prefix.InPrefix.write_gap.Goals as goal
 
--- what is dead up to a place, and from there on, is dead
+-- words that are dead up to an address and from there on are dead
 dead_to_end : (image : HeapImage) (at stop end : ℕ) → ((q : ℕ) → at ≤ q → q < stop → is_live_word image q ≡ false) → ((q : ℕ) → stop ≤ q → q < end → is_live_word image q ≡ false)
     → (q : ℕ) → at ≤ q → q < end → is_live_word image q ≡ false
 dead_to_end image at stop end below above q l m = elim (cases_lt q stop) [
@@ -42,7 +42,7 @@ returns-then-begins_gap c =
     let low : start ≤ at = r.low in
     let less : at < stop = omega arith in
     let end : ℕ = c.gap_end-end.result in
-    let part : stop ≤ end = c.gap_end-end.ensures.behind in
+    let part : stop ≤ end = c.gap_end-end.ensures.after in
     let up : end ≤ prefix_end image = c.gap_end-end.ensures.inside in
     let dead = dead_to_end image at stop end r.dead c.gap_end-end.ensures.dead in
     let high : stop ≤ start + length xs = omega (arith, r.high, r.target.long, c.args.self.now.site.start, c.args.self.now.site.end) in

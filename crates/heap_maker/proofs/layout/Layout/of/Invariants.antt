@@ -1,7 +1,7 @@
 use Rattle.std.proofs.Common.{◌≡◌, ◌+◌, ◌≤◌, length}
 use Rattle.heap_maker.proofs.layout.Layout.of.Given as goal
 
--- Each object took a word at least, and the next one begins behind them all.
+-- each object has at least one word, and the next one begins at their end
 abbrev pub invariant-loop-room : goal.invariant-loop-room
 invariant-loop-room l = (length l.layout.live.items + (l.room.live + l.room.dead) ≤ l.initial.room.live + l.initial.room.dead)
     × (l.reference + (l.room.live + l.room.dead) ≡ 1 + (l.initial.room.live + l.initial.room.dead))

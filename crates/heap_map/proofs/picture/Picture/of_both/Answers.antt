@@ -1,5 +1,5 @@
 use Rattle.std.proofs.Common.{subst}
-use Rattle.heap_map.specs.Figures.{AreFiguresOf}
+use Rattle.heap_map.specs.MapFigures.{AreFiguresOf}
 use Rattle.heap_map.proofs.picture.Picture.of_both.Goals as goal
 
 pub returns-clause-figures : goal.returns-clause-figures

@@ -16,7 +16,7 @@ use Rattle.region_cells.proofs.Blocks.{block_left}
 use Rattle.region_cells.proofs.Places.{length-places, place-at}
 use Rattle.region_cells.proofs.cells.Cells.into_regions.Goals as goal
 
--- an iterator that gave an item may be asked again
+-- an iterator that returned an item may be called again
 keeps : {S A : Type 0} {can : S → Type 0} {left : S → Count} {s t : S} {r : Option A} (x : A) → MakesProgress can left s r t → r ≡ Some x → can t
 keeps {can = can} {t = t} x goes is = subst (λ r. IfSome r (λ _. can t)) is goes.keeps
 
@@ -79,8 +79,8 @@ loop-r-preserved c =
     let more = length_push c.loop-r.yielded (c.in-Some.r, c.in-Some.slot) in
     let inside : k < region_count self = subst (λ image. k < region_count image) c.self.view_is cell.inside in
     let place : c.in-Some.slot ≡ place_of self k = cell.place ∙ ap (λ image. place_of image k) c.self.view_is in
-    let words : c.in-Some-left_in.region ≡ moved_block self k =
-    c.in-Some-left_in.ensures
+    let words : c.in-Some-final_region.region ≡ moved_block self k =
+    c.in-Some-final_region.ensures
     ∙ ap (λ p. cond (ltb c.in-Some.r c.self.inside.fill_regions) (moved_block p.image p.region) (block_of p.image p.region)) place
     ∙ ap (λ r. cond (ltb r c.self.inside.fill_regions) (moved_block self k) (block_of self k)) cell.number
     ∙ ap (λ n. cond (ltb k n) (moved_block self k) (block_of self k)) (c.self.invariant.fill ∙ ap fill_count c.self.view_is)
@@ -88,7 +88,7 @@ loop-r-preserved c =
       keeps (c.in-Some.r, c.in-Some.slot) c.next.ensures.goes c.in-Some.is,
       tt,
       c.add.ensures.items
-          ∙ ap (λ l. l ++ c.in-Some-left_in.region ∷ []) inv.2
+          ∙ ap (λ l. l ++ c.in-Some-final_region.region ∷ []) inv.2
           ∙ ap (λ w. map (moved_block self) (range_with_len 0 k) ++ w ∷ []) words
           ∙ sym (map-range_with_len_more (moved_block self) 0 k k (omega arith))
           ∙ ap (λ m. map (moved_block self) (range_with_len 0 m)) (sym more),

@@ -19,11 +19,11 @@ module _ (c : After-with_first-word) where
   abbrev i : ℕ
   i = c.loop-i.i
 
-  behind : AreBits (is_counted image) (64 * i + 1) c.bits_behind-shifted.result
-  behind = subst (λ (m : HeapImage). AreBits (is_counted m) (64 * i + 1) c.bits_behind-shifted.result) c.requires.marks c.bits_behind-shifted.ensures
+  behind : AreBits (is_counted image) (64 * i + 1) c.bits_after-shifted.result
+  behind = subst (λ (m : HeapImage). AreBits (is_counted m) (64 * i + 1) c.bits_after-shifted.result) c.requires.marks c.bits_after-shifted.ensures
 
   word : AreBits (is_counted image) (64 * i) c.with_first-word.result
-  word = moved-bits (is_counted image) i c.bits_behind-shifted.result behind c.loop-i.carried c.with_first-word.result c.loop-i.invariant.first c.with_first-word.ensures.first c.with_first-word.ensures.others
+  word = moved-bits (is_counted image) i c.bits_after-shifted.result behind c.loop-i.carried c.with_first-word.result c.loop-i.invariant.first c.with_first-word.ensures.first c.with_first-word.ensures.others
 
   next : c.loop-i.rank + count_ones c.with_first-word.result ≡ counted_below image (64 * (i + 1))
   next = ap (λ n. n + count_ones c.with_first-word.result) c.loop-i.invariant.rank ∙ counted-next image i c.with_first-word.result c.with_first-word.type_inv word
@@ -46,7 +46,7 @@ loop-i-preserved c =
     let w : ℕ = c.with_first-word.result in
     let pushed : c.push.new.self.items ≡ c.loop-i.bits.items ++ w ∷ [] = c.in_ok-push.ensures.items in
     let ranked : c.push-in-loop-i.new.self.items ≡ c.loop-i.ranks.items ++ c.loop-i.rank ∷ [] = c.in_ok-push-2.ensures.items in
-    let last = last-bit (is_counted m) n c.bits_behind-shifted.result (behind made) c.bits_behind-shifted.type_inv in
+    let last = last-bit (is_counted m) n c.bits_after-shifted.result (behind made) c.bits_after-shifted.type_inv in
     let long = length-append c.loop-i.bits.items (w ∷ []) in
     record {
       made = ap length pushed ∙ long ∙ ap (λ k. k + 1) c.loop-i.invariant.made;

@@ -1,0 +1,11 @@
+/// The workers of a collection, and what they run on.
+pub struct Workers<'a, G, T, W> {
+    /// How many there are, 1 to 64.
+    pub count: u32,
+    /// What admits their fills.
+    pub gate: &'a G,
+    /// What starts their threads.
+    pub threads: &'a T,
+    /// How they wait for each other.
+    pub wait: &'a W,
+}

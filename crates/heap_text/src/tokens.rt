@@ -1,0 +1,85 @@
+//! Splits a line at its spaces, and parses numbers, addresses and references.
+ghost use Rattle.std.specs.Prelude.{◌≡◌, ◌+◌, ◌≤◌, ◌<◌, IfSome, length};
+ghost use Rattle.std.specs.Iterator.{at_most};
+
+/// The tokens of a line after its first one, each preceded by one space.
+#[derive(Drop)]
+pub(crate) struct Tokens<'a> {
+    /// The rest of the line: empty, or a space and more.
+    rest: &'a [u8],
+}
+
+impl<'a> Tokens<'a> {
+    /// Returns the first token of a line, and an iterator over the others.
+    pub(crate) fn of(line: &'a [u8]) -> (&'a [u8], Tokens<'a>) {
+        let (token, rest) = split_at_space(line);
+        (token, Tokens { rest })
+    }
+}
+
+impl<'a> Iterator for Tokens<'a> {
+    type Item = &'a [u8];
+
+    ghost remaining = { λ tokens. at_most (length tokens.rest.now) };
+
+    fn next(&mut self) -> Option<&'a [u8]> {
+        let (_space, after) = self.rest.split_first()?;
+        let (token, rest) = split_at_space(after);
+        self.rest = rest;
+        Some(token)
+    }
+}
+
+/// Splits the bytes before the first space, which the second part keeps.
+fn split_at_space(bytes: &[u8]) -> (&[u8], &[u8])
+    ensures { length result.1.now ≤ length bytes.now }
+{
+    for (i, byte) in bytes.iter().enumerate() {
+        if *byte == b' ' {
+            return bytes.split_at(i);
+        }
+    }
+    (bytes, &[])
+}
+
+/// Parses a decimal number below 2^64 without leading zeros.
+pub(crate) fn parse_number(token: &[u8]) -> Option<u64> {
+    let (first, others) = token.split_first()?;
+    if *first == b'0' && !others.is_empty() {
+        return None;
+    }
+    let mut number = 0u64;
+    for byte in token {
+        if !byte.is_ascii_digit() {
+            return None;
+        }
+        number = number
+            .checked_mul(10)?
+            .checked_add(u64::from(*byte - b'0'))?;
+    }
+    Some(number)
+}
+
+/// Parses `@` and an address.
+pub(crate) fn parse_address(token: &[u8]) -> Option<u64> {
+    match token.split_first() {
+        Some((b'@', digits)) => parse_number(digits),
+        _ => None,
+    }
+}
+
+/// Parses a reference or a root in a heap of `len` words. The result is 0 for `null`, else 1 plus the address.
+pub(crate) fn parse_reference(token: &[u8], len: u64) -> Option<u64> {
+    if token == b"null".as_slice() {
+        return Some(0);
+    }
+    match parse_address(token) {
+        Some(address) if address < len => Some(address + 1),
+        _ => None,
+    }
+}
+
+/// Parses a line that consists of a label and a number.
+pub(crate) fn parse_labelled(line: &[u8], label: &[u8]) -> Option<u64> {
+    parse_number(line.strip_prefix(label)?)
+}

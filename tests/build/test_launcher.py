@@ -1,0 +1,414 @@
+#!/usr/bin/env python3
+"""Tests the scripts pcompact, prove and sources.sh, in copies of them and with a stand-in for the kit's rt, which proves
+nothing and "builds" a small program of C that shows its words and its folder.
+
+usage: tests/build/test_launcher.py      (needs a C compiler)
+"""
+import os
+import pathlib
+import re
+import shutil
+import signal
+import subprocess
+import sys
+import tempfile
+import time
+
+TOP = pathlib.Path(__file__).resolve().parents[2]
+PLAIN = "/usr/bin:/bin"
+TUNABLES = "glibc.malloc.hugetlb=1:glibc.malloc.mmap_max=0:glibc.malloc.arena_max=64:glibc.malloc.top_pad=67108864"
+NOTE = "pcompact: this program was proved and built elsewhere, from exactly these sources; ./prove proves it here\n"
+
+# Ends with status 3, or 0 for --version, or 1 where it is to look like one that doesn't start.
+SHOWS = r"""
+#include <stdio.h>
+#include <stdlib.h>
+#include <string.h>
+#include <unistd.h>
+int main(int count, char **words) {
+    char folder[4096];
+    if (count == 2 && strcmp(words[1], "--version") == 0) return STARTS;
+    printf("%d %s in %s with %s\n", count - 1, words[1], getcwd(folder, sizeof folder), getenv("GLIBC_TUNABLES"));
+    return 3;
+}
+"""
+
+STAND_IN = r"""#!/bin/sh
+here=$(dirname -- "$0")
+name=${PWD##*/}
+echo "$1 $name" >>"$here/calls"
+echo "$* in $PWD" >>"$here/words"
+case $1 in
+version) echo stand-in ;;
+lib | test | run)
+    # As rt does, it needs the libraries below.
+    for it in $(sed -n "s/^$name\( [^:]*\)*://p" ../../crates.txt); do
+        [ ! -d "../$it" ] || [ -e "../$it/out/rlib/stamp" ] || exit 1
+    done
+    [ ! -e "$here/sleeps" ] || exec sleep "$(cat "$here/sleeps")"
+    [ ! -e "$here/fails-$name" ] || exit 1
+    mkdir -p out/rlib out/incremental
+    case $1 in
+    lib) echo stamp >out/rlib/stamp ;;
+    test) echo tests >"out/${name}_tests" ;;
+    run) sleep 1; cp "$here/shows" "out/$name" ;;
+    esac
+    ;;
+esac
+"""
+
+
+class Launcher:
+    """Copies of the repository's scripts in a folder, and how often they were tried and wrong."""
+
+    def __init__(self, room: pathlib.Path):
+        self.room = room
+        self.kit = room / "kit"
+        self.kit.mkdir()
+        self.count = 0
+        self.wrong = 0
+        for name, starts in (("shows", 0), ("dead", 1)):
+            (room / "shows.c").write_text(SHOWS.replace("STARTS", str(starts)))
+            subprocess.run(["cc", "-O1", "-o", self.kit / name, room / "shows.c"], check=True)
+        (self.kit / "rt").write_text(STAND_IN)
+        (self.kit / "rt").chmod(0o755)
+
+    def repository(self, name: str) -> pathlib.Path:
+        """A copy of the scripts, with a file of code for each crate."""
+        copy = self.room / name
+        copy.mkdir(parents=True)
+        for it in ("pcompact", "prove", "sources.sh", "HANDLES", "crates.txt"):
+            shutil.copy(TOP / it, copy)
+        for crate in crate_names():
+            (copy / "crates" / crate / "src").mkdir(parents=True)
+            (copy / "crates" / crate / "src" / "lib.rt").write_text("//! A crate.\n")
+        return copy
+
+    def check(self, holds: bool, what: str) -> None:
+        self.count += 1
+        if not holds:
+            self.wrong += 1
+            print(what)
+
+    def call(self, words: list, status: int, what: str, **how) -> tuple[str, str]:
+        """Runs a command, which must end with this status. What it wrote, and the calls of rt but for its version."""
+        (self.kit / "calls").write_text("")
+        kit = how.pop("kit", True)
+        plain = how.pop("tools", PLAIN)
+        path = f"{how.pop('before', self.kit)}:{plain}" if kit else plain
+        env = {"PATH": path, "HOME": str(self.room / "home"), **how.pop("env", {})}
+        done = subprocess.run(words, env=env, cwd=how.pop("cwd", self.room), capture_output=True, text=True, timeout=120)
+        said = done.stdout + done.stderr
+        self.check(done.returncode == status, f"{what}: status {done.returncode} and not {status}: {said}")
+        calls = (self.kit / "calls").read_text().splitlines()
+        return said, " ".join(sorted(it for it in calls if not it.startswith("version")))
+
+    def runs(self, script: pathlib.Path, what: str, err: str = "", calls: str = "", tunables: str = TUNABLES, **how) -> None:
+        """Calls the launcher, which must run the program after these calls of rt, and say just this besides."""
+        said, called = self.call([script, "a word"], 3, what, **how)
+        wanted = f"1 a word in {self.room} with {tunables}\n{err}"
+        self.check(said == wanted, f"{what}: it shows {said!r} and not {wanted!r}")
+        self.check(called == calls, f"{what}: rt is called for {called!r} and not for {calls!r}")
+
+    def refuses(self, script: pathlib.Path, why: str, what: str, **how) -> None:
+        """Calls the launcher, which must run nothing and say why in one line."""
+        said, _ = self.call([script, "a word"], 70, what, kit=False, **how)
+        self.check(said.startswith("pcompact: ") and why in said and said.count("\n") == 1, f"{what}: it says {said!r}")
+
+
+def crate_names() -> list[str]:
+    return re.findall(r"^([a-z]\w*)[^:\n]*:", (TOP / "crates.txt").read_text(), re.MULTILINE)
+
+
+def below_of(crate: str) -> list[str]:
+    line = re.search(rf"^{crate}(?: [^:\n]*)?:(.*)$", (TOP / "crates.txt").read_text(), re.MULTILINE)
+    return [it for it in line[1].split() if it in crate_names()]
+
+
+def program_crates() -> list[str]:
+    found = ["pcompact"]
+    for crate in found:
+        found += [it for it in below_of(crate) if it not in found]
+    return found
+
+
+def built(crates: list[str]) -> str:
+    return " ".join(sorted(f"{'run' if it == 'pcompact' else 'lib'} {it}" for it in crates))
+
+
+def change(copy: pathlib.Path, crate: str, text: str) -> None:
+    (copy / "crates" / crate / "src" / "lib.rt").write_text(f"//! {text}\n")
+
+
+def try_first_calls(it: Launcher) -> pathlib.Path:
+    """Nothing is built; then two calls at once; then later ones."""
+    copy = it.repository("first")
+    it.refuses(copy / "pcompact", "isn't on PATH", "no program and no kit")
+    env = {"PATH": f"{it.kit}:{PLAIN}", "HOME": str(it.room / "home")}
+    first = subprocess.Popen([copy / "pcompact", "one"], env=env, stdout=subprocess.PIPE, stderr=subprocess.PIPE, text=True)
+    while first.poll() is None and not (copy / "out/pcompact/beside").exists():
+        time.sleep(0.05)
+    said, _ = it.call([copy / "pcompact", "a word"], 3, "a call while another one proves")
+    it.check("waiting for another call" in said, f"the second call doesn't say that it waits: {said!r}")
+    said = first.communicate()[1]
+    count = len(program_crates())
+    it.check(f"{count} crates are to be proved, {count} lines of code" in said, f"how much is to be proved isn't said: {said!r}")
+    it.check(f"proving pcompact ({count - 1} of {count} lines are done, about" in said, f"how far it is isn't said: {said!r}")
+    calls = (it.kit / "words").read_text().splitlines()
+    places = [line for line in calls if line.startswith(("lib ", "run "))]
+    it.check(len(places) == count, f"each crate is to be proved once: {places}")
+    it.check(all(" --jobs " in line and "/beside/" in line for line in places), f"how crates are proved: {places}")
+    order = [line.rpartition("/")[2] for line in places]
+    it.check(all(order.index(low) < order.index(crate) for crate in order for low in below_of(crate)), f"the order: {order}")
+    it.check(not (copy / "out/pcompact/beside").exists(), "the copies of the sources are left")
+    it.check(not list(copy.glob("crates/*/out/incremental")), "what speeds the next check alone is left")
+    it.runs(copy / "pcompact", "a later call")
+    it.runs(copy / "pcompact", "a later call without the kit", kit=False)
+    return copy
+
+
+def try_paths(it: Launcher, copy: pathlib.Path) -> None:
+    """The launcher by links, and in folders with odd names."""
+    (it.room / "odd").mkdir()
+    (it.room / "link").symlink_to(copy / "pcompact")
+    (it.room / "folder").symlink_to(copy)
+    it.runs(it.room / "link", "a link to the script")
+    it.runs(it.room / "folder" / "pcompact", "a link to the folder")
+    # Where a part of such a name leads, and the folder above.
+    for name in ("", "sp", "two", "ends"):
+        stranger = it.room / "odd" / name
+        stranger.mkdir(exist_ok=True)
+        for script in ("sources.sh", "out/pcompact/pcompact", "lines/out/pcompact/pcompact"):
+            (stranger / script).parent.mkdir(parents=True, exist_ok=True)
+            (stranger / script).write_text("#!/bin/sh\necho a stranger\nexit 0\n")
+            (stranger / script).chmod(0o755)
+    for name in ("sp ace '\"$x*", "two\nlines", "ends\n", "-dash"):
+        odd = it.room / "odd" / name
+        shutil.copytree(copy, odd, symlinks=True)
+        it.runs(odd / "pcompact", f"a folder named {name!r}")
+        shutil.copy(TOP / "test", odd)
+        said, _ = it.call([odd / "test", "--help"], 0, f"test in a folder named {name!r}")
+        it.check(said.startswith("usage: ./test "), f"test in a folder named {name!r}: it shows {said!r}")
+    shutil.copy(copy / "pcompact", it.room / "alone")
+    it.refuses(it.room / "alone", "isn't the folder of the repository", "a copy of the script alone")
+
+
+def try_changes(it: Launcher, copy: pathlib.Path) -> None:
+    """Changed sources are proved again, with what stands on them, and nothing else is."""
+    change(copy, "pcompact", "Changed.")
+    it.refuses(copy / "pcompact", "wasn't built from these sources", "a source changed, and no kit")
+    os.utime(copy / "crates/pcompact/src/lib.rt", (0, 0))
+    it.refuses(copy / "pcompact", "wasn't built from these sources", "a source changed and dated back")
+    change(copy, "pcompact", "A crate.")
+    it.runs(copy / "pcompact", "a source changed back")
+    (copy / "crates/fill/proofs").mkdir()
+    (copy / "crates/fill/proofs/A.antt").write_text("x = y\n")
+    change(copy, "stream_tests", "Changed.")
+    it.runs(copy / "pcompact", "a proof and a crate of tests changed")
+    change(copy, "collector", "Changed.")
+    said, calls = it.call([copy / "pcompact", "a word"], 3, "a source of a crate below changed")
+    it.check(calls == built(["fill", "collector", "pcompact"]), f"proved again: {calls}")
+    (copy / "crates.txt").write_text((copy / "crates.txt").read_text().replace("work_order:", "work_order may_wait=1:"))
+    it.refuses(copy / "pcompact", "wasn't built from these sources", "crates.txt changed")
+
+
+def try_times(it: Launcher, copy: pathlib.Path) -> None:
+    """A changed source whose times are those that were kept: by a clock that was set back since, or when they were kept."""
+    source, found = copy / "crates/pcompact/src/lib.rt", copy / "out/pcompact/found"
+    it.runs(copy / "pcompact", "the sources before one changes")
+    line = f"{source.relative_to(copy)} "
+    folder, _, *files = found.read_text().splitlines()
+    change(copy, "pcompact", "A crumb")
+    listed = ["find", source.relative_to(copy), "-printf", "%p %D %i %s %T@ %C@"]
+    now = subprocess.run(listed, cwd=copy, env={"LC_ALL": "C"}, capture_output=True, text=True, check=True).stdout
+    files = [now if file.startswith(line) else file for file in files]
+    changed = source.stat().st_ctime
+
+    def keep(seconds: float) -> None:
+        found.write_text("".join(f"{it}\n" for it in (folder, int(seconds), *files)))
+
+    for seconds, what in ((changed - 100, "kept by a clock set back"), (changed + 3600, "the clock set back since"),
+                          (changed, "kept at once")):
+        keep(seconds)
+        it.refuses(copy / "pcompact", "wasn't built from these sources", f"a source changed, {what}")
+    # The times alone are looked at where they tell all changes.
+    time.sleep(max(0.0, changed + 1.1 - time.time()))
+    keep(changed + 1)
+    it.runs(copy / "pcompact", "times that tell all changes")
+    change(copy, "pcompact", "A crate.")
+    it.runs(copy / "pcompact", "the source changed back")
+
+
+def try_links(it: Launcher, copy: pathlib.Path) -> None:
+    """A source that is a link: what it leads to counts."""
+    source = copy / "crates/pcompact/src/lib.rt"
+    target = it.room / "elsewhere.rt"
+    source.rename(target)
+    source.symlink_to(target)
+    it.runs(copy / "pcompact", "a source that is a link")
+    # Then its times are old enough to be believed.
+    time.sleep(3)
+    it.runs(copy / "pcompact", "the same a little later")
+    target.write_text("//! A crumb.\n")
+    it.refuses(copy / "pcompact", "wasn't built from these sources", "what a link leads to changed")
+    target.write_text("//! A crate.\n")
+    source.unlink()
+    target.rename(source)
+
+
+def try_tools(it: Launcher, copy: pathlib.Path) -> None:
+    """Tools that aren't there: nothing is taken for right that can't be compared."""
+    tools = ("sh", "awk", "cmp", "cut", "cat", "date", "find", "mkdir", "mv", "readlink", "sed", "sort", "xargs", "sha256sum")
+    clone = it.room / "without tools"
+    for missing, status, why in (("sha256sum", 70, "have no checksum here"), ("cut", 70, "have no checksum here"),
+                                 ("sed sha256sum", 70, "have no checksum here"), ("sed", 70, "wasn't built from these sources"),
+                                 ("find", 70, "wasn't built from these sources"), ("xargs", 70, "wasn't built from these sources"),
+                                 ("sort", 70, "wasn't built from these sources"), ("readlink", 70, "isn't the folder"),
+                                 ("awk cmp date mv", 3, "1 x in")):
+        shutil.copytree(copy, clone, symlinks=True)
+        folder = it.room / f"no {missing}"
+        folder.mkdir()
+        for tool in set(tools) - set(missing.split()):
+            (folder / tool).symlink_to(shutil.which(tool, path=PLAIN))
+        said, _ = it.call([shutil.which("sh"), clone / "pcompact", "x"], status, f"without {missing}", kit=False, tools=str(folder))
+        it.check(why in said and ("1 x in" in said) == (status == 3), f"without {missing}: it says {said!r}")
+        shutil.rmtree(clone)
+
+
+def try_failures(it: Launcher, copy: pathlib.Path) -> None:
+    """A crate that isn't proved, and a call that is ended."""
+    change(copy, "raw_region", "Changed.")
+    (it.kit / "fails-raw_region").touch()
+    said, calls = it.call([copy / "pcompact", "a word"], 70, "a crate that isn't proved")
+    it.check("the crate raw_region is not proved" in said, f"what isn't proved isn't said: {said!r}")
+    (it.kit / "fails-raw_region").unlink()
+    seconds = f"30.{os.getpid()}"
+    (it.kit / "sleeps").write_text(seconds)
+    env = {"PATH": f"{it.kit}:{PLAIN}", "HOME": str(it.room / "home")}
+    call = subprocess.Popen([copy / "prove"], env=env, stdout=subprocess.DEVNULL, stderr=subprocess.DEVNULL)
+    asleep = ["pgrep", "-f", f"^sleep {seconds}$"]
+    while call.poll() is None and not subprocess.run(asleep, capture_output=True).stdout:
+        time.sleep(0.1)
+    call.send_signal(signal.SIGTERM)
+    it.check(call.wait(20) == 128 + signal.SIGTERM, f"a call that is ended has status {call.returncode}")
+    it.check(not subprocess.run(asleep, capture_output=True).stdout, "what it started still runs")
+    it.check((copy / "crates/raw_region/out/rlib").is_dir(), "what was kept is gone")
+    (it.kit / "sleeps").unlink()
+    said, calls = it.call([copy / "pcompact", "a word"], 3, "the call after that")
+    it.check("lib raw_region" in calls and "run pcompact" in calls, f"proved then: {calls}")
+
+
+def try_above(it: Launcher, copy: pathlib.Path) -> None:
+    """Crates that are named, with those above them and their tests."""
+    change(copy, "work_order", "Changed.")
+    said, calls = it.call([copy / "prove", "work_order"], 0, "prove work_order")
+    wanted = {"lib work_order", "lib heap_commands", "run pcompact"} | {
+        f"test {name}" for name in crate_names() if name.endswith("_tests") and "work_order" in below_of(name)}
+    it.check(wanted <= set(re.findall(r"\w+ \w+", calls)), f"prove work_order: {calls} and not {wanted}")
+    said, _ = it.call([copy / "prove", "no_crate"], 2, "prove no_crate")
+    it.check("no crate no_crate" in said, f"an unknown crate: {said!r}")
+    it.call([copy / "prove", "--nothing"], 2, "prove with a wrong word")
+    it.call([copy / "prove"], 2, "prove without the kit", kit=False)
+
+
+def shipped(it: Launcher, copy: pathlib.Path, name: str) -> pathlib.Path:
+    """What a clone of this copy has: its files but for what was built."""
+    clone = it.room / name
+    shutil.copytree(copy, clone, ignore=shutil.ignore_patterns("out"))
+    return clone
+
+
+def try_dist(it: Launcher, copy: pathlib.Path) -> None:
+    """The program that comes with the repository."""
+    said, _ = it.call([copy / "prove"], 0, "prove without dist")
+    it.check("dist/pcompact is NOT the program of these sources" in said, f"no dist: {said!r}")
+    said, calls = it.call([copy / "prove", "--renew"], 0, "prove --renew")
+    it.check(calls == "" and "byte for byte" in said, f"--renew calls {calls!r} and says {said!r}")
+    clone = shipped(it, copy, "clone")
+    it.runs(clone / "pcompact", "a fresh clone without the kit", NOTE, kit=False)
+    it.runs(clone / "pcompact", "its second call", kit=False)
+    it.runs(shipped(it, copy, "clone 2") / "pcompact", "a fresh clone with the kit", NOTE)
+    said, calls = it.call([clone / "prove"], 0, "prove in a clone")
+    it.check("byte for byte" in said and calls == built(program_crates()), f"prove in a clone: {said!r} {calls}")
+    it.runs(clone / "pcompact", "the call after it")
+    # Another program with a stamp of these sources.
+    program = bytearray((copy / "dist/pcompact").read_bytes()) + b"\0"
+    (clone / "dist/pcompact").write_bytes(program)
+    said, _ = it.call([clone / "prove"], 3, "prove beside another dist")
+    it.check("dist/pcompact is another program" in said, f"another dist: {said!r}")
+    stamp = (clone / "dist/stamp").read_text()
+    (clone / "dist/stamp").write_text(stamp.replace("kit stand-in", "kit another"))
+    said, _ = it.call([clone / "prove"], 0, "prove beside a dist of another kit")
+    it.check("by the kit another, and this is stand-in" in said, f"a dist of another kit: {said!r}")
+
+
+def try_wrong_dist(it: Launcher, copy: pathlib.Path) -> None:
+    """A damaged program, a stamp of other sources, no run bit, another machine: none is run."""
+    clone = shipped(it, copy, "wrong")
+    program = (clone / "dist/pcompact").read_bytes()
+    stamp = (clone / "dist/stamp").read_text()
+    half = len(program) // 2
+    (clone / "dist/pcompact").write_bytes(program[:half] + bytes([program[half] ^ 1]) + program[half + 1:])
+    it.refuses(clone / "pcompact", "dist/pcompact isn't the program of its stamp", "a bit flipped")
+    (clone / "dist/pcompact").write_bytes(program)
+    it.runs(clone / "pcompact", "the bit flipped back", NOTE, kit=False)
+    (clone / "dist/stamp").write_text(re.sub("sources .*", f"sources {'0' * 64}", stamp))
+    it.refuses(clone / "pcompact", "dist/pcompact wasn't built from these sources", "a stamp of other sources")
+    (clone / "dist/stamp").write_text(stamp)
+    (clone / "dist/pcompact").chmod(0o644)
+    it.refuses(clone / "pcompact", "dist/pcompact doesn't start on this machine", "no run bit")
+    (clone / "dist/pcompact").chmod(0o755)
+    (clone / "dist/stamp").unlink()
+    it.refuses(clone / "pcompact", "dist/pcompact wasn't built from these sources", "no stamp")
+    shutil.copy(it.kit / "dead", clone / "dist/pcompact")
+    total = subprocess.run(["sha256sum", clone / "dist/pcompact"], capture_output=True, text=True).stdout.split()[0]
+    (clone / "dist/stamp").write_text(re.sub("program .*", f"program {total}", stamp))
+    it.refuses(clone / "pcompact", "needs Linux on x86-64 with the GNU C library", "a program that doesn't start")
+    (clone / "dist/pcompact").write_bytes(program[:half])
+    (clone / "dist/stamp").write_text(stamp)
+    said, calls = it.call([clone / "pcompact", "a word"], 3, "a program that is cut, with the kit")
+    it.check(calls == built(program_crates()), f"a program that is cut isn't proved here: {calls}")
+
+
+def try_read_only(it: Launcher, copy: pathlib.Path) -> None:
+    """Another user, who may write neither here nor, the second time, at home."""
+    clone = shipped(it, copy, "read only")
+    subprocess.run(["chmod", "-R", "a-w,a+rX", clone], check=True)
+    it.room.chmod(0o755)
+    as_other = ["setpriv", "--reuid=65534", "--clear-groups"] if os.geteuid() == 0 else []
+    home = it.room / "home of another"
+    home.mkdir()
+    home.chmod(0o777)
+    for what, env, notes in (("with a home", {"HOME": str(home)}, [NOTE, ""]), ("without one", {"HOME": "/nonexistent"}, [NOTE, NOTE])):
+        for note in notes:
+            said, _ = it.call([*as_other, clone / "pcompact", "x"], 3, f"read-only, {what}", kit=False, env=env)
+            it.check(said == f"1 x in {it.room} with {TUNABLES}\n{note}", f"read-only, {what}: {said!r}")
+    subprocess.run(["chmod", "-R", "u+w", clone], check=True)
+
+
+def try_tunables(it: Launcher, copy: pathlib.Path) -> None:
+    it.runs(copy / "pcompact", "GLIBC_TUNABLES empty", tunables="", env={"GLIBC_TUNABLES": ""})
+    it.runs(copy / "pcompact", "GLIBC_TUNABLES set", tunables="glibc.malloc.check=3", env={"GLIBC_TUNABLES": "glibc.malloc.check=3"})
+
+
+def main() -> int:
+    with tempfile.TemporaryDirectory() as room:
+        it = Launcher(pathlib.Path(room).resolve())
+        copy = try_first_calls(it)
+        try_paths(it, copy)
+        try_times(it, copy)
+        try_links(it, copy)
+        try_tools(it, copy)
+        try_changes(it, copy)
+        try_failures(it, copy)
+        try_above(it, copy)
+        try_dist(it, copy)
+        try_wrong_dist(it, copy)
+        try_read_only(it, copy)
+        try_tunables(it, copy)
+    print(f"{it.count - it.wrong} passed, {it.wrong} failed")
+    return 1 if it.wrong else 0
+
+
+if __name__ == "__main__":
+    sys.exit(main())

@@ -1,0 +1,503 @@
+#!/usr/bin/env python3
+"""Runs the built program as its users do, right and wrong: on words, images, schedules and devices of every kind.
+
+Each case gives the words and what the program must answer: its status, standard output, standard error, and what then
+stands in the files that it makes. The forms are those of docs/FORMATS.md and docs/COMMANDS.md. A text of usage that is given
+without its end must begin so; every other one is compared whole. Ends with status 1 where an answer is another one.
+
+usage: tests/cli/test_commands.py [PROGRAM]
+"""
+import dataclasses
+import os
+import pathlib
+import sys
+
+# Finds the package `tests` from any folder, and writes nothing beside its modules.
+sys.dont_write_bytecode = True
+sys.path.insert(0, str(pathlib.Path(__file__).resolve().parents[2]))
+from tests.models.image import FILLER, header
+from tests.support.cases import (BASE, COLLECTED, COMPACTED, LIVE, MOVED, MOVED_LIVE, ONE_WORKER, REPORT, SMALL,
+                                 TWO_WORKERS, WORDS, head, image, rooted, try_collected, try_groups, try_refused, try_upgraded,
+                                 upgraded, with_word)
+from tests.support.program import Answer, Tried, differs, fault, usage
+
+FULL = pathlib.Path("/dev/full")
+FAULT_13 = "13 input or output"
+
+def try_words(tried: Tried) -> None:
+    """Words that are no command."""
+    tried.run("", usage("error: 'pcompact' requires a subcommand but one was not provided\n"))
+    tried.run("sweep", usage("error: unrecognized subcommand 'sweep'\n"))
+    tried.run("help sweep", usage("error: unrecognized subcommand 'sweep'\n"))
+    tried.run("--quiet", usage("error: unexpected argument '--quiet' found\n"))
+    tried.run("board twice", usage("error: unexpected argument 'twice' found\n"))
+    missing = "error: the following required arguments were not provided:\n"
+    for words, names in (("summary", ["<IMAGE>"]), ("order", ["<IMAGE>"]), ("verify base", ["<AFTER>"]),
+                         ("replay base", ["<SCHEDULE>"]), ("collect base out", ["--workers <n>"]),
+                         ("collect --workers 2", ["<IMAGE>", "<OUT>"]), ("upgrade base", ["<OUT>"]), ("upgrade", ["<IMAGE>", "<OUT>"]),
+                         ("record base out --workers 2", ["<SCHEDULE>"])):
+        tried.run(words, usage(missing + "".join(f"  {name}\n" for name in names)))
+    for words in ("summary base", "collect base out --workers 2", "record base out schedule --workers 2",
+                  "replay base schedule", "verify base base", "upgrade base out"):
+        tried.run(f"{words} more", usage("error: unexpected argument 'more' found\n"))
+    tried.run([b"summary", b"\xff"], Answer(2, err="pcompact: an argument isn't UTF-8 text\n"))
+    tried.run(["summary", ""], fault(FAULT_13))
+
+
+def try_flags(tried: Tried) -> None:
+    """The options that take no value: where they may stand, and that they change nothing that goes well."""
+    collected = Answer(0, COLLECTED, made={"out": COMPACTED})
+    recorded = Answer(0, COLLECTED, made={"out": COMPACTED, "schedule": ONE_WORKER.encode()})
+    rooted_base = Answer(0, "roots 4\n", made={"out": upgraded(BASE)})
+    for flags in ("--verbose", "--atomic", "--atomic --verbose"):
+        tried.run(f"collect {flags} base out --workers 2", collected)
+        tried.run(f"collect base out --workers 2 {flags}", collected)
+        tried.run(f"record base {flags} out schedule --workers 1", recorded)
+        tried.run(f"upgrade base out {flags}", rooted_base)
+    tried.run("summary --verbose base", Answer(0, REPORT))
+    tried.run("replay base schedule --verbose", Answer(0, ONE_WORKER + "finished\n"))
+    tried.write("after", COMPACTED)
+    tried.run("verify base --verbose after", Answer(0, "same\n"))
+    tried.run("summary base --verbose --verbose",
+              usage("error: the argument '--verbose' cannot be used multiple times\n"))
+    tried.run("board --verbose", usage("error: unexpected argument '--verbose' found\n"))
+    for words in ("summary base", "replay base schedule", "verify base after"):
+        tried.run(f"{words} --atomic", usage("error: unexpected argument '--atomic' found\n"))
+    for words in ("summary base", "replay base schedule", "upgrade base out", "board"):
+        tried.run(f"{words} --stats", usage("error: unexpected argument '--stats' found\n"))
+
+
+def try_help(tried: Tried) -> None:
+    tried.run("--version", Answer(0, "pcompact 0.2.0\n"))
+    tried.run("-V", Answer(0, "pcompact 0.2.0\n"))
+    for words in ("--help", "help", "-h", "board --help", "summary --help", "collect --help", "record --help",
+                  "replay --help", "verify --help", "upgrade --help", "import --help", "generate --help", "order --help",
+                  "text --help", "assemble --help", "map --help", "timeline --help",
+                  "help help"):
+        tried.run(words, Answer(0, None))
+    tried.run("board", Answer(0, "".join(f"region {r} claims 1 completions 1\n" for r in range(3)) + "all settled\n"))
+
+
+def try_workers(tried: Tried) -> None:
+    nothing = {"out": None}
+    untouched = {"out": b""}
+    for workers in ("1", "2", "4", "64"):
+        tried.run(f"collect base out --workers {workers}", Answer(0, COLLECTED, made={"out": COMPACTED}))
+        tried.run(f"record base out schedule --workers {workers}", Answer(0, COLLECTED, made={"out": COMPACTED}))
+        tried.run("replay base schedule", Answer(0, tried.read("schedule").decode() + "finished\n"))
+    tried.run("collect --workers=2 base out", Answer(0, COLLECTED, made={"out": COMPACTED}))
+    for workers in ("0", "65", "4294967295"):
+        tried.run(f"collect base out --workers {workers}", fault("12 workers", untouched))
+        tried.run(f"record base out schedule --workers {workers}", fault("12 workers", untouched))
+    for workers, said in (("abc", "invalid value 'abc' for '--workers <n>': invalid digit found in string"),
+                          ("1.5", "invalid value '1.5' for '--workers <n>': invalid digit found in string"),
+                          ("", "invalid value '' for '--workers <n>': cannot parse integer from empty string"),
+                          ("-1", "unexpected argument '-1' found"),
+                          ("4294967296", "invalid value '4294967296' for '--workers <n>': 4294967296 is not in ")):
+        words = ["collect", "base", "out", "--workers", workers]
+        tried.run(words, dataclasses.replace(usage(f"error: {said}"), made=nothing))
+    tried.run("collect base out --workers", usage("error: a value is required for '--workers <n>' but none was supplied\n"))
+    tried.run("collect base out --workers 2 --workers 2",
+              usage("error: the argument '--workers <n>' cannot be used multiple times\n"))
+
+
+IMAGES = [
+    (b"", "1 truncated header"),
+    (BASE[:31], "1 truncated header"),
+    (BASE[:32], "5 truncated body"),
+    (BASE[:287], "5 truncated body"),
+    (BASE[:319], "5 truncated body"),
+    (BASE + b"\0", "10 trailing bytes"),
+    (BASE + BASE, "10 trailing bytes"),
+    (b"#!/bin/sh\n" * 4, "2 magic"),
+    (image(WORDS, [0, 5, 5, 20]), "6 live order at index 2"),
+    (image(WORDS, [0, 5, 12, 32]), "6 live order at index 3"),
+    (image(WORDS, [0, 3, 12, 20]), "7 header at 3"),
+    (image(with_word(WORDS, 23, 10), LIVE), "9 reference at 20 field 2"),
+    (image(with_word(WORDS, 23, 10), LIVE) + b"\0", "9 reference at 20 field 2"),
+    (image(with_word(SMALL, 2, header(2, 0)), [0, 2, 3]), "8 overlap at 3"),
+    (head(7, 0), "4 length"),
+    (head(8, 0), "5 truncated body"),
+    (head(8, 4_194_305), "4 length"),
+    (head(2, 0), "3 region log"),
+    (head(17, 0), "3 region log"),
+    (head(2, 0, magic=b"PCHEAP03"), "2 magic"),
+    (head(3, 0, words=0), "4 length"),
+    (head(3, 0, words=12), "4 length"),
+    (head(16, 0, words=1 << 63), "4 length"),
+]
+# A byte of the base image, the one that stands there instead, and the fault, also where a byte follows the image.
+CHANGED = [
+    (7, 0x33, "2 magic"),
+    (8, 2, "3 region log"),
+    (16, 31, "4 length"),
+    (304, 5, "6 live order at index 2"),
+    (32, 2, "7 header at 0"),
+    (32, 6, "8 overlap at 5"),
+    (40, 33, "9 reference at 0 field 0"),
+]
+
+
+LARGEST = 2 ** 64 - 1
+MALICIOUS = [
+    (with_word(WORDS, 0, 0x0100_0000_ffff_ffff), "7 header at 0"),
+    (with_word(WORDS, 12, header(2, 2)), "7 header at 12"),
+    (with_word(WORDS, 12, header(2, 0, FILLER)), "7 header at 12"),
+    (with_word(WORDS, 12, header(0, 0)), "7 header at 12"),
+    (with_word(WORDS, 20, header(13, 8)), "7 header at 20"),
+    (with_word(WORDS, 1, 33), "9 reference at 0 field 0"),
+    (with_word(WORDS, 6, LARGEST), "9 reference at 5 field 0"),
+]
+NOTHING_MOVES = """prefix 24 top 30
+       0        0        6        0        0        -
+       1        1        2        8        0        -
+       2        0        4       16        0        -
+       3        6        0       24        0        3
+"""
+
+
+def try_images(tried: Tried) -> None:
+    """Images that are none, under each command that reads one."""
+    for text, said in IMAGES:
+        try_refused(tried, text, said)
+    for at, byte, said in CHANGED:
+        text = BASE[:at] + bytes([byte]) + BASE[at + 1:]
+        try_refused(tried, text, said)
+        try_refused(tried, text + b"\0", said)
+
+
+def try_malicious_images(tried: Tried) -> None:
+    for words, said in MALICIOUS:
+        try_refused(tried, image(words, LIVE), said)
+
+
+def try_beginnings(tried: Tried) -> None:
+    """Each beginning of the base image."""
+    for length in range(len(BASE)):
+        said = "1 truncated header" if length < 32 else "5 truncated body"
+        tried.write("image", BASE[:length])
+        tried.run("summary image", fault(said))
+        tried.run("collect image out --workers 2", fault(said, {"out": b""}))
+
+
+def try_which_fault(tried: Tried) -> None:
+    """Of two files that are wrong, the first one's fault decides. A file that can't be opened comes before both."""
+    for first, said in IMAGES[::4]:
+        for second, _ in IMAGES[1::4]:
+            tried.write("first", first)
+            tried.write("second", second)
+            tried.run("verify first second", fault(said))
+            tried.run("replay first second", fault(said))
+        tried.run("verify first nothing", fault(FAULT_13))
+        tried.run("replay first nothing", fault(FAULT_13))
+        tried.run("collect first nothing/out --workers 0", fault(FAULT_13))
+
+
+BASE_OF_8 = [header(3, 2), 6, 12, header(2, 0, FILLER), 0, header(4, 1), 10, 107, 108, header(2, 1), 1, header(10, 8),
+             12, 0, 6, 10, 1, 0, 12, 6, 129] + [0] * 11
+FILLED_BASE = [*WORDS[:3], header(2, 0, FILLER), 0, *WORDS[5:9], header(3, 0, FILLER), 0, 0, *WORDS[12:14],
+               header(6, 0, FILLER), *[0] * 5, *WORDS[20:30], 0, 0]
+
+
+def plain(words: int, objects: dict[int, int], fillers: dict[int, int] | None = None, dead: int = 999) -> list[int]:
+    """Words with objects of these sizes at these addresses, zeros after their headers, and fillers."""
+    made = [dead] * words
+    for a, size in objects.items():
+        made[a:a + size] = [header(size, 0), *[0] * (size - 1)]
+    for a, size in (fillers or {}).items():
+        made[a:a + size] = [header(size, 0, FILLER), *[0] * (size - 1)]
+    return made
+
+
+# Words, live list, allowance; the figures; words and live list afterwards.
+COLLECTIONS = [
+    (WORDS, LIVE, 0, COLLECTED, MOVED, MOVED_LIVE),
+    (WORDS, LIVE, 1, COLLECTED, MOVED, MOVED_LIVE),
+    (WORDS, LIVE, 2, "prefix 8 top 21 filled 3\n", BASE_OF_8, [0, 5, 9, 11]),
+    (WORDS, LIVE, LARGEST, "prefix 24 top 30 filled 4\n", FILLED_BASE, LIVE),
+    (SMALL, [0, 2, 3], 0, "prefix 0 top 7 filled 1\n",
+     [header(1, 0), header(1, 0), header(5, 2), 2, 3, 106, 107, 0], [0, 1, 2]),
+    (SMALL, [0, 2, 3], 1, "prefix 8 top 8 filled 1\n", with_word(SMALL, 1, header(1, 0, FILLER)), [0, 2, 3]),
+    ([999] * 32, [], 0, "prefix 0 top 0 filled 0\n", [0] * 32, []),
+    ([999] * 32, [], 5, "prefix 0 top 0 filled 0\n", [0] * 32, []),
+    ([999] * 32, [], LARGEST, "prefix 0 top 0 filled 0\n", [0] * 32, []),
+    (plain(32, {0: 32}), [0], 0, "prefix 32 top 32 filled 4\n", plain(32, {0: 32}), [0]),
+    (plain(16, {0: 4, 10: 2}), [0, 10], 8, "prefix 8 top 10 filled 2\n",
+     plain(16, {0: 4, 8: 2}, {4: 4}, dead=0), [0, 8]),
+    (plain(24, {2: 2, 20: 3}), [2, 20], 14, "prefix 16 top 19 filled 3\n",
+     plain(24, {2: 2, 16: 3}, {0: 2, 4: 12}, dead=0), [2, 16]),
+    (plain(24, {2: 2, 20: 3}), [2, 20], 13, "prefix 8 top 11 filled 2\n",
+     plain(24, {2: 2, 8: 3}, {0: 2, 4: 4}, dead=0), [2, 8]),
+    (plain(32, {1: 20}), [1], 0, "prefix 0 top 20 filled 3\n", plain(32, {0: 20}, dead=0), [0]),
+]
+
+
+FIRST_STAYS = """prefix 8 top 21
+       0        0        6        0        0        -
+       1        1        2        8        0        1
+       2        0        4       11        1        3
+       3        6        0       15        2        -
+"""
+WHOLE = """prefix 32 top 32
+       0        0        8        0        0        -
+       1        8        0        8        0        -
+       2        8        0       16        0        -
+       3        8        0       24        0        -
+"""
+CROSSING = """prefix 0 top 20
+       0        0        7        0        0        0
+       1        8        0        7        1        1
+       2        5        0       15        1        2
+       3        0        0       20        0        -
+"""
+BARE_BASE = plain(32, {0: 3, 5: 4, 12: 2, 20: 10})
+
+# Images, and what `summary` prints of them.
+SUMMARIES = [
+    (image(BARE_BASE, LIVE), REPORT),
+    (image(BARE_BASE, LIVE, 1), REPORT),
+    (image(BARE_BASE, LIVE, 2), FIRST_STAYS),
+    (image(BARE_BASE, LIVE, LARGEST), NOTHING_MOVES),
+    (rooted(BARE_BASE, [21, 13, 6, 1]), REPORT),
+    (image(plain(32, {0: 32}), [0], 5), WHOLE),
+    (image(plain(32, {1: 20}), [1]), CROSSING),
+]
+
+
+# Of the base heap by its allowance what `order` prints.
+CHAINS = [
+    (0, "chain 19 words 19 speedup 1.00 workers 1\n"),
+    (1, "chain 19 words 19 speedup 1.00 workers 1\n"),
+    (2, "chain 13 words 21 speedup 1.61 workers 2\n"),
+    (LARGEST, "chain 8 words 30 speedup 3.75 workers 4\n"),
+]
+
+
+def try_collections(tried: Tried) -> None:
+    """Collections of known heaps, in both versions: with a root to each live object, the last one first."""
+    for words, live, allowance, figures, new_words, new_live in COLLECTIONS:
+        try_collected(tried, image(words, live, allowance), figures, image(new_words, new_live, allowance))
+        roots, new_roots = ([1 + a for a in reversed(addresses)] for addresses in (live, new_live))
+        try_collected(tried, rooted(words, roots, allowance), figures, rooted(new_words, new_roots, allowance))
+    tried.run("summary base", Answer(0, REPORT))
+    for text, said in SUMMARIES:
+        tried.write("image", text)
+        tried.run("summary image", Answer(0, said))
+    tried.write("image", image(WORDS, []))
+    tried.run("order image", Answer(0, "chain 0 words 0 speedup 1.00 workers 1\n"))
+    for allowance, said in CHAINS:
+        tried.write("image", image(WORDS, LIVE, allowance))
+        tried.run("order image", Answer(0, said))
+        tried.run("order --verbose image", Answer(0, said))
+    tried.write("image", image(WORDS, LIVE, LARGEST))
+    tried.run("summary image", Answer(0, NOTHING_MOVES))
+
+
+def try_upgrades(tried: Tried) -> None:
+    """Images of version 1 as ones of version 2, which are collected alike."""
+    tried.run("upgrade base out", Answer(0, "roots 4\n", made={"out": rooted(WORDS, [1, 6, 13, 21])}))
+    tried.write("rooted", tried.read("out"))
+    tried.run("upgrade rooted out", Answer(0, "roots 4\n", made={"out": tried.read("rooted")}))
+    tried.run("collect rooted out --workers 2", Answer(0, COLLECTED, made={"out": rooted(MOVED, [1, 4, 8, 10])}))
+    tried.write("image", image([999] * 32, []))
+    tried.run("upgrade image out", Answer(0, "roots 0\n", made={"out": rooted([999] * 32, [])}))
+    tried.write("image", BASE[:319])
+    tried.run("upgrade image out", fault("5 truncated body", {"out": b""}))
+    for words, live, allowance, *_ in COLLECTIONS:
+        try_upgraded(tried, image(words, live, allowance))
+
+
+def try_verdicts(tried: Tried) -> None:
+    shape = [image(MOVED[:24], MOVED_LIVE), image(MOVED + [0] * 8, MOVED_LIVE), image(MOVED, []),
+             image(MOVED, MOVED_LIVE, allowance=2), image(MOVED, MOVED_LIVE, log=4)]
+    rows = [(COMPACTED, Answer(0, "same\n")), (BASE, differs("word 1")),
+            (image(with_word(MOVED, 18, 130), MOVED_LIVE), differs("word 18")),
+            (image(with_word(MOVED, 31, 1), MOVED_LIVE), differs("word 31"))]
+    for text, answer in rows + [(text, differs("shape")) for text in shape]:
+        tried.write("after", text)
+        tried.run("verify base after", answer)
+    words = [header(3, 0), header(1, 0), *[0] * 6]
+    tried.write("before", image(words, [0]))
+    tried.write("after", image(words, [1]))
+    tried.run("verify before after", differs("live 0"))
+    tried.run("verify base base", differs("word 1"))
+
+
+MALFORMED = [
+    ("", 1), ("schedule 1 0\n", 1), ("schedule 1 65\n", 1), ("schedule 2 1\n", 1), ("schedule 1  1\n", 1),
+    ("schedule 01 1\n", 1), ("schedule 1 1", 1), ("schedule 1 1\r\n", 1), ("\ufeffschedule 1 1\n", 1),
+    ("schedule 1 1\n1 poll ?\n", 2), ("schedule 1 1\n0 copy 0 0 ok\n", 2), ("schedule 1 1\n0 claim 0 open0\n", 2),
+    ("schedule 1 1\n0 claim 4294967296 ?\n", 2), ("schedule 1 1\n 0 poll ?\n", 2), ("schedule 1 1\n0 poll\n", 2),
+    ("schedule 1 1\n\n", 2), ("schedule 1 1\n0 claim 1 yes\n0 poll\n", 3), (ONE_WORKER + "0 poll all", 21),
+    (ONE_WORKER.replace("0 claim 2 yes", "0 claim 2 Yes"), 16),
+]
+REFUSED = [
+    ("schedule 1 1\n0 claim 0 yes\n0 claim 1 yes\n", 3), ("schedule 1 1\n0 claim 0 yes\n0 drain 0 1 last\n", 3),
+    ("schedule 1 1\n0 claim 0 yes\n0 copy 0 9 ok\n", 3), ("schedule 1 2\n0 claim 0 yes\n1 claim 0 yes\n", 3),
+    ("schedule 1 2\n0 claim 0 yes\n0 copy 0 8 ok\n1 drain 0 1 last\n", 4),
+    ("schedule 1 2\n0 claim 0 yes\n0 copy 0 8 ok\n0 drain 0 1 last\n0 drain 0 1 last\n", 5),
+    ("schedule 1 2\n0 claim 0 yes\n0 copy 0 8 ok\n0 complete 0 ok\n", 4),
+    ("schedule 1 2\n0 claim 0 yes\n0 copy 0 8 ok\n0 drain 0 1 last\n0 copy 0 1 ok\n", 5),
+    ("schedule 1 2\n0 claim 4 ?\n", 2), ("schedule 1 2\n0 settle 0 more\n", 2),
+]
+
+
+def exchanged(text: str, first: int) -> str:
+    """The schedule with this line, from 1, after the next one."""
+    lines = text.splitlines(keepends=True)
+    lines[first - 1:first + 1] = reversed(lines[first - 1:first + 1])
+    return "".join(lines)
+
+
+def try_refused_lines(tried: Tried, rows: list[tuple[str, int]]) -> None:
+    """Schedules that are refused, each with its least bad line."""
+    for text, line in rows:
+        tried.write("schedule", text)
+        tried.run("replay base schedule", fault(f"14 schedule line {line}"))
+
+
+def try_replayed(tried: Tried, text: str, end: str) -> None:
+    """A schedule that is allowed and has all its replies."""
+    tried.write("schedule", text)
+    tried.run("replay base schedule", Answer(0, f"{text}{end}\n"))
+
+
+def try_malformed_schedules(tried: Tried) -> None:
+    try_refused_lines(tried, MALFORMED)
+    tried.write("schedule", BASE)
+    tried.run("replay base schedule", fault("14 schedule line 1"))
+
+
+def try_refused_schedules(tried: Tried) -> None:
+    try_refused_lines(tried, REFUSED)
+    # A schedule of another image: there region 0 gets 7 words.
+    tried.write("schedule", ONE_WORKER)
+    tried.write("image", image(SMALL, [0, 2, 3]))
+    tried.run("replay image schedule", fault("14 schedule line 4"))
+
+
+def try_edited_schedules(tried: Tried) -> None:
+    """The recorded schedule with lines exchanged, joined or left out, and one of two workers."""
+    try_refused_lines(tried, [(exchanged(ONE_WORKER, 4), 4), (exchanged(ONE_WORKER, 5), 5)])
+    for text in (ONE_WORKER, TWO_WORKERS, ONE_WORKER.replace("0 copy 0 6 ok\n0 copy 0 2 ok\n", "0 copy 0 8 ok\n"),
+                 exchanged(ONE_WORKER, 7), exchanged(ONE_WORKER, 11)):
+        try_replayed(tried, text, "finished")
+    try_replayed(tried, ONE_WORKER.replace("0 settle 2 all\n", ""), "open")
+
+
+def try_open_replies(tried: Tried) -> None:
+    tried.write("schedule", "schedule 1 1\n0 claim 0 yes\n0 claim 1 ?\n")
+    tried.run("replay base schedule", Answer(0, "schedule 1 1\n0 claim 0 yes\n0 claim 1 no\nopen\n"))
+
+
+def try_files(tried: Tried) -> None:
+    """Files that aren't there, can't be read or written, or are named twice."""
+    tried.write("schedule", ONE_WORKER)
+    (tried.folder / "folder").mkdir()
+    # Each read of the last one fails.
+    for name in ("nothing", "folder", "nothing/image", "base/image", "/proc/self/mem"):
+        made = {} if name in ("folder", "/proc/self/mem") else {"out": None}
+        tried.run(f"summary {name}", fault(FAULT_13))
+        tried.run(f"order {name}", fault(FAULT_13))
+        tried.run(f"collect {name} out --workers 1", fault(FAULT_13, made))
+        tried.run(f"upgrade {name} out", fault(FAULT_13, made))
+        tried.run(f"replay {name} schedule", fault(FAULT_13))
+        tried.run(f"replay base {name}", fault(FAULT_13))
+        tried.run(f"verify {name} base", fault(FAULT_13))
+        tried.run(f"verify base {name}", fault(FAULT_13))
+    for name in ("folder", "nothing/out"):
+        tried.run(f"collect base {name} --workers 1", fault(FAULT_13))
+        tried.run(f"upgrade base {name}", fault(FAULT_13))
+        tried.run(f"record base out {name} --workers 1", fault(FAULT_13, {"out": b""}))
+        tried.run(f"record base {name} schedule2 --workers 1", fault(FAULT_13, {"schedule2": None}))
+    same = Answer(2, err="pcompact: same file\n")
+    for words in ("collect base base --workers 1", "record base base s --workers 1", "record base out base --workers 1",
+                  "record base s s --workers 1", "replay base base", "upgrade base base"):
+        tried.run(words, same)
+    if tried.read("base") != BASE:
+        tried.is_wrong("an image that was named twice is changed")
+
+
+def try_names(tried: Tried) -> None:
+    """One file under two names: another spelling, a link, a way through another folder."""
+    same = Answer(2, err="pcompact: same file\n")
+    not_made = dataclasses.replace(same, made={"new": None})
+    tried.write("image", BASE)
+    tried.write("kept", "kept")
+    (tried.folder / "aside").mkdir()
+    (tried.folder / "hard").hardlink_to(tried.folder / "image")
+    (tried.folder / "soft").symlink_to("image")
+    (tried.folder / "to_new").symlink_to("new")
+    for name in ("./image", ".//image", "aside/../image", str(tried.folder / "image"), "hard", "soft"):
+        tried.run(f"collect image {name} --workers 1", same)
+        tried.run(f"collect {name} image --workers 1", same)
+        tried.run(f"upgrade image {name}", same)
+        tried.run(f"replay image {name}", same)
+        tried.run(f"record image {name} new --workers 1", not_made)
+        tried.run(f"record image new {name} --workers 1", not_made)
+        tried.run(f"verify image {name}", differs("word 1"))
+    for name in ("./new", "aside/../new", "to_new"):
+        tried.run(f"record image new {name} --workers 1", not_made)
+    for name in ("./kept", "aside/../kept"):
+        tried.run(f"record image kept {name} --workers 1", same)
+    if tried.read("image") != BASE or tried.read("kept") != b"kept":
+        tried.is_wrong("a file that was named twice is changed")
+    # A file that is longer than what is written into it, and one that a link is to make.
+    tried.write("kept", COMPACTED + BASE)
+    tried.run("collect image ./kept --workers 1", Answer(0, COLLECTED))
+    tried.run("collect image to_new --workers 1", Answer(0, COLLECTED, made={"new": COMPACTED}))
+    if tried.read("kept") != COMPACTED:
+        tried.is_wrong("a file is not emptied before it is written")
+    # Where the schedule can't be opened, nothing is lost.
+    tried.run("record image kept nothing/schedule --workers 1", fault(FAULT_13))
+    if tried.read("kept") != COMPACTED:
+        tried.is_wrong("a file is emptied before all are open")
+
+
+def try_unreadable(tried: Tried) -> None:
+    """Files that the user may not read or write."""
+    tried.write("secret", BASE)
+    (tried.folder / "secret").chmod(0)
+    who = {"user": "nobody"} if os.geteuid() == 0 else {}
+    tried.run("summary secret", fault(FAULT_13), **who)
+    tried.run("collect base secret --workers 1", fault(FAULT_13), **who)
+    tried.run("upgrade secret out", fault(FAULT_13, {"out": None}), **who)
+    (tried.folder / "secret").chmod(0o600)
+
+
+def try_devices(tried: Tried) -> None:
+    """Pipes, and devices that take nothing."""
+    collected = Answer(0, COLLECTED, made={"out": COMPACTED})
+    tried.run("summary /dev/stdin", Answer(0, REPORT), input=BASE)
+    tried.run("order /dev/stdin", Answer(0, CHAINS[0][1]), input=BASE)
+    tried.run("collect /dev/stdin out --workers 2", collected, input=BASE)
+    tried.run("upgrade /dev/stdin out", Answer(0, "roots 4\n", made={"out": upgraded(BASE)}), input=BASE)
+    tried.run("verify base /dev/stdin", Answer(0, "same\n"), input=COMPACTED)
+    tried.run("replay base /dev/stdin", Answer(0, ONE_WORKER + "finished\n"), input=ONE_WORKER.encode())
+    tried.run("summary /dev/stdin", fault("10 trailing bytes"), input=BASE + b"\0" * 100_000)
+    tried.run("collect base /dev/full --workers 2", fault(FAULT_13))
+    tried.run("upgrade base /dev/full", fault(FAULT_13))
+    tried.run("record base out /dev/full --workers 1", fault(FAULT_13, {"out": COMPACTED}))
+    tried.run("record base /dev/full schedule --workers 1", fault(FAULT_13, {"schedule": b""}))
+    with FULL.open("wb") as full:
+        for words in ("board", "--help", "--version", "summary base", "replay base schedule2", "verify base after"):
+            tried.write("schedule2", ONE_WORKER)
+            tried.write("after", COMPACTED)
+            tried.run(words, fault(FAULT_13), stdout=full)
+        tried.run("collect base out --workers 2", fault(FAULT_13, {"out": COMPACTED}), stdout=full)
+        tried.run("upgrade base out", fault(FAULT_13, {"out": upgraded(BASE)}), stdout=full)
+        tried.run("summary nothing", Answer(1), stderr=full)
+        tried.run("sweep", Answer(2), stderr=full)
+        tried.run("board", dataclasses.replace(Answer(0), out=None), stderr=full)
+    tried.run("board", fault(FAULT_13), stdout=None, preexec_fn=lambda: os.close(1))
+    made = {"out": COMPACTED, "schedule": ONE_WORKER.encode()}
+    tried.run("record base out schedule --workers 1", Answer(1, made=made), stdin=None, stdout=None, stderr=None,
+              preexec_fn=lambda: os.closerange(0, 3))
+
+
+GROUPS = (try_words, try_flags, try_help, try_workers, try_images, try_malicious_images, try_beginnings, try_which_fault,
+          try_collections, try_upgrades, try_verdicts, try_malformed_schedules, try_refused_schedules,
+          try_edited_schedules, try_open_replies, try_files, try_names, try_unreadable, try_devices)
+
+if __name__ == "__main__":
+    sys.exit(try_groups(GROUPS))

@@ -1,0 +1,253 @@
+#!/usr/bin/env python3
+"""Runs `import` over heap dumps. test_imported_heaps.py compares what comes of many more.
+
+usage: tests/cli/test_import.py [PROGRAM]
+"""
+import dataclasses
+import os
+import pathlib
+import re
+import sys
+
+# Finds the package `tests` from any folder, and writes nothing beside its modules.
+sys.dont_write_bytecode = True
+sys.path.insert(0, str(pathlib.Path(__file__).resolve().parents[2]))
+from tests.models import dump as dump_model
+from tests.models import image as model
+from tests.support import dump_writer
+from tests.support.cases import try_groups
+from tests.support.program import TOP, Answer, Tried, fault, usage
+
+DUMP = dump_writer.small().text()
+FULL = pathlib.Path("/dev/full")
+FAULT_13 = "13 input or output"
+OLD = b"what stood there before" * 40
+CUT = f"byte {len(DUMP) - 1}: the dump ends here, inside a record"
+NAME = "byte 0: this is no heap dump of version 1.0.1 or 1.0.2"
+SAME = Answer(2, err="pcompact: same file\n")
+IRREGULAR = Answer(2, err="pcompact: not a regular file\n")
+
+
+# A dump with an object of each kind, worked by hand: a gap of a word behind the class, one of 513 before the last array, roots
+# and references that lead nowhere. Its image in regions of 8 words with allowance 5, as text, and that of its live objects.
+SAMPLE_TEXT = f"""\
+heap version 2
+region-log 3
+words 24
+allowance 5
+roots @7 @10
+@0 dead 7 words {model.header(6, 5)} 0 0 0 0 8 0
+@7 object 3 refs @14 data 67305985
+@10 object 4 refs @7 null null
+@14 object 3 data 578437695752307201 9
+@17 dead 7 of 0
+"""
+SAMPLE_LINE = "words 24 objects 4 roots 2 live 3 dead 1 dropped-gaps 1 unresolved 2\n"
+LIVE_TEXT = """\
+heap version 2
+region-log 3
+words 16
+allowance 5
+roots @0 @3
+@0 object 3 refs @7 data 67305985
+@3 object 4 refs @0 null null
+@7 object 3 data 578437695752307201 9
+@10 dead 6 of 0
+"""
+LIVE_LINE = "words 16 objects 3 roots 2 live 3 dead 0 dropped-gaps 0 unresolved 2\n"
+
+
+def sample() -> bytes:
+    writer = dump_writer.Writer()
+    writer.record(0x01, b"name")
+    heap = b"".join(writer.root(tag, id_) for tag, id_ in ((0x08, 312), (0x05, 312), (0x01, 336), (0xFF, 999), (0x07, 0)))
+    heap += writer.instance(312, 256, [(2, 4472), (10, 0x01020304)]) + writer.references(336, [312, 0, 999])
+    writer.record(0x1C, heap)
+    writer.record(0x1C, writer.primitives(4472, 8, list(range(1, 10))) + writer.class_(256, 0, [2, 10], [(2, 312)]))
+    return writer.record(0x2C, b"").text()
+
+
+def heap_dump(*pieces: bytes) -> bytes:
+    """A dump with these records of its heap."""
+    return dump_writer.Writer().record(0x0C, b"".join(pieces)).text()
+
+
+def malformed_dumps() -> list[tuple[bytes, str]]:
+    """Dumps with one mistake, and what is said of each."""
+    to = dump_writer.Writer()
+    no_class = "the class of this object, or one above it, is not in the dump or is above itself"
+    other_size = "an instance of 1 bytes, where the fields of its class have another number"
+    return [
+        (heap_dump(b"\x09", to.id(1)), "byte 40: tag 9 is that of no record of a heap"),
+        (heap_dump(to.references(0, [])), "byte 40: an object with id 0, which is null"),
+        (heap_dump(to.references(8, []), to.primitives(8, 8, [])), "byte 65: a second object with id 8"),
+        (heap_dump(to.instance(8, 16)), f"byte 40: {no_class}"),
+        (heap_dump(to.instance(8, 16, [(8, 1)]), to.class_(16, 0, [5], [(2, 0)])), f"byte 40: {other_size}"),
+        (dump_writer.Writer().record(0x77, b"\1\2\3").text(), "byte 43: the dump ends without a heap"),
+        (dump_writer.Writer().record(0x2C, b"").text(), "byte 40: the dump ends without a heap"),
+        (dump_writer.Writer().record(0x1C, b"").text(), "byte 40: the dump ends without the end of its heap"),
+        (dump_writer.Writer().record(0x1C, b"").record(0x0C, b"").text(), "byte 49: the dump ends without the end of its heap"),
+    ]
+
+
+def imported(data: bytes, name: str = "out", **options) -> Answer:
+    """What a good import of this dump answers and makes."""
+    made = dump_model.make(data, **options)
+    return Answer(0, f"{made.line}\n", made={name: made.image})
+
+
+def refused(text: str, made: dict[str, bytes | None] | None = None) -> Answer:
+    return Answer(1, err=f"pcompact: {text}\n", made=made or {})
+
+
+def try_imports(tried: Tried) -> None:
+    """Dumps as images, with each option, and what the other commands make of these."""
+    tried.write("dump", DUMP)
+    tried.run("import dump out", imported(DUMP))
+    for log in (3, 9, 16):
+        tried.run(f"import dump out --region-log {log}", imported(DUMP, region_log=log))
+    tried.run("import dump out --allowance 18446744073709551615", imported(DUMP, allowance=2**64 - 1))
+    tried.run("import --live-only dump out", imported(DUMP, live_only=True))
+    for flags in ("--verbose", "--atomic", "--atomic --verbose"):
+        tried.run(f"import dump {flags} out --live-only --region-log=4 --allowance=5",
+                  imported(DUMP, region_log=4, allowance=5, live_only=True))
+    # A file that is longer than the image.
+    tried.write("longer", DUMP * 40)
+    tried.run("import dump longer --region-log 3", Answer(0, imported(DUMP, region_log=3).out))
+    if tried.read("longer") != dump_model.make(DUMP, 3).image:
+        tried.is_wrong("a file is not emptied before an image is written")
+    for kept in sorted((TOP / "examples" / "dumps").glob("*.hprof")):
+        try_collected(tried, kept.read_bytes())
+
+
+def try_collected(tried: Tried, data: bytes) -> None:
+    """An imported heap, whole and of its live objects alone, and what a collection makes of it."""
+    tried.write("dump", data)
+    whole, live = dump_model.make(data, 6), dump_model.make(data, 6, live_only=True)
+    tried.run("import dump whole --region-log 6", Answer(0, f"{whole.line}\n", made={"whole": whole.image}))
+    tried.run("import dump live --region-log 6 --live-only", Answer(0, f"{live.line}\n", made={"live": live.image}))
+    after = model.Collection(model.decode(whole.image))
+    tried.run("summary whole", Answer(0, after.report()))
+    tried.run("collect whole out --workers 2", Answer(0, after.figures(), made={"out": model.encode(after.compaction())}))
+
+
+def try_sample(tried: Tried) -> None:
+    """The dump that was worked by hand, whole and of its live objects alone; and each beginning of it."""
+    tried.write("dump", sample())
+    for words, line, text in (("", SAMPLE_LINE, SAMPLE_TEXT), (" --live-only", LIVE_LINE, LIVE_TEXT)):
+        tried.run(f"import dump out --region-log 3 --allowance 5{words}", Answer(0, line))
+        tried.run("text out", Answer(0, text))
+    for length in range(len(sample())):
+        tried.write("dump", sample()[:length])
+        told = re.compile(rf"pcompact: byte {length}: .+\n")
+        tried.run("import dump out --region-log 3", Answer(1, err=told, made={"out": None}))
+
+
+def try_malformed_dumps(tried: Tried) -> None:
+    """Dumps with one mistake, and heaps that have too many words."""
+    for data, said in malformed_dumps():
+        tried.write("dump", data)
+        tried.run("import dump out --region-log 3", refused(said, {"out": None}))
+    to = dump_writer.Writer()
+    heap = [to.primitives(8, 11, [0] * 131_072), to.references(4_000_000, []), to.root(0x05, 4_000_000)]
+    tried.write("dump", heap_dump(*heap))
+    many = "131074 words, and 131072 are the most"
+    tried.run("import dump out --region-log 3", refused(f"the heap has {many}; with --live-only it has 1", {"out": None}))
+    tried.write("dump", heap_dump(*heap, to.root(0x05, 8)))
+    tried.run("import dump out --region-log 3 --live-only", refused(f"the reachable objects have {many}", {"out": None}))
+
+
+def try_most_words(tried: Tried) -> None:
+    """Heaps of exactly the most words that an image may have, and of one more: with regions of 8 words, and with the usual
+    ones."""
+    to = dump_writer.Writer()
+    for words, most in ((" --region-log 3", 131_072), ("", 4_194_304)):
+        for count in (most, most + 1):
+            # A heap of one array, and with an object behind it that no root reaches.
+            array = to.root(0x05, 8) + to.primitives(8, 11, [], count - 1) + bytes(8 * (count - 1))
+            told = f"words {count} objects 1 roots 1 live 1 dead 0 dropped-gaps 0 unresolved 0\n"
+            many = f"{count} words, and {most} are the most"
+            whole = Answer(0, told) if count == most else refused(f"the heap has {many}; with --live-only it has {count}", {"out": None})
+            live = Answer(0, told) if count == most else refused(f"the reachable objects have {many}", {"out": None})
+            tried.write("dump", heap_dump(array))
+            tried.run(f"import dump out{words}", whole)
+            tried.write("dump", heap_dump(array, to.references(2**40, [8])))
+            tried.run(f"import dump out --live-only{words}", live)
+
+
+def try_refused_dumps(tried: Tried) -> None:
+    """What is no dump, or is too large, with the file for the image there or not: it stays as it was."""
+    large = dump_writer.Writer()
+    large.record(0x0C, large.root(0xFF, 64) + large.primitives(64, 8, [7] * 16) + large.primitives(4096, 11, [0] * 131_072))
+    whole = large.text()
+    rows = [("", b"", "byte 0: the dump ends here, inside a record"), ("", OLD, NAME), ("", DUMP[:-1], CUT),
+            ("--live-only", DUMP[:-1], CUT), ("--atomic", DUMP[:-1], CUT),
+            ("", dump_writer.Writer().text(), "byte 31: the dump ends without a heap"),
+            ("--region-log 3", whole, dump_model.make(whole, 3).line)]
+    for words, data, said in rows:
+        tried.write("dump", data)
+        tried.run(f"import dump out {words}", refused(said, {"out": None}))
+        tried.write("old", OLD)
+        tried.run(f"import dump old {words}", refused(said))
+        if tried.read("old") != OLD:
+            tried.is_wrong(f"import {words}: the file is changed where the dump gives no image")
+    tried.run("import dump out --region-log 3 --live-only", imported(whole, region_log=3, live_only=True))
+
+
+def try_import_words(tried: Tried) -> None:
+    """Words that are no call of `import`, and the numbers of its options."""
+    tried.write("dump", DUMP)
+    nothing = {"out": None}
+    missing = "error: the following required arguments were not provided:\n"
+    tried.run("import dump", usage(f"{missing}  <IMAGE>\n"))
+    tried.run("import", usage(f"{missing}  <DUMP>\n  <IMAGE>\n"))
+    tried.run("import dump out more", usage("error: unexpected argument 'more' found\n"))
+    for option, value, said in (("--region-log <k>", "2", "2 is not in 3..=16"), ("--region-log <k>", "17", "17 is not in 3..=16"),
+                                ("--region-log <k>", "nine", "invalid digit found in string"),
+                                ("--allowance <m>", "18446744073709551616", "number too large to fit in target type"),
+                                ("--allowance <m>", "1.5", "invalid digit found in string")):
+        answer = usage(f"error: invalid value '{value}' for '{option}': {said}\n")
+        tried.run(f"import dump out {option.split()[0]} {value}", dataclasses.replace(answer, made=nothing))
+    for option in ("--region-log 3", "--allowance 3", "--live-only"):
+        name = {"--region-log 3": "--region-log <k>", "--allowance 3": "--allowance <m>"}.get(option, option)
+        tried.run(f"import dump out {option} {option}", usage(f"error: the argument '{name}' cannot be used multiple times\n"))
+        tried.run(f"upgrade base out {option}", usage(f"error: unexpected argument '{option.split()[0]}' found\n"))
+
+
+def try_import_files(tried: Tried) -> None:
+    """Files that aren't there, can't be read or written, are named twice, or can't be read twice."""
+    tried.write("dump", DUMP)
+    (tried.folder / "folder").mkdir()
+    (tried.folder / "hard dump").hardlink_to(tried.folder / "dump")
+    for name in ("nothing", "nothing/dump", "dump/image", "/proc/self/mem"):
+        tried.run(f"import {name} out", fault(FAULT_13, {"out": None}))
+    for name in ("folder", "nothing/out"):
+        tried.run(f"import dump {name}", fault(FAULT_13))
+    for name in ("dump", "./dump", "hard dump", str(tried.folder / "dump")):
+        tried.run(["import", "dump", name], SAME)
+        tried.run(["import", name, "dump"], SAME)
+    tried.run("import folder out", dataclasses.replace(IRREGULAR, made={"out": None}))
+    for name in ("/dev/null", "/dev/zero"):
+        tried.run(f"import {name} out", dataclasses.replace(IRREGULAR, made={"out": None}))
+    tried.run("import /dev/stdin out", dataclasses.replace(IRREGULAR, made={"out": None}), input=DUMP)
+    with (tried.folder / "dump").open("rb") as dump:
+        tried.run("import /dev/stdin out", imported(DUMP), stdin=dump)
+    tried.run("import dump /dev/full", fault(FAULT_13))
+    with FULL.open("wb") as full:
+        tried.run("import dump out", fault(FAULT_13, imported(DUMP).made), stdout=full)
+        tried.run("import dump out --atomic", fault(FAULT_13, {"out": None}), stdout=full)
+        tried.write("cut", DUMP[:-1])
+        tried.run("import cut out", Answer(1, made={"out": None}), stderr=full)
+    who = {"user": "nobody"} if os.geteuid() == 0 else {}
+    tried.run("import dump new", fault(FAULT_13, {"new": None}), **who)
+    (tried.folder / "dump").chmod(0)
+    tried.run("import dump out", fault(FAULT_13, {"out": None}), **who)
+    (tried.folder / "dump").chmod(0o600)
+    if tried.read("dump") != DUMP:
+        tried.is_wrong("a dump that was named twice is changed")
+
+
+GROUPS = (try_imports, try_sample, try_malformed_dumps, try_most_words, try_refused_dumps, try_import_words, try_import_files)
+
+if __name__ == "__main__":
+    sys.exit(try_groups(GROUPS))

@@ -1,0 +1,263 @@
+#!/usr/bin/env python3
+"""Runs `map`: its rows, worked by hand, its drawings, and how it looks on what it is printed to.
+
+usage: tests/cli/test_map.py [PROGRAM]
+"""
+import dataclasses
+import os
+import pathlib
+import pty
+import re
+import subprocess
+import sys
+import xml.etree.ElementTree
+
+# Finds the package `tests` from any folder, and writes nothing beside its modules.
+sys.dont_write_bytecode = True
+sys.path.insert(0, str(pathlib.Path(__file__).resolve().parents[2]))
+from tests.models import image as model
+from tests.models.generated_heap import Wanted, generated
+from tests.support.cases import BASE, LIVE, WORDS, image, rooted, try_groups
+from tests.support.program import Answer, Tried, fault, usage
+
+FULL = pathlib.Path("/dev/full")
+FAULT_13 = "13 input or output"
+LARGEST = 2**64 - 1
+OLD = b"what stood there before" * 4000
+SVG = "{http://www.w3.org/2000/svg}"
+MAX_BYTES = 300_000
+
+LEGEND = """\
+live: _ none . few : half + most # all
+area: p prefix f prefix with fillers m moving - free x several
+"""
+BLOCK_LEGEND = LEGEND.replace("_ none . few : half + most # all", "▁ none ░ few ▒ half ▓ most █ all")
+
+# Of the base heap by its allowance: the figures, and the strips before and after of four cells, region by region.
+ROWS = [
+    (0, "prefix 0 top 19 filled 3", "+::+", "mmmx", "##:_", "mmx-"),
+    (1, "prefix 0 top 19 filled 3", "+::+", "mmmx", "##:_", "mmx-"),
+    (2, "prefix 8 top 21 filled 3", "+::+", "fmmx", "+#:_", "fmx-"),
+    (LARGEST, "prefix 24 top 30 filled 4", "+::+", "fffx", "+::+", "fffx"),
+]
+
+# Of each word of the base heap with M = 2.
+WHOLE = """\
+words 32 live 19 dead 13 prefix 8 top 21 filled 3
+before |###__####___##______##########__|
+       |pppffpppmmmmmmmmmmmmmmmmmmmmmm--|
+after  |###__################___________|
+       |pppffpppmmmmmmmmmmmmm-----------|
+""" + LEGEND
+
+
+def environment(**names: str) -> dict[str, str]:
+    """The environment with these names of the locale and no others."""
+    kept = {name: value for name, value in os.environ.items() if name not in ("LC_ALL", "LC_CTYPE", "LANG")}
+    return {**kept, **names}
+
+
+def try_rows(tried: Tried) -> None:
+    """The rows of docs/COMMANDS.md, in both versions."""
+    for allowance, figures, *strips in ROWS:
+        line = f"words 32 live 19 dead 13 {figures}\n"
+        shades, areas, new_shades, new_areas = strips
+        before = f"before |{shades}|\n       |{areas}|\n"
+        after = f"after  |{new_shades}|\n       |{new_areas}|\n"
+        for made in (image(WORDS, LIVE, allowance), rooted(WORDS, [1 + a for a in LIVE], allowance)):
+            tried.write("image", made)
+            tried.run("map image --letters --width 4", Answer(0, line + before + LEGEND))
+            tried.run("map --after image --width 4 --letters --verbose", Answer(0, line + before + after + LEGEND))
+            tried.run("map image --svg drawn --width 4", Answer(0, line))
+    tried.write("image", image(WORDS, LIVE, 2))
+    # No more cells than words.
+    for width in ("", "--width 32", "--width 33", "--width 1000"):
+        tried.run(f"map image --after --letters {width}", Answer(0, WHOLE))
+    tried.run("map image --letters --width 1", Answer(0, f"{WHOLE.splitlines()[0]}\nbefore |:|\n       |x|\n{LEGEND}"))
+    tried.write("image", image([999] * 32, []))
+    for width in (2, 3):
+        tried.run(f"map image --letters --width {width}", Answer(0, (
+            f"words 32 live 0 dead 32 prefix 0 top 0 filled 0\nbefore |{'_' * width}|\n       |{'-' * width}|\n{LEGEND}")))
+
+
+def try_words(tried: Tried) -> None:
+    """Numbers of cells that no map has."""
+    for width in ("0", "1001", "4294967296"):
+        tried.run(f"map base --width {width}",
+                  usage(f"error: invalid value '{width}' for '--width <n>': {width} is not in 1..=1000\n"))
+    tried.run("map", usage("error: the following required arguments were not provided:\n  <IMAGE>\n"))
+    tried.run("map base --svg", usage("error: a value is required for '--svg <FILE>' but none was supplied\n"))
+
+
+def try_looks(tried: Tried) -> None:
+    """Letters and blocks by the locale, and colours where they are asked for."""
+    tried.write("image", image(WORDS, LIVE, 2))
+    line = "words 32 live 19 dead 13 prefix 8 top 21 filled 3\n"
+    letters = Answer(0, f"{line}before |+::+|\n       |fmmx|\n{LEGEND}")
+    blocks = Answer(0, f"{line}before |▓▒▒▓|\n       |fmmx|\n{BLOCK_LEGEND}")
+    for names, answer in (({}, letters), ({"LANG": "C"}, letters), ({"LANG": "C.UTF-8"}, blocks),
+                          ({"LC_ALL": "", "LC_CTYPE": "de_DE.utf8", "LANG": "C"}, blocks),
+                          ({"LC_ALL": "C", "LC_CTYPE": "C.UTF-8", "LANG": "C.UTF-8"}, letters),
+                          ({"LC_ALL": "en_US.UTF-8@x" + "y" * 200}, letters)):
+        tried.run("map image --width 4", answer, env=environment(**names))
+        tried.run("map image --width 4 --letters", letters, env=environment(**names))
+        tried.run("map image --width 4 --no-color --color", answer, env=environment(**names))
+    before = f"before |{coloured('+::+', BEFORE)}|\n       |{coloured('fmmx', BEFORE)}|\n"
+    tried.run("map image --width 4 --letters --color", Answer(0, f"{line}{before}{LEGEND}"))
+    after = f"after  |{coloured('+#:_', AFTER)}|\n       |{coloured('fmx-', AFTER)}|\n"
+    tried.run("map image --after --width 4 --letters --color", Answer(0, f"{line}{before}{after}{LEGEND}"))
+    both = "before |▓▒▒▓|\n       |fmmx|\nafter  |▓█▒▁|\n       |fmx-|\n"
+    tried.run("map image --after --width 4", Answer(0, f"{line}{both}{BLOCK_LEGEND}"), env=environment(LANG="C.UTF-8"))
+
+
+# The colours of the base heap with M = 2 in four cells: yellow fillers, green, magenta and cyan.
+BEFORE = (33, 32, 32, 35)
+AFTER = (33, 32, 35, 36)
+
+
+def coloured(marks: str, colours: tuple[int, ...]) -> str:
+    return "".join(f"\x1b[{colour}m{mark}\x1b[0m" for colour, mark in zip(colours, marks))
+
+
+def try_terminal(tried: Tried) -> None:
+    """On a terminal there are colours, unless that is asked for."""
+    tried.write("image", image(WORDS, LIVE, 2))
+    for flag, has_colours in (("", True), ("--no-color", False)):
+        ours, theirs = pty.openpty()
+        words = [tried.program, "map", "image", "--width", "4", "--letters", *flag.split()]
+        tried.count += 1
+        subprocess.run(words, cwd=tried.folder, stdout=theirs, check=False)
+        os.close(theirs)
+        shown = os.read(ours, 4096)
+        os.close(ours)
+        if (b"\x1b[33m+\x1b[0m" in shown) != has_colours or b"prefix 8" not in shown:
+            tried.is_wrong(f"map on a terminal {flag}: {shown!r}")
+
+
+def drawing(tried: Tried, name: str) -> xml.etree.ElementTree.Element:
+    """The drawing in a file, which must be valid XML and not too long."""
+    text = tried.read(name)
+    if len(text) >= MAX_BYTES:
+        tried.is_wrong(f"a drawing has {len(text)} bytes")
+    return xml.etree.ElementTree.fromstring(text)
+
+
+def cells_of(root: xml.etree.ElementTree.Element) -> list[tuple[str, str]]:
+    """The pattern and the title of each cell."""
+    rects = [rect for rect in root.iter(f"{SVG}rect") if rect.find(f"{SVG}title") is not None]
+    return [(re.fullmatch(r"url\(#(\w+)\)", rect.get("fill"))[1], rect.find(f"{SVG}title").text) for rect in rects]
+
+
+def try_drawings(tried: Tried) -> None:
+    """What a drawing shows: each cell with its pattern and its title, all areas, and a legend."""
+    tried.write("image", image(WORDS, LIVE, 2))
+    tried.run("map image --after --svg drawn --width 4", Answer(0, WHOLE.splitlines(True)[0]))
+    root = drawing(tried, "drawn")
+    wanted = [("f3", "words 0 to 7: 6 live, prefix with fillers"), ("m2", "words 8 to 15: 3 live, moving"),
+              ("m2", "words 16 to 23: 4 live, moving"), ("x3", "words 24 to 31: 6 live, several"),
+              ("f3", "words 0 to 7: 6 live, prefix with fillers"), ("m4", "words 8 to 15: 8 live, moving"),
+              ("x2", "words 16 to 23: 5 live, several"), ("e0", "words 24 to 31: 0 live, free")]
+    if cells_of(root) != wanted:
+        tried.is_wrong(f"a drawing has other cells: {cells_of(root)}")
+    try_drawing_of_words(tried)
+    patterns = {pattern.get("id"): pattern for pattern in root.iter(f"{SVG}pattern")}
+    looks = {(rect.get("fill-opacity"), path.get("d"))
+             for pattern in patterns.values() for rect, path in [list(pattern)]}
+    if len(patterns) != 25 or len(looks) != 25:
+        tried.is_wrong("without colours two patterns look alike")
+    texts = [text.text for text in root.iter(f"{SVG}text")]
+    for name in ("prefix", "prefix with fillers", "moving", "free", "several", "none lives", "few", "half", "most", "all live"):
+        if name not in texts:
+            tried.is_wrong(f"a drawing has no legend for {name}")
+
+
+def try_drawing_of_words(tried: Tried) -> None:
+    """The base heap with M = 2 in a cell for each word: one title of the drawing, and one of each cell."""
+    tried.run("map image --after --svg drawn --width 32", Answer(0, WHOLE.splitlines(True)[0]))
+    text = tried.read("drawn")
+    titles = [title for _, title in cells_of(drawing(tried, "drawn"))]
+    if len(titles) != 64 or text.count(b"<title>") != 65 or "words 3 to 3: 0 live, prefix with fillers" not in titles:
+        tried.is_wrong(f"a drawing has other titles: {titles}")
+    if not text.startswith(b"<?xml") or not text.endswith(b"</svg>\n"):
+        tried.is_wrong("a drawing begins or ends otherwise")
+
+
+def try_large_drawings(tried: Tried) -> None:
+    """Drawings of large heaps, in as many cells as there can be, beside the model."""
+    for wanted in (Wanted(65536, 9, 40, 25, 2, 9000, 3), Wanted(65536, 3, 99, 25, 1, 700, 4)):
+        heap, _ = generated(wanted)
+        collection = model.Collection(heap)
+        tried.write("heap", model.encode(heap))
+        tried.run("map heap --after --svg drawn --width 1000", Answer(0, collection.map_line()))
+        shown = cells_of(drawing(tried, "drawn"))
+        last_end = heap.end(collection.live[-1])
+        right = [*collection.cells(1000, set(collection.owner), last_end),
+                 *collection.cells(1000, set(collection.origins), collection.top)]
+        names = ['e' if area == '-' else area for _, area in right]
+        if [pattern for pattern, _ in shown] != [f"{name}{'_.:+#'.index(shade)}" for name, (shade, _) in zip(names, right)]:
+            tried.is_wrong(f"a drawing of {wanted} has other cells")
+        tried.run("map heap --after --letters --width 1000", Answer(0, collection.map(1000, True)))
+    largest = "generate most --words 4194304 --live 60 --region-log 16 --seed 2 --allowance 800000"
+    tried.run(largest, Answer(0, None))
+    tried.run("map most --after --svg drawn --width 1000", Answer(0, None))
+    if len(cells_of(drawing(tried, "drawn"))) != 2000:
+        tried.is_wrong("a drawing of the largest heap hasn't 2000 cells")
+
+
+def try_most_regions(tried: Tried) -> None:
+    """A heap of as many regions as there can be, by each command that looks at it: none is too many."""
+    tried.run("generate most --words 131072 --live 99 --region-log 3 --seed 4", Answer(0, None))
+    for words in ("map most --letters", "order most"):
+        tried.run(words, Answer(0, None))
+    tried.count += 2
+    summary, order = (subprocess.run([tried.program, word, "most"], cwd=tried.folder, capture_output=True, text=True, check=False).stdout
+                      for word in ("summary", "order"))
+    if summary.count("\n") != 16_385:
+        tried.is_wrong(f"of 16,384 regions {summary.count(chr(10))} lines sum up")
+    if not re.fullmatch(r"chain [1-9]\d* words [1-9]\d* speedup \d+\.\d\d workers [1-9]\d*\n", order):
+        tried.is_wrong(f"the order of 16,384 regions is {order!r}")
+
+
+def try_files(tried: Tried) -> None:
+    """Files that can't be read or written, one that is the image, and one that is longer than the drawing."""
+    line = Answer(0, "words 32 live 19 dead 13 prefix 0 top 19 filled 3\n")
+    (tried.folder / "map_folder").mkdir()
+    tried.write("kept", OLD)
+    for words in ("map nothing", "map map_folder", "map nothing --svg kept", "map base --svg map_folder",
+                  "map base --svg nothing/out", "map base --svg /dev/full"):
+        tried.run(words, fault(FAULT_13))
+    tried.run("map nothing --svg drawn", dataclasses.replace(fault(FAULT_13), made={"drawn": None}))
+    same = Answer(2, err="pcompact: same file\n")
+    for flag in ("", " --atomic"):
+        for name in ("base", "./base"):
+            tried.run(f"map base --svg {name}{flag}", same)
+    tried.run("map base --svg /dev/full --atomic", Answer(2, err="pcompact: not a regular file\n"))
+    tried.write("image", BASE[:319])
+    for flag in ("", " --atomic"):
+        tried.run(f"map image --svg kept{flag}", fault("5 truncated body"))
+        tried.run(f"map image --svg drawn{flag}", fault("5 truncated body", {"drawn": None}))
+    if tried.read("kept") != OLD or tried.read("base") != BASE:
+        tried.is_wrong("a file is changed that no drawing came into")
+    tried.run("map base --svg drawn", line)
+    for flag in ("", " --atomic"):
+        tried.write("kept", OLD)
+        tried.run(f"map base --svg kept{flag}", line)
+        if tried.read("kept") != tried.read("drawn"):
+            tried.is_wrong("a file is not emptied before a drawing is written")
+    with FULL.open("wb") as full:
+        tried.run("map base", fault(FAULT_13), stdout=full)
+        tried.run("map base --svg drawn --atomic", fault(FAULT_13, {"drawn": None}), stdout=full)
+    tried.run("map /dev/stdin --letters --width 4", Answer(
+        0, f"{line.out}before |+::+|\n       |mmmx|\n{LEGEND}"), input=BASE)
+    tried.run("map nothing --svg kept --verbose", Answer(1, err=(
+        "pcompact: fault 13 input or output\npcompact: file IMAGE nothing\npcompact: call open\n"
+        "pcompact: reason no such file or folder\n")))
+    tried.run("map base --svg nothing/out --verbose", Answer(1, err=(
+        "pcompact: fault 13 input or output\npcompact: file FILE nothing/out\npcompact: call open\n"
+        "pcompact: reason no such file or folder\n")))
+
+
+GROUPS = (try_rows, try_words, try_looks, try_terminal, try_drawings, try_large_drawings, try_most_regions, try_files)
+
+if __name__ == "__main__":
+    sys.exit(try_groups(GROUPS))

@@ -1,0 +1,420 @@
+#!/usr/bin/env python3
+"""The whole texts of help, and of what the program says of words that are no command.
+
+usage: tests/cli/test_usage.py [PROGRAM]
+"""
+import pathlib
+import sys
+
+# Finds the package `tests` from any folder, and writes nothing beside its modules.
+sys.dont_write_bytecode = True
+sys.path.insert(0, str(pathlib.Path(__file__).resolve().parents[2]))
+from tests.support.cases import try_groups
+from tests.support.program import Answer, Tried, usage
+
+HELP = """\
+Parallel mark-compact collection of heap images
+
+Usage: pcompact <COMMAND>
+
+Commands:
+  board     Schedule three regions among two workers, and count claims and completions
+  summary   Print the plan of a collection, region by region
+  collect   Collect a heap image and write the compacted one
+  verify    Compare a heap image with the compaction of another
+  record    Collect a heap image and record what each worker does
+  replay    Replay a schedule word by word and print it with all replies
+  upgrade   Convert a heap image to version 2, which has roots
+  import    Convert the heap dump of a Java virtual machine to a heap image
+  generate  Generate a heap image from a seed, for benchmarks and experiments
+  order     Print how many workers a collection can keep busy
+  text      Print a heap image as text
+  assemble  Convert a heap text to a heap image
+  map       Draw a heap image, also as its collection leaves it
+  timeline  Draw which worker has which region along the lines of a schedule
+  help      Print this message or the help of the given subcommand(s)
+
+Options:
+  -h, --help     Print help
+  -V, --version  Print version
+
+Exit status:
+  0  success, also of help and version
+  1  a fault, images that differ, a bad dump or a bad text; standard error says which
+  2  invalid usage; standard error says why
+"""
+
+BOARD_HELP = """\
+Schedule three regions among two workers, and count claims and completions
+
+Usage: pcompact board
+
+Options:
+  -h, --help  Print help
+"""
+
+SUMMARY_HELP = """\
+Print the plan of a collection, region by region
+
+Usage: pcompact summary [OPTIONS] <IMAGE>
+
+Arguments:
+  <IMAGE>  A heap image
+
+Options:
+      --verbose  Print more details about errors
+  -h, --help     Print help
+"""
+
+COLLECT_HELP = """\
+Collect a heap image and write the compacted one
+
+Usage: pcompact collect [OPTIONS] --workers <n> <IMAGE> <OUT>
+
+Arguments:
+  <IMAGE>  A heap image
+  <OUT>    Where to write the compacted image
+
+Options:
+      --workers <n>  Number of worker threads, from 1 to 64
+      --atomic       Replace files only once the command has succeeded
+      --stats        Print timings and peak memory to stderr
+      --verbose      Print more details about errors
+  -h, --help         Print help
+"""
+
+RECORD_HELP = """\
+Collect a heap image and record what each worker does
+
+Usage: pcompact record [OPTIONS] --workers <n> <IMAGE> <OUT> <SCHEDULE>
+
+Arguments:
+  <IMAGE>     A heap image
+  <OUT>       Where to write the compacted image
+  <SCHEDULE>  Where to write the schedule of the workers
+
+Options:
+      --workers <n>  Number of worker threads, from 1 to 64
+      --atomic       Replace files only once the command has succeeded
+      --stats        Print timings and peak memory to stderr
+      --verbose      Print more details about errors
+  -h, --help         Print help
+"""
+
+REPLAY_HELP = """\
+Replay a schedule word by word and print it with all replies
+
+Usage: pcompact replay [OPTIONS] <IMAGE> <SCHEDULE>
+
+Arguments:
+  <IMAGE>     A heap image
+  <SCHEDULE>  A schedule for the image
+
+Options:
+      --verbose  Print more details about errors
+  -h, --help     Print help
+"""
+
+ORDER_HELP = """\
+Print how many workers a collection can keep busy
+
+Usage: pcompact order [OPTIONS] <IMAGE>
+
+Arguments:
+  <IMAGE>  A heap image
+
+Options:
+      --verbose  Print more details about errors
+  -h, --help     Print help
+"""
+
+TEXT_HELP = """\
+Print a heap image as text
+
+Usage: pcompact text [OPTIONS] <IMAGE>
+
+Arguments:
+  <IMAGE>  A heap image
+
+Options:
+      --verbose  Print more details about errors
+  -h, --help     Print help
+"""
+
+ASSEMBLE_HELP = """\
+Convert a heap text to a heap image
+
+Usage: pcompact assemble [OPTIONS] <TEXT> <IMAGE>
+
+Arguments:
+  <TEXT>   A heap text
+  <IMAGE>  Where to write the image
+
+Options:
+      --atomic   Replace files only once the command has succeeded
+      --verbose  Print more details about errors
+  -h, --help     Print help
+"""
+
+MAP_HELP = """\
+Draw a heap image, also as its collection leaves it
+
+Usage: pcompact map [OPTIONS] <IMAGE>
+
+Arguments:
+  <IMAGE>  A heap image
+
+Options:
+      --after       Also draw the heap after its collection
+      --width <n>   Number of cells, from 1 to 1000 (default 64)
+      --svg <FILE>  Write the picture to this file as SVG, and print only the figures
+      --letters     Draw with letters even if the locale has block characters
+      --color       Use colours even if standard output is no terminal
+      --no-color    Never use colours
+      --atomic      Replace files only once the command has succeeded
+      --verbose     Print more details about errors
+  -h, --help        Print help
+"""
+
+TIMELINE_HELP = """\
+Draw which worker has which region along the lines of a schedule
+
+Usage: pcompact timeline [OPTIONS] <IMAGE> <SCHEDULE>
+
+Arguments:
+  <IMAGE>     A heap image
+  <SCHEDULE>  A schedule for the image
+
+Options:
+      --width <n>    Number of cells of a lane, from 1 to 1000 (default 64)
+      --svg <FILE>   Write the lanes to this file as SVG, and print only the figures
+      --html <FILE>  Write a page to this file that steps through the schedule, and print only the figures
+      --letters      Draw with letters even if the locale has block characters
+      --color        Use colours even if standard output is no terminal
+      --no-color     Never use colours
+      --atomic       Replace files only once the command has succeeded
+      --verbose      Print more details about errors
+  -h, --help         Print help
+
+Example:
+  pcompact record heap.pcheap out.pcheap schedule --workers 4
+  pcompact timeline heap.pcheap schedule --html timeline.html
+"""
+
+VERIFY_HELP = """\
+Compare a heap image with the compaction of another
+
+Usage: pcompact verify [OPTIONS] <BEFORE> <AFTER>
+
+Arguments:
+  <BEFORE>  The image before its collection
+  <AFTER>   The image to compare with its compaction
+
+Options:
+      --stats    Print timings and peak memory to stderr
+      --verbose  Print more details about errors
+  -h, --help     Print help
+"""
+
+UPGRADE_HELP = """\
+Convert a heap image to version 2, which has roots
+
+Usage: pcompact upgrade [OPTIONS] <IMAGE> <OUT>
+
+Arguments:
+  <IMAGE>  A heap image
+  <OUT>    Where to write the upgraded image
+
+Options:
+      --atomic   Replace files only once the command has succeeded
+      --verbose  Print more details about errors
+  -h, --help     Print help
+"""
+
+IMPORT_HELP = """\
+Convert the heap dump of a Java virtual machine to a heap image
+
+Usage: pcompact import [OPTIONS] <DUMP> <IMAGE>
+
+Arguments:
+  <DUMP>   A heap dump
+  <IMAGE>  Where to write the image
+
+Options:
+      --region-log <k>  Regions have 2^k words, k from 3 to 16 (default 9)
+      --allowance <m>   Number of dead words that the dense prefix may keep (default 0)
+      --live-only       Keep only objects that are reachable from the roots
+      --atomic          Replace files only once the command has succeeded
+      --verbose         Print more details about errors
+  -h, --help            Print help
+"""
+
+GENERATE_HELP = """\
+Generate a heap image from a seed, for benchmarks and experiments
+
+Usage: pcompact generate [OPTIONS] --words <n> --live <share> --region-log <k> --seed <s> <IMAGE>
+
+Arguments:
+  <IMAGE>  Where to write the image
+
+Options:
+      --words <n>       Number of words of the heap, a multiple of 2^k and at most 4194304
+      --live <share>    Percentage of the words that belongs to live objects, 0 to 100
+      --region-log <k>  Regions have 2^k words, k from 3 to 16
+      --seed <s>        A number of 64 bits; the same seed gives the same bytes everywhere
+      --refs <share>    Percentage of the words after the headers that are references, 0 to 100 (default 25)
+      --version <v>     Version of the image: 1 lists the live objects, 2 has roots (default 2)
+      --allowance <m>   Number of dead words that the dense prefix may keep (default 0)
+      --atomic          Replace files only once the command has succeeded
+      --verbose         Print more details about errors
+  -h, --help            Print help
+"""
+
+NO_COMMAND = """\
+error: 'pcompact' requires a subcommand but one was not provided
+  [subcommands: board, summary, collect, verify, record, replay, upgrade, import, generate, order, text, assemble, map, timeline, help]
+
+Usage: pcompact <COMMAND>
+
+For more information, try '--help'.
+"""
+
+UNKNOWN_COMMAND = """\
+error: unrecognized subcommand 'sweep'
+
+Usage: pcompact <COMMAND>
+
+For more information, try '--help'.
+"""
+
+UNKNOWN_OPTION = """\
+error: unexpected argument '--quiet' found
+
+Usage: pcompact <COMMAND>
+
+For more information, try '--help'.
+"""
+
+NO_IMAGE = """\
+error: the following required arguments were not provided:
+  <IMAGE>
+
+Usage: pcompact summary <IMAGE>
+
+For more information, try '--help'.
+"""
+
+EXTRA_WORD = """\
+error: unexpected argument 'twice' found
+
+Usage: pcompact board
+
+For more information, try '--help'.
+"""
+
+REGION_LOG_OUTSIDE = """\
+error: invalid value '2' for '--region-log <k>': 2 is not in 3..=16
+
+For more information, try '--help'.
+"""
+
+REGION_LOG_ABOVE = """\
+error: invalid value '17' for '--region-log <k>': 17 is not in 3..=16
+
+For more information, try '--help'.
+"""
+
+NO_ALLOWANCE = """\
+error: invalid value '18446744073709551616' for '--allowance <m>': number too large to fit in target type
+
+For more information, try '--help'.
+"""
+
+NO_WORKERS = """\
+error: the following required arguments were not provided:
+  --workers <n>
+
+Usage: pcompact collect --workers <n> <IMAGE> <OUT>
+
+For more information, try '--help'.
+"""
+
+NO_VALUE = """\
+error: a value is required for '--workers <n>' but none was supplied
+
+For more information, try '--help'.
+"""
+
+NO_NUMBER = """\
+error: invalid value 'two' for '--workers <n>': invalid digit found in string
+
+For more information, try '--help'.
+"""
+
+TOO_LARGE = """\
+error: invalid value '4294967296' for '--workers <n>': 4294967296 is not in 0..=4294967295
+
+For more information, try '--help'.
+"""
+
+BELOW_ZERO = """\
+error: unexpected argument '-1' found
+
+  tip: to pass '-1' as a value, use '-- -1'
+
+Usage: pcompact collect [OPTIONS] --workers <n> <IMAGE> <OUT>
+
+For more information, try '--help'.
+"""
+
+HELPS = [
+    ("--help", HELP),
+    ("-h", HELP),
+    ("help", HELP),
+    ("board --help", BOARD_HELP),
+    ("summary -h", SUMMARY_HELP),
+    ("collect --help", COLLECT_HELP),
+    ("record -h", RECORD_HELP),
+    ("help replay", REPLAY_HELP),
+    ("verify --help", VERIFY_HELP),
+    ("upgrade --help", UPGRADE_HELP),
+    ("import --help", IMPORT_HELP),
+    ("generate --help", GENERATE_HELP),
+    ("order --help", ORDER_HELP),
+    ("text --help", TEXT_HELP),
+    ("assemble --help", ASSEMBLE_HELP),
+    ("map --help", MAP_HELP),
+    ("timeline --help", TIMELINE_HELP),
+]
+
+REFUSED = [
+    ("", NO_COMMAND),
+    ("sweep", UNKNOWN_COMMAND),
+    ("--quiet", UNKNOWN_OPTION),
+    ("summary", NO_IMAGE),
+    ("board twice", EXTRA_WORD),
+    ("import in out --region-log 2", REGION_LOG_OUTSIDE),
+    ("import in out --region-log 17", REGION_LOG_ABOVE),
+    ("import in out --allowance 18446744073709551616", NO_ALLOWANCE),
+    ("collect in out", NO_WORKERS),
+    ("collect in out --workers", NO_VALUE),
+    ("collect in out --workers two", NO_NUMBER),
+    ("collect in out --workers 4294967296", TOO_LARGE),
+    ("collect in out --workers -1", BELOW_ZERO),
+]
+
+
+def try_helps(tried: Tried) -> None:
+    for words, text in HELPS:
+        tried.run(words, Answer(0, text))
+
+
+def try_refused_words(tried: Tried) -> None:
+    for words, text in REFUSED:
+        tried.run(words, usage(text))
+
+
+GROUPS = (try_helps, try_refused_words)
+
+if __name__ == "__main__":
+    sys.exit(try_groups(GROUPS))

@@ -1,0 +1,300 @@
+#!/usr/bin/env python3
+"""Runs the built program with --verbose where something goes wrong, and compares all of standard error: the line that
+is owed, and the lines that say more. Each form of such a line in docs/COMMANDS.md stands in a case.
+
+In the end each allocation of some runs is refused in turn: the line that is owed must come, with its status.
+
+usage: tests/cli/test_verbose.py [PROGRAM]      (needs a C compiler)
+"""
+import os
+import pathlib
+import subprocess
+import sys
+import tempfile
+
+# Finds the package `tests` from any folder, and writes nothing beside its modules.
+sys.dont_write_bytecode = True
+sys.path.insert(0, str(pathlib.Path(__file__).resolve().parents[2]))
+from tests.cli.test_import import CUT, DUMP, NAME
+from tests.models.image import header
+from tests.support.cases import BASE, COMPACTED, MOVED, MOVED_LIVE, ONE_WORKER, WORDS, head, image, with_word
+from tests.support.program import PRELOAD, Answer, Tried, built
+
+ROOTED = b"PCHEAP02"
+
+
+def told(owed: str, *more: str, status: int = 1, made: dict[str, bytes | None] | None = None) -> Answer:
+    """The line that is owed, and the lines that say more."""
+    return Answer(status, err="".join(f"pcompact: {line}\n" for line in (owed, *more)), made=made or {})
+
+
+def io(file: str, call: str, reason: str) -> Answer:
+    return told("fault 13 input or output", f"file {file}", f"call {call}", f"reason {reason}")
+
+
+def try_both(tried: Tried, words: str, answer: Answer) -> None:
+    """With --verbose all lines must come, and without it the first one alone."""
+    tried.run(f"{words} --verbose", answer)
+    first = answer.err.splitlines(keepends=True)[0]
+    tried.run(words, Answer(answer.status, err=first, made=answer.made))
+
+
+# The region log, the count, the number of words, and the first condition of fault 4 that holds.
+LENGTHS = [
+    (3, 0, 0, "the number of words is 0"),
+    (3, 0, 12, "the number of words is not a multiple of the words of a region"),
+    (3, 0, 4_194_305, "the number of words is not a multiple of the words of a region"),
+    (8, 0, 4_194_560, "the number of words is above 4194304"),
+    (3, 0, 131_080, "there are more than 16384 regions"),
+    (3, 33, 32, "there are more live addresses or roots than words"),
+]
+
+
+def try_lengths(tried: Tried) -> None:
+    """Each cause of fault 4, in both versions and of each command."""
+    for log, count, words, cause in LENGTHS:
+        for text in (head(log, count, words), head(log, count, words, ROOTED), head(log, count, words) + b"\0" * 300):
+            tried.write("image", text)
+            try_both(tried, "summary image", told("fault 4 length", "file IMAGE image", f"reason {cause}"))
+    cause = f"reason {LENGTHS[-1][3]}"
+    of_image = told("fault 4 length", "file IMAGE image", cause)
+    tried.write("schedule", ONE_WORKER)
+    for words in ("collect image out --workers 1", "record image out made --workers 1", "replay image schedule",
+                  "upgrade image out", "collect image out --workers 1 --atomic"):
+        try_both(tried, words, of_image)
+    try_both(tried, "verify image base", told("fault 4 length", "file BEFORE image", cause))
+    try_both(tried, "verify base image", told("fault 4 length", "file AFTER image", cause))
+
+
+def try_images(tried: Tried) -> None:
+    """Faults of an image: the file alone, and in `verify` the one of the two that is faulty."""
+    faulty = [(b"", "1 truncated header"), (BASE[:31], "1 truncated header"), (b"X" * 32, "2 magic"),
+              (head(2, 0), "3 region log"), (BASE[:319], "5 truncated body"), (BASE + b"\0", "10 trailing bytes"),
+              (image(WORDS, [0, 5, 5, 20]), "6 live order at index 2"),
+              (image(with_word(WORDS, 5, 0), [0, 5, 12, 20]), "7 header at 5"),
+              (image(with_word(WORDS, 0, header(6, 2)), [0, 5, 12, 20]), "8 overlap at 5"),
+              (image(with_word(WORDS, 6, 9), [0, 5, 12, 20]), "9 reference at 5 field 0")]
+    for text, owed in faulty:
+        tried.write("image", text)
+        tried.write("of two", text)
+        try_both(tried, "summary image", told(f"fault {owed}", "file IMAGE image"))
+        tried.run(["verify", "of two", "base", "--verbose"], told(f"fault {owed}", "file BEFORE of two"))
+        tried.run(["verify", "base", "of two", "--verbose"], told(f"fault {owed}", "file AFTER of two"))
+        # The first of two faulty images is told.
+        tried.run(["verify", "image", "of two", "--verbose"], told(f"fault {owed}", "file BEFORE image"))
+
+
+def try_missing(tried: Tried) -> None:
+    """Files that are missing, that are folders, or that can't be read for another reason."""
+    (tried.folder / "folder").mkdir()
+    tried.write("schedule", ONE_WORKER)
+    missing = "no such file or folder"
+    for file, call, reason in (("nothing", "open", missing), ("nothing/image", "open", missing),
+                               ("folder", "read", "a folder"), ("/proc/self/mem", "read", "other, error 5 of the system"),
+                               ("base/image", "open", "other, error 20 of the system")):
+        for words in (f"summary {file}", f"replay {file} schedule"):
+            try_both(tried, words, io(f"IMAGE {file}", call, reason))
+        try_both(tried, f"replay base {file}", io(f"SCHEDULE {file}", call, reason))
+        try_both(tried, f"verify {file} base", io(f"BEFORE {file}", call, reason))
+        try_both(tried, f"verify base {file}", io(f"AFTER {file}", call, reason))
+    for words in ("collect nothing out --workers 1", "record nothing out made --workers 1", "upgrade nothing out"):
+        try_both(tried, words, io("IMAGE nothing", "open", missing))
+        try_both(tried, f"{words} --atomic", io("IMAGE nothing", "open", missing))
+    for file, reason in (("folder", "a folder"), ("nothing/out", missing)):
+        for words in (f"collect base {file} --workers 1", f"record base {file} made --workers 1", f"upgrade base {file}"):
+            try_both(tried, words, io(f"OUT {file}", "open", reason))
+        try_both(tried, f"record base out {file} --workers 1", io(f"SCHEDULE {file}", "open", reason))
+    try_both(tried, "collect base nothing/out --workers 1 --atomic", io("OUT nothing/out", "make", missing))
+
+
+def try_not_permitted(tried: Tried) -> None:
+    """Files that the user may not read or write."""
+    tried.write("secret", BASE)
+    (tried.folder / "secret").chmod(0)
+    who = {"user": "nobody"} if os.geteuid() == 0 else {}
+    tried.run("summary secret --verbose", io("IMAGE secret", "open", "not permitted"), **who)
+    tried.run("verify base secret --verbose", io("AFTER secret", "open", "not permitted"), **who)
+    tried.run("upgrade base secret --verbose", io("OUT secret", "open", "not permitted"), **who)
+    tried.run("upgrade base secret --atomic --verbose", io("OUT secret", "open", "not permitted"), **who)
+    tried.run("upgrade base new --verbose", io("OUT new", "open", "not permitted"), **who)
+    tried.run("upgrade base new --atomic --verbose", io("OUT new", "make", "not permitted"), **who)
+    (tried.folder / "secret").chmod(0o600)
+
+
+def try_full(tried: Tried) -> None:
+    """Devices without space, standard output among them."""
+    no_space = ("write", "no space")
+    for words in ("collect base /dev/full --workers 2", "record base /dev/full made --workers 1", "upgrade base /dev/full"):
+        try_both(tried, words, io("OUT /dev/full", *no_space))
+    try_both(tried, "record base out /dev/full --workers 1", io("SCHEDULE /dev/full", *no_space))
+    output = told("fault 13 input or output", "standard output", "call write", "reason no space")
+    with open("/dev/full", "wb") as full:
+        for words in ("summary base", "collect base out --workers 2 --atomic", "verify base compacted"):
+            tried.run(f"{words} --verbose", output, stdout=full)
+
+
+def try_workers(tried: Tried) -> None:
+    for asked in (0, 65, 4_294_967_295):
+        answer = told("fault 12 workers", f"reason {asked} is not from 1 to 64")
+        for words in ("collect base out", "record base out made"):
+            try_both(tried, f"{words} --workers {asked}", answer)
+
+
+def try_schedules(tried: Tried) -> None:
+    """Lines that are malformed, not allowed, or have another reply, which is told."""
+    malformed = ("reason the line is malformed",)
+    not_allowed = ("reason the event is not allowed",)
+    schedules = [
+        ("", 1, malformed), ("schedule 1 65\n", 1, malformed), ("schedule 1 1", 1, malformed),
+        ("schedule 1 1\n0 claim 1 yes\n0 poll\n", 3, malformed), ("schedule 1 1\n1 poll ?\n", 2, malformed),
+        ("schedule 1 2\n0 claim 4 ?\n", 2, not_allowed), ("schedule 1 2\n0 settle 0 more\n", 2, not_allowed),
+        ("schedule 1 1\n0 claim 0 yes\n0 copy 0 9 ok\n", 3, not_allowed),
+        ("schedule 1 1\n0 claim 0 yes\n0 drain 0 1 last\n", 3, not_allowed),
+    ]
+    replies = [("0 claim 1 yes", "no"), ("0 claim 0 no", "yes"), ("0 look 1 open2", "open1"), ("0 look 3 out0", "out2"),
+               ("0 poll all", "more")]
+    for line, reply in replies:
+        schedules.append((f"schedule 1 1\n{line}\n", 2, ("reason the reply is another", f"reply {reply}")))
+    settled = ONE_WORKER.replace("0 settle 2 all", "0 settle 2 more")
+    schedules.append((settled, 20, ("reason the reply is another", "reply all")))
+    for text, number, more in schedules:
+        tried.write("schedule", text)
+        owed = f"fault 14 schedule line {number}"
+        try_both(tried, "replay base schedule", told(owed, "file SCHEDULE schedule", *more))
+
+
+def try_verdicts(tried: Tried) -> None:
+    for text, owed in ((BASE, "word 1"), (image(MOVED, MOVED_LIVE, allowance=2), "shape")):
+        tried.write("after", text)
+        try_both(tried, "verify base after", told(f"differs {owed}", "file AFTER after"))
+
+
+def try_refused_files(tried: Tried) -> None:
+    """One file under two words, and what can't be replaced."""
+    tried.write("schedule", ONE_WORKER)
+    (tried.folder / "link").symlink_to("base")
+    pairs = [("collect base base --workers 1", "IMAGE base", "OUT base"),
+             ("collect base ./base --workers 1", "IMAGE base", "OUT ./base"),
+             ("upgrade link base", "IMAGE link", "OUT base"),
+             ("record base out base --workers 1", "IMAGE base", "SCHEDULE base"),
+             ("record base out link --workers 1", "IMAGE base", "SCHEDULE link"),
+             ("record base made ./made --workers 1", "OUT made", "SCHEDULE ./made"),
+             ("record base link schedule --workers 1", "IMAGE base", "OUT link"),
+             ("replay base link", "IMAGE base", "SCHEDULE link")]
+    for words, one, other in pairs:
+        try_both(tried, words, told("same file", f"file {one}", f"file {other}", status=2))
+    for words in ("collect base folder --workers 1 --atomic", "upgrade base folder --atomic"):
+        try_both(tried, words, told("not a regular file", "file OUT folder", status=2))
+    try_both(tried, "record base out folder --workers 1 --atomic",
+             told("not a regular file", "file SCHEDULE folder", status=2))
+    if tried.read("base") != BASE:
+        tried.is_wrong("an image that was named twice is changed")
+
+
+def try_dumps(tried: Tried) -> None:
+    """What `import` says of dumps: the file, where there is something wrong with it."""
+    tried.write("dump", DUMP)
+    tried.write("cut", DUMP[:-1])
+    for words, said in (("import cut out", CUT), ("import base out", NAME), ("import cut out --atomic --live-only", CUT)):
+        try_both(tried, words, told(said, f"file DUMP {words.split()[1]}"))
+    missing = "no such file or folder"
+    for words in ("import nothing out", "import nothing out --atomic"):
+        try_both(tried, words, io("DUMP nothing", "open", missing))
+    try_both(tried, "import /proc/self/mem out", io("DUMP /proc/self/mem", "read", "other, error 5 of the system"))
+    try_both(tried, "import dump folder", io("IMAGE folder", "open", "a folder"))
+    try_both(tried, "import dump nothing/out", io("IMAGE nothing/out", "open", missing))
+    try_both(tried, "import dump nothing/out --atomic", io("IMAGE nothing/out", "make", missing))
+    try_both(tried, "import dump /dev/full", io("IMAGE /dev/full", "write", "no space"))
+    try_both(tried, "import dump ./dump", told("same file", "file DUMP dump", "file IMAGE ./dump", status=2))
+    try_both(tried, "import folder out", told("not a regular file", "file DUMP folder", status=2))
+    try_both(tried, "import dump folder --atomic", told("not a regular file", "file IMAGE folder", status=2))
+
+
+def try_generated(tried: Tried) -> None:
+    """What `generate` says of the file for its image. Of a wish that no image has there is no more to tell."""
+    wish = "--words 64 --live 50 --region-log 3 --seed 1"
+    missing = "no such file or folder"
+    try_both(tried, f"generate folder {wish}", io("IMAGE folder", "open", "a folder"))
+    try_both(tried, f"generate nothing/out {wish}", io("IMAGE nothing/out", "open", missing))
+    try_both(tried, f"generate nothing/out {wish} --atomic", io("IMAGE nothing/out", "make", missing))
+    try_both(tried, f"generate /dev/full {wish}", io("IMAGE /dev/full", "write", "no space"))
+    try_both(tried, f"generate folder {wish} --atomic", told("not a regular file", "file IMAGE folder", status=2))
+    try_both(tried, f"generate out {wish.replace('64', '65')}",
+             told("65 words are not a multiple of the 8 words of a region", status=2))
+
+
+def failing(tried: Tried, call: str, words: str) -> str:
+    """What the program says at length on words, where this call of the system fails each time."""
+    run = ["sh", "-c", 'exec "$@" 3>/dev/null', "sh", "env", f"FAILS={call}", f"LD_PRELOAD={tried.folder / 'stranger.so'}"]
+    done = subprocess.run([*run, tried.program, *words.split(), "--verbose"], cwd=tried.folder, capture_output=True, text=True)
+    return done.stderr
+
+
+def try_calls(tried: Tried) -> None:
+    """Each call on a file that is written failing, and on one of which the system doesn't tell. With --atomic what stood
+    there stands then. No new file is left."""
+    failed = "other, error 5 of the system"
+    calls = {"sync": ("sync", failed), "mode": ("access", failed), "rename": ("rename", failed), "empty": ("empty", failed),
+             "none": ("write", "no byte was taken")}
+    commands = {"collect base kept --workers 1": "OUT", "upgrade base kept": "OUT", "record base kept made --workers 1": "OUT",
+                "import dump kept --region-log 3": "IMAGE", "assemble text kept": "IMAGE", "map base --svg kept": "FILE",
+                "generate kept --words 64 --live 50 --region-log 3 --seed 1": "IMAGE"}
+    tried.write("dump", DUMP)
+    tried.write("text", subprocess.run([tried.program, "text", "base"], cwd=tried.folder, capture_output=True).stdout)
+    subprocess.run(["cc", "-shared", "-fPIC", "-O2", "-o", tried.folder / "stranger.so", PRELOAD / "stranger.c"],
+                   check=True)
+    before = {path.name for path in tried.folder.iterdir()} | {"made", "kept"}
+    rows = [(words + (" --atomic" if call != "empty" else ""), call, io(f"{role} kept", *told))
+            for words, role in commands.items() for call, told in calls.items()]
+    rows += [("collect base kept --workers 1", "stat", io("IMAGE base", "stat", failed)),
+             ("generate kept --words 64 --live 50 --region-log 3 --seed 1", "stat", io("IMAGE kept", "stat", failed)),
+             ("generate kept --words 64 --live 50 --region-log 3 --seed 1 --atomic", "stat", io("IMAGE kept", "stat", failed))]
+    for words, call, answer in rows:
+        tried.write("kept", b"what stood there")
+        tried.count += 1
+        said = failing(tried, call, words)
+        left = {path.name for path in tried.folder.iterdir()} - before
+        if said != answer.err or left or (words.endswith("--atomic") and tried.read("kept") != b"what stood there"):
+            tried.is_wrong(f"pcompact {words}, {call} fails: {said!r}; {left} is left, or what stood there is gone")
+
+
+def try_refused_memory(tried: Tried, words: str) -> None:
+    """Refuses each allocation in turn. The owed line must come, or fault 11 in its place."""
+    shim = tried.folder / "refuse.so"
+    subprocess.run(["cc", "-shared", "-fPIC", "-O2", "-o", shim, PRELOAD / "refuse_allocation.c"], check=True)
+    owed = None
+    number, asked = 0, 0
+    while number <= asked:
+        said = tried.folder / "asked"
+        with said.open("wb") as counted:
+            done = subprocess.run(
+                ["sh", "-c", 'exec "$@" 3>asked', "sh", "env", f"REFUSED={number}", f"LD_PRELOAD={shim}",
+                 tried.program, *words.split(), "--verbose"],
+                cwd=tried.folder, capture_output=True, check=False)
+        asked = int(said.read_text())
+        lines = done.stderr.decode().splitlines()
+        owed = owed or lines
+        tried.count += 1
+        is_cut = lines[:1] == owed[:1] and set(lines) <= set(owed)
+        if done.returncode != 1 or done.stdout or not (is_cut or lines == ["pcompact: fault 11 memory"]):
+            tried.is_wrong(f"pcompact {words} --verbose, allocation {number} refused: {done.stderr!r}")
+        number += 1
+
+
+def main() -> int:
+    with tempfile.TemporaryDirectory() as folder:
+        tried = Tried(pathlib.Path(sys.argv[1]) if len(sys.argv) > 1 else built(), pathlib.Path(folder))
+        tried.write("base", BASE)
+        tried.write("compacted", COMPACTED)
+        for group in (try_lengths, try_images, try_missing, try_not_permitted, try_full, try_workers, try_schedules,
+                      try_verdicts, try_refused_files, try_dumps, try_generated, try_calls):
+            group(tried)
+        tried.write("schedule", "schedule 1 1\n0 look 1 open2\n")
+        for words in ("replay base schedule", "summary nothing", "verify base base", "import cut out"):
+            try_refused_memory(tried, words)
+        print(f"{tried.count - tried.wrong} passed, {tried.wrong} failed")
+        return 1 if tried.wrong else 0
+
+
+if __name__ == "__main__":
+    sys.exit(main())

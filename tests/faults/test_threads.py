@@ -1,0 +1,178 @@
+#!/usr/bin/env python3
+"""How many threads a collection starts in each of its phases, by the number of workers.
+
+A phase is shared by as many threads as there are workers, unless the heap is too small for so many to be worth it: the
+first thread starts the others, and in most phases one more that does nothing. Over each heap below just one phase has
+enough to do for several threads, beside the fills, which have each worker at work. Both fewer and more threads are wrong.
+
+What is told apart from outside: the words of a large file are read by several threads before it is read in order, live
+objects are checked before the end of the file is asked for, and what comes then is counted as one.
+
+usage: tests/faults/test_threads.py [PROGRAM]      (needs a C compiler)
+"""
+import array
+import dataclasses
+import os
+import pathlib
+import subprocess
+import sys
+import tempfile
+
+# Finds the package `tests` from any folder, and writes nothing beside its modules.
+sys.dont_write_bytecode = True
+sys.path.insert(0, str(pathlib.Path(__file__).resolve().parents[2]))
+from tests.models.image import FRONT, header
+from tests.support.program import PRELOAD, built
+
+WORKERS = (1, 2, 3, 4, 64)
+
+
+@dataclasses.dataclass(frozen=True)
+class Phase:
+    """A phase that a heap makes large: for how many threads, and whether one more is started that does nothing."""
+    name: str
+    worth: int
+    empty: int = 1
+
+    def starts(self, most: int) -> int:
+        """How many threads are started for so many at most."""
+        threads = min(most, self.worth)
+        return threads - 1 + self.empty if threads > 1 else 0
+
+
+FILLS = Phase("fills", 64)
+READING, CHECK = "reading", "check"
+
+
+@dataclasses.dataclass(frozen=True)
+class Heap:
+    """An image of objects of one size with so many references, all to nothing, from one address on, and dead words."""
+    name: str
+    phase: Phase
+    version: int
+    region_log: int
+    words: int
+    objects: int = 20
+    size: int = 1
+    references: int = 0
+    at: int = 0
+    # In version 2, where it has more roots than objects.
+    roots: int = 0
+
+    def text(self) -> bytes:
+        addresses = range(self.at, self.at + self.objects * self.size, self.size)
+        words = array.array("Q", bytes(8 * self.words))
+        words[self.at:self.at + len(addresses) * self.size] = array.array(
+            "Q", [header(self.size, self.references), *[0] * (self.size - 1)] * self.objects)
+        tail = [self.version - 1 + a for a in addresses] * max(1, self.roots // self.objects)
+        front = FRONT.pack(b"PCHEAP0%d" % self.version, self.region_log, len(tail), self.words, 0)
+        return front + words.tobytes() + array.array("Q", tail).tobytes()
+
+
+HEAPS = (
+    Heap("small", Phase("none", 1), 1, 3, 64),
+    Heap("small_rooted", Phase("none", 1), 2, 3, 64),
+    # A thread for 65,536 words.
+    Heap("read", Phase(READING, 8), 2, 9, 1 << 19),
+    # For 16 times 64 live objects, of which 79 rows make shares of 27 for three.
+    Heap("checked", Phase(CHECK, 4), 1, 9, 10_240, objects=5_000, size=2, references=1),
+    # For 16,384 times 64 words, and a word of bits more. All of a heap may be as large as this; its words are read, too.
+    Heap("marked", Phase("marks", 5, empty=0), 1, 16, 1 << 22),
+    # For 8,192 regions. There are no more than twice as many.
+    Heap("counted", Phase("counts", 2, empty=0), 2, 3, 1 << 17),
+    # For 512 regions to fill, where objects lie over the border of two.
+    Heap("deferred", Phase("update of deferred objects", 4), 1, 3, 18_048, objects=1_500, size=12, references=1, at=9),
+    # For 16,384 numbers, of which three have 23,334, 23,334 and 23,332.
+    Heap("listed", Phase("redirection of the live list", 4), 1, 9, 70_144, objects=70_000, at=1),
+    Heap("rooted", Phase("redirection of roots", 4), 2, 9, 70_144, roots=70_000, at=1),
+)
+
+
+@dataclasses.dataclass(frozen=True)
+class Started:
+    """How many threads a call started: before its file was read in order, then before it found the end, and then."""
+    reading: int
+    check: int
+    later: int
+
+    @classmethod
+    def of(cls, noted: str) -> "Started":
+        begin, end = noted.find("r"), noted.find("e")
+        parts = noted[:begin], noted[begin:end], noted[end:]
+        return cls(*(part.count("t") for part in parts))
+
+
+def started(program: pathlib.Path, notes: pathlib.Path, room: pathlib.Path, words: str, **how) -> Started:
+    subprocess.run(["sh", "-c", 'exec "$0" "$@" 3>told', program, *words.split()], check=True, cwd=room,
+                   stdout=subprocess.DEVNULL, env=dict(os.environ, LD_PRELOAD=str(notes)), **how)
+    return Started.of((room / "told").read_text())
+
+
+def owed(heap: Heap, workers: int, is_pipe: bool) -> Started:
+    """What a collection owes. The words of a heap of 131,072 are read side by side, also where another phase is large."""
+    words = 0 if is_pipe or heap.words < 1 << 17 else heap.words // 65_536
+    reading = Phase(READING, words).starts(workers)
+    check = heap.phase.starts(workers) if heap.phase.name == CHECK else 0
+    # With as many live objects as the live list needs to be shared, the check is shared too, row by row of 64.
+    if heap.version == 1 and heap.phase.name != CHECK:
+        rows = -(-heap.objects // 64)
+        share = -(-rows // max(1, min(workers, rows // 16)))
+        check = Phase(CHECK, -(-rows // share)).starts(workers)
+    later = heap.phase.starts(workers) if heap.phase.name not in (READING, CHECK) else 0
+    return Started(reading, check, later + FILLS.starts(workers))
+
+
+def owed_to_look(heap: Heap, processors: int) -> Started:
+    """What `summary` owes, which reads in order and fills nothing."""
+    collected = owed(heap, processors, True)
+    is_looked_at = heap.phase.name in ("marks", "counts")
+    return Started(0, collected.check, heap.phase.starts(processors) if is_looked_at else 0)
+
+
+class Counted:
+    """How often threads were counted, and how often they weren't as many as are owed."""
+
+    def __init__(self, program: pathlib.Path, room: pathlib.Path):
+        self.program = program
+        self.room = room
+        self.notes = room / "notes.so"
+        self.count = 0
+        self.wrong = 0
+        subprocess.run(["cc", "-shared", "-fPIC", "-O2", "-o", self.notes, PRELOAD / "count_threads.c", "-ldl"], check=True)
+
+    def run(self, heap: Heap, words: str, right: Started, **how) -> None:
+        self.count += 1
+        found = started(self.program, self.notes, self.room, words, **how)
+        if found != right:
+            self.wrong += 1
+            print(f"{words}, which makes the {heap.phase.name} large: {found} and not {right}")
+
+    def try_heap(self, heap: Heap) -> None:
+        (self.room / heap.name).write_bytes(heap.text())
+        for workers in WORKERS:
+            for words in (f"collect {heap.name} out", f"record {heap.name} out schedule"):
+                self.run(heap, f"{words} --workers {workers}", owed(heap, workers, False))
+        with (self.room / heap.name).open("rb") as file:
+            pipe = subprocess.Popen(["cat"], stdin=file, stdout=subprocess.PIPE)
+            self.run(heap, "collect /dev/stdin out --workers 3", owed(heap, 3, True), stdin=pipe.stdout)
+            pipe.stdout.close()
+            pipe.wait()
+        processors = sorted(os.sched_getaffinity(0))
+        for number in {1, min(3, len(processors))}:
+            allowed = set(processors[:number])
+            self.run(heap, f"summary {heap.name}", owed_to_look(heap, number),
+                     preexec_fn=lambda: os.sched_setaffinity(0, allowed))
+
+
+def main() -> int:
+    program = (pathlib.Path(sys.argv[1]) if len(sys.argv) > 1 else built()).resolve()
+    with tempfile.TemporaryDirectory() as folder:
+        counted = Counted(program, pathlib.Path(folder))
+        for heap in HEAPS:
+            counted.try_heap(heap)
+    print(f"{counted.count - counted.wrong} passed, {counted.wrong} failed")
+    return 1 if counted.wrong else 0
+
+
+if __name__ == "__main__":
+    sys.exit(main())

@@ -1,0 +1,258 @@
+"""A slow plain model of heap dumps as images, made from docs/DUMPS.md alone.
+
+It reads a dump whole, by slices and dictionaries, and shares nothing with the crates.
+"""
+import collections
+import dataclasses
+import itertools
+import struct
+
+from tests.models.image import MAX_REGIONS, MAX_WORDS
+
+NAMES = (b"JAVA PROFILE 1.0.1\0", b"JAVA PROFILE 1.0.2\0")
+# The records that hold a heap or a part of one, and the one that ends the parts.
+WHOLE, SEGMENT, END = 0x0C, 0x1C, 0x2C
+REFERENCE = 2
+DATA_BYTES = {4: 1, 8: 1, 5: 2, 9: 2, 6: 4, 10: 4, 7: 8, 11: 8}
+# What follows the id of a root, in bytes; None is an id.
+ROOTS = {0xFF: 0, 0x01: None, 0x02: 8, 0x03: 8, 0x04: 4, 0x05: 0, 0x06: 4, 0x07: 0, 0x08: 8}
+WIDEST_GAP = 512
+
+
+class Malformed(Exception):
+    """What is wrong with a dump, and the offset of it where docs/DUMPS.md tells one."""
+
+
+@dataclasses.dataclass
+class Class:
+    parent: int
+    fields: list[int]
+
+
+@dataclasses.dataclass
+class Object:
+    """The ids of an object's references, and the bytes of its data."""
+    references: list[int]
+    data: bytes
+
+    def words(self) -> int:
+        return 1 + len(self.references) + (len(self.data) + 7) // 8
+
+
+class Body:
+    """The bytes of one record, and how far they were read."""
+
+    def __init__(self, dump: bytes, start: int, length: int, id_size: int):
+        if start + length > len(dump):
+            raise Malformed(len(dump), "cut")
+        self.dump, self.at, self.end, self.id_size = dump, start, start + length, id_size
+
+    def take(self, count: int) -> bytes:
+        if self.at + count > self.end:
+            raise Malformed(self.at, "beyond")
+        self.at += count
+        return self.dump[self.at - count:self.at]
+
+    def number(self, count: int) -> int:
+        return int.from_bytes(self.take(count), "big")
+
+    def id(self) -> int:
+        return self.number(self.id_size)
+
+    def type(self) -> int:
+        code = self.number(1)
+        if code != REFERENCE and code not in DATA_BYTES:
+            raise Malformed(self.at - 1, "type")
+        return code
+
+    def value(self, code: int) -> bytes:
+        return self.take(self.id_size if code == REFERENCE else DATA_BYTES[code])
+
+
+class Dump:
+    """What a dump says."""
+
+    def __init__(self, dump: bytes):
+        self.classes: dict[int, Class] = {}
+        self.objects: dict[int, Object] = {}
+        # The class and the field values of an instance, and where it stands.
+        self.instances: dict[int, tuple[int, bytes, int]] = {}
+        self.roots: list[int] = []
+        self.order: list[int] = []
+        if dump[:19] not in NAMES:
+            raise Malformed(0 if len(dump) >= 19 else len(dump), "name")
+        if len(dump) < 31:
+            raise Malformed(len(dump), "cut")
+        self.id_size = int.from_bytes(dump[19:23], "big")
+        if self.id_size not in (4, 8):
+            raise Malformed(19, "id size")
+        self.read_records(dump)
+        for id_, (class_, values, at) in self.instances.items():
+            self.objects[id_] = self.instance(class_, values, at)
+
+    def read_records(self, dump: bytes) -> None:
+        at, tags = 31, []
+        while at < len(dump):
+            if at + 9 > len(dump):
+                raise Malformed(len(dump), "cut")
+            tag, _time, length = struct.unpack(">BII", dump[at:at + 9])
+            body = Body(dump, at + 9, length, self.id_size)
+            if tag in (WHOLE, SEGMENT):
+                while body.at < body.end:
+                    self.read_heap_record(body)
+            tags.append(tag)
+            at = body.end
+        if WHOLE not in tags and SEGMENT not in tags:
+            raise Malformed(len(dump), "heap")
+        if SEGMENT in tags and END not in tags[len(tags) - tags[::-1].index(SEGMENT):]:
+            raise Malformed(len(dump), "end")
+
+    def tell(self, id_: int, at: int) -> None:
+        if id_ == 0:
+            raise Malformed(at, "null")
+        if id_ in self.objects or id_ in self.instances:
+            raise Malformed(at, "twice")
+
+    def read_heap_record(self, body: Body) -> None:
+        start = body.at
+        tag = body.number(1)
+        if tag in ROOTS:
+            id_ = body.id()
+            body.take(self.id_size if ROOTS[tag] is None else ROOTS[tag])
+            if id_ != 0:
+                self.roots.append(id_)
+        elif tag == 0x20:
+            self.read_class(body, start)
+        elif tag == 0x21:
+            id_, _, class_ = body.id(), body.take(4), body.id()
+            self.tell(id_, start)
+            self.instances[id_] = (class_, body.take(body.number(4)), start)
+        elif tag == 0x22:
+            id_, _, count, _ = body.id(), body.take(4), body.number(4), body.id()
+            self.tell(id_, start)
+            elements = body.take(count * self.id_size)
+            self.objects[id_] = Object(self.ids(elements), b"")
+        elif tag == 0x23:
+            id_, _, count, code = body.id(), body.take(4), body.number(4), body.type()
+            if code == REFERENCE:
+                raise Malformed(start, "primitive")
+            self.tell(id_, start)
+            self.objects[id_] = Object([], body.take(count * DATA_BYTES[code]))
+        else:
+            raise Malformed(start, "tag")
+
+    def ids(self, values: bytes) -> list[int]:
+        return [int.from_bytes(values[i:i + self.id_size], "big") for i in range(0, len(values), self.id_size)]
+
+    def read_class(self, body: Body, start: int) -> None:
+        id_, _ = body.id(), body.take(4)
+        above = [body.id() for _ in range(6)]
+        body.take(4)
+        for _ in range(body.number(2)):
+            body.take(2)
+            body.value(body.type())
+        own = Object(above[:4], b"")
+        for _ in range(body.number(2)):
+            body.id()
+            code = body.type()
+            self.put(own, code, body.value(code))
+        self.tell(id_, start)
+        self.objects[id_] = own
+        fields = []
+        for _ in range(body.number(2)):
+            body.id()
+            fields.append(body.type())
+        self.classes[id_] = Class(above[0], fields)
+
+    def put(self, target: Object, code: int, value: bytes) -> None:
+        if code == REFERENCE:
+            target.references.append(int.from_bytes(value, "big"))
+        else:
+            target.data += value
+
+    def fields(self, class_: int, at: int) -> list[int]:
+        """The types of the fields of a class and of those above it."""
+        fields, seen = [], set()
+        while class_ != 0:
+            if class_ not in self.classes or class_ in seen:
+                raise Malformed(at, "class")
+            seen.add(class_)
+            fields += self.classes[class_].fields
+            class_ = self.classes[class_].parent
+        return fields
+
+    def instance(self, class_: int, values: bytes, at: int) -> Object:
+        fields = self.fields(class_, at) if class_ else None
+        if fields is None:
+            raise Malformed(at, "class")
+        sizes = [self.id_size if code == REFERENCE else DATA_BYTES[code] for code in fields]
+        if sum(sizes) != len(values):
+            raise Malformed(at, "instance size")
+        made = Object([], b"")
+        ends = list(itertools.accumulate(sizes, initial=0))
+        for code, start, end in zip(fields, ends, ends[1:]):
+            self.put(made, code, values[start:end])
+        return made
+
+
+@dataclasses.dataclass
+class Import:
+    """What an import gives: the bytes of the image and the line that is told, or the words that are too many."""
+    image: bytes | None
+    line: str
+
+
+def reached(dump: Dump) -> set[int]:
+    found = {id_ for id_ in dump.roots if id_ in dump.objects}
+    queue = collections.deque(found)
+    while queue:
+        for id_ in dump.objects[queue.popleft()].references:
+            if id_ in dump.objects and id_ not in found:
+                found.add(id_)
+                queue.append(id_)
+    return found
+
+
+def places(dump: Dump, ids: list[int], gaps: bool) -> tuple[dict[int, int], int, int]:
+    """The address of each object, how far all reach, and how many gaps were left out."""
+    addresses, at, behind, dropped = {}, 0, None, 0
+    for id_ in ids:
+        gap = (id_ - behind) // 8 if behind is not None and gaps and id_ > behind else 0
+        if gap > WIDEST_GAP:
+            dropped += 1
+        else:
+            at += gap
+        addresses[id_] = at
+        at += dump.objects[id_].words()
+        behind = id_ + 8 * dump.objects[id_].words()
+    return addresses, at, dropped
+
+
+def make(data: bytes, region_log: int = 9, allowance: int = 0, live_only: bool = False) -> Import:
+    dump = Dump(data)
+    live = reached(dump)
+    most = min(MAX_WORDS, MAX_REGIONS << region_log)
+    ids = sorted(live if live_only else dump.objects)
+    addresses, end, dropped = places(dump, ids, not live_only)
+    if end > most:
+        if live_only:
+            return Import(None, f"the reachable objects have {end} words, and {most} are the most")
+        live_words = sum(dump.objects[id_].words() for id_ in live)
+        return Import(None, f"the heap has {end} words, and {most} are the most; with --live-only it has {live_words}")
+    total = max(1, -(-end >> region_log)) << region_log
+    words = [0] * total
+    for id_, at in addresses.items():
+        made = dump.objects[id_]
+        words[at] = 1 << 56 | len(made.references) << 32 | made.words()
+        for f, reference in enumerate(made.references):
+            words[at + 1 + f] = addresses[reference] + 1 if reference in addresses else 0
+        padded = made.data + bytes(-len(made.data) % 8)
+        first = at + 1 + len(made.references)
+        words[first:first + len(padded) // 8] = struct.unpack(f"<{len(padded) // 8}Q", padded)
+    roots = sorted({addresses[id_] + 1 for id_ in dump.roots if id_ in addresses})
+    lost = sum(id_ != 0 and id_ not in dump.objects for made in dump.objects.values() for id_ in made.references)
+    lost += sum(id_ not in dump.objects for id_ in dump.roots)
+    head = struct.pack("<8sIIQQ", b"PCHEAP02", region_log, len(roots), total, allowance)
+    line = (f"words {total} objects {len(ids)} roots {len(roots)} live {len(live)} dead {len(ids) - len(live)} "
+            f"dropped-gaps {dropped} unresolved {lost}")
+    return Import(head + struct.pack(f"<{total}Q", *words) + struct.pack(f"<{len(roots)}Q", *roots), line)
