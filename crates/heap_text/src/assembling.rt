@@ -7,11 +7,12 @@ ghost use Rattle.heap_text.specs.TextLines.{IsAbout, IsLineOf, IsWithin};
 
 use crate::error::{AssembleError, TextError};
 use crate::expected::Expected;
+use crate::image_bytes::ImageBytes;
 use crate::lines::{line_of_address, line_of_place};
 use crate::parsed_heap::ParsedHeap;
 use crate::reading::{parse_from, parse_text};
 use crate::writing::write_text_with_capacity;
-use heap_image::{Fault, Image, Intake, decode};
+use heap_image::{Fault, Image, Intake, read_image};
 use std::alloc::Global;
 
 /// Returns the image whose text this is, or the first line that differs from what is expected.
@@ -44,14 +45,23 @@ pub fn assemble_from<R: Intake>(alloc: Global, device: &mut R) -> Result<Image, 
 }
 
 /// Returns the image of the text with these contents.
-fn build_image(alloc: Global, mut heap: ParsedHeap, text: &[u8]) -> Result<Image, TextError>
+fn build_image(alloc: Global, heap: ParsedHeap, text: &[u8]) -> Result<Image, TextError>
     ensures text { IfOk result (λ image. text.now ≡ text_of image) }
     ensures valid { IfOk result (λ image. IsValid image) }
     ensures line { IfErr result (λ error. IsWithin text.now error) }
 {
-    let bytes = heap.take_image_bytes(alloc)?;
+    let front = heap.front();
+    let ParsedHeap {
+        is_rooted,
+        words,
+        live,
+        roots,
+        ..
+    } = heap;
+    let tail = if is_rooted { &roots } else { &live };
+    let bytes = ImageBytes::new(alloc, front, words, tail.as_slice())?;
     let image = decode_heap(alloc, bytes, text)?;
-    check_live_objects(text, heap.live.as_slice(), image.live())?;
+    check_live_objects(text, live.as_slice(), image.live())?;
     let written = write_text_with_capacity(alloc, &image, text.len())?;
     if text == written.as_slice() {
         return Ok(image);
@@ -61,11 +71,11 @@ fn build_image(alloc: Global, mut heap: ParsedHeap, text: &[u8]) -> Result<Image
 }
 
 /// Decodes an image, and reports a fault at its line of the text.
-fn decode_heap(alloc: Global, bytes: Vec<u8>, text: &[u8]) -> Result<Image, TextError>
+fn decode_heap(alloc: Global, mut bytes: ImageBytes<'_>, text: &[u8]) -> Result<Image, TextError>
     ensures valid { IfOk result (λ image. IsValid image) }
     ensures line { IfErr result (λ error. IsWithin text.now error) }
 {
-    match decode(alloc, bytes.as_slice()) {
+    match read_image(alloc, &mut bytes) {
         Ok(image) => Ok(image),
         Err(Fault::Memory) => Err(TextError::Memory),
         Err(fault) => {

@@ -5,16 +5,19 @@
 //! [`Intake`](heap_image::Intake) gives. Each image has one text, and only that is accepted; an error says which line of a
 //! rejected text should be different, and how. `docs/FORMATS.md`, "Heap text", has the grammar.
 //!
-//! **Proved**, for all inputs: `write_text` returns the text of the image; the text of an image that `assemble` or
-//! `assemble_from` returns is exactly the input, up to its end; an error names a line of the text, or the line after its
-//! last; an error of the device comes only where the device has failed; no call indexes out of range, overflows or runs
-//! forever. **Only tested**: that the text of each image is accepted; which errors come, and what they say. See the README.
+//! **Proved**, for all inputs: `write_text` returns the text of the image, and no two valid images have the same text
+//! ([`one_text`]); the text of an image that `assemble` or `assemble_from` returns is exactly the input, up to its end, so the
+//! image is the only one with this text; an error names a line of the text, or the line after its last; an error of the device
+//! comes only where the device has failed; no call indexes out of range, overflows or runs forever. **Only tested**: that the
+//! text of each image is accepted; which errors come, and what they say. See the README.
 #![tactic(auto)]
 
 mod assembling;
 mod dead_line;
 mod error;
 mod expected;
+mod image_bytes;
+mod laws;
 mod line_error;
 mod line_parser;
 mod lines;
@@ -24,9 +27,11 @@ mod parsed_heap;
 mod reading;
 mod text_parser;
 mod tokens;
+mod word_list;
 mod writing;
 
 pub use assembling::{assemble, assemble_from};
 pub use error::{AssembleError, TextError};
 pub use expected::Expected;
+pub use laws::one_text;
 pub use writing::write_text;

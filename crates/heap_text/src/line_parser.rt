@@ -1,5 +1,5 @@
 //! Parses a text line by line.
-ghost use Rattle.std.specs.Prelude.{◌≡◌, ◌<◌, ◌≤◌, IsTrue, vec_len};
+ghost use Rattle.std.specs.Prelude.{◌≡◌, ◌<◌, ◌≤◌, IsTrue};
 
 use crate::expected::Expected;
 use crate::line_error::LineError;
@@ -66,7 +66,7 @@ impl LineParser {
     }
 
     fn finish_heap(self) -> Result<ParsedHeap, Expected> {
-        let here = self.heap.words.len() as u64;
+        let here = self.heap.words.len();
         if here == self.len {
             Ok(self.heap)
         } else {
@@ -155,7 +155,7 @@ impl LineParser {
 
     /// Parses the line of an object or of a dead run.
     fn parse_heap_line(&mut self, line: &[u8]) -> Result<(), LineError> {
-        let here = self.heap.words.len() as u64;
+        let here = self.heap.words.len();
         if here >= self.len {
             return Err(LineError::Expected(Expected::End));
         }
@@ -171,7 +171,7 @@ impl LineParser {
     }
 
     fn parse_object(&mut self, here: u64, tokens: Tokens<'_>) -> Result<(), LineError>
-        requires here { here ≡ vec_len self.old.heap.words }
+        requires here { here ≡ self.old.heap.words.len }
         requires left { here < self.old.len }
     {
         self.heap.parse_object(self.len, tokens)?;
@@ -180,7 +180,7 @@ impl LineParser {
     }
 
     fn parse_dead(&mut self, here: u64, tokens: Tokens<'_>) -> Result<(), LineError>
-        requires here { here ≡ vec_len self.old.heap.words }
+        requires here { here ≡ self.old.heap.words.len }
         requires left { here < self.old.len }
     {
         if self.follows_dead_run {

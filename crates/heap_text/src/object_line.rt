@@ -1,5 +1,5 @@
 //! Parses the line of an object, after its address and kind.
-ghost use Rattle.std.specs.Prelude.{◌≡◌, ◌<◌, ◌≤◌, ◌+◌, OnOk, IfOk, IfErr, vec_len};
+ghost use Rattle.std.specs.Prelude.{◌≡◌, ◌<◌, ◌≤◌, ◌+◌, OnOk, IfOk};
 
 use crate::expected::Expected;
 use crate::line_error::LineError;
@@ -10,32 +10,32 @@ use std::alloc::AllocError;
 impl ParsedHeap {
     /// Pushes the words of the next object, in a heap of `len` words.
     pub(crate) fn parse_object(&mut self, len: u64, mut tokens: Tokens<'_>) -> Result<(), LineError>
-        requires left { vec_len self.old.words < len }
+        requires left { self.old.words.len < len }
         requires few { len ≤ 4194304 }
     {
         let place = self.words.len();
-        let left = len - place as u64;
+        let left = len - place;
         let size = match tokens.next().and_then(parse_number) {
             Some(size) if 1 <= size && size <= left => size,
             _ => return Err(LineError::Expected(Expected::Size(left))),
         };
-        self.live.push(place as u64)?;
+        self.live.push(place)?;
         self.words.push(0)?;
         let references_end = self.parse_fields(len, tokens)?;
-        if self.words.len() as u64 != place as u64 + size {
+        if self.words.len() != place + size {
             return Err(LineError::Expected(Expected::FieldCount(size - 1)));
         }
-        let references = (references_end - place - 1) as u64;
-        self.words[place] = 1 << 56 | references << 32 | size;
+        let references = references_end - place - 1;
+        self.words.set(place, 1 << 56 | references << 32 | size);
         Ok(())
     }
 
     /// Parses `refs` and references, then `data` and numbers. Returns the number of words up to the last reference.
-    fn parse_fields(&mut self, len: u64, mut tokens: Tokens<'_>) -> Result<usize, LineError>
+    fn parse_fields(&mut self, len: u64, mut tokens: Tokens<'_>) -> Result<u64, LineError>
         requires { len ≤ 4194304 }
-        ensures grown { OnOk result (vec_len self.old.words ≤ vec_len self.new.words) }
-        ensures low { IfOk result (λ end. vec_len self.old.words ≤ end) }
-        ensures high { IfOk result (λ end. end ≤ vec_len self.new.words) }
+        ensures grown { OnOk result (self.old.words.len ≤ self.new.words.len) }
+        ensures low { IfOk result (λ end. self.old.words.len ≤ end) }
+        ensures high { IfOk result (λ end. end ≤ self.new.words.len) }
     {
         let Some(name) = tokens.next() else {
             return Ok(self.words.len());
@@ -56,7 +56,8 @@ impl ParsedHeap {
 
     /// Parses one reference or more, up to `data` or the end of the line. Returns whether `data` comes.
     fn parse_references(&mut self, len: u64, tokens: &mut Tokens<'_>) -> Result<bool, LineError>
-        ensures { OnOk result (vec_len self.old.words ≤ vec_len self.new.words) }
+        requires { len ≤ 4194304 }
+        ensures { OnOk result (self.old.words.len ≤ self.new.words.len) }
     {
         let start = self.words.len();
         while let Some(token) = tokens.next() {
@@ -75,7 +76,8 @@ impl ParsedHeap {
 
     /// Parses one number or more, up to the end of the line.
     pub(crate) fn parse_numbers(&mut self, len: u64, tokens: Tokens<'_>) -> Result<(), LineError>
-        ensures { OnOk result (vec_len self.old.words ≤ vec_len self.new.words) }
+        requires { len ≤ 4194304 }
+        ensures { OnOk result (self.old.words.len ≤ self.new.words.len) }
     {
         let start = self.words.len();
         for token in tokens {
@@ -93,10 +95,11 @@ impl ParsedHeap {
 
     /// Pushes a word, but keeps at most one word more than the heap has. That one shows that the line is too long, and a
     /// line of any length takes no more memory.
-    fn push_word(&mut self, len: u64, word: u64) -> Result<(), AllocError>
-        ensures { OnOk result (vec_len self.old.words ≤ vec_len self.new.words) }
+    pub(crate) fn push_word(&mut self, len: u64, word: u64) -> Result<(), AllocError>
+        requires { len ≤ 4194304 }
+        ensures { OnOk result (self.old.words.len ≤ self.new.words.len) }
     {
-        if self.words.len() as u64 <= len {
+        if self.words.len() <= len {
             self.words.push(word)?;
         }
         Ok(())

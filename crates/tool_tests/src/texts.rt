@@ -11,6 +11,10 @@ use std::test::Fail;
 /// A heap of one region, all of whose words are dead.
 const DEAD: &str = "heap version 1\nregion-log 3\nwords 8\nallowance 0\n@0 dead 8 of 7\n";
 
+/// Two regions of the largest size, with an object across their border.
+const TWO_REGIONS: &str = "heap version 1\nregion-log 16\nwords 131072\nallowance 0\n\
+@0 dead 65535 of 7\n@65535 object 2 data 5\n@65537 dead 65535 of 0\n";
+
 /// A reader without an end, of one byte over and over, which counts the bytes that it has given.
 #[derive(Drop)]
 struct Endless {
@@ -48,6 +52,8 @@ fn assembled_words<R: Read + Drop>(alloc: Global, text: R) -> Result<u64, Assemb
 fn a_text_is_assembled_from_a_device(rt: HostRuntime) -> Result<(), Fail> {
     let words = assembled_words(rt.alloc(), DEAD.as_bytes());
     equal(&rt, words, Ok(8));
+    let words = assembled_words(rt.alloc(), TWO_REGIONS.as_bytes());
+    equal(&rt, words, Ok(131_072));
     Ok(())
 }
 
@@ -59,7 +65,7 @@ fn a_failing_device_is_reported(rt: HostRuntime) -> Result<(), Fail> {
 }
 
 /// The error for an endless text of this byte, and how many bytes were read.
-fn endless(alloc: Global, byte: u8) -> (Option<AssembleError>, usize) {
+fn assemble_endless(alloc: Global, byte: u8) -> (Option<AssembleError>, usize) {
     let mut device = FromRead::new(Endless { byte, given: 0 });
     let error = match assemble_from(alloc, &mut device) {
         Ok(_) => None,
@@ -75,9 +81,9 @@ fn first_line_error(expected: Expected) -> Option<AssembleError> {
 
 #[test]
 fn an_endless_text_is_rejected_in_its_first_piece(rt: HostRuntime) -> Result<(), Fail> {
-    let zeros = endless(rt.alloc(), 0);
+    let zeros = assemble_endless(rt.alloc(), 0);
     equal(&rt, zeros, (first_line_error(Expected::Newline), 65_536));
-    let newlines = endless(rt.alloc(), b'\n');
+    let newlines = assemble_endless(rt.alloc(), b'\n');
     equal(&rt, newlines, (first_line_error(Expected::Version), 65_536));
     Ok(())
 }

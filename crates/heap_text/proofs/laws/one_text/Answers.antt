@@ -1,0 +1,5 @@
+use Rattle.heap_text.proofs.OneText.{one_image}
+use Rattle.heap_text.proofs.laws.one_text.Goals as goal
+
+pub returns : goal.returns
+returns c = one_image
