@@ -1,3 +1,4 @@
 pub mod TextSteps
+pub mod TokenSteps
 pub mod WordTexts
 pub mod OneText

@@ -1,2 +1,3 @@
 pub mod Text
 pub mod TextLines
+pub mod Tokens

@@ -4,7 +4,7 @@ ghost use Rattle.std.specs.Prelude.{◌<◌, ◌≤◌};
 use crate::expected::Expected;
 use crate::line_error::LineError;
 use crate::parsed_heap::ParsedHeap;
-use crate::tokens::{Tokens, parse_number};
+use crate::tokens::Tokens;
 
 impl ParsedHeap {
     /// Pushes the words of the next dead run, in a heap of `len` words.
@@ -13,11 +13,11 @@ impl ParsedHeap {
         requires few { len ≤ 4194304 }
     {
         let left = len - self.words.len();
-        let count = match tokens.next().and_then(parse_number) {
+        let count = match tokens.next_number() {
             Some(count) if 1 <= count && count <= left => count,
             _ => return Err(LineError::Expected(Expected::Count(left))),
         };
-        match tokens.next() {
+        match tokens.next_token() {
             Some(name) if name == b"of".as_slice() => self.parse_equal_words(len, count, tokens),
             Some(name) if name == b"words".as_slice() => {
                 self.parse_unequal_words(len, count, tokens)
@@ -35,10 +35,10 @@ impl ParsedHeap {
     ) -> Result<(), LineError>
         requires { len ≤ 4194304 }
     {
-        let Some(word) = tokens.next().and_then(parse_number) else {
+        let Some(word) = tokens.next_number() else {
             return Err(LineError::Expected(Expected::Number));
         };
-        if tokens.next().is_some() {
+        if tokens.next_token().is_some() {
             return Err(LineError::Expected(Expected::LineEnd));
         }
         for _i in 0..count {

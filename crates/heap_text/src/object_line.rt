@@ -15,7 +15,7 @@ impl ParsedHeap {
     {
         let place = self.words.len();
         let left = len - place;
-        let size = match tokens.next().and_then(parse_number) {
+        let size = match tokens.next_number() {
             Some(size) if 1 <= size && size <= left => size,
             _ => return Err(LineError::Expected(Expected::Size(left))),
         };
@@ -37,7 +37,7 @@ impl ParsedHeap {
         ensures low { IfOk result (λ end. self.old.words.len ≤ end) }
         ensures high { IfOk result (λ end. end ≤ self.new.words.len) }
     {
-        let Some(name) = tokens.next() else {
+        let Some(name) = tokens.next_token() else {
             return Ok(self.words.len());
         };
         let has_data = if name == b"refs".as_slice() {
@@ -60,7 +60,7 @@ impl ParsedHeap {
         ensures { OnOk result (self.old.words.len ≤ self.new.words.len) }
     {
         let start = self.words.len();
-        while let Some(token) = tokens.next() {
+        while let Some(token) = tokens.next_token() {
             match parse_reference(token, len) {
                 Some(reference) => self.push_word(len, reference)?,
                 None if token == b"data".as_slice() && self.words.len() > start => return Ok(true),
@@ -75,12 +75,12 @@ impl ParsedHeap {
     }
 
     /// Parses one number or more, up to the end of the line.
-    pub(crate) fn parse_numbers(&mut self, len: u64, tokens: Tokens<'_>) -> Result<(), LineError>
+    pub(crate) fn parse_numbers(&mut self, len: u64, mut tokens: Tokens<'_>) -> Result<(), LineError>
         requires { len ≤ 4194304 }
         ensures { OnOk result (self.old.words.len ≤ self.new.words.len) }
     {
         let start = self.words.len();
-        for token in tokens {
+        while let Some(token) = tokens.next_token() {
             match parse_number(token) {
                 Some(word) => self.push_word(len, word)?,
                 None => return Err(LineError::Expected(Expected::Number)),

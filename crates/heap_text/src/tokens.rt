@@ -1,6 +1,7 @@
 //! Splits a line at its spaces, and parses numbers, addresses and references.
-ghost use Rattle.std.specs.Prelude.{◌≡◌, ◌+◌, ◌≤◌, ◌<◌, IfSome, length};
-ghost use Rattle.std.specs.Iterator.{at_most};
+ghost use Rattle.std.specs.Prelude.{◌≡◌, ◌+◌, ◌≤◌, ◌<◌, ◌^◌, ◌++◌, ◌∷◌, [], ℕ, List, Some, None, IfSome, OnSome, length, decimal, option_map};
+ghost use Rattle.heap_text.specs.Text.{number_text};
+ghost use Rattle.heap_text.specs.Tokens.{IsToken, IsAfterToken};
 
 /// The tokens of a line after its first one, each preceded by one space.
 #[derive(Drop)]
@@ -10,29 +11,45 @@ pub(crate) struct Tokens<'a> {
 }
 
 impl<'a> Tokens<'a> {
-    /// Returns the first token of a line, and an iterator over the others.
-    pub(crate) fn of(line: &'a [u8]) -> (&'a [u8], Tokens<'a>) {
+    /// Returns the first token of a line, and the others.
+    pub(crate) fn of(line: &'a [u8]) -> (&'a [u8], Tokens<'a>)
+        ensures split { (token rest : List ℕ) → IsToken token → IsAfterToken rest → line.now ≡ token ++ rest
+            → (result.0.now ≡ token) × (result.1.rest.now ≡ rest) }
+    {
         let (token, rest) = split_at_space(line);
         (token, Tokens { rest })
     }
-}
 
-impl<'a> Iterator for Tokens<'a> {
-    type Item = &'a [u8];
-
-    ghost remaining = { λ tokens. at_most (length tokens.rest.now) };
-
-    fn next(&mut self) -> Option<&'a [u8]> {
+    /// Returns the next token.
+    pub(crate) fn next_token(&mut self) -> Option<&'a [u8]>
+        ensures none { self.old.rest.now ≡ [] → result ≡ None }
+        ensures some { (token rest : List ℕ) → IsToken token → IsAfterToken rest → self.old.rest.now ≡ 32 ∷ (token ++ rest)
+            → (option_map (λ t. t.now) result ≡ Some token) × (self.new.rest.now ≡ rest) }
+        ensures less { OnSome result (length self.new.rest.now < length self.old.rest.now) }
+    {
         let (_space, after) = self.rest.split_first()?;
         let (token, rest) = split_at_space(after);
         self.rest = rest;
         Some(token)
     }
+
+    /// Returns the number of the next token, or `None` if that is no number or there is none.
+    pub(crate) fn next_number(&mut self) -> Option<u64>
+        ensures { (n : ℕ) (rest : List ℕ) → n < 2 ^ 64 → IsAfterToken rest → self.old.rest.now ≡ number_text n ++ rest
+            → (result ≡ Some n) × (self.new.rest.now ≡ rest) }
+    {
+        match self.next_token() {
+            Some(token) => parse_number(token),
+            None => None,
+        }
+    }
 }
 
 /// Splits the bytes before the first space, which the second part keeps.
 fn split_at_space(bytes: &[u8]) -> (&[u8], &[u8])
-    ensures { length result.1.now ≤ length bytes.now }
+    ensures less { length result.1.now ≤ length bytes.now }
+    ensures split { (token rest : List ℕ) → IsToken token → IsAfterToken rest → bytes.now ≡ token ++ rest
+        → (result.0.now ≡ token) × (result.1.now ≡ rest) }
 {
     for (i, byte) in bytes.iter().enumerate() {
         if *byte == b' ' {
@@ -43,7 +60,9 @@ fn split_at_space(bytes: &[u8]) -> (&[u8], &[u8])
 }
 
 /// Parses a decimal number below 2^64 without leading zeros.
-pub(crate) fn parse_number(token: &[u8]) -> Option<u64> {
+pub(crate) fn parse_number(token: &[u8]) -> Option<u64>
+    ensures { (n : ℕ) → n < 2 ^ 64 → token.now ≡ decimal n → result ≡ Some n }
+{
     let (first, others) = token.split_first()?;
     if *first == b'0' && !others.is_empty() {
         return None;
