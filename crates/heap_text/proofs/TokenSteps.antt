@@ -1,8 +1,10 @@
 -- Splitting a line at its spaces, and reading numbers.
-use Rattle.std.proofs.Common.{◌≡◌, ◌≢◌, ◌⊎◌, inl, inr, ℕ, zero, suc, ◌+◌, ◌*◌, ◌-◌, ◌^◌, ◌<◌, ◌≤◌, Bool, true, decimal, List, [], ◌∷◌, ◌++◌, rules, length, get_or, take, drop, refl, ap, sym, ◌∙◌, arith, append-nil}
+use Rattle.std.proofs.Common.{◌≡◌, ◌≢◌, ◌⊎◌, inl, inr, ℕ, zero, suc, ◌+◌, ◌*◌, ◌-◌, ◌%◌, ◌^◌, ◌<◌, ◌≤◌, Bool, true, ◌&&◌, decimal, List, [], ◌∷◌, ◌++◌, rules, length, get_or, take, drop, refl, ap, sym, ◌∙◌, arith, append-nil}
 use Rattle.std.specs.Str.{all_ascii_digits}
-use Rattle.std.proofs.lemmas.Bool.{cases_lt}
-use Rattle.std.proofs.lemmas.Fmt.{decimal_digit, decimal_nonempty, decimal_is_IsNumeral, digits_value-decimal, first_decimal}
+use lib.Pointwise.{pointwise}
+use lib.Dec.{eqb}
+use Rattle.std.proofs.lemmas.Bool.{cases_lt, eq-eqb}
+use Rattle.std.proofs.lemmas.Fmt.{decimal_digit, decimal_nonempty, decimal_is_IsNumeral, digits_value-decimal, first_decimal, decimal_by_steps}
 use Rattle.std.proofs.lemmas.List.{at_drop_more}
 use Rattle.std.proofs.lemmas.Str.Parse.{IsNumeralModel, digit_at, numerals_by_fold}
 use Rattle.heap_text.specs.Tokens.{IsToken, IsAfterToken}
@@ -72,3 +74,21 @@ module _ (n : ℕ) (bytes : List ℕ) (few : n < 2 ^ 64) (is : bytes ≡ decimal
   decimal_so_far number i so_far inside =
       let step : read_on number (drop i bytes) ≡ read_on (number * 10 + (get_or bytes i 0 - 48)) (drop (i + 1) bytes) = at_drop_more (read_on number) bytes i 0 inside in
       omega (arith, step, so_far, decimal_value, read_on_grows (number * 10 + (get_or bytes i 0 - 48)) (drop (i + 1) bytes))
+
+pub append_token : (xs ys : List ℕ) → IsToken xs → IsToken ys → IsToken (xs ++ ys)
+append_token [] ys h k = k
+append_token (x ∷ xs) ys h k = (h.0, append_token xs ys h.1 k)
+
+pub decimal_is_token : (n : ℕ) → n < 2 ^ 64 → IsToken (decimal n)
+decimal_is_token =
+    let P : ℕ → List ℕ → Type 0 = λ m ds. IsToken ds in
+    decimal_by_steps P (λ m short. (omega arith, tt)) (λ m ds long h. append_token ds ((48 + m % 10) ∷ []) h (omega arith, tt))
+
+-- a line begins with its label
+same_bytes : (xs : List ℕ) → pointwise eqb xs xs ≡ true
+same_bytes [] = refl
+same_bytes (x ∷ xs) = ap (λ b. b && pointwise eqb xs xs) (eq-eqb x x refl) ∙ same_bytes xs
+
+pub begins_with : (line label rest : List ℕ) → line ≡ label ++ rest → pointwise eqb (take (length label) line) label ≡ true
+begins_with line label rest is =
+    ap (λ (xs : List ℕ). pointwise eqb xs label) (ap (λ (xs : List ℕ). take (length label) xs) is ∙ take_token label rest) ∙ same_bytes label

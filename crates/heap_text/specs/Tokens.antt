@@ -1,5 +1,5 @@
 -- The tokens of a line, as its text has them.
-use Rattle.std.specs.Prelude.{⊤, ◌≡◌, ℕ, ◌≤◌, List, [], ◌∷◌}
+use Rattle.std.specs.Prelude.{⊤, ◌≡◌, ℕ, ◌-◌, ◌≤◌, ◌==◌, if◌then◌else◌, List, [], ◌∷◌, codes, decimal}
 
 -- no byte of a token is a space, a newline or another one below the digits
 abbrev pub IsToken : List ℕ → Type 0
@@ -10,3 +10,7 @@ IsToken (b ∷ bs) = (48 ≤ b) × IsToken bs
 abbrev pub IsAfterToken : List ℕ → Type 0
 IsAfterToken [] = ⊤
 IsAfterToken (b ∷ bs) = b ≡ 32
+
+-- a reference or a root without the space before it
+abbrev pub reference_word : ℕ → List ℕ
+reference_word w = if w == 0 then codes "null" else 64 ∷ decimal (w - 1)

@@ -1,7 +1,7 @@
 //! Splits a line at its spaces, and parses numbers, addresses and references.
-ghost use Rattle.std.specs.Prelude.{◌≡◌, ◌+◌, ◌≤◌, ◌<◌, ◌^◌, ◌++◌, ◌∷◌, [], ℕ, List, Some, None, IfSome, OnSome, length, decimal, option_map};
+ghost use Rattle.std.specs.Prelude.{◌≡◌, ◌+◌, ◌≤◌, ◌<◌, ◌^◌, ◌++◌, ◌∷◌, [], ℕ, List, Some, None, IfSome, OnSome, length, codes, decimal, option_map, slice_index, ◌≢◌};
 ghost use Rattle.heap_text.specs.Text.{number_text};
-ghost use Rattle.heap_text.specs.Tokens.{IsToken, IsAfterToken};
+ghost use Rattle.heap_text.specs.Tokens.{IsToken, IsAfterToken, reference_word};
 
 /// The tokens of a line after its first one, each preceded by one space.
 #[derive(Drop)]
@@ -80,7 +80,10 @@ pub(crate) fn parse_number(token: &[u8]) -> Option<u64>
 }
 
 /// Parses `@` and an address.
-pub(crate) fn parse_address(token: &[u8]) -> Option<u64> {
+pub(crate) fn parse_address(token: &[u8]) -> Option<u64>
+    ensures address { (n : ℕ) → n < 2 ^ 64 → token.now ≡ 64 ∷ decimal n → result ≡ Some n }
+    ensures other { slice_index token.now 0 ≢ 64 → result ≡ None }
+{
     match token.split_first() {
         Some((b'@', digits)) => parse_number(digits),
         _ => None,
@@ -88,7 +91,10 @@ pub(crate) fn parse_address(token: &[u8]) -> Option<u64> {
 }
 
 /// Parses a reference or a root in a heap of `len` words. The result is 0 for `null`, else 1 plus the address.
-pub(crate) fn parse_reference(token: &[u8], len: u64) -> Option<u64> {
+pub(crate) fn parse_reference(token: &[u8], len: u64) -> Option<u64>
+    ensures reference { (w : ℕ) → w ≤ len → token.now ≡ reference_word w → result ≡ Some w }
+    ensures data { token.now ≡ codes "data" → result ≡ None }
+{
     if token == b"null".as_slice() {
         return Some(0);
     }
@@ -99,6 +105,8 @@ pub(crate) fn parse_reference(token: &[u8], len: u64) -> Option<u64> {
 }
 
 /// Parses a line that consists of a label and a number.
-pub(crate) fn parse_labelled(line: &[u8], label: &[u8]) -> Option<u64> {
+pub(crate) fn parse_labelled(line: &[u8], label: &[u8]) -> Option<u64>
+    ensures { (n : ℕ) → n < 2 ^ 64 → line.now ≡ label.now ++ decimal n → result ≡ Some n }
+{
     parse_number(line.strip_prefix(label)?)
 }
