@@ -42,7 +42,7 @@ impl ParsedHeap {
             return Err(LineError::Expected(Expected::LineEnd));
         }
         for _i in 0..count {
-            self.push_word(len, word)?;
+            self.words.push_word(len, word)?;
         }
         Ok(())
     }
@@ -57,11 +57,11 @@ impl ParsedHeap {
         requires { len ≤ 4194304 }
     {
         let start = self.words.len();
-        self.parse_numbers(len, tokens)?;
+        let are_equal = self.words.parse_numbers(len, tokens)?;
         if self.words.len() - start != count {
             return Err(LineError::Expected(Expected::WordCount(count)));
         }
-        if self.words.are_equal_from(start) {
+        if are_equal {
             return Err(LineError::Expected(Expected::Equal));
         }
         Ok(())

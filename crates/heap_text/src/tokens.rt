@@ -1,6 +1,8 @@
 //! Splits a line at its spaces, and parses numbers, addresses and references.
-ghost use Rattle.std.specs.Prelude.{◌≡◌, ◌+◌, ◌≤◌, ◌<◌, ◌^◌, ◌++◌, ◌∷◌, [], ℕ, List, Some, None, IfSome, OnSome, length, codes, decimal, option_map, slice_index, ◌≢◌};
-ghost use Rattle.heap_text.specs.Text.{number_text};
+ghost use Rattle.std.specs.Prelude.{◌≡◌, ◌+◌, ◌≤◌, ◌<◌, ◌^◌, ◌++◌, ◌∷◌, [], ℕ, List, Some, None, IfSome, OnSome, length, codes, decimal, option_map, slice_index, flat_map, ◌≢◌};
+ghost use Rattle.std.specs.List.{AllByRecursion};
+ghost use Rattle.heap_text.specs.Text.{number_text, reference_text};
+ghost use Rattle.heap_text.specs.Words.{references_part, data_part};
 ghost use Rattle.heap_text.specs.Tokens.{IsToken, IsAfterToken, reference_word};
 
 /// The tokens of a line after its first one, each preceded by one space.
@@ -42,6 +44,33 @@ impl<'a> Tokens<'a> {
             Some(token) => parse_number(token),
             None => None,
         }
+    }
+
+    /// Returns the number of references after `refs`, up to `data` or the end of the line, or 0 if another token comes first.
+    pub(crate) fn count_references(&self) -> u64
+        ensures { (refs data : List ℕ) → AllByRecursion (λ w. w < 2 ^ 64) refs
+            → self.now.rest.now ≡ references_part refs ++ data_part data → result ≡ length refs }
+    {
+        let mut tokens = Tokens { rest: self.rest };
+        match tokens.next_token() {
+            Some(name) if name == b"refs".as_slice() => tokens.count_to_data(),
+            _ => 0,
+        }
+    }
+
+    /// Returns the number of tokens up to `data` or the end of the line.
+    fn count_to_data(mut self) -> u64
+        ensures { (refs data : List ℕ) → AllByRecursion (λ w. w < 2 ^ 64) refs
+            → self.rest.now ≡ flat_map reference_text refs ++ data_part data → result ≡ length refs }
+    {
+        let mut count = 0;
+        while let Some(token) = self.next_token() {
+            if token == b"data".as_slice() {
+                return count;
+            }
+            count += 1;
+        }
+        count
     }
 }
 
