@@ -1,8 +1,9 @@
 //! Parses the line of an object, after its address and kind.
-ghost use Rattle.std.specs.Prelude.{◌≡◌, ◌<◌, ◌≤◌, ◌+◌, ◌^◌, ◌++◌, ◌∷◌, [], ℕ, List, ◌==◌, OnOk, length, flat_map, slice_index};
-ghost use Rattle.std.specs.List.{AllByRecursion, list_all};
+ghost use Rattle.std.specs.Prelude.{◌≡◌, ◌<◌, ◌≤◌, ◌+◌, ◌^◌, ◌++◌, ◌∷◌, [], ℕ, List, OnOk, length, flat_map};
+ghost use Rattle.std.specs.List.{AllByRecursion};
 ghost use Rattle.heap_text.specs.Text.{number_text, reference_text};
-ghost use Rattle.heap_text.specs.Words.{Accepts, HasPushed, references_part, data_part, has_some};
+ghost use Rattle.heap_image.specs.Header.{object_header};
+ghost use Rattle.heap_text.specs.Words.{Accepts, HasParsed, all_equal, HasPushed, references_part, data_part, has_some};
 
 use crate::expected::Expected;
 use crate::line_error::LineError;
@@ -16,6 +17,11 @@ impl ParsedHeap {
     pub(crate) fn parse_object(&mut self, len: u64, mut tokens: Tokens<'_>) -> Result<(), LineError>
         requires left { self.old.words.len < len }
         requires few { len ≤ 4194304 }
+        ensures accepts { (refs others : List ℕ) → AllByRecursion (λ w. w ≤ len) refs → AllByRecursion (λ w. w < 2 ^ 64) others
+            → tokens.entry.rest.now ≡ number_text (1 + (length refs + length others)) ++ (references_part refs ++ data_part others)
+            → self.old.words.len + (1 + (length refs + length others)) ≤ len
+            → Accepts result (λ _. HasParsed self.old self.new
+            (object_header (1 + (length refs + length others)) (length refs) ∷ (refs ++ others)) (self.old.words.len ∷ [])) }
     {
         let place = self.words.len();
         let left = len - place;
@@ -38,47 +44,66 @@ impl WordList {
     /// Parses `refs` and references, then `data` and numbers.
     fn parse_fields(&mut self, len: u64, mut tokens: Tokens<'_>) -> Result<(), LineError>
         requires few { len ≤ 4194304 }
-        ensures accepts { (refs data : List ℕ) → AllByRecursion (λ w. w ≤ len) refs → AllByRecursion (λ w. w < 2 ^ 64) data
-            → tokens.rest.now ≡ references_part refs ++ data_part data → self.old.len + (length refs + length data) ≤ len
-            → Accepts result (λ _. HasPushed self.old self.new (refs ++ data)) }
+        ensures accepts { (refs others : List ℕ) → AllByRecursion (λ w. w ≤ len) refs → AllByRecursion (λ w. w < 2 ^ 64) others
+            → tokens.entry.rest.now ≡ references_part refs ++ data_part others → self.old.len + (length refs + length others) ≤ len
+            → Accepts result (λ _. HasPushed self.old self.new (refs ++ others)) }
     {
-        let Some(name) = tokens.next_token() else {
-            return Ok(());
-        };
-        let has_data = if name == b"refs".as_slice() {
-            self.parse_references(len, &mut tokens)?
-        } else if name == b"data".as_slice() {
-            true
-        } else {
-            return Err(LineError::Expected(Expected::Fields));
-        };
-        if has_data {
-            self.parse_numbers(len, tokens)?;
+        match tokens.next_token() {
+            None => Ok(()),
+            Some(name) if name == b"refs".as_slice() => self.parse_references_and_data(len, tokens),
+            Some(name) if name == b"data".as_slice() => self.parse_data(len, tokens),
+            Some(_) => Err(LineError::Expected(Expected::Fields)),
         }
-        Ok(())
+    }
+
+    /// Parses references, then `data` and numbers if they come.
+    fn parse_references_and_data(&mut self, len: u64, mut tokens: Tokens<'_>) -> Result<(), LineError>
+        requires few { len ≤ 4194304 }
+        ensures accepts { (refs others : List ℕ) → AllByRecursion (λ w. w ≤ len) refs → AllByRecursion (λ w. w < 2 ^ 64) others
+            → 0 < length refs → tokens.entry.rest.now ≡ flat_map reference_text refs ++ data_part others
+            → self.old.len + (length refs + length others) ≤ len
+            → Accepts result (λ _. HasPushed self.old self.new (refs ++ others)) }
+    {
+        if self.parse_references(len, &mut tokens)? {
+            self.parse_data(len, tokens)
+        } else {
+            Ok(())
+        }
+    }
+
+    /// Parses one number or more, up to the end of the line.
+    fn parse_data(&mut self, len: u64, tokens: Tokens<'_>) -> Result<(), LineError>
+        requires few { len ≤ 4194304 }
+        ensures accepts { (ws : List ℕ) → AllByRecursion (λ w. w < 2 ^ 64) ws → 0 < length ws
+            → tokens.entry.rest.now ≡ flat_map number_text ws → self.old.len + length ws ≤ len
+            → Accepts result (λ _. HasPushed self.old self.new ws) }
+    {
+        match self.parse_numbers(len, tokens) {
+            Ok(_are_equal) => Ok(()),
+            Err(error) => Err(error),
+        }
     }
 
     /// Parses one reference or more, up to `data` or the end of the line. Returns whether `data` comes.
     fn parse_references(&mut self, len: u64, tokens: &mut Tokens<'_>) -> Result<bool, LineError>
         requires few { len ≤ 4194304 }
-        ensures accepts { (refs data : List ℕ) → AllByRecursion (λ w. w ≤ len) refs → 0 < length refs
-            → tokens.old.rest.now ≡ flat_map reference_text refs ++ data_part data → self.old.len + length refs ≤ len
-            → Accepts result (λ has_data. (has_data ≡ has_some data) × HasPushed self.old self.new refs
-            × (tokens.new.rest.now ≡ flat_map number_text data)) }
+        ensures accepts { (refs others : List ℕ) → AllByRecursion (λ w. w ≤ len) refs → 0 < length refs
+            → tokens.old.rest.now ≡ flat_map reference_text refs ++ data_part others → self.old.len + length refs ≤ len
+            → Accepts result (λ has_data. (has_data ≡ has_some others) × HasPushed self.old self.new refs
+            × (tokens.new.rest.now ≡ flat_map number_text others)) }
     {
-        let start = self.len();
+        let Some(first) = tokens.next_reference(len) else {
+            return Err(LineError::Expected(Expected::Reference(len)));
+        };
+        self.push_word(len, first)?;
         while let Some(token) = tokens.next_token() {
             match parse_reference(token, len) {
                 Some(reference) => self.push_word(len, reference)?,
-                None if token == b"data".as_slice() && self.len() > start => return Ok(true),
+                None if token == b"data".as_slice() => return Ok(true),
                 None => return Err(LineError::Expected(Expected::Reference(len))),
             }
         }
-        if self.len() > start {
-            Ok(false)
-        } else {
-            Err(LineError::Expected(Expected::Reference(len)))
-        }
+        Ok(false)
     }
 
     /// Parses one number or more, up to the end of the line. Returns whether all are equal.
@@ -86,8 +111,8 @@ impl WordList {
         requires few { len ≤ 4194304 }
         ensures grown { OnOk result (self.old.len ≤ self.new.len) }
         ensures accepts { (ws : List ℕ) → AllByRecursion (λ w. w < 2 ^ 64) ws → 0 < length ws
-            → tokens.rest.now ≡ flat_map number_text ws → self.old.len + length ws ≤ len
-            → Accepts result (λ equal. (equal ≡ list_all (λ w. w == slice_index ws 0) ws) × HasPushed self.old self.new ws) }
+            → tokens.entry.rest.now ≡ flat_map number_text ws → self.old.len + length ws ≤ len
+            → Accepts result (λ equal. (equal ≡ all_equal ws) × HasPushed self.old self.new ws) }
     {
         let Some(first) = tokens.next_number() else {
             return Err(LineError::Expected(Expected::Number));

@@ -24,7 +24,7 @@ impl<'a> Tokens<'a> {
 
     /// Returns the next token.
     pub(crate) fn next_token(&mut self) -> Option<&'a [u8]>
-        ensures none { self.old.rest.now ≡ [] → result ≡ None }
+        ensures none { self.old.rest.now ≡ [] → (result ≡ None) × (self.new.rest.now ≡ []) }
         ensures some { (token rest : List ℕ) → IsToken token → IsAfterToken rest → self.old.rest.now ≡ 32 ∷ (token ++ rest)
             → (option_map (λ t. t.now) result ≡ Some token) × (self.new.rest.now ≡ rest) }
         ensures less { OnSome result (length self.new.rest.now < length self.old.rest.now) }
@@ -46,10 +46,22 @@ impl<'a> Tokens<'a> {
         }
     }
 
+    /// Returns the reference of the next token in a heap of `len` words, or `None` if that is no reference or there is none.
+    pub(crate) fn next_reference(&mut self, len: u64) -> Option<u64>
+        requires { len ≤ 4194304 }
+        ensures { (w : ℕ) (rest : List ℕ) → w ≤ len → IsAfterToken rest → self.old.rest.now ≡ reference_text w ++ rest
+            → (result ≡ Some w) × (self.new.rest.now ≡ rest) }
+    {
+        match self.next_token() {
+            Some(token) => parse_reference(token, len),
+            None => None,
+        }
+    }
+
     /// Returns the number of references after `refs`, up to `data` or the end of the line, or 0 if another token comes first.
     pub(crate) fn count_references(&self) -> u64
-        ensures { (refs data : List ℕ) → AllByRecursion (λ w. w < 2 ^ 64) refs
-            → self.now.rest.now ≡ references_part refs ++ data_part data → result ≡ length refs }
+        ensures { (refs others : List ℕ) → AllByRecursion (λ w. w < 2 ^ 64) refs
+            → self.now.rest.now ≡ references_part refs ++ data_part others → result ≡ length refs }
     {
         let mut tokens = Tokens { rest: self.rest };
         match tokens.next_token() {
@@ -60,8 +72,8 @@ impl<'a> Tokens<'a> {
 
     /// Returns the number of tokens up to `data` or the end of the line.
     fn count_to_data(mut self) -> u64
-        ensures { (refs data : List ℕ) → AllByRecursion (λ w. w < 2 ^ 64) refs
-            → self.rest.now ≡ flat_map reference_text refs ++ data_part data → result ≡ length refs }
+        ensures { (refs others : List ℕ) → AllByRecursion (λ w. w < 2 ^ 64) refs
+            → self.entry.rest.now ≡ flat_map reference_text refs ++ data_part others → result ≡ length refs }
     {
         let mut count = 0;
         while let Some(token) = self.next_token() {
