@@ -10,7 +10,7 @@ use Rattle.heap_text.specs.declared.line_error.LineError.{LineError}
 use Rattle.heap_text.specs.declared.line_error.LineError.TheVariants.{Memory, Expected}
 use Rattle.heap_text.specs.declared.word_list.WordList.{WordList}
 use Rattle.heap_text.proofs.TokenSteps.{decimal_is_token}
-use Rattle.heap_text.proofs.WordTexts.{reference_is, reference_is_word}
+use Rattle.heap_text.proofs.WordTexts.{some_reference, reference_is, reference_is_word}
 
 pub numbers_after : (ws : List ℕ) → IsAfterToken (flat_map number_text ws)
 numbers_after [] = tt
@@ -56,7 +56,7 @@ module _ (few : ℕ → Type 0) (old now : WordList) (ws : List ℕ) (p : IsPars
       let some : length p.left ≡ suc (length more) = ap (λ (xs : List ℕ). length xs) is in
       omega (arith, all, some, room, p.pushed.len)
 
-  pub parsing_more : (w : ℕ) (more : List ℕ) → p.left ≡ w ∷ more → (new : WordList) → HasPushed now new (w ∷ []) → IsParsing few old new ws
+  abbrev pub parsing_more : (w : ℕ) (more : List ℕ) → p.left ≡ w ∷ more → (new : WordList) → HasPushed now new (w ∷ []) → IsParsing few old new ws
   parsing_more w more is new q =
       record {
         done = p.done ++ (w ∷ []);
@@ -312,3 +312,99 @@ some_or_none (w ∷ ws) e = omega arith
 pub none_if_not : (ws : List ℕ) → has_some ws ≡ false → ws ≡ []
 none_if_not [] e = refl
 none_if_not (w ∷ ws) e = cc
+
+-- the names of the parts of a line differ from each other and from references
+pub refs_not_data : codes "refs" ≡ codes "data" → ⊥
+refs_not_data e =
+    let first : 114 ≡ 100 = ap (λ (xs : List ℕ). get_or xs 0 0) e in
+    omega (arith, first)
+
+pub reference_not_data : (w : ℕ) → reference_word w ≡ codes "data" → ⊥
+reference_not_data zero e =
+    let first : 110 ≡ 100 = ap (λ (xs : List ℕ). get_or xs 0 0) e in
+    omega (arith, first)
+reference_not_data (suc n) e =
+    let first : 64 ≡ 100 = ap (λ (xs : List ℕ). get_or xs 0 0) (sym (some_reference n) ∙ e) in
+    omega (arith, first)
+
+-- the fields of an object begin with references
+pub record BeginsReferences (refs others name rest : List ℕ) : Type 0 where
+  pub some : 0 < length refs
+  pub name_is : name ≡ codes "refs"
+  pub rest_is : rest ≡ flat_map reference_text refs ++ data_part others
+
+-- the fields of an object have no references
+pub record BeginsData (refs others name rest : List ℕ) : Type 0 where
+  pub none : refs ≡ []
+  pub some : 0 < length others
+  pub name_is : name ≡ codes "data"
+  pub rest_is : rest ≡ flat_map number_text others
+
+four_letters : (a b c d : ℕ) → 48 ≤ a → 48 ≤ b → 48 ≤ c → 48 ≤ d → IsToken (a ∷ (b ∷ (c ∷ (d ∷ []))))
+four_letters a b c d p q r s = (p, (q, (r, (s, tt))))
+
+refs_token : IsToken (codes "refs")
+refs_token = four_letters 114 101 102 115 (omega arith) (omega arith) (omega arith) (omega arith)
+
+data_token : IsToken (codes "data")
+data_token = four_letters 100 97 116 97 (omega arith) (omega arith) (omega arith) (omega arith)
+
+fields_front : (w : ℕ) (refs others : List ℕ) → references_part (w ∷ refs) ++ data_part others ≡ 32 ∷ (codes "refs" ++ (flat_map reference_text (w ∷ refs) ++ data_part others))
+fields_front w refs others = append_assoc (codes " refs") (flat_map reference_text (w ∷ refs)) (data_part others)
+
+pub fields_next : (refs others entry name rest : List ℕ) → entry ≡ references_part refs ++ data_part others → (entry ≡ [] → ⊥) → GivesToken entry (Some name) rest
+    → BeginsReferences refs others name rest ⊎ BeginsData refs others name rest
+fields_next [] [] entry name rest is none some = absurd (none is)
+fields_next [] (d ∷ ds) entry name rest is none some =
+    let both = some (codes "data") (flat_map number_text (d ∷ ds)) data_token (numbers_after (d ∷ ds)) is in
+    inr (record { none = refl; some = omega arith; name_is = some_same name (codes "data") both.0; rest_is = both.1 })
+fields_next (w ∷ refs) others entry name rest is none some =
+    let both = some (codes "refs") (flat_map reference_text (w ∷ refs) ++ data_part others) refs_token (references_after (w ∷ refs) others) (is ∙ fields_front w refs others) in
+    inl (record { some = omega arith; name_is = some_same name (codes "refs") both.0; rest_is = both.1 })
+
+pub fields_none : (refs others entry rest : List ℕ) (found : Option (List ℕ)) → entry ≡ references_part refs ++ data_part others → found ≡ None → GivesToken entry found rest
+    → refs ++ others ≡ []
+fields_none [] [] entry rest found is missing some = refl
+fields_none [] (d ∷ ds) entry rest found is missing some =
+    absurd (none_some (codes "data") (sym missing ∙ (some (codes "data") (flat_map number_text (d ∷ ds)) data_token (numbers_after (d ∷ ds)) is).0))
+fields_none (w ∷ refs) others entry rest found is missing some =
+    absurd (none_some (codes "refs") (sym missing ∙ (some (codes "refs") (flat_map reference_text (w ∷ refs) ++ data_part others) refs_token (references_after (w ∷ refs) others) (is ∙ fields_front w refs others)).0))
+
+-- The references so far are counted.
+pub record IsCounting (len : ℕ) (rest refs others : List ℕ) (count : ℕ) : Type 0 where
+  pub left : List ℕ
+  pub fits : AllByRecursion (λ w. w ≤ len) left
+  pub remains : rest ≡ flat_map reference_text left ++ data_part others
+  pub counted : count + length left ≡ length refs
+
+pub counting_step : (len : ℕ) (rest rest' token refs others : List ℕ) (count : ℕ) → len ≤ 4194304 → IsCounting len rest refs others count
+    → (rest ≡ [] → ⊥) → GivesToken rest (Some token) rest' → (token ≡ codes "data" → ⊥) → IsCounting len rest' refs others (count + 1)
+counting_step len rest rest' token refs others count few i none some no_data =
+    elim (reference_next len i.left others rest token rest' few i.fits i.remains none some) [
+      | inl next ↦
+          let shorter : length i.left ≡ suc (length next.more) = ap (λ (xs : List ℕ). length xs) next.left_is in
+          record {
+            left = next.more;
+            fits = (subst (AllByRecursion (λ w. w ≤ len)) next.left_is i.fits).1;
+            remains = next.rest_is;
+            counted = omega (arith, shorter, i.counted);
+          }
+      | inr next ↦ absurd (no_data next.token_is)
+    ]
+
+pub counting_data : (len : ℕ) (rest rest' token refs others : List ℕ) (count : ℕ) → len ≤ 4194304 → IsCounting len rest refs others count
+    → (rest ≡ [] → ⊥) → GivesToken rest (Some token) rest' → token ≡ codes "data" → count ≡ length refs
+counting_data len rest rest' token refs others count few i none some is_data =
+    elim (reference_next len i.left others rest token rest' few i.fits i.remains none some) [
+      | inl next ↦ absurd (reference_not_data next.word (sym next.token_is ∙ is_data))
+      | inr next ↦
+          let empty : length i.left ≡ 0 = ap (λ (xs : List ℕ). length xs) next.left_is in
+          omega (arith, empty, i.counted)
+    ]
+
+pub counting_end : (len : ℕ) (rest rest' refs others : List ℕ) (count : ℕ) (found : Option (List ℕ)) → len ≤ 4194304 → IsCounting len rest refs others count
+    → found ≡ None → GivesToken rest found rest' → count ≡ length refs
+counting_end len rest rest' refs others count found few i missing some =
+    let last = reference_last len i.left others rest rest' found few i.fits i.remains missing some in
+    let empty : length i.left ≡ 0 = ap (λ (xs : List ℕ). length xs) last.0 in
+    omega (arith, empty, i.counted)

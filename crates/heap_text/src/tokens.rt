@@ -60,7 +60,7 @@ impl<'a> Tokens<'a> {
 
     /// Returns the number of references after `refs`, up to `data` or the end of the line, or 0 if another token comes first.
     pub(crate) fn count_references(&self) -> u64
-        ensures { (refs others : List ℕ) → AllByRecursion (λ w. w < 2 ^ 64) refs
+        ensures { (len : ℕ) (refs others : List ℕ) → len ≤ 4194304 → AllByRecursion (λ w. w ≤ len) refs
             → self.now.rest.now ≡ references_part refs ++ data_part others → result ≡ length refs }
     {
         let mut tokens = Tokens { rest: self.rest };
@@ -72,7 +72,7 @@ impl<'a> Tokens<'a> {
 
     /// Returns the number of tokens up to `data` or the end of the line.
     fn count_to_data(mut self) -> u64
-        ensures { (refs others : List ℕ) → AllByRecursion (λ w. w < 2 ^ 64) refs
+        ensures { (len : ℕ) (refs others : List ℕ) → len ≤ 4194304 → AllByRecursion (λ w. w ≤ len) refs
             → self.entry.rest.now ≡ flat_map reference_text refs ++ data_part others → result ≡ length refs }
     {
         let mut count = 0;
