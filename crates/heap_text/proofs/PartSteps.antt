@@ -4,12 +4,14 @@ use Rattle.std.specs.Prelude.{◌==◌, flat_map, option_map}
 use Rattle.std.specs.List.{AllByRecursion, list_all}
 use Rattle.heap_text.specs.Text.{number_text, reference_text}
 use Rattle.heap_text.specs.Tokens.{IsToken, IsAfterToken, reference_word}
-use Rattle.std.proofs.lemmas.Bool.{eq-eqb}
+use Rattle.std.proofs.lemmas.Bool.{eq-eqb, eqb-true, and_parts}
 use Rattle.heap_text.specs.Words.{words_of, HasPushed, all_equal, references_part, data_part, has_some, Accepts}
 use Rattle.heap_text.specs.declared.line_error.LineError.{LineError}
 use Rattle.heap_text.specs.declared.line_error.LineError.TheVariants.{Memory, Expected}
 use Rattle.heap_text.specs.declared.word_list.WordList.{WordList}
-use Rattle.heap_text.proofs.TokenSteps.{decimal_is_token}
+use Rattle.heap_text.proofs.TokenSteps.{decimal_is_token, same_bytes}
+use lib.Pointwise.{pointwise}
+use lib.Dec.{eqb}
 use Rattle.heap_text.proofs.WordTexts.{some_reference, reference_is, reference_is_word}
 
 pub numbers_after : (ws : List ℕ) → IsAfterToken (flat_map number_text ws)
@@ -408,3 +410,22 @@ counting_end len rest rest' refs others count found few i missing some =
     let last = reference_last len i.left others rest rest' found few i.fits i.remains missing some in
     let empty : length i.left ≡ 0 = ap (λ (xs : List ℕ). length xs) last.0 in
     omega (arith, empty, i.counted)
+
+-- a token that is compared with a name
+same_from : (a b : List ℕ) → pointwise eqb a b ≡ true → a ≡ b
+same_from [] [] e = refl
+same_from [] (y ∷ b) e = cc
+same_from (x ∷ a) [] e = cc
+same_from (x ∷ a) (y ∷ b) e =
+    let both = and_parts (x == y) (pointwise eqb a b) e in
+    let first : x ≡ y = eqb-true x y both.0 in
+    let others : a ≡ b = same_from a b both.1 in
+    cc
+
+pub named : (token bytes name : List ℕ) → true ≡ pointwise eqb token bytes → bytes ≡ name → token ≡ name
+named token bytes name e is = same_from token bytes (sym e) ∙ is
+
+pub not_named : (token bytes name : List ℕ) → false ≡ pointwise eqb token bytes → bytes ≡ name → token ≡ name → ⊥
+not_named token bytes name e is same =
+    let no : false ≡ true = e ∙ (ap (λ (xs : List ℕ). pointwise eqb xs bytes) (same ∙ sym is) ∙ same_bytes bytes) in
+    cc

@@ -85,7 +85,7 @@ decimal_is_token =
     decimal_by_steps P (λ m short. (omega arith, tt)) (λ m ds long h. append_token ds ((48 + m % 10) ∷ []) h (omega arith, tt))
 
 -- a line begins with its label
-same_bytes : (xs : List ℕ) → pointwise eqb xs xs ≡ true
+pub same_bytes : (xs : List ℕ) → pointwise eqb xs xs ≡ true
 same_bytes [] = refl
 same_bytes (x ∷ xs) = ap (λ b. b && pointwise eqb xs xs) (eq-eqb x x refl) ∙ same_bytes xs
 

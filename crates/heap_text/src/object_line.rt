@@ -48,12 +48,16 @@ impl WordList {
             → tokens.entry.rest.now ≡ references_part refs ++ data_part others → self.old.len + (length refs + length others) ≤ len
             → Accepts result (λ _. HasPushed self.old self.new (refs ++ others)) }
     {
-        match tokens.next_token() {
-            None => Ok(()),
-            Some(name) if name == b"refs".as_slice() => self.parse_references_and_data(len, tokens),
-            Some(name) if name == b"data".as_slice() => self.parse_data(len, tokens),
-            Some(_) => Err(LineError::Expected(Expected::Fields)),
+        let Some(name) = tokens.next_token() else {
+            return Ok(());
+        };
+        if name == b"refs".as_slice() {
+            return self.parse_references_and_data(len, tokens);
         }
+        if name == b"data".as_slice() {
+            return self.parse_data(len, tokens);
+        }
+        Err(LineError::Expected(Expected::Fields))
     }
 
     /// Parses references, then `data` and numbers if they come.
