@@ -429,3 +429,6 @@ pub not_named : (token bytes name : List ℕ) → false ≡ pointwise eqb token 
 not_named token bytes name e is same =
     let no : false ≡ true = e ∙ (ap (λ (xs : List ℕ). pointwise eqb xs bytes) (same ∙ sym is) ∙ same_bytes bytes) in
     cc
+
+pub true_not_false : true ≡ false → ⊥
+true_not_false e = cc
