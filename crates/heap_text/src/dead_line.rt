@@ -20,19 +20,20 @@ impl ParsedHeap {
             → Accepts result (λ _. HasParsed self.old self.new ws []) }
     {
         let left = len - self.words.len();
-        let count = match tokens.next_number() {
-            Some(count) if 1 <= count && count <= left => count,
-            _ => return Err(LineError::Expected(Expected::Count(left))),
+        let Some(count) = tokens.next_count(left) else {
+            return Err(LineError::Expected(Expected::Count(left)));
         };
-        match tokens.next_token() {
-            Some(name) if name == b"of".as_slice() => self.words.parse_equal_words(len, count, tokens),
-            Some(name) if name == b"words".as_slice() => {
-                self.words.parse_unequal_words(len, count, tokens)
-            }
-            _ => Err(LineError::Expected(Expected::Dead)),
+        let Some(name) = tokens.next_token() else {
+            return Err(LineError::Expected(Expected::Dead));
+        };
+        if name == b"of".as_slice() {
+            return self.words.parse_equal_words(len, count, tokens);
         }
+        if name == b"words".as_slice() {
+            return self.words.parse_unequal_words(len, count, tokens);
+        }
+        Err(LineError::Expected(Expected::Dead))
     }
-
 }
 
 impl WordList {

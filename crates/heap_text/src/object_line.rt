@@ -25,9 +25,8 @@ impl ParsedHeap {
     {
         let place = self.words.len();
         let left = len - place;
-        let size = match tokens.next_number() {
-            Some(size) if 1 <= size && size <= left => size,
-            _ => return Err(LineError::Expected(Expected::Size(left))),
+        let Some(size) = tokens.next_count(left) else {
+            return Err(LineError::Expected(Expected::Size(left)));
         };
         let references = tokens.count_references().min(size);
         self.live.push(place)?;

@@ -1,5 +1,5 @@
 //! Splits a line at its spaces, and parses numbers, addresses and references.
-ghost use Rattle.std.specs.Prelude.{◌≡◌, ◌+◌, ◌≤◌, ◌<◌, ◌^◌, ◌++◌, ◌∷◌, [], ℕ, List, Some, None, IfSome, OnSome, length, codes, decimal, option_map, slice_index, flat_map, ◌≢◌};
+ghost use Rattle.std.specs.Prelude.{◌≡◌, ◌+◌, ◌≤◌, ◌<◌, ◌^◌, ◌++◌, ◌∷◌, [], ℕ, List, Some, None, IfSome, OnSome, length, codes, decimal, option_map, slice_index, flat_map, ◌≢◌, IsTrue, true};
 ghost use Rattle.std.specs.List.{AllByRecursion};
 ghost use Rattle.heap_text.specs.Text.{number_text, reference_text};
 ghost use Rattle.heap_text.specs.Words.{references_part, data_part};
@@ -46,6 +46,18 @@ impl<'a> Tokens<'a> {
         }
     }
 
+    /// Returns the number of the next token if it is 1 to `most`, else `None`.
+    pub(crate) fn next_count(&mut self, most: u64) -> Option<u64>
+        ensures within { IfSome result (λ n. (1 ≤ n) × (n ≤ most)) }
+        ensures accepts { (n : ℕ) (rest : List ℕ) → 1 ≤ n → n ≤ most → n < 2 ^ 64 → IsAfterToken rest → self.old.rest.now ≡ number_text n ++ rest
+            → (result ≡ Some n) × (self.new.rest.now ≡ rest) }
+    {
+        let Some(count) = self.next_number() else {
+            return None;
+        };
+        if is_within(count, most) { Some(count) } else { None }
+    }
+
     /// Returns the reference of the next token in a heap of `len` words, or `None` if that is no reference or there is none.
     pub(crate) fn next_reference(&mut self, len: u64) -> Option<u64>
         requires { len ≤ 4194304 }
@@ -64,10 +76,13 @@ impl<'a> Tokens<'a> {
             → self.now.rest.now ≡ references_part refs ++ data_part others → result ≡ length refs }
     {
         let mut tokens = Tokens { rest: self.rest };
-        match tokens.next_token() {
-            Some(name) if name == b"refs".as_slice() => tokens.count_to_data(),
-            _ => 0,
+        let Some(name) = tokens.next_token() else {
+            return 0;
+        };
+        if name == b"refs".as_slice() {
+            return tokens.count_to_data();
         }
+        0
     }
 
     /// Returns the number of tokens up to `data` or the end of the line.
@@ -98,6 +113,14 @@ fn split_at_space(bytes: &[u8]) -> (&[u8], &[u8])
         }
     }
     (bytes, &[])
+}
+
+/// Whether a count is 1 to `most`.
+fn is_within(count: u64, most: u64) -> bool
+    ensures within { IsTrue result → (1 ≤ count) × (count ≤ most) }
+    ensures all { 1 ≤ count → count ≤ most → result ≡ true }
+{
+    1 <= count && count <= most
 }
 
 /// Parses a decimal number below 2^64 without leading zeros.
