@@ -432,3 +432,10 @@ not_named token bytes name e is same =
 
 pub true_not_false : true ≡ false → ⊥
 true_not_false e = cc
+
+pub fields_after : (refs others : List ℕ) → IsAfterToken (references_part refs ++ data_part others)
+fields_after [] others = data_after others
+fields_after (w ∷ refs) others = refl
+
+pub pushed_word : (old new : WordList) (x w : ℕ) → words_of new ≡ words_of old ++ (x ∷ []) → new.len ≡ old.len + 1 → x ≡ w → HasPushed old new (w ∷ [])
+pushed_word old new x w words len is = record { words = words ∙ ap (λ (y : ℕ). words_of old ++ (y ∷ [])) is; len = len }

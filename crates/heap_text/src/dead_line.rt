@@ -27,10 +27,12 @@ impl ParsedHeap {
             return Err(LineError::Expected(Expected::Dead));
         };
         if name == b"of".as_slice() {
-            return self.words.parse_equal_words(len, count, tokens);
+            self.words.parse_equal_words(len, count, tokens)?;
+            return Ok(());
         }
         if name == b"words".as_slice() {
-            return self.words.parse_unequal_words(len, count, tokens);
+            self.words.parse_unequal_words(len, count, tokens)?;
+            return Ok(());
         }
         Err(LineError::Expected(Expected::Dead))
     }
