@@ -1,4 +1,6 @@
 pub mod Difference
+pub mod Tally
+pub mod Explanation
 pub mod Verdict
 pub mod Compared
 pub mod Ready
