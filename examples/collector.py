@@ -34,16 +34,17 @@ for a in live:
 # Move, and redirect references.
 forward = {0: new[live[0]] + 1 if bug == "null" else 0, **{a + 1: new[a] + 1 for a in live}}
 out = words[:] if bug == "free" else [0] * size
+references = {q for a in live for q in fields(a)}
+if bug == "reference":
+    references -= set(sorted(q for q in references if forward[words[q]] != words[q])[:1])
 for a in live:
-    moved = [forward[words[q]] if q in fields(a) else words[q] for q in range(a, end(a))]
-    if a == live[-1]:
-        moved[-1] = 0 if bug == "data" else moved[-1]
-        moved[1] = words[a + 1] if bug == "reference" else moved[1]
-    out[new[a]:new[a] + len(moved)] = moved
+    moved = [forward[words[q]] if q in references else words[q] for q in range(a, end(a))]
+    out[new[a]:new[a] + len(moved)] = moved[:-1] + [0] if bug == "data" and a == live[-1] else moved
 # Fill the gaps of the dense prefix.
 for p in sorted(set(range(prefix)) - used):
     gap = next((q for q in range(p, prefix) if q in used), prefix) - p
     out[p] = (2 << 56 | gap + (bug == "filler")) if p == 0 or p - 1 in used else 0
 tail = [forward[root] for root in listed] if magic == b"PCHEAP02" else [new[a] for a in live]
-tail[0] = listed[0] if bug == "root" else tail[0]
+for i in [i for i in range(count) if bug == "root" and tail[i] != listed[i]][:1]:
+    tail[i] = listed[i]
 open(sys.argv[2], "wb").write(data[:32] + struct.pack(f"<{size + count}Q", *out, *tail))

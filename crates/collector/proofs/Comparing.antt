@@ -77,17 +77,19 @@ pub part_is : (image : HeapImage) (object : Moved) (p index references : ℕ) (p
     → index < size_at image object.old → references ≡ references_at image object.old → IsPartAt object index references part → IsPart image p part
 part_is image object p index references (Header moved) is low at inside count (same, zero) =
     (subst (IsMoved image) (sym same) is, let e : moved.new ≡ object.new = ap (λ (m : Moved). m.new) same in omega (arith, low, at, zero, e))
-part_is image object p index references (Field moved f) is low at inside count (same, few, next) =
-    (subst (IsMoved image) (sym same) is,
-    subst (λ n. f < n) (count ∙ ap (λ (m : Moved). references_at image m.old) (sym same)) few,
-    (let e : moved.new ≡ object.new = ap (λ (m : Moved). m.new) same in omega (arith, low, at, next, e)))
+part_is image object p index references (Field moved f) is low at inside count (same, few, next) = (
+  subst (IsMoved image) (sym same) is,
+  subst (λ n. f < n) (count ∙ ap (λ (m : Moved). references_at image m.old) (sym same)) few,
+  (let e : moved.new ≡ object.new = ap (λ (m : Moved). m.new) same in omega (arith, low, at, next, e)),
+)
 part_is image object p index references (Data moved d) is low at inside count (same, next) =
     let e : moved.new ≡ object.new = ap (λ (m : Moved). m.new) same in
     let f : references ≡ references_at image moved.old = count ∙ ap (λ (m : Moved). references_at image m.old) (sym same) in
-    let s : size_at image object.old ≡ size_at image moved.old = ap (λ (m : Moved). size_at image m.old) (sym same) in
-    (subst (IsMoved image) (sym same) is,
-    place (references_at image moved.old) moved.new f e,
-    end (size_at image object.old) (size_at image moved.old) moved.new inside s e)
+    let s : size_at image object.old ≡ size_at image moved.old = ap (λ (m : Moved). size_at image m.old) (sym same) in (
+      subst (IsMoved image) (sym same) is,
+      place (references_at image moved.old) moved.new f e,
+      end (size_at image object.old) (size_at image moved.old) moved.new inside s e,
+    )
   where
     place : (r n : ℕ) → references ≡ r → n ≡ object.new → p ≡ n + 1 + r + d
     place r n f e = omega (arith, low, at, next, e, f)

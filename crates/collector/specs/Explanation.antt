@@ -1,9 +1,11 @@
 -- What is said of the words of a heap that differ from those of a compaction.
-use Rattle.std.specs.Prelude.{◌≡◌, ℕ, ◌+◌, ◌-◌, ◌<◌, ◌≤◌, Bool, if◌then◌else◌, List, All, Contains, Option, Some, None, length, map}
+use Rattle.std.specs.Prelude.{◌≡◌, ℕ, ◌+◌, ◌-◌, ◌<◌, ◌≤◌, Bool, if◌then◌else◌, List, All, Contains, Option, Some, None, MatchOption, length, map, slice_index}
 use Rattle.heap_image.specs.HeapImage.{HeapImage, heap_words, word_at, size_at, references_at}
 use Rattle.summary.specs.LiveObjects.{object_count, object_at}
 use Rattle.summary.specs.NewAddresses.{new_address, new_end_of, new_top}
-use Rattle.summary.specs.Compaction.{compact}
+use Rattle.summary.specs.Compaction.{redirected, compact}
+use Rattle.collector.specs.Difference.{AreAlike, IsLeastDifference}
+use Rattle.collector.specs.Verdict.{root_count, root_at}
 use Rattle.collector.specs.Tally.{IsTally}
 use Rattle.collector.specs.declared.difference_tally.OtherWord.{OtherWord}
 use Rattle.collector.specs.declared.difference_tally.Tally.{Tally}
@@ -13,6 +15,7 @@ use Rattle.collector.specs.declared.verdict_explanation.Part.TheVariants.{Header
 use Rattle.collector.specs.declared.verdict_explanation.Lead.{Lead}
 use Rattle.collector.specs.declared.verdict_explanation.Lead.TheVariants.{Null, Outside, Unchanged, To}
 use Rattle.collector.specs.declared.verdict_explanation.ExplainedWord.{ExplainedWord}
+use Rattle.collector.specs.declared.verdict_explanation.OtherRoot.{OtherRoot}
 use Rattle.collector.specs.declared.verdict_explanation.Explanation.{Explanation}
 
 -- the addresses to compare: all, or those below the new top
@@ -49,16 +52,16 @@ module _ (before : HeapImage) where
   IsPart p Filler = (p < new_top before) × IsOfNone (object_count before) p
   IsPart p Free = (new_top before ≤ p) × IsOfNone (object_count before) p
 
-  -- where a word leads that was found in field f of an object
-  abbrev pub IsLead : Moved → ℕ → ℕ → Lead → Type 0
-  IsLead moved f w Null = w ≡ 0
-  IsLead moved f w Outside = heap_words before < w
-  IsLead moved f w Unchanged = w ≡ word_at before (moved.old + 1 + f)
-  IsLead moved f w (To part) = (0 < w) × IsPart (w - 1) part
+  -- where a reference leads that was found; `was` is the one from before the collection
+  abbrev pub IsLead : ℕ → ℕ → Lead → Type 0
+  IsLead was w Null = w ≡ 0
+  IsLead was w Outside = heap_words before < w
+  IsLead was w Unchanged = w ≡ was
+  IsLead was w (To part) = (0 < w) × IsPart (w - 1) part
 
   -- a reference is found to lead somewhere, and nothing else is
   abbrev pub IsLeadOf : Part → ℕ → Option Lead → Type 0
-  IsLeadOf (Field moved f) w (Some lead) = IsLead moved f w lead
+  IsLeadOf (Field moved f) w (Some lead) = IsLead (word_at before (moved.old + 1 + f)) w lead
   IsLeadOf (Field moved f) w None = ⊥
   IsLeadOf (Header moved) w lead = lead ≡ None
   IsLeadOf (Data moved d) w lead = lead ≡ None
@@ -71,6 +74,20 @@ module _ (before : HeapImage) where
 
 -- The count is that of all words below the limit that differ from the compaction's. The words listed are the first ten
 -- of them, in ascending order, each with both words, and with what the compaction has there.
-pub record IsExplanation (before after : HeapImage) (limit : ℕ) (explanation : Explanation) : Type 0 where
-  pub tally : IsTally (word_at (compact before)) (word_at after) limit explanation.count (map (λ (e : ExplainedWord). e.word) explanation.first.items)
-  pub explained : All (IsExplained before) explanation.first.items
+pub record AreExplained (before after : HeapImage) (limit count : ℕ) (first : List ExplainedWord) : Type 0 where
+  pub tally : IsTally (word_at (compact before)) (word_at after) limit count (map (λ (e : ExplainedWord). e.word) first)
+  pub explained : All (IsExplained before) first
+
+-- of as many roots as there are, this is the first that isn't the compaction's
+pub record IsOtherRoot (before : HeapImage) (found : List ℕ) (other : OtherRoot) : Type 0 where
+  pub as_many : length found ≡ root_count before
+  pub least : IsLeastDifference (λ i. redirected before (root_at before i)) (slice_index found) (root_count before) other.index
+  pub expected : other.expected ≡ redirected before (root_at before other.index)
+  pub found : other.found ≡ slice_index found other.index
+  pub lead : IsLead before (root_at before other.index) other.found other.lead
+
+pub record IsExplanation (before after : HeapImage) (roots : List ℕ) (limit : ℕ) (explanation : Explanation) : Type 0 where
+  pub words : AreExplained before after limit explanation.count explanation.first.items
+  pub root : MatchOption explanation.root
+      (length roots ≡ root_count before → AreAlike (λ i. redirected before (root_at before i)) (slice_index roots) (root_count before))
+      (IsOtherRoot before roots)

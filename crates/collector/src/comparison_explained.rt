@@ -1,15 +1,18 @@
 //! Explains how the words of a heap differ from those of the compaction that it should be.
-ghost use Rattle.std.specs.Prelude.{◌≡◌, ◌+◌, ◌-◌, ◌<◌, ◌≤◌, All, Contains, IfOk, IfErr, OnOk, IfSome, IfNone, MatchOption};
+ghost use Rattle.std.specs.Prelude.{◌≡◌, ◌+◌, ◌-◌, ◌<◌, ◌≤◌, All, Contains, IfOk, IfErr, OnOk, IfSome, IfNone, MatchOption, length, slice_index};
 ghost use Rattle.heap_image.specs.HeapImage.{heap_words, word_at, size_at, references_at, words_alone};
 ghost use Rattle.heap_image.specs.declared.fault.Fault.TheVariants.{Memory};
 ghost use Rattle.summary.specs.NewAddresses.{new_address, new_top};
 ghost use Rattle.summary.specs.Fillers.{IsDeadRun};
 ghost use Rattle.collector.specs.Compared.{IsPlaced};
-ghost use Rattle.collector.specs.Explanation.{IsTallyOf, IsMoved, IsPart, IsPartAt, IsLead, IsLeadOf, IsExplained, IsExplanation, limit_of};
+ghost use Rattle.collector.specs.Explanation.{IsTallyOf, IsMoved, IsPart, IsPartAt, IsLead, IsLeadOf, IsExplained, AreExplained, IsExplanation, IsOtherRoot, limit_of};
+ghost use Rattle.collector.specs.Difference.{AreAlike};
+ghost use Rattle.collector.specs.Verdict.{root_count, root_at};
+ghost use Rattle.summary.specs.Compaction.{redirected};
 
 use crate::comparison::{object_references, object_words, objects_are_placed};
 use crate::difference_tally::{OtherWord, Tally};
-use crate::verdict_explanation::{ExplainedWord, Explanation, Lead, Moved, Part};
+use crate::verdict_explanation::{ExplainedWord, Explanation, Lead, Moved, OtherRoot, Part};
 use heap_image::{Fault, Heap, Image, header, image_is_valid};
 use std::alloc::{AllocError, Global};
 use std::thread::Threads;
@@ -19,29 +22,30 @@ use summary::laws::dense_prefix::fillers_by_runs;
 
 /// Compares the words of `after` with those of the compaction of `before`: all, or if `below_top` those below the new
 /// top. Counts the words that differ, and says of the first ten which object they belong to, which of its words they
-/// are, and where a wrong reference leads. Returns `None` if the heaps have different numbers of words.
+/// are, and where a wrong reference leads; and the same of the first root that differs. Returns `None` if the heaps have
+/// different numbers of words.
 ///
-/// `after` may be any words, also those of an image that isn't valid. Takes linear time. The only error is
+/// Takes linear time. The only error is
 /// `Fault::Memory`, if memory runs out.
 pub fn explain(
     alloc: Global,
     before: &Image,
-    after: &Heap<'_>,
+    after: Found<'_>,
     below_top: bool,
     threads: &(impl Threads + Sync),
 ) -> Result<Option<Explanation>, Fault>
     ensures explanation { IfOk result (λ found. MatchOption found
-        (heap_words after.now ≡ heap_words before.now → ⊥)
-        (IsExplanation before.now after.now (limit_of below_top before.now))) }
+        (heap_words after.heap.now ≡ heap_words before.now → ⊥)
+        (IsExplanation before.now after.heap.now after.roots.now (limit_of below_top before.now))) }
     ensures fault { IfErr result (λ fault. fault ≡ Memory) }
 {
-    if after.len() != before.len() {
+    if after.heap.len() != before.len() {
         return Ok(None);
     }
     let survey = Survey::of(alloc, before, threads)?;
     let words = WordComparison {
         before,
-        after,
+        after: after.heap,
         survey: &survey,
     };
     let limit = if below_top {
@@ -49,7 +53,18 @@ pub fn explain(
     } else {
         before.len()
     };
-    Ok(Some(words.explanation(alloc, limit)?))
+    let root = words.other_root(after.roots);
+    let (count, first) = words.explained_words(alloc, limit)?;
+    Ok(Some(Explanation { count, first, root }))
+}
+
+/// What was found in place of a compaction.
+#[derive(Clone, Copy)]
+pub struct Found<'a> {
+    /// The words, also those of a file that is no valid image.
+    pub heap: &'a Heap<'a>,
+    /// The roots; empty for version 1.
+    pub roots: &'a [u64],
 }
 
 /// An image, and the words that should be those of its compaction.
@@ -63,21 +78,22 @@ struct WordComparison<'a> {
 }
 
 impl WordComparison<'_> {
-    /// What differs below this address.
-    fn explanation(&self, alloc: Global, limit: u64) -> Result<Explanation, AllocError>
+    /// The number of words that differ below this address, and the first of them.
+    fn explained_words(
+        &self,
+        alloc: Global,
+        limit: u64,
+    ) -> Result<(u64, Vec<ExplainedWord>), AllocError>
         requires above { new_top self.now.before.now ≤ limit }
         requires inside { limit ≤ heap_words self.now.before.now }
-        ensures { IfOk result (IsExplanation self.now.before.now self.now.after.now limit) }
+        ensures { IfOk result (λ words. AreExplained self.now.before.now self.now.after.now limit words.0 words.1.items) }
     {
         let tally = self.tally(alloc, limit)?;
         let mut first = Vec::new(alloc);
         for &word in tally.first.as_slice() {
             first.push(self.explained(word))?;
         }
-        Ok(Explanation {
-            count: tally.count,
-            first,
-        })
+        Ok((tally.count, first))
     }
 
     /// Counts the words that differ below this address.
@@ -189,29 +205,52 @@ impl WordComparison<'_> {
     {
         let part = self.part(word.address);
         let lead = match part {
-            Part::Field(moved, f) => Some(self.lead(moved, f, word.found)),
+            Part::Field(moved, f) => {
+                Some(self.lead(self.before.word(moved.old + 1 + f), word.found))
+            }
             Part::Header(_) | Part::Data(_, _) | Part::Filler | Part::Free => None,
         };
         ExplainedWord { word, part, lead }
     }
 
-    /// Where a word leads that was found in field `f` of an object.
-    fn lead(&self, moved: Moved, f: u64, found: u64) -> Lead
-        requires moved { IsMoved self.now.before.now moved }
-        requires field { f < references_at self.now.before.now moved.old }
-        ensures { IsLead self.now.before.now moved f found result }
+    /// Where a reference leads that was found. `was` is the one from before the collection.
+    fn lead(&self, was: u64, found: u64) -> Lead
+        ensures { IsLead self.now.before.now was found result }
     {
-        objects_are_placed(self.before);
         if found == 0 {
             return Lead::Null;
         }
         if found > self.before.len() {
             return Lead::Outside;
         }
-        if found == self.before.word(moved.old + 1 + f) {
+        if found == was {
             return Lead::Unchanged;
         }
         Lead::To(self.part(found - 1))
+    }
+
+    /// The first root that differs, if as many were found as there are.
+    fn other_root(&self, found: &[u64]) -> Option<OtherRoot>
+        ensures { MatchOption result
+            (length found.now ≡ root_count self.now.before.now → AreAlike (λ i. redirected self.now.before.now (root_at self.now.before.now i))
+            (slice_index found.now) (root_count self.now.before.now))
+            (IsOtherRoot self.now.before.now found.now) }
+    {
+        if found.len() != self.before.roots().len() {
+            return None;
+        }
+        for (i, &root) in self.before.roots().iter().enumerate() {
+            let expected = self.survey.plan().redirected(root);
+            if found[i] != expected {
+                return Some(OtherRoot {
+                    index: i as u64,
+                    expected,
+                    found: found[i],
+                    lead: self.lead(root, found[i]),
+                });
+            }
+        }
+        None
     }
 
     /// What the word at `p` is in the compaction.

@@ -62,7 +62,7 @@ mod worker;
 mod workers;
 
 pub use collection::collect;
-pub use comparison_explained::explain;
+pub use comparison_explained::{Found, explain};
 pub use difference_tally::{LISTED, OtherWord};
 pub use gate::{Gate, OpenGate};
 pub use laws::an_upgrade_is_collected_alike;
@@ -72,6 +72,6 @@ pub use record_streaming::record_stream;
 pub use recording::record;
 pub use streaming::collect_stream;
 pub use verdict::Verdict;
-pub use verdict_explanation::{ExplainedWord, Explanation, Lead, Moved, Part};
+pub use verdict_explanation::{ExplainedWord, Explanation, Lead, Moved, OtherRoot, Part};
 pub use verification::{verify, verify_below_top};
 pub use workers::Workers;

@@ -50,4 +50,16 @@ pub struct Explanation {
     pub count: u64,
     /// The first of them, at most [`LISTED`](crate::LISTED), ascending.
     pub first: Vec<ExplainedWord>,
+    /// The first root that differs, if the numbers of roots are equal.
+    pub root: Option<OtherRoot>,
+}
+
+/// A root that differs from the compaction's.
+#[derive(Debug, Clone, Copy, PartialEq, Eq)]
+pub struct OtherRoot {
+    pub index: u64,
+    pub expected: u64,
+    pub found: u64,
+    /// Where the root that was found leads.
+    pub lead: Lead,
 }

@@ -1,6 +1,6 @@
 //! The lines of `verify --explain`.
-use collector::{ExplainedWord, Explanation, Lead, Moved, Part, explain};
-use heap_image::{Fault, Heap, Image};
+use collector::{ExplainedWord, Explanation, Found, Lead, Moved, OtherRoot, Part, explain};
+use heap_image::{Fault, Image};
 use std::alloc::Global;
 use std::fmt;
 use std::fmt::Write;
@@ -16,20 +16,23 @@ pub fn explanation_of_images(
     threads: &(impl Threads + Sync),
 ) -> Result<String, Fault> {
     let sizes = Sizes { was, is };
-    let words = explanation_of_words(alloc, was, &is.heap(), ignore_free, threads)?;
+    let heap = is.heap();
+    let roots = is.roots();
+    let found = Found { heap: &heap, roots };
+    let words = explanation_of_words(alloc, was, found, ignore_free, threads)?;
     Ok(format!(in alloc; "{sizes}{words}")?)
 }
 
-/// The lines on the words of a heap that should be those of the compaction of an image: how many differ, and for each of
-/// the first ten where it lies, which word is expected and which is found, and where that one leads.
+/// The lines on the words and roots that should be those of the compaction of an image: how many words differ; for each of
+/// the first ten where it lies, which word is expected and which is found, and where that one leads; and the first root.
 pub fn explanation_of_words(
     alloc: Global,
     was: &Image,
-    heap: &Heap<'_>,
+    found: Found<'_>,
     ignore_free: bool,
     threads: &(impl Threads + Sync),
 ) -> Result<String, Fault> {
-    match explain(alloc, was, heap, ignore_free, threads)? {
+    match explain(alloc, was, found, ignore_free, threads)? {
         Some(explanation) => {
             let lines = Lines {
                 explanation: &explanation,
@@ -89,7 +92,10 @@ impl fmt::Display for Lines<'_> {
         for word in self.explanation.first.as_slice() {
             write_word(word, f)?;
         }
-        Ok(())
+        match self.explanation.root {
+            Some(root) => write_root(root, f),
+            None => Ok(()),
+        }
     }
 }
 
@@ -111,6 +117,18 @@ fn write_word<W: fmt::Write>(explained: &ExplainedWord, f: &mut fmt::Formatter<W
             word.expected, word.found
         ),
     }
+}
+
+/// Writes the line of a root.
+fn write_root<W: fmt::Write>(root: OtherRoot, f: &mut fmt::Formatter<W>) -> fmt::Result {
+    let expected = Reference(root.expected);
+    let found = Reference(root.found);
+    let lead = LeadName(root.lead);
+    writeln!(
+        f,
+        "pcompact: root {} expected {expected}, found {found}{lead}",
+        root.index
+    )
 }
 
 /// A reference, as the address to which it leads.

@@ -4,7 +4,7 @@ ghost use Rattle.collector.specs.declared.verdict.Verdict.TheVariants.{Same};
 ghost use Rattle.pcompact.specs.Commands.Verify.{IsVerdictOf, IsVerdictOn, IsUnverified, verdict_of};
 
 use super::explanation::{explanation_of_images, explanation_of_words};
-use collector::{Verdict, verify, verify_below_top};
+use collector::{Found, Verdict, verify, verify_below_top};
 use command_line::Verify;
 use command_support::{
     Difference, Failure, FileWord, Laps, Phase, Role, Stats, Stopwatch, TimedIntake, Trouble,
@@ -116,7 +116,13 @@ fn explanation_of_file<R: AllocGlobal + Threads + Sync, F: FileExt + Sync>(
         return None;
     }
     let heap = Heap::new(body.regions.as_slice(), extent.size.region_log);
-    explanation_of_words(rt.alloc(), was, &heap, ignore_free, rt).ok()
+    let roots = if front[7] == b'2' {
+        body.tail.as_slice()
+    } else {
+        &[]
+    };
+    let found = Found { heap: &heap, roots };
+    explanation_of_words(rt.alloc(), was, found, ignore_free, rt).ok()
 }
 
 /// Says which file a fault is about.
