@@ -191,15 +191,15 @@ pub fn verify_images<R: Intake, S: Intake, T: Threads + Sync>(
 {
     let was = match read_image_by_threads(alloc, before, threads) {
         Ok(image) => image,
-        Err(fault) => return Err(refused(Unverified::Before(fault), None)),
+        Err(fault) => return Err(refusal(Unverified::Before(fault), None)),
     };
     let is = match read_image_by_threads(alloc, after, threads) {
         Ok(image) => image,
-        Err(fault) => return Err(refused(Unverified::After(fault), Some(was))),
+        Err(fault) => return Err(refusal(Unverified::After(fault), Some(was))),
     };
     let verdict = match verdict_on(alloc, &was, &is, threads, wishes.ignore_free) {
         Ok(verdict) => verdict,
-        Err(fault) => return Err(refused(Unverified::Neither(fault), None)),
+        Err(fault) => return Err(refusal(Unverified::Neither(fault), None)),
     };
     let explanation = if wishes.explain && verdict != Verdict::Same {
         explanation_of_images(alloc, &was, &is, wishes.ignore_free, threads).ok()
@@ -212,7 +212,7 @@ pub fn verify_images<R: Intake, S: Intake, T: Threads + Sync>(
     })
 }
 
-fn refused(why: Unverified, was: Option<Image>) -> Refused
+fn refusal(why: Unverified, was: Option<Image>) -> Refused
     ensures { result.why ≡ why }
 {
     Refused { why, was }
