@@ -1,24 +1,21 @@
 -- Words of a heap compared one by one with those of the compaction of another.
 use Rattle.std.proofs.Common.{◌≡◌, ℕ, zero, suc, ◌+◌, ◌-◌, ◌≤◌, ◌<◌, ◌≢◌, List, ◌∷◌, length, get_or, refl, sym, ◌∙◌, ap, subst, arith}
-use Rattle.std.specs.Prelude.{slice_range, replicate}
+use Rattle.std.specs.Prelude.{slice_range, replicate, Contains}
+use Rattle.std.proofs.lemmas.List.Elements.{All-contains}
 use Rattle.heap_image.specs.Header.{filler_header}
-use Rattle.heap_image.specs.HeapImage.{HeapImage, heap_words, word_at, size_at, references_at}
+use Rattle.heap_image.specs.HeapImage.{HeapImage, IsValid, HasSoundHeader, heap_words, word_at, size_at, references_at}
 use Rattle.summary.specs.LiveObjects.{object_count, object_at}
 use Rattle.summary.specs.NewAddresses.{new_address, new_end_of, new_top}
 use Rattle.summary.specs.Fillers.{IsDeadRun}
 use Rattle.summary.specs.Compaction.{compacted_word, compact}
 use Rattle.collector.specs.Compared.{IsPlaced, AreKnown, behind}
-use Rattle.collector.specs.Explanation.{IsTallyOf, IsMoved, IsPart, IsPartAt}
-use Rattle.collector.specs.declared.difference_tally.Tally.{Tally}
-use Rattle.collector.specs.declared.verdict_explanation.Moved.{Moved}
-use Rattle.collector.specs.declared.verdict_explanation.Part.{Part}
-use Rattle.collector.specs.declared.verdict_explanation.Part.TheVariants.{Header, Field, Data, Filler, Free}
+use Rattle.collector.specs.Tally.{IsTally}
+use Rattle.collector.specs.declared.difference_tally.OtherWord.{OtherWord}
 use Rattle.collector.proofs.Gaps.{behind-zero, behind-suc}
-use Rattle.collector.proofs.Joined.{AreWanted}
 use Rattle.collector.proofs.Placing.{place_end, is_placed, is_dead_run, behind_place, filler_zeros, data_words, compact_word}
 
-pub tally_to : (before after : HeapImage) (tally : Tally) (p q : ℕ) → p ≡ q → IsTallyOf before after p tally → IsTallyOf before after q tally
-tally_to before after tally p q e = subst (λ n. IsTallyOf before after n tally) e
+pub tally_to : {wanted found : ℕ → ℕ} {count : ℕ} {first : List OtherWord} (p q : ℕ) → p ≡ q → IsTally wanted found p count first → IsTally wanted found q count first
+tally_to {wanted} {found} {count} {first} p q e tally = subst (λ n. IsTally wanted found n count first) e tally
 
 -- a word of a filler after its header
 pub gap_zero : (image : HeapImage) (from to p : ℕ) → from < to → slice_range (compact image).words from to ≡ filler_header (to - from) ∷ replicate (to - from - 1) 0
@@ -72,29 +69,11 @@ module _ (image : HeapImage) (known : AreKnown image) (items : List ℕ) (i next
   pub object : IsPlaced image (get_or items i 0) place
   object = subst (λ (xs : List ℕ). IsPlaced image (get_or xs i 0) place) (sym items_are) (subst (λ n. IsPlaced image (object_at image i) n) (sym place_is) (is_placed image known i inside))
 
--- what the word at an address is, by its index in the object
-pub part_is : (image : HeapImage) (object : Moved) (p index references : ℕ) (part : Part) → IsMoved image object → object.new ≤ p → index ≡ p - object.new
-    → index < size_at image object.old → references ≡ references_at image object.old → IsPartAt object index references part → IsPart image p part
-part_is image object p index references (Header moved) is low at inside count (same, zero) =
-    (subst (IsMoved image) (sym same) is, let e : moved.new ≡ object.new = ap (λ (m : Moved). m.new) same in omega (arith, low, at, zero, e))
-part_is image object p index references (Field moved f) is low at inside count (same, few, next) = (
-  subst (IsMoved image) (sym same) is,
-  subst (λ n. f < n) (count ∙ ap (λ (m : Moved). references_at image m.old) (sym same)) few,
-  (let e : moved.new ≡ object.new = ap (λ (m : Moved). m.new) same in omega (arith, low, at, next, e)),
-)
-part_is image object p index references (Data moved d) is low at inside count (same, next) =
-    let e : moved.new ≡ object.new = ap (λ (m : Moved). m.new) same in
-    let f : references ≡ references_at image moved.old = count ∙ ap (λ (m : Moved). references_at image m.old) (sym same) in
-    let s : size_at image object.old ≡ size_at image moved.old = ap (λ (m : Moved). size_at image m.old) (sym same) in (
-      subst (IsMoved image) (sym same) is,
-      place (references_at image moved.old) moved.new f e,
-      end (size_at image object.old) (size_at image moved.old) moved.new inside s e,
-    )
+-- a field of a live object lies in the heap
+pub field_inside : (image : HeapImage) → IsValid image → (a f : ℕ) → Contains image.live a → f < references_at image a → a + 1 + f < heap_words image
+field_inside image valid a f live few =
+    let sound : HasSoundHeader image a = All-contains (HasSoundHeader image) image.live a valid.live_list.sound live in
+    within (references_at image a) (size_at image a) (heap_words image) few sound.references sound.inside
   where
-    place : (r n : ℕ) → references ≡ r → n ≡ object.new → p ≡ n + 1 + r + d
-    place r n f e = omega (arith, low, at, next, e, f)
-
-    end : (s t n : ℕ) → index < s → s ≡ t → n ≡ object.new → p < n + t
-    end s t n h f e = omega (arith, low, at, h, f, e)
-part_is image object p index references Filler is low at inside count no = absurd no
-part_is image object p index references Free is low at inside count no = absurd no
+    within : (r s n : ℕ) → f < r → r < s → a + s ≤ n → a + 1 + f < n
+    within r s n h k l = omega (arith, h, k, l)

@@ -79,11 +79,11 @@ pub record AreExplained (before after : HeapImage) (limit count : ℕ) (first : 
   pub explained : All (IsExplained before) first
 
 -- of as many roots as there are, this is the first that isn't the compaction's
-pub record IsOtherRoot (before : HeapImage) (found : List ℕ) (other : OtherRoot) : Type 0 where
-  pub as_many : length found ≡ root_count before
-  pub least : IsLeastDifference (λ i. redirected before (root_at before i)) (slice_index found) (root_count before) other.index
+pub record IsOtherRoot (before : HeapImage) (roots : List ℕ) (other : OtherRoot) : Type 0 where
+  pub as_many : length roots ≡ root_count before
+  pub least : IsLeastDifference (λ i. redirected before (root_at before i)) (slice_index roots) (root_count before) other.index
   pub expected : other.expected ≡ redirected before (root_at before other.index)
-  pub found : other.found ≡ slice_index found other.index
+  pub found : other.found ≡ slice_index roots other.index
   pub lead : IsLead before (root_at before other.index) other.found other.lead
 
 pub record IsExplanation (before after : HeapImage) (roots : List ℕ) (limit : ℕ) (explanation : Explanation) : Type 0 where

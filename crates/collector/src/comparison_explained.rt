@@ -35,8 +35,8 @@ pub fn explain(
     threads: &(impl Threads + Sync),
 ) -> Result<Option<Explanation>, Fault>
     ensures explanation { IfOk result (λ found. MatchOption found
-        (heap_words after.heap.now ≡ heap_words before.now → ⊥)
-        (IsExplanation before.now after.heap.now after.roots.now (limit_of below_top before.now))) }
+        (heap_words after.entry.heap.now ≡ heap_words before.now → ⊥)
+        (IsExplanation before.now after.entry.heap.now after.entry.roots.now (limit_of below_top before.now))) }
     ensures fault { IfErr result (λ fault. fault ≡ Memory) }
 {
     if after.heap.len() != before.len() {
@@ -206,6 +206,7 @@ impl WordComparison<'_> {
         let part = self.part(word.address);
         let lead = match part {
             Part::Field(moved, f) => {
+                field_is_inside(self.before, moved.old, f);
                 Some(self.lead(self.before.word(moved.old + 1 + f), word.found))
             }
             Part::Header(_) | Part::Data(_, _) | Part::Filler | Part::Free => None,
@@ -271,6 +272,16 @@ impl WordComparison<'_> {
             Part::Free
         }
     }
+}
+
+/// A law: the fields of a live object lie in the heap.
+fn field_is_inside(image: &Image, a: u64, f: u64)
+    requires live { Contains image.now.live a }
+    requires field { f < references_at image.now a }
+    ensures inside { a + 1 + f < heap_words image.now }
+    ensures few { heap_words image.now ≤ 4194304 }
+{
+    image_is_valid(image);
 }
 
 /// What the word at this index in an object is, by the number of its references.

@@ -6,6 +6,6 @@ use Rattle.collector.proofs.comparison_explained.WordComparison.explained_words.
 
 abbrev pub invariant-loop-word : goal.invariant-loop-word
 invariant-loop-word l = record {
-  words : map (λ (e : ExplainedWord). e.word) l.first.items ≡ take l.word-index l.tally.first.items;
+  words : map (λ (e : ExplainedWord). e.word) l.first.items ≡ take l.word-index l.word-items;
   explained : All (IsExplained l.self.before.now) l.first.items;
 }

@@ -5,4 +5,4 @@ use Rattle.collector.specs.Verdict.{root_at}
 use Rattle.collector.proofs.comparison_explained.WordComparison.other_root.Given as goal
 
 abbrev pub invariant-loop-i : goal.invariant-loop-i
-invariant-loop-i l = (k : ℕ) → k < l.i → slice_index l.found.now k ≡ redirected l.self.before.now (root_at l.self.before.now k)
+invariant-loop-i l = (k : ℕ) → k < l.i → slice_index l.found k ≡ redirected l.self.before.now (root_at l.self.before.now k)
