@@ -1,5 +1,6 @@
 //! The whole program, over any two writers.
-ghost use Rattle.std.specs.Prelude.{◌≡◌, ◌≤◌, ◌∷◌, ◌⊎◌, [], codes, ℕ, List, IfOk, OnOk, IfErr, IsTrue};
+ghost use Rattle.std.specs.Prelude.{◌≡◌, ◌≤◌, ◌∷◌, ◌⊎◌, [], codes, ℕ, List, None, IfOk, OnOk, IfErr, IfSome, IsTrue};
+ghost use Rattle.command_line.specs.Request.{IsFor};
 ghost use Rattle.std.specs.Io.KnownBytes.{Appends};
 ghost use Rattle.command_line.specs.CommandLine.{AreWords, AreCallOf, HaveWord};
 ghost use Rattle.pcompact.specs.Commands.{IsPrintedBy};
@@ -7,7 +8,7 @@ ghost use Rattle.command_line.specs.declared.unread.Unread.{Unread};
 ghost use Rattle.command_support.specs.Failure.{failed_device, out_of_memory, status_of};
 
 use crate::commands;
-use command_line::Unread;
+use command_line::{Request, Respelled, Unread};
 use command_support::{
     FailedCall, Failure, Printable, Reason, Stats, SystemCall, SystemFile, Trouble, WorkDone,
 };
@@ -26,8 +27,9 @@ use std::time::Clock;
 ///
 /// `out` and `err` are standard output and standard error, and `screen` says what the first can show. What a command
 /// prints is written to `out` whole, once its work is done, and flushed; if that fails, the command fails with fault
-/// 13. Files written with `--atomic` are renamed into place after that. A failed write to `err` changes nothing. With
-/// `--verbose`, details follow the error line on `err`; with `--stats`, timings are printed there at the end.
+/// 13. Files written with `--atomic` are renamed into place after that. A failed write to `err` changes nothing. On a
+/// terminal or with `--verbose`, details follow the error line on `err`; with `--stats`, timings are printed there at
+/// the end.
 ///
 /// `rt` opens files, allocates, starts threads, waits for them and reads the clock.
 pub fn run<R: Files + AllocGlobal + Threads + Wait + Clock + Sync, A: Write, B: Write>(
@@ -49,28 +51,123 @@ where
         → (text : List ℕ) × IsPrintedBy name text
         × Appends (A.contents out.old) (A.contents out.new) text }
 {
-    let request = match command_line::read(rt.alloc(), words) {
-        Ok(request) => request,
-        Err(unread) => {
-            let failure = unread_failure(rt.alloc(), words, unread);
-            return report(&Trouble::new(failure), false, err);
+    match command_line::read(rt.alloc(), words) {
+        Ok(request) => {
+            // `asks_stats` implies that the option is an argument; the second test lets the contract speak of arguments.
+            let manner = Manner {
+                screen,
+                details: request.is_verbose() || screen.shows_errors,
+                measured: request.asks_stats() && have_word(words, "--stats"),
+            };
+            carry_out(rt, request, manner, out, err)
         }
-    };
-    let verbose = request.is_verbose();
-    // `asks_stats` implies that the option is an argument; the second test lets the contract speak of arguments.
-    let measured = request.asks_stats() && have_word(words, "--stats");
-    let done = match commands::answer(rt, screen, request) {
+        Err(unread) => match respelled(rt.alloc(), words, &unread) {
+            Some(spelled) => run_respelled(rt, &spelled, screen, out, err),
+            None => {
+                let failure = unread_failure(rt.alloc(), words, unread);
+                report(&Trouble::new(failure), false, err)
+            }
+        },
+    }
+}
+
+/// How a command is carried out.
+#[derive(Clone, Copy)]
+struct Manner {
+    /// What standard output can show.
+    screen: Screen,
+    /// Whether details follow the line of an error.
+    details: bool,
+    /// Whether timings are printed.
+    measured: bool,
+}
+
+/// Carries out a request, and returns the exit status.
+fn carry_out<R: Files + AllocGlobal + Threads + Wait + Clock + Sync, A: Write, B: Write>(
+    rt: &R,
+    request: Request<'_>,
+    manner: Manner,
+    out: &mut A,
+    err: &mut B,
+) -> u8
+where
+    R::File: FileExt + SystemFile + Sync,
+    ensures status { result ≤ 2 }
+    ensures good { result ≡ 0 → (err.new ≡ err.old) ⊎ IsTrue manner.measured }
+    ensures usage { result ≡ 2 → out.new ≡ out.old }
+    ensures board_is_known { IsFor (codes "board") request.entry → result ≤ 1 }
+    ensures prints { (name : List ℕ) → IsFor name request.entry → result ≡ 0
+        → (text : List ℕ) × IsPrintedBy name text
+        × Appends (A.contents out.old) (A.contents out.new) text }
+{
+    let done = match commands::answer(rt, manner.screen, request) {
         Ok(done) => done,
-        Err(trouble) => return report(&trouble, verbose, err),
+        Err(trouble) => return report(&trouble, manner.details, err),
     };
     let stats = done.stats;
     if let Err(trouble) = finish(rt, done, out) {
-        return report(&trouble, verbose, err);
+        return report(&trouble, manner.details, err);
     }
-    if measured {
+    if manner.measured {
         report_stats(rt, stats, err);
     }
     0
+}
+
+/// A line that isn't a request, with the plain `--verbose` in place of the option with a value.
+#[derive(Drop)]
+struct Spelled {
+    line: Respelled,
+    /// Whether `--stats` is among the words as they were.
+    has_stats: bool,
+}
+
+/// Spells these words anew, if they are wrong usage and `--verbose` has a value in them. If memory runs out they stay wrong usage.
+fn respelled(alloc: Global, words: &[String], unread: &Unread) -> Option<Spelled>
+    ensures memory { unread.now ≡ Unread.Memory → result ≡ None }
+    ensures stats { IfSome result (λ spelled. IsTrue spelled.has_stats → HaveWord (codes "--stats") words.now) }
+{
+    match unread {
+        Unread::Usage(_) => match command_line::respell(alloc, words) {
+            Ok(Some(line)) => Some(Spelled {
+                line,
+                has_stats: have_word(words, "--stats"),
+            }),
+            _ => None,
+        },
+        Unread::NoCommand | Unread::Memory => None,
+    }
+}
+
+/// Runs the program on arguments that were spelled anew, and returns the exit status.
+fn run_respelled<R: Files + AllocGlobal + Threads + Wait + Clock + Sync, A: Write, B: Write>(
+    rt: &R,
+    spelled: &Spelled,
+    screen: Screen,
+    out: &mut A,
+    err: &mut B,
+) -> u8
+where
+    R::File: FileExt + SystemFile + Sync,
+    ensures status { result ≤ 2 }
+    ensures good { result ≡ 0 → (err.new ≡ err.old) ⊎ IsTrue spelled.now.has_stats }
+    ensures usage { result ≡ 2 → out.new ≡ out.old }
+{
+    let words = spelled.line.words.as_slice();
+    match command_line::read(rt.alloc(), words) {
+        Ok(request) => {
+            let manner = Manner {
+                screen,
+                details: spelled.line.when.is_now(screen.shows_errors),
+                measured: request.asks_stats() && spelled.has_stats,
+            };
+            carry_out(rt, request, manner, out, err)
+        }
+        Err(unread) => {
+            let failure = unread_failure(rt.alloc(), words, unread);
+            report(&Trouble::new(failure), false, err)
+        }
+    }
 }
 
 /// The failure of arguments that aren't a request.
