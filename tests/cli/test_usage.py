@@ -62,6 +62,7 @@ Arguments:
   <IMAGE>  A heap image
 
 Options:
+      --json     Print a JSON object
       --verbose  Print more details about errors
   -h, --help     Print help
 """
@@ -78,6 +79,7 @@ Arguments:
 Options:
       --workers <n>  Number of worker threads, from 1 to 64
       --atomic       Replace files only once the command has succeeded
+      --json         Print a JSON object
       --stats        Print timings and peak memory to stderr
       --verbose      Print more details about errors
   -h, --help         Print help
@@ -124,6 +126,7 @@ Arguments:
   <IMAGE>  A heap image
 
 Options:
+      --json     Print a JSON object
       --verbose  Print more details about errors
   -h, --help     Print help
 """
@@ -211,6 +214,7 @@ Arguments:
   <AFTER>   The image to compare with its compaction
 
 Options:
+      --json     Print a JSON object
       --stats    Print timings and peak memory to stderr
       --verbose  Print more details about errors
   -h, --help     Print help
@@ -244,6 +248,7 @@ Options:
       --region-log <k>  Regions have 2^k words, k from 3 to 16 (default 9)
       --allowance <m>   Number of dead words that the dense prefix may keep (default 0)
       --live-only       Keep only objects that are reachable from the roots
+      --json            Print a JSON object
       --atomic          Replace files only once the command has succeeded
       --verbose         Print more details about errors
   -h, --help            Print help

@@ -22,6 +22,7 @@ pub fn words<'a>(alloc: Global) -> Result<Command<'a>, AllocError>
         .arg(arguments::file(alloc, "OUT", "Where to write the compacted image"))?
         .arg(arguments::workers(alloc))?
         .arg(arguments::atomic(alloc))?
+        .arg(arguments::json(alloc))?
         .arg(arguments::stats(alloc))?
         .arg(arguments::verbose(alloc))
 }
@@ -37,6 +38,8 @@ pub struct Collect<'a> {
     pub workers: u32,
     /// Whether files are replaced only once all is done.
     pub atomic: bool,
+    /// Whether to print a JSON object.
+    pub json: bool,
     /// Whether to print timings and peak memory.
     pub stats: bool,
     /// Whether to print more details about errors.
@@ -52,6 +55,7 @@ impl<'a> Collect<'a> {
             out: arguments::file_in(matches, "OUT")?,
             workers: arguments::workers_in(matches)?,
             atomic: arguments::is_atomic(matches),
+            json: arguments::asks_json(matches),
             stats: arguments::asks_stats(matches),
             verbose: arguments::is_verbose(matches),
         })
@@ -61,5 +65,5 @@ impl<'a> Collect<'a> {
 /// Lines that call `collect`.
 pub fn lines_call_collect()
     ensures line { IsCallOf (codes "collect") (codes "collect" ∷ codes "heap.pcheap" ∷ codes "out.pcheap" ∷ codes "--workers" ∷ codes "2" ∷ []) }
-    ensures options { IsCallOf (codes "collect") (codes "collect" ∷ codes "heap.pcheap" ∷ codes "heap.pcheap" ∷ codes "--workers" ∷ codes "2" ∷ codes "--atomic" ∷ codes "--stats" ∷ codes "--verbose" ∷ []) }
+    ensures options { IsCallOf (codes "collect") (codes "collect" ∷ codes "heap.pcheap" ∷ codes "heap.pcheap" ∷ codes "--workers" ∷ codes "2" ∷ codes "--atomic" ∷ codes "--stats" ∷ codes "--json" ∷ codes "--verbose" ∷ []) }
 {}

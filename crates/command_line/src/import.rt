@@ -26,7 +26,8 @@ pub fn words<'a>(alloc: Global) -> Result<Command<'a>, AllocError>
             alloc,
             "live-only",
             "Keep only objects that are reachable from the roots",
-        ))?;
+        ))?
+        .arg(arguments::json(alloc))?;
     arguments::with_last(alloc, command)
 }
 
@@ -43,6 +44,8 @@ pub struct Import<'a> {
     pub allowance: u64,
     /// Whether only reachable objects are kept.
     pub live_only: bool,
+    /// Whether to print a JSON object.
+    pub json: bool,
     /// Whether files are replaced only once all is done.
     pub atomic: bool,
     /// Whether to print more details about errors.
@@ -59,6 +62,7 @@ impl<'a> Import<'a> {
             region_log: matches.get_one("region-log"),
             allowance: matches.get_one("allowance").unwrap_or(0),
             live_only: matches.get_flag("live-only"),
+            json: arguments::asks_json(matches),
             atomic: arguments::is_atomic(matches),
             verbose: arguments::is_verbose(matches),
         })

@@ -19,6 +19,7 @@ pub fn words<'a>(alloc: Global) -> Result<Command<'a>, AllocError>
     Command::new(alloc, "order")
         .about("Print how many workers a collection can keep busy")
         .arg(arguments::image(alloc))?
+        .arg(arguments::json(alloc))?
         .arg(arguments::verbose(alloc))
 }
 
@@ -27,6 +28,8 @@ pub fn words<'a>(alloc: Global) -> Result<Command<'a>, AllocError>
 pub struct Order<'a> {
     /// The file with the image.
     pub image: &'a str,
+    /// Whether to print a JSON object.
+    pub json: bool,
     /// Whether to print more details about errors.
     pub verbose: bool,
 }
@@ -37,6 +40,7 @@ impl<'a> Order<'a> {
     {
         Ok(Order {
             image: arguments::file_in(matches, "IMAGE")?,
+            json: arguments::asks_json(matches),
             verbose: arguments::is_verbose(matches),
         })
     }

@@ -19,6 +19,7 @@ pub fn words<'a>(alloc: Global) -> Result<Command<'a>, AllocError>
     Command::new(alloc, "summary")
         .about("Print the plan of a collection, region by region")
         .arg(arguments::image(alloc))?
+        .arg(arguments::json(alloc))?
         .arg(arguments::verbose(alloc))
 }
 
@@ -27,6 +28,8 @@ pub fn words<'a>(alloc: Global) -> Result<Command<'a>, AllocError>
 pub struct Summary<'a> {
     /// The file with the image.
     pub image: &'a str,
+    /// Whether to print a JSON object.
+    pub json: bool,
     /// Whether to print more details about errors.
     pub verbose: bool,
 }
@@ -37,6 +40,7 @@ impl<'a> Summary<'a> {
     {
         Ok(Summary {
             image: arguments::file_in(matches, "IMAGE")?,
+            json: arguments::asks_json(matches),
             verbose: arguments::is_verbose(matches),
         })
     }
@@ -45,5 +49,5 @@ impl<'a> Summary<'a> {
 /// Lines that call `summary`.
 pub fn lines_call_summary()
     ensures line { IsCallOf (codes "summary") (codes "summary" ∷ codes "heap.pcheap" ∷ []) }
-    ensures options { IsCallOf (codes "summary") (codes "summary" ∷ codes "--verbose" ∷ codes "heap.pcheap" ∷ []) }
+    ensures options { IsCallOf (codes "summary") (codes "summary" ∷ codes "--verbose" ∷ codes "heap.pcheap" ∷ codes "--json" ∷ []) }
 {}

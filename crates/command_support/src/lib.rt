@@ -36,6 +36,7 @@ mod file_target;
 mod file_word;
 mod files;
 mod hint;
+mod json;
 mod laps;
 mod late;
 mod leftovers;
@@ -68,6 +69,7 @@ pub use files::{
     reject_same_file, same_file, target_beside, two_different_inputs, two_inputs,
 };
 pub use hint::Hint;
+pub use json::push_json;
 pub use laps::Laps;
 pub use late::Late;
 pub use moved::Moved;

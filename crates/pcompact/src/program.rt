@@ -1,16 +1,18 @@
 //! The whole program, over any two writers.
-ghost use Rattle.std.specs.Prelude.{◌≡◌, ◌≤◌, ◌∷◌, ◌⊎◌, [], codes, ℕ, List, None, IfOk, OnOk, IfErr, IfSome, IsTrue};
+ghost use Rattle.std.specs.Prelude.{◌≡◌, ◌≤◌, ◌∷◌, ◌⊎◌, [], codes, ℕ, Bool, List, None, IfOk, OnOk, IfErr, IfSome, IsTrue};
 ghost use Rattle.command_line.specs.Request.{IsFor};
 ghost use Rattle.std.specs.Io.KnownBytes.{Appends};
 ghost use Rattle.command_line.specs.CommandLine.{AreWords, AreCallOf, HaveWord};
 ghost use Rattle.pcompact.specs.Commands.{IsPrintedBy};
 ghost use Rattle.command_line.specs.declared.unread.Unread.{Unread};
 ghost use Rattle.command_support.specs.Failure.{failed_device, out_of_memory, status_of};
+ghost use Rattle.command_support.specs.Json.{as_shown};
 
 use crate::commands;
 use command_line::{Request, Respelled, Unread};
 use command_support::{
     FailedCall, Failure, Printable, Reason, Stats, SystemCall, SystemFile, Trouble, WorkDone,
+    push_json,
 };
 use heap_commands::screen::Screen;
 use heap_image::Fault;
@@ -22,6 +24,9 @@ use std::rt::Files;
 use std::sync::Wait;
 use std::thread::Threads;
 use std::time::Clock;
+
+/// Room for the object of a line, in bytes.
+const OBJECT_ROOM: usize = 512;
 
 /// Runs the program on its arguments, without the program's name, and returns the exit status.
 ///
@@ -46,18 +51,20 @@ where
     ensures usage { result ≡ 2 → out.new ≡ out.old }
     ensures board_is_known { AreWords words.now (codes "board" ∷ []) → result ≤ 1 }
 
-    // What a good call of a command prints, by the command's name.
+    // What a good call of a command prints, by the command's name; with `--json`, perhaps as an object.
     ensures prints { (name : List ℕ) → AreCallOf name words.now → result ≡ 0
         → (text : List ℕ) × IsPrintedBy name text
-        × Appends (A.contents out.old) (A.contents out.new) text }
+        × (json : Bool) × (IsTrue json → HaveWord (codes "--json") words.now)
+        × Appends (A.contents out.old) (A.contents out.new) (as_shown json text) }
 {
     match command_line::read(rt.alloc(), words) {
         Ok(request) => {
-            // `asks_stats` implies that the option is an argument; the second test lets the contract speak of arguments.
+            // What a request asks for is an argument; the second tests let the contract speak of arguments.
             let manner = Manner {
                 screen,
                 details: request.is_verbose() || screen.shows_errors,
                 measured: request.asks_stats() && have_word(words, "--stats"),
+                json: request.asks_json() && have_word(words, "--json"),
             };
             carry_out(rt, request, manner, out, err)
         }
@@ -80,6 +87,8 @@ struct Manner {
     details: bool,
     /// Whether timings are printed.
     measured: bool,
+    /// Whether an object is printed in place of the text.
+    json: bool,
 }
 
 /// Carries out a request, and returns the exit status.
@@ -98,9 +107,9 @@ where
     ensures board_is_known { IsFor (codes "board") request.entry → result ≤ 1 }
     ensures prints { (name : List ℕ) → IsFor name request.entry → result ≡ 0
         → (text : List ℕ) × IsPrintedBy name text
-        × Appends (A.contents out.old) (A.contents out.new) text }
+        × Appends (A.contents out.old) (A.contents out.new) (as_shown manner.json text) }
 {
-    let done = match commands::answer(rt, manner.screen, request) {
+    let done = match answer(rt, manner, request) {
         Ok(done) => done,
         Err(trouble) => return report(&trouble, manner.details, err),
     };
@@ -112,6 +121,37 @@ where
         report_stats(rt, stats, err);
     }
     0
+}
+
+/// Carries out a request but for printing. What it prints is an object if the manner says so. Room for that of a line is
+/// allocated before the command writes a file.
+fn answer<'a, R: Files + AllocGlobal + Threads + Wait + Clock + Sync>(
+    rt: &R,
+    manner: Manner,
+    request: Request<'a>,
+) -> Result<WorkDone<'a>, Trouble<'a>>
+where
+    R::File: FileExt + SystemFile + Sync,
+    ensures prints { (name : List ℕ) → IsFor name request.entry → IfOk result (λ done.
+        (text : List ℕ) × IsPrintedBy name text × (done.text.items ≡ as_shown manner.json text)) }
+    ensures board { IsFor (codes "board") request.entry
+        → IfErr result (λ trouble. trouble.failure ≡ out_of_memory) }
+{
+    if !manner.json {
+        return commands::answer(rt, manner.screen, request);
+    }
+    let mut object = Vec::with_capacity(rt.alloc(), OBJECT_ROOM)?;
+    let done = commands::answer(rt, manner.screen, request)?;
+    match push_json(done.text.as_slice(), &mut object) {
+        Ok(()) => Ok(WorkDone {
+            text: object,
+            ..done
+        }),
+        Err(refused) => {
+            done.remove(rt);
+            Err(Trouble::from(refused))
+        }
+    }
 }
 
 /// A line that isn't a request, with the plain `--verbose` in place of the option with a value.
@@ -160,6 +200,7 @@ where
                 screen,
                 details: spelled.line.when.is_now(screen.shows_errors),
                 measured: request.asks_stats() && spelled.has_stats,
+                json: request.asks_json(),
             };
             carry_out(rt, request, manner, out, err)
         }
