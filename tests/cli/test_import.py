@@ -227,9 +227,7 @@ def try_import_files(tried: Tried) -> None:
         tried.run(["import", "dump", name], SAME)
         tried.run(["import", name, "dump"], SAME)
     tried.run("import folder out", dataclasses.replace(IRREGULAR, made={"out": None}))
-    for name in ("/dev/null", "/dev/zero"):
-        tried.run(f"import {name} out", dataclasses.replace(IRREGULAR, made={"out": None}))
-    tried.run("import /dev/stdin out", dataclasses.replace(IRREGULAR, made={"out": None}), input=DUMP)
+    tried.run("import /dev/stdin out", imported(DUMP), input=DUMP)
     with (tried.folder / "dump").open("rb") as dump:
         tried.run("import /dev/stdin out", imported(DUMP), stdin=dump)
     tried.run("import dump /dev/full", fault(FAULT_13))
