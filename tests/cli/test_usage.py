@@ -351,7 +351,7 @@ For more information, try '--help'.
 """
 
 NO_NUMBER = """\
-error: invalid value 'two' for '--workers <n>': invalid digit found in string
+error: invalid value 'two' for '--workers <n>': a whole number is wanted
 
 For more information, try '--help'.
 """
@@ -365,9 +365,47 @@ For more information, try '--help'.
 BELOW_ZERO = """\
 error: unexpected argument '-1' found
 
-  tip: to pass '-1' as a value, use '-- -1'
-
 Usage: pcompact collect [OPTIONS] --workers <n> <IMAGE> <OUT>
+
+For more information, try '--help'.
+"""
+
+OPTION_AS_VALUE = """\
+error: unexpected argument '--allowance' found
+
+Usage: pcompact collect --workers <n> <IMAGE> <OUT>
+
+For more information, try '--help'.
+"""
+
+NO_UNIT = """\
+error: invalid value '32MiB' for '--words <n>': a whole number is wanted, of words of 8 bytes
+
+For more information, try '--help'.
+"""
+
+NO_POINT = """\
+error: invalid value '50.5' for '--live <share>': a whole number is wanted, of per cent
+
+For more information, try '--help'.
+"""
+
+VERSION = """\
+error: unrecognized subcommand 'version'
+
+  tip: a similar argument exists: '--version'
+
+Usage: pcompact <COMMAND>
+
+For more information, try '--help'.
+"""
+
+OTHER_COMMAND = """\
+error: unrecognized subcommand 'generat'
+
+  tip: a similar subcommand exists: 'generate'
+
+Usage: pcompact <COMMAND>
 
 For more information, try '--help'.
 """
@@ -406,6 +444,11 @@ REFUSED = [
     ("collect in out --workers two", NO_NUMBER),
     ("collect in out --workers 4294967296", TOO_LARGE),
     ("collect in out --workers -1", BELOW_ZERO),
+    ("collect in out --workers --allowance", OPTION_AS_VALUE),
+    ("generate out --words 32MiB --live 50 --region-log 3 --seed 1", NO_UNIT),
+    ("generate out --words 64 --live 50.5 --region-log 3 --seed 1", NO_POINT),
+    ("version", VERSION),
+    ("generat out", OTHER_COMMAND),
 ]
 
 

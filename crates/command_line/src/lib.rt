@@ -37,6 +37,7 @@ mod text;
 mod timeline;
 mod unread;
 mod upgrade;
+mod usage_text;
 mod verify;
 
 pub use assemble::{Assemble, lines_call_assemble};
