@@ -65,6 +65,9 @@ Options:
       --json     Print a JSON object
       --verbose  Print more details about errors
   -h, --help     Print help
+
+Example:
+  pcompact summary heap.pcheap
 """
 
 COLLECT_HELP = """\
@@ -83,6 +86,9 @@ Options:
       --stats        Print timings and peak memory to stderr
       --verbose      Print more details about errors
   -h, --help         Print help
+
+Example:
+  pcompact collect heap.pcheap out.pcheap --workers 4
 """
 
 RECORD_HELP = """\
@@ -101,6 +107,9 @@ Options:
       --stats        Print timings and peak memory to stderr
       --verbose      Print more details about errors
   -h, --help         Print help
+
+Example:
+  pcompact record heap.pcheap out.pcheap schedule --workers 4
 """
 
 REPLAY_HELP = """\
@@ -115,6 +124,9 @@ Arguments:
 Options:
       --verbose  Print more details about errors
   -h, --help     Print help
+
+Example:
+  pcompact replay heap.pcheap schedule
 """
 
 ORDER_HELP = """\
@@ -129,6 +141,9 @@ Options:
       --json     Print a JSON object
       --verbose  Print more details about errors
   -h, --help     Print help
+
+Example:
+  pcompact order heap.pcheap
 """
 
 TEXT_HELP = """\
@@ -142,6 +157,9 @@ Arguments:
 Options:
       --verbose  Print more details about errors
   -h, --help     Print help
+
+Example:
+  pcompact text heap.pcheap
 """
 
 ASSEMBLE_HELP = """\
@@ -157,6 +175,9 @@ Options:
       --atomic   Replace files only once the command has succeeded
       --verbose  Print more details about errors
   -h, --help     Print help
+
+Example:
+  pcompact assemble heap.txt heap.pcheap
 """
 
 MAP_HELP = """\
@@ -177,6 +198,9 @@ Options:
       --atomic      Replace files only once the command has succeeded
       --verbose     Print more details about errors
   -h, --help        Print help
+
+Example:
+  pcompact map heap.pcheap --after
 """
 
 TIMELINE_HELP = """\
@@ -218,6 +242,9 @@ Options:
       --stats    Print timings and peak memory to stderr
       --verbose  Print more details about errors
   -h, --help     Print help
+
+Example:
+  pcompact verify heap.pcheap out.pcheap
 """
 
 UPGRADE_HELP = """\
@@ -233,6 +260,9 @@ Options:
       --atomic   Replace files only once the command has succeeded
       --verbose  Print more details about errors
   -h, --help     Print help
+
+Example:
+  pcompact upgrade heap.pcheap rooted.pcheap
 """
 
 IMPORT_HELP = """\
@@ -252,6 +282,10 @@ Options:
       --atomic          Replace files only once the command has succeeded
       --verbose         Print more details about errors
   -h, --help            Print help
+
+Example:
+  jcmd PID GC.heap_dump -all /tmp/heap.hprof
+  pcompact import /tmp/heap.hprof heap.pcheap
 """
 
 GENERATE_HELP = """\
@@ -273,6 +307,9 @@ Options:
       --atomic          Replace files only once the command has succeeded
       --verbose         Print more details about errors
   -h, --help            Print help
+
+Example:
+  pcompact generate heap.pcheap --words 65536 --live 50 --region-log 9 --seed 1
 """
 
 NO_COMMAND = """\

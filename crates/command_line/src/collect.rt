@@ -11,6 +11,10 @@ use crate::unread::Unread;
 use clap::{ArgMatches, Command};
 use std::alloc::{AllocError, Global};
 
+const EXAMPLE: &str = "\
+Example:
+  pcompact collect heap.pcheap out.pcheap --workers 4";
+
 /// The definition of `collect`.
 pub fn words<'a>(alloc: Global) -> Result<Command<'a>, AllocError>
     ensures app { IfOk result (λ command. app_of command ≡ collect_words) }
@@ -18,6 +22,7 @@ pub fn words<'a>(alloc: Global) -> Result<Command<'a>, AllocError>
 {
     Command::new(alloc, "collect")
         .about("Collect a heap image and write the compacted one")
+        .after_help(EXAMPLE)
         .arg(arguments::image(alloc))?
         .arg(arguments::file(alloc, "OUT", "Where to write the compacted image"))?
         .arg(arguments::workers(alloc))?

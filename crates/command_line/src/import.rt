@@ -11,6 +11,11 @@ use crate::unread::Unread;
 use clap::{ArgMatches, Command};
 use std::alloc::{AllocError, Global};
 
+const EXAMPLE: &str = "\
+Example:
+  jcmd PID GC.heap_dump -all /tmp/heap.hprof
+  pcompact import /tmp/heap.hprof heap.pcheap";
+
 /// The definition of `import`.
 pub fn words<'a>(alloc: Global) -> Result<Command<'a>, AllocError>
     ensures app { IfOk result (λ command. app_of command ≡ import_words) }
@@ -18,6 +23,7 @@ pub fn words<'a>(alloc: Global) -> Result<Command<'a>, AllocError>
 {
     let command = Command::new(alloc, "import")
         .about("Convert the heap dump of a Java virtual machine to a heap image")
+        .after_help(EXAMPLE)
         .arg(arguments::file(alloc, "DUMP", "A heap dump"))?
         .arg(arguments::file(alloc, "IMAGE", "Where to write the image"))?
         .arg(arguments::region_log(alloc, "Regions have 2^k words, k from 3 to 16 (default 9)"))?

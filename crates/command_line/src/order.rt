@@ -11,6 +11,10 @@ use crate::unread::Unread;
 use clap::{ArgMatches, Command};
 use std::alloc::{AllocError, Global};
 
+const EXAMPLE: &str = "\
+Example:
+  pcompact order heap.pcheap";
+
 /// The definition of `order`.
 pub fn words<'a>(alloc: Global) -> Result<Command<'a>, AllocError>
     ensures app { IfOk result (λ command. app_of command ≡ order_words) }
@@ -18,6 +22,7 @@ pub fn words<'a>(alloc: Global) -> Result<Command<'a>, AllocError>
 {
     Command::new(alloc, "order")
         .about("Print how many workers a collection can keep busy")
+        .after_help(EXAMPLE)
         .arg(arguments::image(alloc))?
         .arg(arguments::json(alloc))?
         .arg(arguments::verbose(alloc))

@@ -11,6 +11,10 @@ use crate::unread::Unread;
 use clap::{ArgMatches, Command};
 use std::alloc::{AllocError, Global};
 
+const EXAMPLE: &str = "\
+Example:
+  pcompact verify heap.pcheap out.pcheap";
+
 /// The definition of `verify`.
 pub fn words<'a>(alloc: Global) -> Result<Command<'a>, AllocError>
     ensures app { IfOk result (λ command. app_of command ≡ verify_words) }
@@ -18,6 +22,7 @@ pub fn words<'a>(alloc: Global) -> Result<Command<'a>, AllocError>
 {
     Command::new(alloc, "verify")
         .about("Compare a heap image with the compaction of another")
+        .after_help(EXAMPLE)
         .arg(arguments::file(alloc, "BEFORE", "The image before its collection"))?
         .arg(arguments::file(alloc, "AFTER", "The image to compare with its compaction"))?
         .arg(arguments::json(alloc))?
