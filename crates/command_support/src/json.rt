@@ -131,9 +131,11 @@ pub fn push_json(text: &[u8], json: &mut Vec<u8>) -> Result<(), AllocError>
 {
     json.extend_from_slice(b"{\"")?;
     let mut place = Place::Name;
-    for &byte in text {
-        place.push(byte, json)?;
-        place = place.after(byte);
+    let mut rest = text;
+    while let Some((byte, others)) = rest.split_first() {
+        place.push(*byte, json)?;
+        place = place.after(*byte);
+        rest = others;
     }
     place.push_end(json)
 }
