@@ -1,10 +1,11 @@
 -- What the first bytes of a file say of it.
-use Rattle.std.specs.Prelude.{ℕ, List, [], ◌∷◌, Bool, ◌||◌, Option, None, Some, codes, if◌then◌else◌, nat_eq}
+use Rattle.std.specs.Prelude.{ℕ, List, [], ◌∷◌, Bool, ◌||◌, Option, None, Some, codes, if◌then◌else◌, nat_eq, nat_lt}
 use Rattle.std.specs.List.{starts_with}
 use Rattle.command_support.specs.declared.content.Content.{Content}
 use Rattle.command_support.specs.declared.content.Content.TheVariants.{Image, Dump, Schedule, Text, Packed}
 use Rattle.command_support.specs.declared.hint.Hint.{Hint}
-use Rattle.command_support.specs.declared.hint.Hint.TheVariants.{Empty, Has}
+use Rattle.command_support.specs.declared.hint.Hint.TheVariants.{Empty, Has, LiveOnly, TooLarge}
+use Rattle.heap_dump.specs.declared.error.ImportError.{ImportError}
 
 -- the file begins with this text
 abbrev pub begins : List ℕ → List ℕ → Bool
@@ -34,3 +35,10 @@ hint_of_found wanted (Some found) = Some (Has found wanted)
 abbrev pub hint_of : Content → List ℕ → Option Hint
 hint_of wanted [] = Some Empty
 hint_of wanted (byte ∷ rest) = hint_of_found wanted (content_of (byte ∷ rest))
+
+-- the hint about a dump with these first bytes, of which no image is made because of this error
+abbrev pub hint_of_dump : ImportError → List ℕ → Option Hint
+hint_of_dump (ImportError.TooManyWords words most live_words) front =
+    if nat_lt most live_words then Some (TooLarge live_words most) else Some (LiveOnly live_words)
+hint_of_dump (ImportError.TooManyLiveWords words most) front = Some (TooLarge words most)
+hint_of_dump error front = hint_of Dump front

@@ -86,18 +86,18 @@ impl Place {
             (Place::Name, b' ') => json.extend_from_slice(b"\":"),
             (Place::Name, b'\n') => json.extend_from_slice(b"\":true"),
             (Place::Value, b' ') => json.extend_from_slice(b",\""),
-            (Place::In(_), b'\n') => json.push(b'}'),
+            (Place::In(_), b'\n') => json.extend_from_slice(b"}"),
             (Place::Value, b'\n') | (_, b' ') => Ok(()),
             (Place::FirstLine, _) => {
                 json.extend_from_slice(b",\"regions\":[")?;
                 push_first(Column::Region, byte, json)
             }
             (Place::NextLine, _) => {
-                json.push(b',')?;
+                json.extend_from_slice(b",")?;
                 push_first(Column::Region, byte, json)
             }
             (Place::Before(column), _) => push_first(column, byte, json),
-            _ => json.push(byte),
+            _ => json.extend_from_slice(&[byte]),
         }
     }
 
@@ -120,7 +120,7 @@ fn push_first(column: Column, byte: u8, json: &mut Vec<u8>) -> Result<(), AllocE
     if byte == b'-' {
         json.extend_from_slice(b"null")
     } else {
-        json.push(byte)
+        json.extend_from_slice(&[byte])
     }
 }
 

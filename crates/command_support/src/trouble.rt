@@ -78,11 +78,14 @@ impl<'a> Trouble<'a> {
     fn about_content<F: Drop>(self, wanted: Content, file: &Watched<'a, F>) -> Trouble<'a>
         ensures { result.failure ≡ self.entry.failure }
     {
-        let trouble = self.about(file.word());
-        Trouble {
-            hint: Hint::of(wanted, file.first_bytes()),
-            ..trouble
-        }
+        self.about(file.word())
+            .hinted(Hint::of(wanted, file.first_bytes()))
+    }
+
+    fn hinted(self, hint: Option<Hint>) -> Trouble<'a>
+        ensures { result.failure ≡ self.entry.failure }
+    {
+        Trouble { hint, ..self }
     }
 
     /// Adds this file and the call, if a call on the file failed.
@@ -112,10 +115,12 @@ impl<'a> Trouble<'a> {
     pub fn if_dump<F: Drop>(self, dump: &Watched<'a, F>, again: &Watched<'a, F>) -> Trouble<'a>
         ensures { result.failure ≡ self.entry.failure }
     {
-        if self.is_of_dump() {
-            self.about_content(Content::Dump, dump)
-        } else {
-            self.if_failed(dump).if_failed(again)
+        match &self.failure {
+            Failure::Dump(error) => {
+                let hint = Hint::of_dump(*error, dump.first_bytes());
+                self.about(dump.word()).hinted(hint)
+            }
+            _ => self.if_failed(dump).if_failed(again),
         }
     }
 
@@ -175,13 +180,6 @@ impl<'a> Trouble<'a> {
         match &self.failure {
             Failure::Fault(fault) => Some(*fault),
             _ => None,
-        }
-    }
-
-    fn is_of_dump(&self) -> bool {
-        match &self.failure {
-            Failure::Dump(_) => true,
-            _ => false,
         }
     }
 
