@@ -24,6 +24,7 @@ LINE = "workers 1 lines 19 granted 3 completed 3 settled 3 freed 3 taken 2 finis
 MARKS = "mark: c claims t takes a freed region f frees one s settles x several\n"
 HANDS = "region in hand: _ never . seldom : half + mostly # always\n"
 BLOCK_HANDS = "region in hand: ▁ never ░ seldom ▒ half ▓ mostly █ always\n"
+AXIS = "          lines 2 to 20 of the schedule, not time\n"
 TAKEN = """\
 line 5: worker 0 drains 1 into 0 and frees 1, worker 0 takes it in line 8
 line 11: worker 0 drains 2 into 1 and frees 2, worker 0 takes it in line 16
@@ -32,7 +33,7 @@ line 18: worker 0 drains 3 into 2 and frees 3, nobody takes it
 
 
 def lanes(shares: str, marks: str, hands: str = HANDS) -> Answer:
-    return Answer(0, f"{LINE}worker  0 |{shares}|\n          |{marks}|\n{hands}{MARKS}{TAKEN}")
+    return Answer(0, f"{LINE}worker  0 |{shares}|\n          |{marks}|\n{AXIS}{hands}{MARKS}{TAKEN}")
 
 
 def put(tried: Tried) -> None:

@@ -1,6 +1,6 @@
-//! The HTML of a page, around the moves, the schedule and the script.
+//! The constant parts of a page, except its script.
 
-/// The part before the names of the files. Colours are custom properties, with other values in dark mode; `page_script.rt`
+/// The part before the names of the files: the styles. Colours are custom properties, with other values in dark mode; `page_script.rt`
 /// reads them for the lanes.
 pub(crate) const HEAD: &str = r##"<!DOCTYPE html>
 <html lang="en">
@@ -11,13 +11,13 @@ pub(crate) const HEAD: &str = r##"<!DOCTYPE html>
 <title>A schedule of a collection, line by line</title>
 <style>
 :root { color-scheme: light dark; --text: #111; --page: #fff; --quiet: #555; --edge: #767676; --lane: #eee; --frame: #c00000;
-  --outside: #ddd; --start: #fff; --claimed: #b35c00; --stripe: #f0b050; --filled: #8ab8ee; --settled: #1f4e8c; --on-settled: #fff;
-  --on-filled: #111; --even: #8ab8ee; --odd: #f0b050; --waiting: #fff; --on-bar: #111; --mark: #111;
-  --share1: #cfe0f5; --share2: #94bbe6; --share3: #4f86c6; --share4: #1f4e8c }
+  --outside: #ddd; --start: #fff; --claimed: #b35c00; --stripe: #f0b050; --filled: #6ba3e0; --settled: #1f4e8c; --on-settled: #fff;
+  --on-filled: #111; --even: #5a94d8; --odd: #f3c77f; --waiting: #fff; --on-bar: #111; --mark: #111;
+  --share1: #b9d3f0; --share2: #7fadde; --share3: #3f78bd; --share4: #163c70 }
 @media (prefers-color-scheme: dark) { :root { --text: #eee; --page: #16181c; --quiet: #b4b4b4; --edge: #8a8a8a; --lane: #2a2d33; --frame: #ff7a6b;
   --outside: #3a3d42; --start: #16181c; --claimed: #f0a040; --stripe: #8a5a10; --filled: #2f62a5; --settled: #b9d6ff; --on-settled: #111;
-  --on-filled: #fff; --even: #2f62a5; --odd: #8a5a10; --waiting: #16181c; --on-bar: #fff; --mark: #fff;
-  --share1: #26405f; --share2: #2f62a5; --share3: #6d9fde; --share4: #b9d6ff } }
+  --on-filled: #fff; --even: #1d3f6e; --odd: #8c5a16; --waiting: #16181c; --on-bar: #fff; --mark: #fff;
+  --share1: #2c4d78; --share2: #3c72b4; --share3: #79a9e4; --share4: #cfe3ff } }
 body { font: 15px/1.4 sans-serif; margin: 16px; max-width: 1100px; color: var(--text); background: var(--page) }
 h1 { font-size: 20px; margin: 0 0 4px }
 h2 { font-size: 15px; margin: 14px 0 4px }
@@ -41,6 +41,7 @@ input[type=number] { width: 7em }
 .large i:not([data-pending=""])::before { content: "\25CF"; position: absolute; left: 3px; bottom: -2px; font-size: 9px }
 .small i::after { content: attr(data-pending); font-size: 10px }
 .legend { color: var(--quiet); margin: 4px 0 }
+.legend span { white-space: nowrap }
 .legend i { display: inline-block; width: 18px; height: 14px; vertical-align: -2px; margin: 0 4px 0 10px }
 #regions i[data-now] { outline: 3px solid var(--frame); z-index: 1 }
 i.outside { background: var(--outside); border-style: dotted }
@@ -55,10 +56,9 @@ i.share2 { background: var(--share2) }
 i.share3 { background: var(--share3) }
 i.share4 { background: var(--share4) }
 #band { display: flex }
-#names { flex: none; margin: 1px 6px 0 0; text-align: right; font-size: 12px; line-height: 20px; white-space: nowrap }
+#names { flex: none; margin: 1px 6px 0 0; padding: 0; text-align: right; font-size: 12px; line-height: 20px; white-space: nowrap }
 #names li { list-style: none }
 #names li.acts { font-weight: bold }
-#names { padding: 0 }
 #chart { flex: auto; min-width: 0; position: relative; overflow: hidden; border: 1px solid var(--edge) }
 #lanes { display: block; width: 100% }
 #cursor { position: absolute; top: 0; bottom: 0; width: 2px; margin-left: -1px; background: var(--frame) }
@@ -103,10 +103,10 @@ pub(crate) const BEFORE_MOVES: &str = r##"</p>
 <div id="band"><ul id="names" aria-hidden="true"></ul><div id="chart"><canvas id="lanes" role="img" aria-label="a lane for each worker, along the lines of the schedule"></canvas><div id="cursor"></div></div></div>
 <div id="axis"><span>line 2</span><span>lines of the schedule, not time</span><span id="last"></span></div>
 <p class="legend" id="bars">A coloured bar is a region from its claim to its completion, a hollow one from there to its settling. A mark below a bar: a drain freed a region.</p>
-<p class="legend" id="shares" hidden>Too many regions for a bar each: colour shows in how many of its lines a worker has a region in hand:<i class="share0"></i>none<i class="share1"></i>less than a third<i class="share2"></i>less than two thirds<i class="share3"></i>most<i class="share4"></i>all</p>
+<p class="legend" id="shares" hidden>Too many regions for a bar each: colour shows in how many of its lines a worker has a region in hand: <span><i class="share0"></i>none</span> <span><i class="share1"></i>less than a third</span> <span><i class="share2"></i>less than two thirds</span> <span><i class="share3"></i>most</span> <span><i class="share4"></i>all</span></p>
 <h2>Regions of the heap</h2>
 <div id="regions"></div>
-<p class="legend"><i class="start"></i>as at the start<i class="claimed"></i>claimed<i class="filling"></i>being filled<i class="filled"></i>filled<i class="settled"></i>settled<i class="outside"></i>not to be filled. The small number in a cell is the number of regions that have still to read it. <label id="numbered" hidden><input id="numbers" type="checkbox"> Numbers in all cells</label></p>
+<p class="legend"><span><i class="start"></i>as at the start</span> <span><i class="claimed"></i>claimed</span> <span><i class="filling"></i>being filled</span> <span><i class="filled"></i>filled</span> <span><i class="settled"></i>settled</span> <span><i class="outside"></i>not to be filled.</span> The small number in a cell is the number of regions that have still to read it. <label id="numbered" hidden><input id="numbers" type="checkbox"> Numbers in all cells</label></p>
 <div class="controls">
 <label>Region <input id="region" type="number" min="0" value="0" step="1"></label>
 <button id="region-back" type="button">Line before</button>
