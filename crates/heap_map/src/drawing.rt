@@ -32,6 +32,12 @@ const ROW_STEP: u64 = 34;
 /// The y coordinate at which the strips begin.
 const TOP: u64 = 76;
 
+/// A mark above a row, with a line through it.
+const PREFIX_MARK: &str = "M0 0L-5 -7H5ZV22";
+
+/// A mark below a row, with a line through it.
+const TOP_MARK: &str = "M0 22L-5 29H5ZV0";
+
 /// The number of words of one MiB.
 const MIB: u64 = 131_072;
 
@@ -39,7 +45,8 @@ const MIB: u64 = 131_072;
 #[derive(Clone, Copy)]
 struct Frame {
     figures: MapFigures,
-    shape: Shape,
+    /// The number of cells of a full row.
+    width: u32,
 }
 
 /// A row of a strip.
@@ -61,9 +68,9 @@ pub(crate) fn draw(
     let mut svg = String::new(alloc);
     let frame = Frame {
         figures: picture.figures,
-        shape,
+        width: shape.width.min(picture.before.cells.len() as u32).max(1),
     };
-    let strip = strip_height(&picture.before, shape);
+    let strip = strip_height(&picture.before, frame);
     let after_at = TOP.saturating_add(strip);
     let legend = match &picture.after {
         Some(_) => after_at.saturating_add(strip),
@@ -81,8 +88,8 @@ pub(crate) fn draw(
 }
 
 /// The height of a strip with its name.
-fn strip_height(map: &Map, shape: Shape) -> u64 {
-    let rows = map.cells.len().div_ceil(shape.width.max(1) as usize) as u64;
+fn strip_height(map: &Map, frame: Frame) -> u64 {
+    let rows = map.cells.len().div_ceil(frame.width.max(1) as usize) as u64;
     rows.saturating_mul(ROW_STEP).saturating_add(34)
 }
 
@@ -166,7 +173,7 @@ fn draw_strip(
 
 /// Writes the rows of a strip, from height `y` on.
 fn draw_rows(svg: &mut String, y: u64, map: &Map, frame: Frame) -> Result<(), AllocError> {
-    let width = frame.shape.width.max(1);
+    let width = frame.width.max(1);
     for (i, cells) in map.cells.as_slice().chunks(width as usize).enumerate() {
         let row = Row {
             cells,
@@ -195,8 +202,8 @@ fn draw_row(svg: &mut String, row: Row<'_>, figures: MapFigures) -> Result<(), A
         row.y
     )?;
     draw_cells(svg, row)?;
-    draw_mark(svg, row, figures.prefix_end, "prefix end", "M-5 -7h10l-5 7v22")?;
-    draw_mark(svg, row, figures.new_top, "new top", "M-5 29h10l-5 -7v-22")?;
+    draw_mark(svg, row, figures.prefix_end, "prefix end", PREFIX_MARK)?;
+    draw_mark(svg, row, figures.new_top, "new top", TOP_MARK)?;
     svg.push_str("</g>\n")
 }
 
@@ -266,19 +273,21 @@ fn draw_legend(svg: &mut String, picture: &Picture, y: u64) -> Result<(), AllocE
     let marks = y.saturating_add(76);
     writeln!(
         svg,
-        r#"<g transform="translate(20,{marks})"><path class="mark" d="M-5 -7h10l-5 7v22"/><text x="14" y="10">end of the dense prefix</text>
-<path class="mark" transform="translate(220,0)" d="M-5 29h10l-5 -7v-22"/><text x="234" y="10">top after the collection</text></g>"#
+        r#"<g transform="translate(20,{marks})"><path class="mark" d="{PREFIX_MARK}"/><text x="14" y="10">end of the dense prefix</text>
+<path class="mark" transform="translate(220,0)" d="{TOP_MARK}"/><text x="234" y="10">top after the collection</text></g>"#
     )
 }
 
 /// Writes the legend of the areas that occur, at height `y`.
 fn draw_areas(svg: &mut String, picture: &Picture, y: u64) -> Result<(), AllocError> {
-    for (i, area) in AREAS.iter().enumerate() {
-        if occurs(picture, *area) {
-            let x = [8, 108, 280, 400][i.min(3)];
-            let (key, name) = (key_of(*area), name_of(*area));
+    let mut x: u64 = 8;
+    for area in AREAS {
+        if occurs(picture, area) {
+            let (key, name) = (key_of(area), name_of(area));
             draw_sample(svg, x, y)?;
-            writeln!(svg, "fill=\"url(#{key}2)\"/></g>\n<text x=\"{}\" y=\"{}\">{name}</text>", x + 30, y.saturating_add(16))?;
+            writeln!(svg, "fill=\"url(#{key}2)\"/></g>")?;
+            write_at(svg, x.saturating_add(30), y.saturating_add(16), name)?;
+            x = x.saturating_add(54 + 8 * name.len() as u64);
         }
     }
     Ok(())
@@ -290,9 +299,15 @@ fn draw_shades(svg: &mut String, y: u64) -> Result<(), AllocError> {
         let x = [8, 128, 228, 328, 428][i.min(4)];
         let (cover, name) = (cover_of(*shade), share_of(*shade));
         draw_sample(svg, x, y)?;
-        writeln!(svg, "class=\"shade\" fill-opacity=\"{cover}\"/></g>\n<text x=\"{}\" y=\"{}\">{name}</text>", x + 30, y.saturating_add(16))?;
+        writeln!(svg, "class=\"shade\" fill-opacity=\"{cover}\"/></g>")?;
+        write_at(svg, x + 30, y.saturating_add(16), name)?;
     }
     Ok(())
+}
+
+/// Writes a text at a point.
+fn write_at(svg: &mut String, x: u64, y: u64, text: &str) -> Result<(), AllocError> {
+    writeln!(svg, r#"<text x="{x}" y="{y}">{text}</text>"#)
 }
 
 /// Writes the frame of a sample, and opens its inside.

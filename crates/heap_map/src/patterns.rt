@@ -43,7 +43,7 @@ pub(crate) fn hatching_of(area: Area) -> &'static str {
     match area {
         Area::Prefix => "M-2 2L2 -2M0 8L8 0M6 10L10 6",
         Area::Fillers => "M0 8L8 0M0 0L8 8",
-        Area::Moving => "M4 0V8",
+        Area::Moving => "M0 4h8",
         Area::Free => "M3 4h2",
     }
 }
@@ -84,8 +84,8 @@ pub(crate) fn cover_of(shade: Shade) -> &'static str {
 /// The class of hatching that stands out on a shade.
 pub(crate) fn line_of(shade: Shade) -> &'static str {
     match shade {
-        Shade::Empty | Shade::Low | Shade::Middle => "thin",
-        Shade::High | Shade::Full => "thick",
+        Shade::Empty | Shade::Low | Shade::Middle => "onlight",
+        Shade::High | Shade::Full => "ondark",
     }
 }
 
@@ -99,8 +99,9 @@ text { fill: #111 }
 .m { fill: #00693a }
 .e { fill: #555 }
 .shade { fill: #111 }
-.thin { stroke: #111; stroke-width: .7 }
-.thick { stroke: #fff; stroke-width: .7 }
+.onlight { stroke: #111 }
+.ondark { stroke: #fff }
+.onlight, .ondark { stroke-width: .7; stroke-opacity: .6 }
 .mark { fill: #c00000; stroke: #c00000; stroke-width: 1.4; stroke-linejoin: round }
 @media (prefers-color-scheme: dark) {
 .page, .frame { fill: #16181c }
@@ -111,8 +112,8 @@ text { fill: #eee }
 .m { fill: #6fdc9f }
 .e { fill: #bbb }
 .shade { fill: #eee }
-.thin { stroke: #eee }
-.thick { stroke: #111 }
+.onlight { stroke: #eee }
+.ondark { stroke: #111 }
 .mark { fill: #ff8a7a; stroke: #ff8a7a }
 }
 </style>
