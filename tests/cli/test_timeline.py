@@ -69,7 +69,8 @@ def try_looks(tried: Tried) -> None:
         ours, theirs = pty.openpty()
         words = [tried.program, "timeline", "image", "schedule", "--width", "1", "--letters", *flag.split()]
         tried.count += 1
-        subprocess.run(words, cwd=tried.folder, stdout=theirs, check=False)
+        names = {name: value for name, value in os.environ.items() if name != "NO_COLOR"}
+        subprocess.run(words, cwd=tried.folder, stdout=theirs, check=False, env={**names, "TERM": "xterm"})
         os.close(theirs)
         shown = os.read(ours, 4096)
         os.close(ours)

@@ -91,7 +91,7 @@ row_text style has_axis name cells =
 
 -- row i of rows of this width
 abbrev pub row_of : ℕ → List Cell → ℕ → List Cell
-row_of width cells i = slice_range cells (i * width) (min (length cells) (i * width + width))
+row_of width cells i = slice_range cells (min (i * width) (length cells)) (min (i * width + width) (length cells))
 
 -- the name before the first row, and as many blanks before the others
 abbrev pub name_of_row : List ℕ → ℕ → List ℕ

@@ -91,6 +91,7 @@ pub(crate) fn line_of(shade: Shade) -> &'static str {
 
 /// The colours, for light and dark pages. The class of an area is the letter of its patterns.
 pub(crate) const STYLES: &str = r##"<style>
+rect { shape-rendering: crispEdges }
 .page, .frame { fill: #fff }
 .frame { stroke: #555 }
 text { fill: #111 }

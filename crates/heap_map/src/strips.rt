@@ -1,6 +1,6 @@
 //! Prints the strips of a picture, and the legend of shades, as text.
-ghost use Rattle.std.specs.Prelude.{◌≡◌, ◌++◌, OnOk, codes, flat_map, string_bytes};
-ghost use Rattle.heap_map.specs.Text.{area_letter, area_mark, colour_of, coloured, first_address, mib_axis, row_text, shade_glyph, shade_mark, share_text, shares_text, strip_text, words_axis};
+ghost use Rattle.std.specs.Prelude.{◌≡◌, ◌≤◌, ◌++◌, OnOk, codes, flat_map, length, string_bytes};
+ghost use Rattle.heap_map.specs.Text.{area_letter, area_mark, colour_of, coloured, first_address, mib_axis, name_of_row, row_of, row_text, shade_glyph, shade_mark, share_text, shares_text, strip_text, words_axis};
 
 use crate::area::Area;
 use crate::cell::Cell;
@@ -19,15 +19,32 @@ pub(crate) fn write_strip(
     name: &str,
     cells: &[Cell],
 ) -> Result<(), AllocError>
+    requires { length cells.now ≤ 100000 }
     ensures { OnOk result (string_bytes text.new ≡ string_bytes text.old ++ strip_text style shape name.now cells.now) }
 {
-    let width = shape.width.max(1) as usize;
-    for i in 0..cells.len().div_ceil(width) {
-        let label = if i == 0 { name } else { "      " };
-        let row = &cells[i * width..cells.len().min(i * width + width)];
-        write_row(text, style, shape.has_axis, label, row)?;
+    let width = shape.width.max(1);
+    for i in 0..cells.len().div_ceil(width as usize) {
+        let row = row_of(cells, width, i);
+        write_row(text, style, shape.has_axis, name_of_row(name, i), row)?;
     }
     Ok(())
+}
+
+/// The name before the first row, and blanks before the others.
+fn name_of_row(name: &str, i: usize) -> &str
+    ensures { result.now ≡ name_of_row name.now i }
+{
+    if i == 0 { name } else { "      " }
+}
+
+/// Row `i` of rows of `width` cells.
+fn row_of(cells: &[Cell], width: u32, i: usize) -> &[Cell]
+    requires { i ≤ 100000 }
+    ensures { result.now ≡ row_of width cells.now i }
+{
+    let start = i * width as usize;
+    let end = start + width as usize;
+    &cells[start.min(cells.len())..end.min(cells.len())]
 }
 
 /// Writes the two lines of a row, shades and areas. The first begins with `label`, which has six characters.

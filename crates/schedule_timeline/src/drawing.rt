@@ -116,7 +116,7 @@ fn begin(svg: &mut String, timeline: &Timeline, names: Names<'_>) -> Result<(), 
     write_axis(svg, lines as u64)
 }
 
-/// Writes the figures in two lines, which are wide enough for them at 375 points.
+/// Writes the figures in two lines, since one would be too long.
 fn write_figures(svg: &mut String, figures: TimelineFigures) -> Result<(), AllocError> {
     let TimelineFigures {
         workers,
@@ -130,8 +130,8 @@ fn write_figures(svg: &mut String, figures: TimelineFigures) -> Result<(), Alloc
     } = figures;
     writeln!(
         svg,
-        r#"<text x="8" y="44">{workers} workers, {lines} lines, {ending}</text>
-<text x="8" y="66">regions: {granted} granted, {completed} completed, {settled} settled, {freed} freed, {taken} of them taken</text>"#
+        r#"<text x="8" y="44">{workers} workers, {lines} lines, {ending}: {granted} regions granted,</text>
+<text x="8" y="66">{completed} completed, {settled} settled, {freed} freed, {taken} of these taken</text>"#
     )
 }
 
@@ -147,6 +147,7 @@ text { fill: #111 }
 .f { fill: #111 }
 .f path { fill: none; stroke: #111; stroke-dasharray: 3 2 }
 .n { pointer-events: none; text-anchor: middle }
+.s1, .s2, .s3, .s4 { shape-rendering: crispEdges }
 .s1 { fill: #b9d3f0 }
 .s2 { fill: #7fadde }
 .s3 { fill: #3f78bd }
