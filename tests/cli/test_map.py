@@ -79,7 +79,7 @@ def try_rows(tried: Tried) -> None:
             tried.write("image", made)
             tried.run("map image --letters --width 4", Answer(0, line + before + legend(areas)))
             tried.run("map --after image --width 4 --letters --verbose", Answer(0, line + before + after + legend(areas + new_areas)))
-            tried.run("map image --svg drawn --width 4", Answer(0, line))
+            tried.run("map image --svg drawn --width 4 --height 1", Answer(0, line))
     tried.write("image", image(WORDS, LIVE, 2))
     # No more cells than words.
     for width in ("", "--width 32", "--width 33", "--width 1000"):
@@ -179,7 +179,7 @@ def cells_of(root: xml.etree.ElementTree.Element) -> list[tuple[str, str]]:
 def try_drawings(tried: Tried) -> None:
     """What a drawing shows: each cell with its pattern and its title, all areas, and a legend."""
     tried.write("image", image(WORDS, LIVE, 2))
-    tried.run("map image --after --svg drawn --width 4", Answer(0, WHOLE.splitlines(True)[0]))
+    tried.run("map image --after --svg drawn --width 4 --height 1", Answer(0, WHOLE.splitlines(True)[0]))
     root = drawing(tried, "drawn")
     wanted = [("f3", "words 0 to 7: 6 live, prefix with fillers"), ("m2", "words 8 to 15: 3 live, moving"),
               ("m2", "words 16 to 23: 4 live, moving"), ("m3", "words 24 to 31: 6 live, moving"),

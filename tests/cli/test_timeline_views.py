@@ -345,8 +345,11 @@ def try_pages(tried: Tried) -> None:
     schedule = read(BASE.encode())
     machine = Machine(model.Collection(model.decode(image(WORDS, LIVE, 0))))
     page = page_of(tried, TEXT.splitlines(True)[0])
-    keys = ["ArrowRight", "ArrowRight", "ArrowLeft", "End", "ArrowRight", "PageUp", "PageDown", "Home", "ArrowLeft", " ", " ", "x"]
-    lines = [[2, False], [3, False], [2, False], [27, False], [27, False], [1, False], [27, False], [1, False], [1, False], [1, True], [1, False], [1, False]]
+    keys = ["ArrowRight", "ArrowRight", "ArrowLeft", "End", "ArrowRight", "PageUp", "PageDown", "Home", "ArrowLeft", " ", " ", "x", "r", "r", "R", "w", "W"]
+    lines = [[2, False], [3, False], [2, False], [27, False], [27, False], [1, False], [27, False], [1, False], [1, False], [1, True], [1, False], [1, False],
+             [2, False], [3, False], [2, False], [9, False], [2, False]]
+    if '<p id="whose">Heap heap, schedule schedule</p>' not in page:
+        tried.is_wrong("a page doesn't say whose heap it shows")
     found, said = run_page(page, {"lines": list(range(1, 28)), "keys": keys}, tried.folder)
     tried.count += 2
     if said or found.get("keys") != lines:
