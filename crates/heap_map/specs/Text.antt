@@ -1,7 +1,7 @@
 -- How a picture is printed.
 use Rattle.std.specs.Prelude.{ℕ, ◌+◌, ◌-◌, ◌*◌, ◌/◌, ◌%◌, min, max, nat_lt, nat_le, ◌==◌, ◌||◌, Bool, true, false, if◌then◌else◌, List, [], ◌∷◌, ◌++◌, codes, count_by, decimal, flat_map, length, slice_range, Option, None, Some}
 use Rattle.std.specs.List.{range_with_len}
-use Rattle.core.specs.Int.{div_ceil}
+use Rattle.std.specs.Int.{div_ceil}
 use Rattle.heap_map.specs.declared.area.Area.{Area}
 use Rattle.heap_map.specs.declared.area.Area.TheVariants.{Prefix, Fillers, Moving, Free}
 use Rattle.heap_map.specs.declared.cell.Cell.{Cell}
@@ -83,11 +83,19 @@ mib_text words = codes " " ++ (decimal (words / 131072) ++ (codes "." ++ (decima
 abbrev pub mib_axis : Bool → List Cell → List ℕ
 mib_axis has_axis cells = if has_axis then mib_text (first_address cells) else []
 
--- the two lines of a row; the first begins with the strip's name
+-- the line of shades of a row, which begins with the strip's name
+abbrev pub shade_line : Style → Bool → List ℕ → List Cell → List ℕ
+shade_line style has_axis name cells =
+    name ++ (codes " |" ++ (flat_map (shade_mark style) cells ++ (codes "|" ++ (words_axis has_axis cells ++ codes "\n"))))
+
+-- the line of areas of a row
+abbrev pub area_line : Style → Bool → List Cell → List ℕ
+area_line style has_axis cells =
+    codes "       |" ++ (flat_map (area_mark style) cells ++ (codes "|" ++ (mib_axis has_axis cells ++ codes "\n")))
+
+-- the two lines of a row
 abbrev pub row_text : Style → Bool → List ℕ → List Cell → List ℕ
-row_text style has_axis name cells =
-    name ++ (codes " |" ++ (flat_map (shade_mark style) cells ++ (codes "|" ++ (words_axis has_axis cells ++ (codes "\n       |"
-    ++ (flat_map (area_mark style) cells ++ (codes "|" ++ (mib_axis has_axis cells ++ codes "\n"))))))))
+row_text style has_axis name cells = shade_line style has_axis name cells ++ area_line style has_axis cells
 
 -- row i of rows of this width
 abbrev pub row_of : ℕ → List Cell → ℕ → List Cell

@@ -1,6 +1,6 @@
 //! Prints the strips of a picture, and the legend of shades, as text.
 ghost use Rattle.std.specs.Prelude.{◌≡◌, ◌≤◌, ◌++◌, OnOk, codes, flat_map, length, string_bytes};
-ghost use Rattle.heap_map.specs.Text.{area_letter, area_mark, colour_of, coloured, first_address, mib_axis, name_of_row, row_of, row_text, shade_glyph, shade_mark, share_text, shares_text, strip_text, words_axis};
+ghost use Rattle.heap_map.specs.Text.{area_letter, area_line, area_mark, colour_of, coloured, first_address, mib_axis, name_of_row, row_of, row_text, shade_glyph, shade_line, shade_mark, share_text, shares_text, strip_text, words_axis};
 
 use crate::area::Area;
 use crate::cell::Cell;
@@ -57,12 +57,38 @@ fn write_row(
 ) -> Result<(), AllocError>
     ensures { OnOk result (string_bytes text.new ≡ string_bytes text.old ++ row_text style has_axis label.now cells.now) }
 {
+    write_shade_line(text, style, has_axis, label, cells)?;
+    write_area_line(text, style, has_axis, cells)
+}
+
+/// Writes the line of shades of a row, which begins with `label`.
+fn write_shade_line(
+    text: &mut String,
+    style: Style,
+    has_axis: bool,
+    label: &str,
+    cells: &[Cell],
+) -> Result<(), AllocError>
+    ensures { OnOk result (string_bytes text.new ≡ string_bytes text.old ++ shade_line style has_axis label.now cells.now) }
+{
     text.push_str(label)?;
     text.push_str(" |")?;
     write_shades(text, style, cells)?;
     text.push_str("|")?;
     write_words_axis(text, has_axis, cells)?;
-    text.push_str("\n       |")?;
+    text.push_str("\n")
+}
+
+/// Writes the line of areas of a row.
+fn write_area_line(
+    text: &mut String,
+    style: Style,
+    has_axis: bool,
+    cells: &[Cell],
+) -> Result<(), AllocError>
+    ensures { OnOk result (string_bytes text.new ≡ string_bytes text.old ++ area_line style has_axis cells.now) }
+{
+    text.push_str("       |")?;
     write_areas(text, style, cells)?;
     text.push_str("|")?;
     write_mib_axis(text, has_axis, cells)?;
