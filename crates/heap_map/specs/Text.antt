@@ -144,15 +144,27 @@ abbrev pub occurs : List Cell → Option (List Cell) → Area → Bool
 occurs before None area = has_area before area
 occurs before (Some after) area = has_area before area || has_area after area
 
+-- an entry of the legend of areas, if its area occurs
+abbrev pub entry_text : Bool → List ℕ → List ℕ
+entry_text is_there entry = if is_there then entry else []
+
+-- the entries of the areas of the dense prefix, and of those above it
+abbrev pub low_entries : (Area → Bool) → List ℕ
+low_entries is_there = entry_text (is_there Prefix) (codes " p prefix") ++ entry_text (is_there Fillers) (codes " f prefix with fillers")
+
+abbrev pub high_entries : (Area → Bool) → List ℕ
+high_entries is_there = entry_text (is_there Moving) (codes " m moving") ++ entry_text (is_there Free) (codes " - free")
+
 -- the second line of the legend: the areas that occur
 abbrev pub areas_text : (Area → Bool) → List ℕ
-areas_text is_there =
-    codes "area:" ++ ((if is_there Prefix then codes " p prefix" else [])
-    ++ ((if is_there Fillers then codes " f prefix with fillers" else [])
-    ++ ((if is_there Moving then codes " m moving" else []) ++ ((if is_there Free then codes " - free" else []) ++ codes "\n"))))
+areas_text is_there = codes "area:" ++ (low_entries is_there ++ (high_entries is_there ++ codes "\n"))
+
+-- the two lines of the legend
+abbrev pub legend_text : Glyphs → (Area → Bool) → List ℕ
+legend_text glyphs is_there = shares_text glyphs ++ areas_text is_there
 
 -- a picture: the figures, the strips and the legend
 abbrev pub picture_text : Style → Shape → MapFigures → List Cell → Option (List Cell) → List ℕ
 picture_text style shape figures before after =
     figures_text figures ++ (codes "\n" ++ (strip_text style shape (codes "before") before
-    ++ (after_text style shape after ++ (shares_text style.glyphs ++ areas_text (occurs before after)))))
+    ++ (after_text style shape after ++ legend_text style.glyphs (occurs before after))))

@@ -78,7 +78,13 @@ pub(crate) fn draw(
     };
     begin(&mut svg, picture.figures, legend.saturating_add(124), name)?;
     draw_patterns(&mut svg)?;
-    draw_strip(&mut svg, "before the collection", TOP, &picture.before, frame)?;
+    draw_strip(
+        &mut svg,
+        "before the collection",
+        TOP,
+        &picture.before,
+        frame,
+    )?;
     if let Some(after) = &picture.after {
         draw_strip(&mut svg, "after it", after_at, after, frame)?;
     }
@@ -94,12 +100,7 @@ fn strip_height(map: &Map, frame: Frame) -> u64 {
 }
 
 /// Writes the head of the document, the name of the heap and the figures.
-fn begin(
-    svg: &mut String,
-    figures: MapFigures,
-    height: u64,
-    name: &str,
-) -> Result<(), AllocError> {
+fn begin(svg: &mut String, figures: MapFigures, height: u64, name: &str) -> Result<(), AllocError> {
     let MapFigures {
         words,
         live,
@@ -116,7 +117,10 @@ fn begin(
 <desc>{figures}</desc>"#
     )?;
     svg.push_str(STYLES)?;
-    writeln!(svg, r#"<rect class="page" width="{WIDTH}" height="{height}"/>"#)?;
+    writeln!(
+        svg,
+        r#"<rect class="page" width="{WIDTH}" height="{height}"/>"#
+    )?;
     svg.push_str("<text x=\"8\" y=\"20\" font-weight=\"bold\">")?;
     write_name(svg, name)?;
     writeln!(

@@ -2,12 +2,7 @@
 use crate::area::Area;
 use crate::shade::Shade;
 
-pub(crate) const AREAS: [Area; 4] = [
-    Area::Prefix,
-    Area::Fillers,
-    Area::Moving,
-    Area::Free,
-];
+pub(crate) const AREAS: [Area; 4] = [Area::Prefix, Area::Fillers, Area::Moving, Area::Free];
 
 /// All shades, from the lightest.
 pub(crate) const SHADES: [Shade; 5] = [

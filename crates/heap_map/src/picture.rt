@@ -3,11 +3,11 @@ ghost use Rattle.heap_map.specs.Cells.{cells_after, cells_before};
 ghost use Rattle.heap_map.specs.MapFigures.{AreFiguresOf};
 ghost use Rattle.heap_map.specs.Text.{picture_text};
 
+use crate::areas::write_legend;
 use crate::drawing::draw;
 use crate::figures::MapFigures;
 use crate::map::Map;
-use crate::areas::write_areas_legend;
-use crate::strips::{write_shares, write_strip};
+use crate::strips::write_strip;
 use crate::style::{Shape, Style};
 use heap_image::Image;
 use std::alloc::{AllocError, Global};
@@ -83,8 +83,7 @@ impl Picture {
         if let Some(after) = &self.after {
             write_strip(&mut text, style, shape, "after ", after.cells.as_slice())?;
         }
-        write_shares(&mut text, style.glyphs)?;
-        write_areas_legend(&mut text, self)?;
+        write_legend(&mut text, style.glyphs, self)?;
         Ok(text)
     }
 
