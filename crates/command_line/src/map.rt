@@ -49,7 +49,9 @@ fn height<'a>(alloc: Global) -> Arg<'a>
         .long("height")
         .value_name("n")
         .value_parser(value_parser!(u32).range(1..=100))
-        .help("Number of rows, from 1 to 100 (default: 1, or what a terminal has room for, or 8 of a drawing)")
+        .help(
+            "Number of rows, from 1 to 100 (default: 1, or what a terminal has room for, or 8 of a drawing)",
+        )
 }
 
 /// The arguments of `map`.

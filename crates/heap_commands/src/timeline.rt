@@ -282,7 +282,11 @@ fn make_picture<R: Intake, S: Intake, T: AllocGlobal + Threads + Sync>(
 }
 
 /// Makes the picture of a schedule on its image.
-fn picture_of(alloc: Global, followed: &Followed, wanted: Wanted<'_>) -> Result<TimelinePicture, AllocError>
+fn picture_of(
+    alloc: Global,
+    followed: &Followed,
+    wanted: Wanted<'_>,
+) -> Result<TimelinePicture, AllocError>
     ensures { IfOk result (λ picture. IsPictureOf wanted.form followed.now.timeline (string_bytes picture.line) picture.bytes.items) }
 {
     let line = followed.timeline.line(alloc)?;
@@ -296,7 +300,9 @@ fn bytes_of(alloc: Global, followed: &Followed, wanted: Wanted<'_>) -> Result<Ve
 {
     match wanted.form {
         Form::Drawing => Ok(followed.timeline.svg(alloc, wanted.names)?.into_bytes()),
-        Form::Page => followed.timeline.page(alloc, followed.survey.plan(), wanted.names),
+        Form::Page => followed
+            .timeline
+            .page(alloc, followed.survey.plan(), wanted.names),
     }
 }
 

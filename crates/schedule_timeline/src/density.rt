@@ -55,7 +55,11 @@ fn draw_cell(
         Share::Always => "s4",
     };
     let (x, right) = (left_of(scale, cell), left_of(scale, cell.saturating_add(1)));
-    let (width, last, held) = (right.saturating_sub(x), next.saturating_sub(1), busy.min(lines));
+    let (width, last, held) = (
+        right.saturating_sub(x),
+        next.saturating_sub(1),
+        busy.min(lines),
+    );
     writeln!(
         svg,
         r#"<rect class="{class}" x="{x}" y="{y}" width="{width}" height="{BAR_HEIGHT}"><title>lines {first} to {last}: {held} of {lines}</title></rect>"#

@@ -361,11 +361,7 @@ fn draw_share_legend(svg: &mut String, timeline: &Timeline, y: u64) -> Result<()
 }
 
 /// Writes samples of classes at height `y`, each with its x coordinate and its name.
-fn draw_samples(
-    svg: &mut String,
-    y: u64,
-    samples: &[(u64, &str, &str)],
-) -> Result<(), AllocError>
+fn draw_samples(svg: &mut String, y: u64, samples: &[(u64, &str, &str)]) -> Result<(), AllocError>
     requires { y ≤ 2 ^ 39 }
 {
     for (x, class, name) in samples {
