@@ -1,7 +1,7 @@
 //! The objects of an imported image, one by one.
-ghost use Rattle.std.specs.Prelude.{◌≡◌, ◌≢◌, ◌<◌, ◌≤◌, IfOk, OnOk};
-ghost use Rattle.heap_image.specs.HeapImage.{IsValid, heap_words};
-ghost use Rattle.heap_dump.specs.Listing.{AreObjectsOf, AreObjectsBefore};
+ghost use Rattle.std.specs.Prelude.{◌≡◌, ◌≢◌, ◌<◌, ◌≤◌, ◌+◌, IfOk, OnOk, IsTrue};
+ghost use Rattle.heap_image.specs.HeapImage.{heap_words, size_at};
+ghost use Rattle.heap_dump.specs.Listing.{AreObjectsBefore, AreObjectsOf, IsNextLive};
 
 use crate::error::ImportError;
 use heap_image::header::size;
@@ -23,12 +23,9 @@ pub struct ListedObject {
 
 /// The objects of an image up to some address.
 #[derive(Drop)]
-struct ObjectList<'a> {
-    image: &'a Image,
-    /// The class number of each object of the image.
-    classes: &'a [u32],
+struct ObjectList {
     objects: Vec<ListedObject>,
-    /// How many of the objects are live.
+    /// How many of them are live.
     live: usize,
 }
 
@@ -45,44 +42,56 @@ pub(crate) fn list_objects(
     ensures no_device { result ≢ Err ImportError.Input }
 {
     let mut list = ObjectList {
-        image,
-        classes,
         objects: Vec::with_capacity(alloc, classes.len())?,
         live: 0,
     };
     let mut at = 0;
     while at < image.len() {
-        at = list.step(at)?;
+        at = list.step(image, classes, at)?;
     }
-    list.finish()
+    list.finish(image, classes)
 }
 
-impl ObjectList<'_> {
+impl ObjectList {
     /// Lists the object at an address, if there is one, and returns the address after it.
-    fn step(&mut self, at: u64) -> Result<u64, ImportError>
-        requires { at < heap_words self.old.image.now }
+    fn step(&mut self, image: &Image, classes: &[u32], at: u64) -> Result<u64, ImportError>
+        requires inside { at < heap_words image.now }
+        requires before { AreObjectsBefore image.now self.old.live at self.old.objects.items }
+        ensures objects { IfOk result (λ next. AreObjectsBefore image.now self.new.live next self.new.objects.items) }
+        ensures later { IfOk result (λ next. at < next) }
+        ensures within { IfOk result (λ next. next ≤ heap_words image.now) }
         ensures no_device { result ≢ Err ImportError.Input }
     {
-        let header = self.image.word(at);
+        let end = image.len();
+        let header = image.word(at);
         if header == 0 {
             return Ok(at + 1);
         }
         let words = u64::from(size(header));
-        if words == 0 || words > self.image.len() - at {
+        if words == 0 || words > end - at {
             return Err(ImportError::NoHeap(Fault::Header(at)));
         }
-        self.push(at, words)?;
+        self.push(image, classes, at, words)?;
         Ok(at + words)
     }
 
-    /// Lists an object.
-    fn push(&mut self, address: u64, words: u64) -> Result<(), ImportError>
+    /// Lists an object of this size.
+    fn push(
+        &mut self,
+        image: &Image,
+        classes: &[u32],
+        address: u64,
+        words: u64,
+    ) -> Result<(), ImportError>
+        requires size { words ≡ size_at image.now address }
+        requires before { AreObjectsBefore image.now self.old.live address self.old.objects.items }
+        ensures objects { OnOk result (AreObjectsBefore image.now self.new.live (address + words) self.new.objects.items) }
         ensures no_device { result ≢ Err ImportError.Input }
     {
-        let is_live = self.image.live().get(self.live) == Some(&address);
-        let Some(class) = self.classes.get(self.objects.len()).copied() else {
+        let Some(class) = classes.get(self.objects.len()).copied() else {
             return Err(ImportError::NoHeap(Fault::Header(address)));
         };
+        let is_live = is_next_live(image, self.live, address);
         self.objects.push(ListedObject {
             address,
             words,
@@ -95,19 +104,25 @@ impl ObjectList<'_> {
         Ok(())
     }
 
-    /// Returns the objects. It is an error if there are others.
-    fn finish(self) -> Result<Vec<ListedObject>, ImportError>
+    /// Returns the objects. It is an error if there are other live ones, or objects without a class.
+    fn finish(self, image: &Image, classes: &[u32]) -> Result<Vec<ListedObject>, ImportError>
+        requires { AreObjectsBefore image.now self.live (heap_words image.now) self.objects.items }
+        ensures objects { IfOk result (λ objects. AreObjectsOf image.now objects.items) }
         ensures no_device { result ≢ Err ImportError.Input }
     {
-        let ObjectList {
-            image,
-            classes,
-            objects,
-            live,
-        } = self;
+        let ObjectList { objects, live } = self;
         if live != image.live().len() || objects.len() != classes.len() {
             return Err(ImportError::NoHeap(Fault::Length));
         }
         Ok(objects)
     }
+}
+
+/// Whether the live address with this index is this one.
+fn is_next_live(image: &Image, index: usize, address: u64) -> bool
+    ensures next { IsTrue result → IsNextLive image.now index address }
+    ensures few { IsTrue result → index < 4194304 }
+{
+    let live = image.live();
+    index < live.len() && live[index] == address
 }
