@@ -278,36 +278,37 @@ def make(data: bytes, region_log: int = 9, allowance: int = 0, live_only: bool =
     return Import(head + struct.pack(f"<{total}Q", *words) + struct.pack(f"<{len(roots)}Q", *roots), line)
 
 
-def name_of_class(dump: Dump, id_: int) -> bytes:
-    """The name of a class as the dump has it, or nothing."""
-    return dump.texts.get(dump.text_of_class.get(id_, 0), b"")
+class Names:
+    """The classes of a dump as the lists show them. A key tells a class, and where it comes among those with equal bytes."""
 
+    def __init__(self, dump: Dump):
+        self.dump = dump
+        self.ids = list(dump.classes)
+        self.places = {id_: at for at, id_ in enumerate(self.ids)}
+        self.names = [dump.texts.get(dump.text_of_class.get(id_, 0), b"") for id_ in self.ids]
+        self.of_classes = (3, self.names.index(CLASS_OF_CLASSES)) if CLASS_OF_CLASSES in self.names else (2, 0)
 
-def class_key(dump: Dump, id_: int) -> tuple[int, int]:
-    """Where the class of an object comes among those with equal bytes, which also tells them apart."""
-    class_ = dump.class_of[id_]
-    if isinstance(class_, bytes):
-        return 1, list(PRIMITIVE_NAMES.values()).index(class_)
-    order = list(dump.classes)
-    if class_ is None:
-        named = [at for at, known in enumerate(order) if name_of_class(dump, known) == CLASS_OF_CLASSES]
-        return (3, named[0]) if named else (2, 0)
-    return (3, order.index(class_)) if class_ in dump.classes else (0, 0)
+    def key(self, id_: int) -> tuple[int, int]:
+        class_ = self.dump.class_of[id_]
+        if isinstance(class_, bytes):
+            return 1, list(PRIMITIVE_NAMES.values()).index(class_)
+        if class_ is None:
+            return self.of_classes
+        return (3, self.places[class_]) if class_ in self.places else (0, 0)
 
+    def inner(self, key: tuple[int, int]) -> bytes:
+        group, at = key
+        return self.names[at] if group == 3 else {0: b"[?", 1: list(PRIMITIVE_NAMES.values())[at], 2: CLASS_OF_CLASSES}[group]
 
-def inner_name(dump: Dump, key: tuple[int, int]) -> bytes:
-    group, at = key
-    if group == 3:
-        return name_of_class(dump, list(dump.classes)[at])
-    return {0: b"[?", 1: list(PRIMITIVE_NAMES.values())[at], 2: CLASS_OF_CLASSES}[group]
+    def shown(self, key: tuple[int, int]) -> str:
+        name = self.inner(key)
+        if not name:
+            return f"class@{self.ids[key[1]]:x}"
+        return "".join(chr(byte) if 0x20 < byte < 0x7F and byte != 0x5C else f"\\x{byte:02x}" for byte in name.replace(b"/", b"."))
 
-
-def shown_name(dump: Dump, key: tuple[int, int]) -> str:
-    name = inner_name(dump, key)
-    if not name:
-        return f"class@{list(dump.classes)[key[1]]:x}"
-    plain = (chr(byte) if 0x20 < byte < 0x7F and byte != 0x5C else f"\\x{byte:02x}" for byte in name.replace(b"/", b"."))
-    return "".join(plain)
+    def kind(self, key: tuple[int, int]) -> str:
+        name = self.inner(key)
+        return "array" if name[:1] == b"[" else "class" if name == CLASS_OF_CLASSES else "instance"
 
 
 @dataclasses.dataclass
@@ -320,6 +321,7 @@ class Lists:
 def lists(data: bytes, region_log: int = 9, live_only: bool = False, rows: int = 1_000_000) -> Lists:
     """What is told of the objects of a dump that has an image."""
     dump = Dump(data)
+    names = Names(dump)
     live = reached(dump)
     ids = sorted(live if live_only else dump.objects)
     addresses, end, dropped = places(dump, ids, not live_only)
@@ -327,8 +329,8 @@ def lists(data: bytes, region_log: int = 9, live_only: bool = False, rows: int =
     lines, sums = [], collections.defaultdict(lambda: [0, 0, 0, 0])
     dead, padding, gaps, last, kind = 0, 0, 0, 0, None
     for id_ in ids:
-        key, size = class_key(dump, id_), 8 * dump.objects[id_].words()
-        lines.append(f"{addresses[id_]} {shown_name(dump, key)} {size} {'live' if id_ in live else 'dead'}\n")
+        key, size = names.key(id_), 8 * dump.objects[id_].words()
+        lines.append(f"{addresses[id_]} {names.shown(key)} {size} {'live' if id_ in live else 'dead'}\n")
         at = 0 if id_ in live else 2
         sums[key][at] += 1
         sums[key][at + 1] += size
@@ -339,12 +341,11 @@ def lists(data: bytes, region_log: int = 9, live_only: bool = False, rows: int =
             gaps += gap
         dead += 0 if id_ in live else size
         last = addresses[id_] + size // 8
-        name = inner_name(dump, key)
-        kind = "array" if name[:1] == b"[" else "class" if name == CLASS_OF_CLASSES else "instance"
+        kind = names.kind(key)
     shown = " num  live objects    live bytes  dead objects    dead bytes  class\n"
     ordered = sorted(sums, key=lambda key: (-sums[key][1] - sums[key][3], key))
     for number, key in enumerate(ordered[:rows], 1):
-        shown += f"{number:>4}:" + "".join(f" {count:>13}" for count in sums[key]) + f"  {shown_name(dump, key)}\n"
+        shown += f"{number:>4}:" + "".join(f" {count:>13}" for count in sums[key]) + f"  {names.shown(key)}\n"
     shown += "total" + "".join(f" {sum(row[at] for row in sums.values()):>13}" for at in range(4)) + "\n"
     parts = ((dead, "objects that no root reaches"), (8 * padding, "padding: the machine's larger headers and alignment"),
              (8 * gaps, "wider gaps: free space, or objects that the dump leaves out"), (8 * (total - last), "after the last object"))
