@@ -3,7 +3,7 @@
 use crate::checks::equal;
 use heap_image::FromRead;
 use heap_text::{AssembleError, Expected, TextError, assemble_from};
-use std::alloc::Global;
+use std::alloc::{AllocError, Global};
 use std::io;
 use std::io::Read;
 use std::test::Fail;
@@ -42,36 +42,43 @@ impl Read for Failing {
     }
 }
 
-/// The number of words of the image of a text, or the error.
-fn assembled_words<R: Read + Drop>(alloc: Global, text: R) -> Result<u64, AssembleError> {
-    let image = assemble_from(alloc, &mut FromRead::new(text))?;
-    Ok(image.len())
+/// The number of words of the image of a text, or the error. Fails only if memory runs out.
+fn assembled_words<R: Read + Drop>(
+    alloc: Global,
+    text: R,
+) -> Result<Result<u64, AssembleError>, AllocError> {
+    match assemble_from(alloc, &mut FromRead::new(text)) {
+        Ok(image) => Ok(Ok(image.len())),
+        Err(AssembleError::Text(TextError::Memory)) => Err(AllocError),
+        Err(error) => Ok(Err(error)),
+    }
 }
 
 #[test]
 fn a_text_is_assembled_from_a_device(rt: HostRuntime) -> Result<(), Fail> {
-    let words = assembled_words(rt.alloc(), DEAD.as_bytes());
+    let words = assembled_words(rt.alloc(), DEAD.as_bytes())?;
     equal(&rt, words, Ok(8));
-    let words = assembled_words(rt.alloc(), TWO_REGIONS.as_bytes());
+    let words = assembled_words(rt.alloc(), TWO_REGIONS.as_bytes())?;
     equal(&rt, words, Ok(131_072));
     Ok(())
 }
 
 #[test]
 fn a_failing_device_is_reported(rt: HostRuntime) -> Result<(), Fail> {
-    let words = assembled_words(rt.alloc(), Failing);
+    let words = assembled_words(rt.alloc(), Failing)?;
     equal(&rt, words, Err(AssembleError::Device));
     Ok(())
 }
 
-/// The error for an endless text of this byte, and how many bytes were read.
-fn assemble_endless(alloc: Global, byte: u8) -> (Option<AssembleError>, usize) {
+/// The error for an endless text of this byte, and how many bytes were read. Fails only if memory runs out.
+fn assemble_endless(alloc: Global, byte: u8) -> Result<(Option<AssembleError>, usize), AllocError> {
     let mut device = FromRead::new(Endless { byte, given: 0 });
     let error = match assemble_from(alloc, &mut device) {
         Ok(_) => None,
+        Err(AssembleError::Text(TextError::Memory)) => return Err(AllocError),
         Err(error) => Some(error),
     };
-    (error, device.into_inner().given)
+    Ok((error, device.into_inner().given))
 }
 
 /// The error of a text whose first line is wrong.
@@ -81,9 +88,9 @@ fn first_line_error(expected: Expected) -> Option<AssembleError> {
 
 #[test]
 fn an_endless_text_is_rejected_in_its_first_piece(rt: HostRuntime) -> Result<(), Fail> {
-    let zeros = assemble_endless(rt.alloc(), 0);
+    let zeros = assemble_endless(rt.alloc(), 0)?;
     equal(&rt, zeros, (first_line_error(Expected::Newline), 65_536));
-    let newlines = assemble_endless(rt.alloc(), b'\n');
+    let newlines = assemble_endless(rt.alloc(), b'\n')?;
     equal(&rt, newlines, (first_line_error(Expected::Version), 65_536));
     Ok(())
 }
