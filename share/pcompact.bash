@@ -44,15 +44,15 @@ _pcompact_takes() {
     case $command in
     '') options='-h --help -V --version' ;;
     board) options='-h --help' most=0 ;;
-    summary) options='--verbose -h --help' most=1 ;;
-    collect) options='--workers --atomic --stats --verbose -h --help' most=2 ;;
-    verify) options='--stats --verbose -h --help' most=2 ;;
+    summary) options='--json --verbose -h --help' most=1 ;;
+    collect) options='--workers --atomic --json --stats --verbose -h --help' most=2 ;;
+    verify) options='--json --stats --verbose -h --help' most=2 ;;
     record) options='--workers --atomic --stats --verbose -h --help' most=3 ;;
     replay) options='--verbose -h --help' most=2 ;;
     upgrade) options='--atomic --verbose -h --help' most=2 ;;
-    import) options='--region-log --allowance --live-only --atomic --verbose -h --help' most=2 ;;
+    import) options='--region-log --allowance --live-only --json --atomic --verbose -h --help' most=2 ;;
     generate) options='--words --live --region-log --seed --refs --version --allowance --atomic --verbose -h --help' most=1 ;;
-    order) options='--verbose -h --help' most=1 ;;
+    order) options='--json --verbose -h --help' most=1 ;;
     text) options='--verbose -h --help' most=1 ;;
     assemble) options='--atomic --verbose -h --help' most=2 ;;
     map) options='--after --width --svg --letters --color --no-color --atomic --verbose -h --help' most=1 ;;

@@ -34,15 +34,18 @@ complete -c pcompact -n '__pcompact_is ""' -s V -l version -d 'Print version'
 complete -c pcompact -n '__pcompact_is help' -a 'board summary collect verify record replay upgrade import generate order text assemble map timeline help'
 complete -c pcompact -n '__pcompact_is board' -s h -l help -d 'Print help'
 complete -c pcompact -n '__pcompact_is summary' -F
+complete -c pcompact -n '__pcompact_is summary' -l json -d 'Print a JSON object'
 complete -c pcompact -n '__pcompact_is summary' -l verbose -d 'Print more details about errors'
 complete -c pcompact -n '__pcompact_is summary' -s h -l help -d 'Print help'
 complete -c pcompact -n '__pcompact_is collect' -F
 complete -c pcompact -n '__pcompact_is collect' -l workers -x -a '(seq 1 64)' -d 'Number of worker threads, from 1 to 64'
 complete -c pcompact -n '__pcompact_is collect' -l atomic -d 'Replace files only once the command has succeeded'
+complete -c pcompact -n '__pcompact_is collect' -l json -d 'Print a JSON object'
 complete -c pcompact -n '__pcompact_is collect' -l stats -d 'Print timings and peak memory to stderr'
 complete -c pcompact -n '__pcompact_is collect' -l verbose -d 'Print more details about errors'
 complete -c pcompact -n '__pcompact_is collect' -s h -l help -d 'Print help'
 complete -c pcompact -n '__pcompact_is verify' -F
+complete -c pcompact -n '__pcompact_is verify' -l json -d 'Print a JSON object'
 complete -c pcompact -n '__pcompact_is verify' -l stats -d 'Print timings and peak memory to stderr'
 complete -c pcompact -n '__pcompact_is verify' -l verbose -d 'Print more details about errors'
 complete -c pcompact -n '__pcompact_is verify' -s h -l help -d 'Print help'
@@ -63,6 +66,7 @@ complete -c pcompact -n '__pcompact_is import' -F
 complete -c pcompact -n '__pcompact_is import' -l region-log -x -a '(seq 3 16)' -d 'Regions have 2^k words, k from 3 to 16 (default 9)'
 complete -c pcompact -n '__pcompact_is import' -l allowance -x -d 'Number of dead words that the dense prefix may keep (default 0)'
 complete -c pcompact -n '__pcompact_is import' -l live-only -d 'Keep only objects that are reachable from the roots'
+complete -c pcompact -n '__pcompact_is import' -l json -d 'Print a JSON object'
 complete -c pcompact -n '__pcompact_is import' -l atomic -d 'Replace files only once the command has succeeded'
 complete -c pcompact -n '__pcompact_is import' -l verbose -d 'Print more details about errors'
 complete -c pcompact -n '__pcompact_is import' -s h -l help -d 'Print help'
@@ -78,6 +82,7 @@ complete -c pcompact -n '__pcompact_is generate' -l atomic -d 'Replace files onl
 complete -c pcompact -n '__pcompact_is generate' -l verbose -d 'Print more details about errors'
 complete -c pcompact -n '__pcompact_is generate' -s h -l help -d 'Print help'
 complete -c pcompact -n '__pcompact_is order' -F
+complete -c pcompact -n '__pcompact_is order' -l json -d 'Print a JSON object'
 complete -c pcompact -n '__pcompact_is order' -l verbose -d 'Print more details about errors'
 complete -c pcompact -n '__pcompact_is order' -s h -l help -d 'Print help'
 complete -c pcompact -n '__pcompact_is text' -F

@@ -62,8 +62,12 @@ Arguments:
   <IMAGE>  A heap image
 
 Options:
+      --json     Print a JSON object
       --verbose  Print more details about errors
   -h, --help     Print help
+
+Example:
+  pcompact summary heap.pcheap
 """
 
 COLLECT_HELP = """\
@@ -78,9 +82,13 @@ Arguments:
 Options:
       --workers <n>  Number of worker threads, from 1 to 64
       --atomic       Replace files only once the command has succeeded
+      --json         Print a JSON object
       --stats        Print timings and peak memory to stderr
       --verbose      Print more details about errors
   -h, --help         Print help
+
+Example:
+  pcompact collect heap.pcheap out.pcheap --workers 4
 """
 
 RECORD_HELP = """\
@@ -99,6 +107,9 @@ Options:
       --stats        Print timings and peak memory to stderr
       --verbose      Print more details about errors
   -h, --help         Print help
+
+Example:
+  pcompact record heap.pcheap out.pcheap schedule --workers 4
 """
 
 REPLAY_HELP = """\
@@ -113,6 +124,9 @@ Arguments:
 Options:
       --verbose  Print more details about errors
   -h, --help     Print help
+
+Example:
+  pcompact replay heap.pcheap schedule
 """
 
 ORDER_HELP = """\
@@ -124,8 +138,12 @@ Arguments:
   <IMAGE>  A heap image
 
 Options:
+      --json     Print a JSON object
       --verbose  Print more details about errors
   -h, --help     Print help
+
+Example:
+  pcompact order heap.pcheap
 """
 
 TEXT_HELP = """\
@@ -139,6 +157,9 @@ Arguments:
 Options:
       --verbose  Print more details about errors
   -h, --help     Print help
+
+Example:
+  pcompact text heap.pcheap
 """
 
 ASSEMBLE_HELP = """\
@@ -154,6 +175,9 @@ Options:
       --atomic   Replace files only once the command has succeeded
       --verbose  Print more details about errors
   -h, --help     Print help
+
+Example:
+  pcompact assemble heap.txt heap.pcheap
 """
 
 MAP_HELP = """\
@@ -174,6 +198,9 @@ Options:
       --atomic      Replace files only once the command has succeeded
       --verbose     Print more details about errors
   -h, --help        Print help
+
+Example:
+  pcompact map heap.pcheap --after
 """
 
 TIMELINE_HELP = """\
@@ -211,9 +238,13 @@ Arguments:
   <AFTER>   The image to compare with its compaction
 
 Options:
+      --json     Print a JSON object
       --stats    Print timings and peak memory to stderr
       --verbose  Print more details about errors
   -h, --help     Print help
+
+Example:
+  pcompact verify heap.pcheap out.pcheap
 """
 
 UPGRADE_HELP = """\
@@ -229,6 +260,9 @@ Options:
       --atomic   Replace files only once the command has succeeded
       --verbose  Print more details about errors
   -h, --help     Print help
+
+Example:
+  pcompact upgrade heap.pcheap rooted.pcheap
 """
 
 IMPORT_HELP = """\
@@ -244,9 +278,14 @@ Options:
       --region-log <k>  Regions have 2^k words, k from 3 to 16 (default 9)
       --allowance <m>   Number of dead words that the dense prefix may keep (default 0)
       --live-only       Keep only objects that are reachable from the roots
+      --json            Print a JSON object
       --atomic          Replace files only once the command has succeeded
       --verbose         Print more details about errors
   -h, --help            Print help
+
+Example:
+  jcmd PID GC.heap_dump -all /tmp/heap.hprof
+  pcompact import /tmp/heap.hprof heap.pcheap
 """
 
 GENERATE_HELP = """\
@@ -268,6 +307,9 @@ Options:
       --atomic          Replace files only once the command has succeeded
       --verbose         Print more details about errors
   -h, --help            Print help
+
+Example:
+  pcompact generate heap.pcheap --words 65536 --live 50 --region-log 9 --seed 1
 """
 
 NO_COMMAND = """\
@@ -346,7 +388,7 @@ For more information, try '--help'.
 """
 
 NO_NUMBER = """\
-error: invalid value 'two' for '--workers <n>': invalid digit found in string
+error: invalid value 'two' for '--workers <n>': a whole number is wanted
 
 For more information, try '--help'.
 """
@@ -360,9 +402,47 @@ For more information, try '--help'.
 BELOW_ZERO = """\
 error: unexpected argument '-1' found
 
-  tip: to pass '-1' as a value, use '-- -1'
-
 Usage: pcompact collect [OPTIONS] --workers <n> <IMAGE> <OUT>
+
+For more information, try '--help'.
+"""
+
+OPTION_AS_VALUE = """\
+error: unexpected argument '--allowance' found
+
+Usage: pcompact collect --workers <n> <IMAGE> <OUT>
+
+For more information, try '--help'.
+"""
+
+NO_UNIT = """\
+error: invalid value '32MiB' for '--words <n>': a whole number is wanted, of words of 8 bytes
+
+For more information, try '--help'.
+"""
+
+NO_POINT = """\
+error: invalid value '50.5' for '--live <share>': a whole number is wanted, of per cent
+
+For more information, try '--help'.
+"""
+
+VERSION = """\
+error: unrecognized subcommand 'version'
+
+  tip: a similar argument exists: '--version'
+
+Usage: pcompact <COMMAND>
+
+For more information, try '--help'.
+"""
+
+OTHER_COMMAND = """\
+error: unrecognized subcommand 'generat'
+
+  tip: a similar subcommand exists: 'generate'
+
+Usage: pcompact <COMMAND>
 
 For more information, try '--help'.
 """
@@ -401,6 +481,11 @@ REFUSED = [
     ("collect in out --workers two", NO_NUMBER),
     ("collect in out --workers 4294967296", TOO_LARGE),
     ("collect in out --workers -1", BELOW_ZERO),
+    ("collect in out --workers --allowance", OPTION_AS_VALUE),
+    ("generate out --words 32MiB --live 50 --region-log 3 --seed 1", NO_UNIT),
+    ("generate out --words 64 --live 50.5 --region-log 3 --seed 1", NO_POINT),
+    ("version", VERSION),
+    ("generat out", OTHER_COMMAND),
 ]
 
 
