@@ -285,6 +285,8 @@ def try_collections(tried: Tried) -> None:
         tried.run("summary image", Answer(0, said))
     tried.write("image", image(WORDS, []))
     tried.run("order image", Answer(0, "chain 0 words 0 speedup 1.00 workers 1\n"))
+    tried.write("image", image(plain(800, {0: 800}), [0]))
+    tried.run("order image", Answer(0, "chain 8 words 800 speedup 100.00 workers 64\n"))
     for allowance, said in CHAINS:
         tried.write("image", image(WORDS, LIVE, allowance))
         tried.run("order image", Answer(0, said))

@@ -1,5 +1,5 @@
 #!/usr/bin/env python3
-"""`-` as standard input and output, `--json`, what comes on a terminal, and a reader that is gone.
+"""`-` as standard input and output, `--json`, what comes on a terminal alone, and a reader that is gone.
 
 usage: tests/cli/test_streams.py [PROGRAM]
 """
@@ -14,7 +14,7 @@ import sys
 sys.dont_write_bytecode = True
 sys.path.insert(0, str(pathlib.Path(__file__).resolve().parents[2]))
 from tests.cli.test_import import DUMP, NAME, imported
-from tests.support.cases import BASE, COLLECTED, COMPACTED, try_groups
+from tests.support.cases import BASE, COLLECTED, COMPACTED, REPORT, try_groups
 from tests.support.program import Answer, Tried
 
 SAME = Answer(2, err="pcompact: same file\n")
@@ -40,9 +40,10 @@ def try_standard(tried: Tried) -> None:
             ("pcompact collect base - --workers 2", b"", COMPACTED, COLLECTED.encode()),
             ("pcompact collect - - --workers 2", BASE, COMPACTED, COLLECTED.encode()),
             ("pcompact text - | pcompact assemble - -", BASE, BASE, b"words 32 roots 0 live 4\n"),
+            ("pcompact map - --svg - >drawing; head -c 4 drawing", BASE, b"<svg", None),
             ("pcompact summary - | cat", BASE, summary.encode(), b"")):
         done = piped(tried, line, given)
-        if (done.stdout, done.stderr) != (out, err):
+        if done.stdout != out or err not in (done.stderr, None):
             tried.is_wrong(f"{line}: {done.stdout[:80]!r}, {done.stderr!r}")
     for words in ("verify - -", "replay - -", "record base - - --workers 1", "record - - - --workers 1"):
         tried.run(words, SAME, input=BASE)
@@ -77,7 +78,7 @@ def try_objects(tried: Tried) -> None:
     tried.run("verify base out --json", Answer(0, '{"same":true}\n'))
     tried.run("verify base base --json", Answer(1, err="pcompact: differs word 1\n"))
     lines = subprocess.run([tried.program, "summary", "base"], cwd=tried.folder, capture_output=True, text=True).stdout.splitlines()
-    names = ["region", "partial", "live", "destination", "count", "source"]
+    names = ["region", "partial", "live", "dest", "count", "source"]
     regions = [dict(zip(names, [None if word == "-" else int(word) for word in line.split()], strict=True)) for line in lines[1:]]
     said = subprocess.run([tried.program, "summary", "base", "--json"], cwd=tried.folder, capture_output=True, text=True)
     tried.count += 1
@@ -85,11 +86,12 @@ def try_objects(tried: Tried) -> None:
         tried.is_wrong(f"pcompact summary base --json: {said}")
 
 
-def on_terminal(tried: Tried, words: str) -> tuple[int, str]:
-    """The status, and what comes on a terminal that is standard error."""
+def on_terminal(tried: Tried, words: str, stream: str = "stderr") -> tuple[int, str]:
+    """The status, and what comes on a terminal that is this stream."""
     mine, its = pty.openpty()
     tried.count += 1
-    done = subprocess.run([tried.program, *words.split()], cwd=tried.folder, stdin=subprocess.DEVNULL, stdout=subprocess.DEVNULL, stderr=its)
+    streams = {"stdin": subprocess.DEVNULL, "stdout": subprocess.DEVNULL, "stderr": subprocess.DEVNULL, stream: its}
+    done = subprocess.run([tried.program, *words.split()], cwd=tried.folder, **streams)
     os.close(its)
     said = b""
     try:
@@ -113,6 +115,20 @@ def try_terminal(tried: Tried) -> None:
     tried.run("summary -- --verbose=always", Answer(1, err=first))
 
 
+def try_heading(tried: Tried) -> None:
+    """The names of the columns come with the option and on a terminal, and in an object never."""
+    first, rows = REPORT.split("\n", 1)
+    headed = f"{first}\n  region  partial     live     dest    count   source\n{rows}"
+    tried.run("summary base", Answer(0, REPORT))
+    tried.run("summary base --heading", Answer(0, headed))
+    for words, wanted in (("summary base", headed), ("summary base --heading", headed), ("order base", "chain 19 words 19 speedup 1.00 workers 1\n")):
+        if (found := on_terminal(tried, words, "stdout")) != (0, wanted):
+            tried.is_wrong(f"{words}, on a terminal: {found}")
+    for words in ("summary base --json", "summary base --json --heading"):
+        if "partial " in (found := on_terminal(tried, words, "stdout"))[1] or found != on_terminal(tried, "summary base --json", "stdout"):
+            tried.is_wrong(f"{words}, on a terminal: {found}")
+
+
 def try_gone(tried: Tried) -> None:
     """A reader of standard output that is gone: the status of SIGPIPE, and nothing on standard error."""
     reading, writing = os.pipe()
@@ -121,7 +137,7 @@ def try_gone(tried: Tried) -> None:
         tried.run("summary base", Answer(141), stdout=gone)
 
 
-GROUPS = (try_standard, try_dumps, try_objects, try_terminal, try_gone)
+GROUPS = (try_standard, try_dumps, try_objects, try_terminal, try_heading, try_gone)
 
 if __name__ == "__main__":
     sys.exit(try_groups(GROUPS))

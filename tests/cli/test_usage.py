@@ -18,20 +18,20 @@ Parallel mark-compact collection of heap images
 Usage: pcompact <COMMAND>
 
 Commands:
-  board     Schedule three regions among two workers, and count claims and completions
-  summary   Print the plan of a collection, region by region
   collect   Collect a heap image and write the compacted one
   verify    Compare a heap image with the compaction of another
+  summary   Print the plan of a collection, region by region
+  order     Print how many workers a collection can keep busy
+  map       Draw a heap image, also as its collection leaves it
+  text      Print a heap image as text
+  assemble  Convert a heap text to a heap image
   record    Collect a heap image and record what each worker does
   replay    Replay a schedule word by word and print it with all replies
+  timeline  Draw which worker has which region along the lines of a schedule
   upgrade   Convert a heap image to version 2, which has roots
   import    Convert the heap dump of a Java virtual machine to a heap image
   generate  Generate a heap image from a seed, for benchmarks and experiments
-  order     Print how many workers a collection can keep busy
-  text      Print a heap image as text
-  assemble  Convert a heap text to a heap image
-  map       Draw a heap image, also as its collection leaves it
-  timeline  Draw which worker has which region along the lines of a schedule
+  board     Schedule three regions among two workers, and count claims and completions
   help      Print this message or the help of the given subcommand(s)
 
 Options:
@@ -51,6 +51,9 @@ Usage: pcompact board
 
 Options:
   -h, --help  Print help
+
+Example:
+  pcompact board
 """
 
 SUMMARY_HELP = """\
@@ -62,6 +65,7 @@ Arguments:
   <IMAGE>  A heap image
 
 Options:
+      --heading  Print the names of the columns even if standard output is no terminal
       --json     Print a JSON object
       --verbose  Print more details about errors
   -h, --help     Print help
@@ -314,7 +318,7 @@ Example:
 
 NO_COMMAND = """\
 error: 'pcompact' requires a subcommand but one was not provided
-  [subcommands: board, summary, collect, verify, record, replay, upgrade, import, generate, order, text, assemble, map, timeline, help]
+  [subcommands: collect, verify, summary, order, map, text, assemble, record, replay, timeline, upgrade, import, generate, board, help]
 
 Usage: pcompact <COMMAND>
 

@@ -17,6 +17,7 @@ sys.dont_write_bytecode = True
 sys.path.insert(0, str(pathlib.Path(__file__).resolve().parents[2]))
 from tests.cli.test_import import CUT, DUMP, NAME
 from tests.models.image import header
+from tests.support import dump_writer
 from tests.support.cases import BASE, COMPACTED, MOVED, MOVED_LIVE, ONE_WORKER, WORDS, head, image, with_word
 from tests.support.program import PRELOAD, Answer, Tried, built
 
@@ -216,6 +217,14 @@ def try_dumps(tried: Tried) -> None:
     for words, said in (("import cut out", CUT), ("import cut out --atomic --live-only", CUT)):
         try_both(tried, words, told(said, f"file DUMP {words.split()[1]}"))
     try_both(tried, "import base out", told(NAME, "file DUMP base", "hint it is a heap image"))
+    to = dump_writer.Writer()
+    array = to.primitives(8, 11, [0] * 200_000) + to.references(4_000_000, [])
+    many = "the heap has 200002 words, and 131072 are the most"
+    for root, live, hint in ((4_000_000, 1, "it has 1.5 MiB, 1.0 MiB are the most, and with --live-only it has 0.0 MiB"),
+                             (8, 200_001, "its live objects have 1.5 MiB, and 1.0 MiB are the most")):
+        tried.write("large", dump_writer.Writer().record(0x0C, array + to.root(0x05, root)).text())
+        try_both(tried, "import large out --region-log 3",
+                 told(f"{many}; with --live-only it has {live}", "file DUMP large", f"hint {hint}"))
     missing = "no such file or folder"
     for words in ("import nothing out", "import nothing out --atomic"):
         try_both(tried, words, io("DUMP nothing", "open", missing))

@@ -12,7 +12,8 @@ board_words = new_app (codes "board")
 -- the definition of `summary`
 abbrev pub summary_words : App
 summary_words =
-    with_rule (with_rule (with_rule (new_app (codes "summary")) (file_rule (codes "IMAGE"))) json_rule) verbose_rule
+    with_rule (with_rule (with_rule (with_rule (new_app (codes "summary")) (file_rule (codes "IMAGE"))) (flag_rule (codes "heading")))
+    json_rule) verbose_rule
 
 -- the definition of `collect`
 abbrev pub collect_words : App
@@ -174,18 +175,18 @@ timeline_words =
 -- the definitions of the commands, in the order of help
 abbrev pub listed : List App
 listed =
-    board_words
-    ∷ summary_words
-    ∷ collect_words
+    collect_words
     ∷ verify_words
+    ∷ summary_words
+    ∷ order_words
+    ∷ map_words
+    ∷ text_words
+    ∷ assemble_words
     ∷ record_words
     ∷ replay_words
+    ∷ timeline_words
     ∷ upgrade_words
     ∷ import_words
     ∷ generate_words
-    ∷ order_words
-    ∷ text_words
-    ∷ assemble_words
-    ∷ map_words
-    ∷ timeline_words
+    ∷ board_words
     ∷ []

@@ -24,6 +24,11 @@ pub fn words<'a>(alloc: Global) -> Result<Command<'a>, AllocError>
         .about("Print the plan of a collection, region by region")
         .after_help(EXAMPLE)
         .arg(arguments::image(alloc))?
+        .arg(arguments::flag(
+            alloc,
+            "heading",
+            "Print the names of the columns even if standard output is no terminal",
+        ))?
         .arg(arguments::json(alloc))?
         .arg(arguments::verbose(alloc))
 }
@@ -33,6 +38,8 @@ pub fn words<'a>(alloc: Global) -> Result<Command<'a>, AllocError>
 pub struct Summary<'a> {
     /// The file with the image.
     pub image: &'a str,
+    /// Whether to print the names of the columns.
+    pub heading: bool,
     /// Whether to print a JSON object.
     pub json: bool,
     /// Whether to print more details about errors.
@@ -45,6 +52,7 @@ impl<'a> Summary<'a> {
     {
         Ok(Summary {
             image: arguments::file_in(matches, "IMAGE")?,
+            heading: matches.get_flag("heading"),
             json: arguments::asks_json(matches),
             verbose: arguments::is_verbose(matches),
         })
@@ -54,5 +62,5 @@ impl<'a> Summary<'a> {
 /// Lines that call `summary`.
 pub fn lines_call_summary()
     ensures line { IsCallOf (codes "summary") (codes "summary" ∷ codes "heap.pcheap" ∷ []) }
-    ensures options { IsCallOf (codes "summary") (codes "summary" ∷ codes "--verbose" ∷ codes "heap.pcheap" ∷ codes "--json" ∷ []) }
+    ensures options { IsCallOf (codes "summary") (codes "summary" ∷ codes "--verbose" ∷ codes "heap.pcheap" ∷ codes "--heading" ∷ codes "--json" ∷ []) }
 {}

@@ -36,9 +36,12 @@ abbrev pub hint_of : Content → List ℕ → Option Hint
 hint_of wanted [] = Some Empty
 hint_of wanted (byte ∷ rest) = hint_of_found wanted (content_of (byte ∷ rest))
 
+-- the hint about a dump with so many words, of which so many are the most, and with so many words of reachable objects
+abbrev pub hint_of_words : ℕ → ℕ → ℕ → Hint
+hint_of_words words most live_words = if nat_lt most live_words then TooLarge live_words most else LiveOnly words most live_words
+
 -- the hint about a dump with these first bytes, of which no image is made because of this error
 abbrev pub hint_of_dump : ImportError → List ℕ → Option Hint
-hint_of_dump (ImportError.TooManyWords words most live_words) front =
-    if nat_lt most live_words then Some (TooLarge live_words most) else Some (LiveOnly live_words)
+hint_of_dump (ImportError.TooManyWords words most live_words) front = Some (hint_of_words words most live_words)
 hint_of_dump (ImportError.TooManyLiveWords words most) front = Some (TooLarge words most)
 hint_of_dump error front = hint_of Dump front

@@ -19,7 +19,7 @@ abbrev pub column_name : Column → List ℕ
 column_name Region = codes "{\"region\":"
 column_name Partial = codes ",\"partial\":"
 column_name Live = codes ",\"live\":"
-column_name Destination = codes ",\"destination\":"
+column_name Destination = codes ",\"dest\":"
 column_name Count = codes ",\"count\":"
 column_name Source = codes ",\"source\":"
 

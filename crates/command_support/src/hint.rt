@@ -1,6 +1,6 @@
 //! What to do about a file that a command refuses.
 ghost use Rattle.std.specs.Prelude.{◌≡◌};
-ghost use Rattle.command_support.specs.Hints.{hint_of, hint_of_dump, hint_of_found};
+ghost use Rattle.command_support.specs.Hints.{hint_of, hint_of_dump, hint_of_found, hint_of_words};
 
 use crate::content::Content;
 use crate::tenths::Tenths;
@@ -14,10 +14,22 @@ pub enum Hint {
     Empty,
     /// It has the first of these, and the command reads the second.
     Has(Content, Content),
-    /// It is a dump that gives an image with `--live-only`, of this number of words.
-    LiveOnly(u64),
-    /// It is a dump whose live objects have the first number of words, and an image has at most the second.
-    TooLarge(u64, u64),
+    /// It is a dump whose heap has too many words, and with `--live-only` not.
+    LiveOnly {
+        /// The number of words of the heap.
+        words: u64,
+        /// The most words that an image may have.
+        most: u64,
+        /// The number of words of the reachable objects.
+        live_words: u64,
+    },
+    /// It is a dump whose reachable objects have too many words.
+    TooLarge {
+        /// The number of words of the reachable objects.
+        live_words: u64,
+        /// The most words that an image may have.
+        most: u64,
+    },
 }
 
 impl Hint {
@@ -38,16 +50,30 @@ impl Hint {
     {
         match error {
             ImportError::TooManyWords {
-                live_words, most, ..
-            } => {
-                if live_words <= most {
-                    Some(Hint::LiveOnly(live_words))
-                } else {
-                    Some(Hint::TooLarge(live_words, most))
-                }
-            }
-            ImportError::TooManyLiveWords { words, most } => Some(Hint::TooLarge(words, most)),
+                words,
+                most,
+                live_words,
+            } => Some(Hint::of_words(words, most, live_words)),
+            ImportError::TooManyLiveWords { words, most } => Some(Hint::TooLarge {
+                live_words: words,
+                most,
+            }),
             _ => Hint::of(Content::Dump, front),
+        }
+    }
+
+    /// The hint about a dump whose heap has too many words.
+    fn of_words(words: u64, most: u64, live_words: u64) -> Hint
+        ensures { result ≡ hint_of_words words most live_words }
+    {
+        if live_words > most {
+            Hint::TooLarge { live_words, most }
+        } else {
+            Hint::LiveOnly {
+                words,
+                most,
+                live_words,
+            }
         }
     }
 
@@ -71,12 +97,17 @@ impl fmt::Display for Hint {
         match self {
             Hint::Empty => f.write_str("it is empty"),
             Hint::Has(found, wanted) => f.write_str(text_of(*found, *wanted)),
-            Hint::LiveOnly(words) => {
-                write!(f, "with --live-only the image has {} MiB", mib(*words))
+            Hint::LiveOnly {
+                words,
+                most,
+                live_words,
+            } => {
+                let (size, limit, live) = (mib(*words), mib(*most), mib(*live_words));
+                write!(f, "it has {size} MiB, {limit} MiB are the most, and with --live-only it has {live} MiB")
             }
-            Hint::TooLarge(words, most) => {
-                let (size, limit) = (mib(*words), mib(*most));
-                write!(f, "its live objects have {size} MiB, and {limit} MiB are the most")
+            Hint::TooLarge { live_words, most } => {
+                let (live, limit) = (mib(*live_words), mib(*most));
+                write!(f, "its live objects have {live} MiB, and {limit} MiB are the most")
             }
         }
     }

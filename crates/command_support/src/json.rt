@@ -37,7 +37,7 @@ impl Column {
             Column::Region => "{\"region\":",
             Column::Partial => ",\"partial\":",
             Column::Live => ",\"live\":",
-            Column::Destination => ",\"destination\":",
+            Column::Destination => ",\"dest\":",
             Column::Count => ",\"count\":",
             Column::Source => ",\"source\":",
         }

@@ -1,6 +1,6 @@
 //! The whole program, over any two writers.
 ghost use Rattle.std.specs.Prelude.{◌≡◌, ◌≤◌, ◌∷◌, ◌⊎◌, [], codes, ℕ, Bool, List, None, IfOk, OnOk, IfErr, IfSome, IsTrue};
-ghost use Rattle.command_line.specs.Request.{IsFor};
+ghost use Rattle.command_line.specs.Request.{IsFor, IsNoUsage};
 ghost use Rattle.std.specs.Io.KnownBytes.{Appends};
 ghost use Rattle.command_line.specs.CommandLine.{AreWords, AreCallOf, HaveWord};
 ghost use Rattle.pcompact.specs.Commands.{IsPrintedBy};
@@ -59,13 +59,7 @@ where
 {
     match command_line::read(rt.alloc(), words) {
         Ok(request) => {
-            // What a request asks for is an argument; the second tests let the contract speak of arguments.
-            let manner = Manner {
-                screen,
-                details: request.is_verbose() || screen.shows_errors,
-                measured: request.asks_stats() && have_word(words, "--stats"),
-                json: request.asks_json() && have_word(words, "--json"),
-            };
+            let manner = Manner::of(words, &request, screen);
             carry_out(rt, request, manner, out, err)
         }
         Err(unread) => match respelled(rt.alloc(), words, &unread) {
@@ -89,6 +83,22 @@ struct Manner {
     measured: bool,
     /// Whether an object is printed in place of the text.
     json: bool,
+}
+
+impl Manner {
+    /// How the request of these arguments is carried out. What it asks for is an argument; the second tests let the
+    /// contract speak of arguments.
+    fn of(words: &[String], request: &Request<'_>, screen: Screen) -> Manner
+        ensures stats { IsTrue result.measured → HaveWord (codes "--stats") words.now }
+        ensures json { IsTrue result.json → HaveWord (codes "--json") words.now }
+    {
+        Manner {
+            screen,
+            details: request.is_verbose() || screen.shows_errors,
+            measured: have_word(words, "--stats") && request.asks_stats(),
+            json: have_word(words, "--json") && request.asks_json(),
+        }
+    }
 }
 
 /// Carries out a request, and returns the exit status.
@@ -164,7 +174,7 @@ struct Spelled {
 
 /// Spells these words anew, if they are wrong usage and `--verbose` has a value in them. If memory runs out they stay wrong usage.
 fn respelled(alloc: Global, words: &[String], unread: &Unread) -> Option<Spelled>
-    ensures memory { unread.now ≡ Unread.Memory → result ≡ None }
+    ensures usage_alone { IsNoUsage unread.now → result ≡ None }
     ensures stats { IfSome result (λ spelled. IsTrue spelled.has_stats → HaveWord (codes "--stats") words.now) }
 {
     match unread {

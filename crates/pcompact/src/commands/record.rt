@@ -54,7 +54,7 @@ where
     let laps = times.laps().then(Phase::Schedule, lines.ended());
     match outcome {
         Ok(FiguresLine { figures, line }) => {
-            let moved = times.moved(figures);
+            let moved = times.moved(figures, image.into_inner().heap_words());
             let stats = Stats::of_collection(watch, laps, moved, request.workers);
             Ok(both_ended(rt, line, out, schedule)?.with_stats(stats))
         }
