@@ -27,7 +27,8 @@ pub fn usage_text(alloc: Global, text: &str) -> Result<String, AllocError> {
 /// Whether a line is the tip to pass an option or a negative number after `--`. No file is meant by such a word.
 fn is_wrong_tip(line: &str) -> bool {
     match line.strip_prefix("  tip: to pass '-") {
-        Some(rest) => rest.starts_with('-') || rest.starts_with(|first: char| first.is_ascii_digit()),
+        Some(rest) => rest.starts_with('-')
+            || rest.starts_with(|first: char| first.is_ascii_digit()),
         None => false,
     }
 }

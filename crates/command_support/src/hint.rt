@@ -103,11 +103,17 @@ impl fmt::Display for Hint {
                 live_words,
             } => {
                 let (size, limit, live) = (mib(*words), mib(*most), mib(*live_words));
-                write!(f, "it has {size} MiB, {limit} MiB are the most, and with --live-only it has {live} MiB")
+                write!(
+                    f,
+                    "it has {size} MiB, {limit} MiB are the most, and with --live-only it has {live} MiB"
+                )
             }
             Hint::TooLarge { live_words, most } => {
                 let (live, limit) = (mib(*live_words), mib(*most));
-                write!(f, "its live objects have {live} MiB, and {limit} MiB are the most")
+                write!(
+                    f,
+                    "its live objects have {live} MiB, and {limit} MiB are the most"
+                )
             }
         }
     }
@@ -122,7 +128,8 @@ fn mib(words: u64) -> Tenths {
 fn text_of(found: Content, wanted: Content) -> &'static str {
     match (found, wanted) {
         (Content::Packed, _) => "it is packed by gzip, gunzip unpacks it",
-        (Content::Dump, Content::Image) => "it is a heap dump, pcompact import makes an image of it",
+        (Content::Dump, Content::Image) =>
+            "it is a heap dump, pcompact import makes an image of it",
         (Content::Dump, _) => "it is a heap dump",
         (Content::Text, Content::Image) => {
             "it is a heap text, pcompact assemble makes an image of it"
