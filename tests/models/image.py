@@ -223,7 +223,7 @@ class Collection:
 
         chain = max((longest_to(s) for s in sorted(words)), default=0)
         hundredths = self.top * 100 // chain if chain else 100
-        workers = next(n for n in itertools.count(1) if self.top <= n * chain)
+        workers = min(64, next(n for n in itertools.count(1) if self.top <= n * chain))
         return f"chain {chain} words {self.top} speedup {hundredths // 100}.{hundredths % 100:02} workers {workers}\n"
 
     def map(self, width: int, after: bool) -> str:

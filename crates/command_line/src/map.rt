@@ -14,6 +14,10 @@ use std::alloc::{AllocError, Global};
 /// The number of cells without `--width`.
 const USUAL_WIDTH: u32 = 64;
 
+const EXAMPLE: &str = "\
+Example:
+  pcompact map heap.pcheap --after";
+
 /// The definition of `map`.
 pub fn words<'a>(alloc: Global) -> Result<Command<'a>, AllocError>
     ensures app { IfOk result (λ command. app_of command ≡ map_words) }
@@ -30,6 +34,7 @@ fn with_cells<'a>(alloc: Global) -> Result<Command<'a>, AllocError>
 {
     Command::new(alloc, "map")
         .about("Draw a heap image, also as its collection leaves it")
+        .after_help(EXAMPLE)
         .arg(arguments::image(alloc))?
         .arg(arguments::flag(alloc, "after", "Also draw the heap after its collection"))?
         .arg(arguments::width(alloc, "Number of cells, from 1 to 1000 (default 64)"))?

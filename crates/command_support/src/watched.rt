@@ -43,7 +43,7 @@ impl<'a, F: Drop> Watched<'a, F> {
         host: &H,
         word: FileWord<'a>,
     ) -> Result<Watched<'a, F>, Trouble<'a>> {
-        let file = on_file(word, SystemCall::Open, fs::open(host, word.name))?;
+        let file = on_file(word, SystemCall::Open, fs::open(host, word.path_to_read()))?;
         Ok(Watched::new(word, file))
     }
 
@@ -89,6 +89,11 @@ impl<'a, F: Drop> Watched<'a, F> {
     /// The first 32 bytes that were read, with zeros for those that weren't.
     pub fn front(&self) -> &[u8; FRONT_BYTES] {
         &self.front.bytes
+    }
+
+    /// The first 32 bytes that were read, or fewer if no more were.
+    pub fn first_bytes(&self) -> &[u8] {
+        &self.front.bytes[..self.front.count.min(FRONT_BYTES)]
     }
 
     /// The last call on the file that failed.

@@ -8,8 +8,8 @@ ghost use Rattle.heap_commands.specs.Map.{IsDrawing, IsMap, IsMapLine, IsPicture
 use crate::screen::Screen;
 use command_line::{Look, Map};
 use command_support::{
-    FileTarget, FileWord, Late, Role, SystemFile, Trouble, Watched, WorkDone, ended, must_differ,
-    reject_same_file,
+    FileTarget, FileWord, Late, Role, SystemFile, Trouble, Watched, WorkDone, ended,
+    output_must_differ, reject_same_file,
 };
 use heap_image::{
     Fault, FromRead, Image, Intake, Outlet, ToWrite, give_all, read_image_by_threads,
@@ -129,7 +129,7 @@ pub(crate) fn drawing_target<'a, H: Files + AllocGlobal>(
     file: FileWord<'a>,
     atomic: bool,
 ) -> Result<FileTarget<'a, H::File>, Trouble<'a>> {
-    must_differ(host.alloc(), image.word(), file)?;
+    output_must_differ(host.alloc(), image.word(), file)?;
     let (id, writing) = (image.id()?, image.writing(atomic)?);
     let target = FileTarget::find(host, file, writing)?;
     reject_same_file(host, target, image.word(), id)

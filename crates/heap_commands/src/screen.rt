@@ -5,20 +5,23 @@ use std::env::{Env, FillError};
 /// Room for the name of a locale. A longer name counts as unknown.
 const NAME_ROOM: usize = 128;
 
-/// What standard output can show.
+/// What standard output can show, and whether a person reads standard error.
 #[derive(Debug, Clone, Copy, PartialEq, Eq)]
 pub struct Screen {
-    /// Whether it is a terminal.
+    /// Whether standard output is a terminal.
     pub is_terminal: bool,
+    /// Whether standard error is a terminal.
+    pub shows_errors: bool,
     /// Whether the locale is a UTF-8 one.
     pub is_utf8: bool,
 }
 
 impl Screen {
-    /// The screen of a standard output that is a terminal or not, with the locale of this environment.
-    pub fn of<E: Env>(env: &E, is_terminal: bool) -> Screen {
+    /// The screen of a standard output and a standard error that are terminals or not, with the locale of this environment.
+    pub fn of<E: Env>(env: &E, is_terminal: bool, shows_errors: bool) -> Screen {
         Screen {
             is_terminal,
+            shows_errors,
             is_utf8: is_utf8(env),
         }
     }

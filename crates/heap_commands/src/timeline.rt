@@ -13,7 +13,7 @@ use crate::screen::Screen;
 use command_line::Timeline;
 use command_support::{
     Failure, FileTarget, FileWord, Late, Role, SystemFile, Trouble, Watched, WorkDone, ended,
-    must_differ, reject_same_file, two_different_inputs,
+    output_must_differ, reject_same_file, two_different_inputs,
 };
 use heap_image::{
     Fault, FromRead, Image, Intake, Outlet, ToWrite, give_all, read_image_by_threads,
@@ -179,7 +179,7 @@ fn picture_target<'a, H: Files + AllocGlobal>(
     atomic: bool,
 ) -> Result<FileTarget<'a, H::File>, Trouble<'a>> {
     let Opened { image, schedule } = opened;
-    must_differ(host.alloc(), schedule.word(), file)?;
+    output_must_differ(host.alloc(), schedule.word(), file)?;
     let id = schedule.id()?;
     let target = drawing_target(host, image, file, atomic)?;
     reject_same_file(host, target, schedule.word(), id)
