@@ -5,6 +5,9 @@ use std::env::{Env, FillError};
 /// Room for the name of a locale. A longer name counts as unknown.
 const NAME_ROOM: usize = 128;
 
+/// Room for a number of columns or lines, or for the name of a terminal.
+const NUMBER_ROOM: usize = 16;
+
 /// What standard output can show.
 #[derive(Debug, Clone, Copy, PartialEq, Eq)]
 pub struct Screen {
@@ -12,6 +15,12 @@ pub struct Screen {
     pub is_terminal: bool,
     /// Whether the locale is a UTF-8 one.
     pub is_utf8: bool,
+    /// Whether `NO_COLOR` isn't empty, or `TERM` is `dumb`.
+    pub is_plain: bool,
+    /// The number of columns, where `COLUMNS` has it.
+    pub columns: Option<u32>,
+    /// The number of lines, where `LINES` has it.
+    pub rows: Option<u32>,
 }
 
 impl Screen {
@@ -20,8 +29,51 @@ impl Screen {
         Screen {
             is_terminal,
             is_utf8: is_utf8(env),
+            is_plain: is_plain(env),
+            columns: number_in(env, "COLUMNS"),
+            rows: number_in(env, "LINES"),
         }
     }
+
+    /// Whether colours are shown unless an option says otherwise.
+    pub fn has_colours(self) -> bool {
+        self.is_terminal && !self.is_plain
+    }
+}
+
+/// Whether `NO_COLOR` isn't empty, or `TERM` is `dumb`.
+fn is_plain<E: Env>(env: &E) -> bool {
+    let mut value = [0; NUMBER_ROOM];
+    let is_refused = match env.var("NO_COLOR", &mut value) {
+        Ok(len) => 0 < len,
+        Err(FillError::TooLong) => true,
+        Err(FillError::NotPresent) => false,
+    };
+    is_refused || is_dumb(env)
+}
+
+/// Whether `TERM` is `dumb`.
+fn is_dumb<E: Env>(env: &E) -> bool {
+    let mut value = [0; NUMBER_ROOM];
+    match env.var("TERM", &mut value) {
+        Ok(len) => value[..len].eq_ignore_ascii_case(b"dumb"),
+        Err(_) => false,
+    }
+}
+
+/// The number in a variable, if it has one and it isn't 0.
+fn number_in<E: Env>(env: &E, name: &str) -> Option<u32> {
+    let mut value = [0; NUMBER_ROOM];
+    match env.var(name, &mut value) {
+        Ok(len) => number_of(&value[..len]),
+        Err(_) => None,
+    }
+}
+
+/// The number that these digits write, unless it is 0.
+fn number_of(digits: &[u8]) -> Option<u32> {
+    let number: u32 = std::str::from_utf8(digits).ok()?.parse().ok()?;
+    if number == 0 { None } else { Some(number) }
 }
 
 /// Whether the locale is a UTF-8 one. The first of these variables that is set decides.
