@@ -18,6 +18,7 @@ sys.path.insert(0, str(pathlib.Path(__file__).resolve().parents[2]))
 from tests.models import image as model
 from tests.models.generated_heap import Wanted, generated
 from tests.support.cases import BASE, LIVE, WORDS, image, rooted, try_groups
+from tests.support.contrast import over, schemes, worst
 from tests.support.program import Answer, Tried, fault, usage
 
 FULL = pathlib.Path("/dev/full")
@@ -200,9 +201,63 @@ def try_drawings(tried: Tried) -> None:
             tried.is_wrong(f"a drawing has no text {name}")
     if "prefix" in texts:
         tried.is_wrong("the legend of a drawing has an area that no cell has")
-    marks = [path.find(f"{SVG}title").text for path in root.iter(f"{SVG}path") if path.find(f"{SVG}title") is not None]
-    if marks != ["prefix end: word 8", "new top: word 21"] * 2:
-        tried.is_wrong(f"a drawing has other marks: {marks}")
+    if marks_of(root) != ["prefix end: word 8", "new top: word 21"] * 2:
+        tried.is_wrong(f"a drawing has other marks: {marks_of(root)}")
+    try_full_heap(tried)
+
+
+def marks_of(root: xml.etree.ElementTree.Element) -> list[str]:
+    """The titles of the marks."""
+    return [path.find(f"{SVG}title").text for path in root.iter(f"{SVG}path") if path.find(f"{SVG}title") is not None]
+
+
+def try_full_heap(tried: Tried) -> None:
+    """A heap without a dead word: its top is where it ends, and still has a mark."""
+    full = image([model.header(32, 0)] + [0] * 31, [0], 0)
+    collection = model.Collection(model.decode(full))
+    tried.write("full", full)
+    tried.run("map full --svg drawn --width 4 --height 2", Answer(0, collection.map_line()))
+    marks = marks_of(drawing(tried, "drawn"))
+    if marks != [f"prefix end: word {collection.prefix_end}", "new top: word 32"]:
+        tried.is_wrong(f"the drawing of a full heap has other marks: {marks}")
+    tried.run("map full --after --letters --width 4 --height 2", Answer(0, collection.map(4, True, 2)))
+
+
+def try_contrast(tried: Tried) -> None:
+    """The colours of a drawing, light and dark, also as people with each kind of colour blindness see them: text, marks, the
+    covers of each area, each beside the next, and the hatching on them."""
+    tried.write("image", image(WORDS, LIVE, 2))
+    tried.run("map image --svg drawn", Answer(0, None))
+    css = tried.read("drawn").decode().split("<style>")[1].split("</style>")[0]
+    looks = sorted({(float(rect.get("fill-opacity")), line.get("class"))
+                    for rect, line in map(list, drawing(tried, "drawn").iter(f"{SVG}pattern"))})
+    if len(looks) != 5 or looks[-1][0] != 1:
+        tried.is_wrong(f"a drawing has other covers: {looks}")
+    hatching = float(re.search(r"stroke-opacity: ([.\d]+)", css)[1])
+    for scheme, colours in zip(("light", "dark"), schemes(css, r"(?m)^\.?(\w+)(?:, \.\w+)? \{ (?:fill|stroke): (#\w+)")):
+        page = colours["page"]
+        pairs = [(colours["text"], page, 4.5), (colours["mark"], page, 4.5)]
+        for area in ("p", "f", "m", "e", "shade"):
+            shown = [over(colours[area], page, cover) for cover, _ in looks]
+            pairs += [(shown[-1], page, 4.5), *((one, other, 1.3) for one, other in zip(shown, shown[1:]))]
+            pairs += [(over(colours[line], under, hatching), under, 2) for under, (_, line) in zip(shown, looks)]
+        for one, other, least in pairs:
+            tried.count += 1
+            if worst(one, other) < least:
+                tried.is_wrong(f"{one} on {other} has a contrast of {worst(one, other):.2f}, {scheme}")
+
+
+def try_names(tried: Tried) -> None:
+    """The name of the heap's file in a drawing, which must stay XML."""
+    for name in ("a<b>&'c'.pcheap", 'say "heap".pcheap', "ä\u3042.pcheap", "]]>"):
+        tried.write(name, image(WORDS, LIVE, 2))
+        tried.run(["map", f"./{name}", "--svg", "drawn"], Answer(0, WHOLE.splitlines(True)[0]))
+        if name not in [text.text for text in drawing(tried, "drawn").iter(f"{SVG}text")]:
+            tried.is_wrong(f"a drawing hasn't the name {name!r}")
+    tried.write("a\tb", image(WORDS, LIVE, 2))
+    tried.run(["map", "a\tb", "--svg", "drawn"], Answer(0, WHOLE.splitlines(True)[0]))
+    if "a?b" not in [text.text for text in drawing(tried, "drawn").iter(f"{SVG}text")]:
+        tried.is_wrong("a drawing shows a tab in a name otherwise")
 
 
 def try_drawing_of_words(tried: Tried) -> None:
@@ -234,9 +289,10 @@ def try_large_drawings(tried: Tried) -> None:
         tried.run("map heap --after --letters --width 53 --height 7", Answer(0, collection.map(53, True, 7)))
     largest = "generate most --words 4194304 --live 60 --region-log 16 --seed 2 --allowance 800000"
     tried.run(largest, Answer(0, None))
-    tried.run("map most --after --svg drawn --width 1000", Answer(0, None))
-    if len(cells_of(drawing(tried, "drawn"))) != 2000:
-        tried.is_wrong("a drawing of the largest heap hasn't 2000 cells")
+    for shape, cells in (("--width 1000 --height 100", 2000), ("--width 10 --height 100", 1900), ("--height 100", 2048), ("", 1024)):
+        tried.run(f"map most --after --svg drawn {shape}", Answer(0, None))
+        if len(cells_of(drawing(tried, "drawn"))) != cells:
+            tried.is_wrong(f"a drawing of the largest heap hasn't {cells} cells with {shape!r}")
 
 
 def try_most_regions(tried: Tried) -> None:
@@ -292,7 +348,7 @@ def try_files(tried: Tried) -> None:
         "pcompact: reason no such file or folder\n")))
 
 
-GROUPS = (try_rows, try_words, try_looks, try_terminal, try_drawings, try_large_drawings, try_most_regions, try_files)
+GROUPS = (try_rows, try_words, try_looks, try_terminal, try_drawings, try_contrast, try_names, try_large_drawings, try_most_regions, try_files)
 
 if __name__ == "__main__":
     sys.exit(try_groups(GROUPS))

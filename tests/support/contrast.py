@@ -11,10 +11,15 @@ EYES = {
 }
 
 
-def linear(colour: str) -> list[float]:
-    """The linear red, green and blue of `#rgb` or `#rrggbb`."""
+def whole(colour: str) -> str:
+    """The six digits of `#rgb` or `#rrggbb`."""
     digits = colour.lstrip("#")
-    digits = "".join(2 * digit for digit in digits) if len(digits) == 3 else digits
+    return "".join(2 * digit for digit in digits) if len(digits) == 3 else digits
+
+
+def linear(colour: str) -> list[float]:
+    """The linear red, green and blue of a colour."""
+    digits = whole(colour)
     parts = [int(digits[i:i + 2], 16) / 255 for i in (0, 2, 4)]
     return [part / 12.92 if part <= 0.04045 else ((part + 0.055) / 1.055) ** 2.4 for part in parts]
 
@@ -37,6 +42,12 @@ def ratio(one: str, other: str, eye: str = "all cones") -> float:
 def worst(one: str, other: str) -> float:
     """The least contrast of two colours, over all eyes."""
     return min(ratio(one, other, eye) for eye in EYES)
+
+
+def over(colour: str, page: str, cover: float) -> str:
+    """What a colour of this opacity looks like over a page."""
+    parts = [[int(digits[i:i + 2], 16) for i in (0, 2, 4)] for digits in map(whole, (colour, page))]
+    return "#" + "".join(f"{round(cover * one + (1 - cover) * other):02x}" for one, other in zip(*parts))
 
 
 def schemes(css: str, pattern: str) -> list[dict[str, str]]:

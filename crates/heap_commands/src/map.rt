@@ -5,7 +5,7 @@ ghost use Rattle.heap_map.specs.Cells.{cells_before};
 ghost use Rattle.heap_map.specs.MapFigures.{AreFiguresOf, figures_text};
 ghost use Rattle.heap_commands.specs.Map.{IsDrawing, IsMap, IsMapLine, IsPicture, IsPrinted, after_shown, cells_shown, shape_of};
 
-use crate::screen::Screen;
+use crate::screen::{Screen, USUAL_WIDTH};
 use command_line::{Look, Map};
 use command_support::{
     FileTarget, FileWord, Late, Role, SystemFile, Trouble, Watched, WorkDone, ended, must_differ,
@@ -77,27 +77,26 @@ impl Cut<'_> {
         ensures some { 1 ≤ result }
         ensures few { result ≤ 100000 }
     {
-        self.width.max(1).min(1000) * self.rows.max(1).min(100)
+        let width = self.width.max(1).min(1000);
+        let rows = self.rows.max(1).min(100);
+        width * rows
     }
 }
 
-/// The number of cells of a row without `--width`, where the screen doesn't say how wide it is.
-const USUAL_WIDTH: u32 = 64;
+/// The number of columns that the name, the edges and the address of a row take.
+const BESIDE_ROWS: u32 = 20;
 
 /// The number of rows without `--height` of a drawing, and on a terminal that doesn't say how high it is.
 const USUAL_ROWS: u32 = 8;
 
-/// The largest number of cells of a strip of a drawing, so that it stays small.
-const MAX_DRAWN: u32 = 1000;
+/// The largest number of cells and rows of a strip of a drawing, so that it stays small.
+const MAX_DRAWN: u32 = 1050;
 
-/// The number of cells of a row: as requested, else as many as a terminal has columns for beside the addresses.
+/// The number of cells of a row. A drawing doesn't depend on the screen.
 fn width_on(screen: Screen, request: &Map<'_>) -> u32 {
-    match (request.width, screen.columns) {
-        (Some(width), _) => width,
-        (None, Some(columns)) if screen.is_terminal && request.svg.is_none() => {
-            columns.saturating_sub(20).max(16).min(1000)
-        }
-        _ => USUAL_WIDTH,
+    match request.svg {
+        Some(_) => request.width.unwrap_or(USUAL_WIDTH),
+        None => screen.cells_beside(BESIDE_ROWS, request.width),
     }
 }
 
@@ -107,7 +106,7 @@ fn rows_on(screen: Screen, request: &Map<'_>, width: u32) -> u32 {
     match (request.height, screen.rows) {
         (height, _) if request.svg.is_some() => height
             .unwrap_or(USUAL_ROWS)
-            .min((MAX_DRAWN / width.max(1)).max(1)),
+            .min((MAX_DRAWN / width.saturating_add(1)).max(1)),
         (Some(height), _) => height,
         (None, Some(rows)) if screen.is_terminal => rows_in(rows, request.after),
         (None, None) if screen.is_terminal => USUAL_ROWS,

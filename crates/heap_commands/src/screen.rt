@@ -8,6 +8,9 @@ const NAME_ROOM: usize = 128;
 /// Room for a number of columns or lines, or for the name of a terminal.
 const NUMBER_ROOM: usize = 16;
 
+/// The number of cells of a row without `--width`, where the screen doesn't say how wide it is.
+pub(crate) const USUAL_WIDTH: u32 = 64;
+
 /// What standard output can show.
 #[derive(Debug, Clone, Copy, PartialEq, Eq)]
 pub struct Screen {
@@ -38,6 +41,17 @@ impl Screen {
     /// Whether colours are shown unless an option says otherwise.
     pub fn has_colours(self) -> bool {
         self.is_terminal && !self.is_plain
+    }
+
+    /// The number of cells of a row: as requested, else as many as a terminal has columns for beside this many others.
+    pub(crate) fn cells_beside(self, others: u32, requested: Option<u32>) -> u32 {
+        match (requested, self.columns) {
+            (Some(width), _) => width,
+            (None, Some(columns)) if self.is_terminal => {
+                columns.saturating_sub(others).max(16).min(1000)
+            }
+            _ => USUAL_WIDTH,
+        }
     }
 }
 

@@ -26,6 +26,9 @@ use std::rt::Files;
 use std::thread::Threads;
 use summary::Survey;
 
+/// The number of columns that a lane's name and edges take.
+const BESIDE_LANES: u32 = 12;
+
 /// Follows the schedule of one file on the image of another, and returns what `timeline` prints. A drawing or a page
 /// goes to a third file where the request names one.
 pub fn answer<'a, R: Files + AllocGlobal + Threads + Sync>(
@@ -43,7 +46,7 @@ where
     };
     let lanes = Lanes {
         style: style_on(screen, request.look),
-        width: request.width,
+        width: screen.cells_beside(BESIDE_LANES, request.width),
     };
     let (form, file) = match (request.svg, request.html) {
         (Some(_), Some(_)) => return Err(two_pictures(rt.alloc())?),

@@ -57,6 +57,8 @@ struct Row<'a> {
     width: u64,
     /// The y coordinate.
     y: u64,
+    /// The address after the last word of the heap.
+    end: u64,
 }
 
 pub(crate) fn draw(
@@ -183,6 +185,7 @@ fn draw_rows(svg: &mut String, y: u64, map: &Map, frame: Frame) -> Result<(), Al
             cells,
             width: u64::from(width),
             y: (i as u64).saturating_mul(ROW_STEP).saturating_add(y),
+            end: frame.figures.words,
         };
         draw_row(svg, row, frame.figures)?;
     }
@@ -245,7 +248,7 @@ fn draw_cell(svg: &mut String, cell: &Cell, i: u64, width: u64) -> Result<(), Al
     )
 }
 
-/// Writes a mark at an address, if it is in this row: `path` begins at the mark.
+/// Writes a mark at an address, if it is in this row or ends the heap with it: `path` begins at the mark.
 fn draw_mark(
     svg: &mut String,
     row: Row<'_>,
@@ -257,11 +260,12 @@ fn draw_mark(
         (Some(first), Some(last)) => (first.from, last.to),
         _ => (0, 0),
     };
-    if address < from || to <= address {
+    let is_end = address == to && to == row.end;
+    if address < from || (to <= address && !is_end) {
         return Ok(());
     }
     let full = left_of(row.cells.len() as u64, row.width);
-    let x = full.saturating_mul(address - from) / (to - from);
+    let x = full.saturating_mul(address - from) / to.saturating_sub(from).max(1);
     writeln!(
         svg,
         r#"<path class="mark" transform="translate({}.{},0)" d="{path}"><title>{name}: word {address}</title></path>"#,
@@ -291,7 +295,8 @@ fn draw_areas(svg: &mut String, picture: &Picture, y: u64) -> Result<(), AllocEr
             draw_sample(svg, x, y)?;
             writeln!(svg, "fill=\"url(#{key}2)\"/></g>")?;
             write_at(svg, x.saturating_add(30), y.saturating_add(16), name)?;
-            x = x.saturating_add(54 + 8 * name.len() as u64);
+            let width = (name.len() as u64).saturating_mul(8);
+            x = x.saturating_add(width).saturating_add(54);
         }
     }
     Ok(())
@@ -304,7 +309,7 @@ fn draw_shades(svg: &mut String, y: u64) -> Result<(), AllocError> {
         let (cover, name) = (cover_of(*shade), share_of(*shade));
         draw_sample(svg, x, y)?;
         writeln!(svg, "class=\"shade\" fill-opacity=\"{cover}\"/></g>")?;
-        write_at(svg, x + 30, y.saturating_add(16), name)?;
+        write_at(svg, x.saturating_add(30), y.saturating_add(16), name)?;
     }
     Ok(())
 }

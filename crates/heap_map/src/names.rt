@@ -1,8 +1,8 @@
 //! Names of files in pictures.
 use std::alloc::AllocError;
 
-/// Writes the name of a file, without its folders, as text of XML or HTML. Control characters, which XML has no way to
-/// write, become `?`.
+/// Writes the name of a file, without its folders, as text of XML or HTML. Characters that XML has no way to write become
+/// `?`, and so do all control characters.
 pub fn write_name(text: &mut String, name: &str) -> Result<(), AllocError> {
     for c in name.rsplit('/').next().unwrap_or(name).chars() {
         write_char(text, c)?;
@@ -17,6 +17,7 @@ fn write_char(text: &mut String, c: char) -> Result<(), AllocError> {
         '<' => text.push_str("&lt;"),
         '>' => text.push_str("&gt;"),
         '"' => text.push_str("&quot;"),
+        '\u{fffe}' | '\u{ffff}' => text.push('?'),
         _ if c.is_control() => text.push('?'),
         _ => text.push(c),
     }

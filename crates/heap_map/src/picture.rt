@@ -1,7 +1,7 @@
-ghost use Rattle.std.specs.Prelude.{◌≡◌, ◌≤◌, IfOk, None, Some, option_map, string_bytes};
+ghost use Rattle.std.specs.Prelude.{◌≡◌, ◌≤◌, ◌++◌, IfOk, OnOk, None, Some, option_map, string_bytes};
 ghost use Rattle.heap_map.specs.Cells.{cells_after, cells_before};
 ghost use Rattle.heap_map.specs.MapFigures.{AreFiguresOf};
-ghost use Rattle.heap_map.specs.Text.{picture_text};
+ghost use Rattle.heap_map.specs.Text.{after_text, picture_text};
 
 use crate::areas::write_legend;
 use crate::drawing::draw;
@@ -80,11 +80,20 @@ impl Picture {
             "before",
             self.before.cells.as_slice(),
         )?;
-        if let Some(after) = &self.after {
-            write_strip(&mut text, style, shape, "after ", after.cells.as_slice())?;
-        }
+        self.write_after(&mut text, style, shape)?;
         write_legend(&mut text, style.glyphs, self)?;
         Ok(text)
+    }
+
+    /// Writes the strip of the heap after its collection, if there is one.
+    fn write_after(&self, text: &mut String, style: Style, shape: Shape) -> Result<(), AllocError>
+        ensures { OnOk result (string_bytes text.new ≡ string_bytes text.old
+            ++ after_text style shape (option_map (λ map. map.cells.items) self.now.after)) }
+    {
+        match &self.after {
+            Some(after) => write_strip(text, style, shape, "after ", after.cells.as_slice()),
+            None => Ok(()),
+        }
     }
 
     /// The picture as an SVG document, with the name of the heap's file.
