@@ -362,7 +362,7 @@ fn draw_share_legend(svg: &mut String, timeline: &Timeline, y: u64) -> Result<()
 
 /// Writes samples of classes at height `y`, each with its x coordinate and its name.
 fn draw_samples(svg: &mut String, y: u64, samples: &[(u64, &str, &str)]) -> Result<(), AllocError>
-    requires { y ≤ 2 ^ 39 }
+    requires { y ≤ 2 ^ 40 }
 {
     for (x, class, name) in samples {
         let (right, base) = (x.saturating_add(32), y + 15);
