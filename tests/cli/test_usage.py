@@ -194,7 +194,8 @@ Arguments:
 
 Options:
       --after       Also draw the heap after its collection
-      --width <n>   Number of cells, from 1 to 1000 (default 64)
+      --width <n>   Number of cells of a row, from 1 to 1000 (default: what a terminal has room for, or 64)
+      --height <n>  Number of rows, from 1 to 100 (default: 1, or what a terminal has room for, or 8 of a drawing)
       --svg <FILE>  Write the picture to this file as SVG, and print only the figures
       --letters     Draw with letters even if the locale has block characters
       --color       Use colours even if standard output is no terminal
@@ -217,7 +218,7 @@ Arguments:
   <SCHEDULE>  A schedule for the image
 
 Options:
-      --width <n>    Number of cells of a lane, from 1 to 1000 (default 64)
+      --width <n>    Number of cells of a lane, from 1 to 1000 (default: what a terminal has room for, or 64)
       --svg <FILE>   Write the lanes to this file as SVG, and print only the figures
       --html <FILE>  Write a page to this file that steps through the schedule, and print only the figures
       --letters      Draw with letters even if the locale has block characters

@@ -137,6 +137,10 @@ assemble_words =
 abbrev pub width_rule : Rule
 width_rule = number_rule (codes "width") 1 1000
 
+-- the option `--height`, with a number from 1 to 100
+abbrev pub height_rule : Rule
+height_rule = number_rule (codes "height") 1 100
+
 -- the option `--svg`, with a file name
 abbrev pub svg_rule : Rule
 svg_rule = record (new_rule (codes "svg")) { long = Some (codes "svg"); value_names = 1 }
@@ -144,13 +148,14 @@ svg_rule = record (new_rule (codes "svg")) { long = Some (codes "svg"); value_na
 -- `map` with its file, and with the options for the content and the file of the picture
 abbrev pub map_cells : App
 map_cells =
-    with_rule (with_rule (with_rule (with_rule (new_app (codes "map")) (file_rule (codes "IMAGE"))) (flag_rule (codes "after"))) width_rule) svg_rule
+    with_rule (with_rule (with_rule (with_rule (with_rule (new_app (codes "map")) (file_rule (codes "IMAGE"))) (flag_rule (codes "after"))) width_rule)
+    height_rule) svg_rule
 
 -- the definition of `map`
 abbrev pub map_words : App
 map_words =
-    with_rule (with_rule (with_rule (with_rule (with_rule (with_rule (with_rule (with_rule (with_rule (new_app (codes "map"))
-    (file_rule (codes "IMAGE"))) (flag_rule (codes "after"))) width_rule) svg_rule) (flag_rule (codes "letters")))
+    with_rule (with_rule (with_rule (with_rule (with_rule (with_rule (with_rule (with_rule (with_rule (with_rule (new_app (codes "map"))
+    (file_rule (codes "IMAGE"))) (flag_rule (codes "after"))) width_rule) height_rule) svg_rule) (flag_rule (codes "letters")))
     (flag_rule (codes "color"))) (flag_rule (codes "no-color"))) atomic_rule) verbose_rule
 
 -- the option `--html`, with a file name
