@@ -211,9 +211,11 @@ Arguments:
   <AFTER>   The image to compare with its compaction
 
 Options:
-      --stats    Print timings and peak memory to stderr
-      --verbose  Print more details about errors
-  -h, --help     Print help
+      --explain      Say which words differ, in which objects, and where wrong references lead
+      --ignore-free  Don't compare the words above the top
+      --stats        Print timings and peak memory to stderr
+      --verbose      Print more details about errors
+  -h, --help         Print help
 """
 
 UPGRADE_HELP = """\

@@ -78,7 +78,7 @@ module _ (before after : HeapImage) (long : heap_words (compact before) ≡ heap
       below : (k i n : ℕ) → k < i → i < n → k < n
       below k i n h m = omega (arith, h, m)
 
-  roots_same : HaveSameShape before after → AreAlike new_root (root_at after) (root_count before) → after.roots ≡ (compact before).roots
+  pub roots_same : HaveSameShape before after → AreAlike new_root (root_at after) (root_count before) → after.roots ≡ (compact before).roots
   roots_same h alike = same_roots after.roots (compact before).roots (h.version ∙ sym (same_version (map (redirected before)) before.roots))
       (ext_get_or 0 (roots_of after) (roots_of (compact before)) (h.roots ∙ sym root_count_same) (λ k l.
       let m : k < root_count before = subst (λ n. k < n) h.roots l in

@@ -25,6 +25,8 @@ pub struct Trouble<'a> {
     /// The other file that it is about.
     other: Option<FileWord<'a>>,
     reason: Option<Reason>,
+    /// Further lines for `--explain`.
+    explanation: Option<String>,
 }
 
 impl<'a> Trouble<'a> {
@@ -37,6 +39,7 @@ impl<'a> Trouble<'a> {
             file: None,
             other: None,
             reason: None,
+            explanation: None,
         }
     }
 
@@ -66,6 +69,16 @@ impl<'a> Trouble<'a> {
     {
         Trouble {
             reason: Some(reason),
+            ..self
+        }
+    }
+
+    /// Adds lines that explain it, if there are some.
+    pub fn explained(self, explanation: Option<String>) -> Trouble<'a>
+        ensures { result.failure ≡ self.entry.failure }
+    {
+        Trouble {
+            explanation,
             ..self
         }
     }
@@ -143,12 +156,15 @@ impl<'a> Trouble<'a> {
         }
     }
 
-    /// Writes the lines of `--verbose`: the files and the reason.
+    /// Writes the lines of `--verbose`: the files and the reason, and those of `--explain`.
     pub fn print_details<B: Write>(&self, err: &mut B) -> io::Result<()> {
         print_file(self.other, err)?;
         print_file(self.file, err)?;
-        match &self.reason {
-            Some(reason) => reason.print(err),
+        if let Some(reason) = &self.reason {
+            reason.print(err)?;
+        }
+        match &self.explanation {
+            Some(lines) => err.write_all(lines.as_bytes()),
             None => Ok(()),
         }
     }
