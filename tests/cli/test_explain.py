@@ -53,6 +53,7 @@ def try_others(tried: Tried) -> None:
     others = [COMPACTED, BASE, image(MOVED[:24], MOVED_LIVE), image(MOVED, []), image(MOVED, MOVED_LIVE, allowance=2),
               image(MOVED, MOVED_LIVE, log=4), encode(upgraded(decode(COMPACTED)))]
     others += [image(with_word(MOVED, p, word), MOVED_LIVE) for p, word in ((18, 130), (31, 1), (19, 7), (1, 0), (1, 8))]
+    others += [image(MOVED, live) for live in (MOVED_LIVE[:-1], MOVED_LIVE[1:], MOVED_LIVE[::-1])]
     for after in others:
         try_pair(tried, BASE, after)
 

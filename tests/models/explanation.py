@@ -7,12 +7,12 @@ from tests.models.image import FRONT, Collection, Fault, Image, decode, referenc
 class Explanation:
     """What is said of some words that should be those of the compaction of an image."""
 
-    def __init__(self, before: Image, words: list[int], roots: list[int], ignore_free: bool = False):
-        self.before, self.words, self.roots = before, words, roots
+    def __init__(self, before: Image, after: Image, ignore_free: bool = False):
+        self.before, self.after, self.words = before, after, after.words
         self.collection = Collection(before)
         self.expected = self.collection.compaction().words
-        limit = self.collection.top if ignore_free else len(words)
-        self.others = [p for p in range(limit) if words[p] != self.expected[p]]
+        limit = self.collection.top if ignore_free else len(self.words)
+        self.others = [p for p in range(limit) if self.words[p] != self.expected[p]]
 
     def object_at(self, p: int) -> int | None:
         """The live object with a word at the new address `p`."""
@@ -52,17 +52,24 @@ class Explanation:
         was = self.before.words[self.collection.origins[p]]
         return f"word {p} is {part}, expected {named(expected)}, found {named(found)}{self.lead(was, found)}"
 
+    def live_lines(self) -> list[str]:
+        """The line of the first live address that differs, where AFTER lists them."""
+        listed = self.after.tail if self.after.version == 1 else []
+        pairs = enumerate(zip(self.collection.new.values(), listed))
+        return [f"live {i} expected {expected}, found {found}" for i, (expected, found) in pairs if found != expected][:1]
+
     def root_lines(self) -> list[str]:
         """The line of the first root that differs."""
-        if len(self.roots) != len(self.before.roots()):
+        roots = self.after.roots()
+        if len(roots) != len(self.before.roots()):
             return []
-        triples = [(was, self.collection.redirected(was), root) for was, root in zip(self.before.roots(), self.roots)]
+        triples = [(was, self.collection.redirected(was), root) for was, root in zip(self.before.roots(), roots)]
         lines = [f"root {i} expected {named(expected)}, found {named(found)}{self.lead(was, found)}"
                  for i, (was, expected, found) in enumerate(triples) if found != expected]
         return lines[:1]
 
     def lines(self) -> list[str]:
-        return [f"words that differ {len(self.others)}", *map(self.line, self.others[:10]), *self.root_lines()]
+        return [f"words that differ {len(self.others)}", *map(self.line, self.others[:10]), *self.live_lines(), *self.root_lines()]
 
 
 def named(reference: int) -> str:
@@ -93,15 +100,16 @@ def verified(before: bytes, after: bytes, ignore_free: bool = False) -> list[str
         if difference is None:
             return ["same"]
         told = [f"differs {difference}", *told, *sizes(was, found)]
-        words, roots = found.words, found.roots()
     except Fault as fault:
         told = [f"fault {fault}", *told]
-        magic, _, count, length, _ = FRONT.unpack_from(after)
+        magic, log, count, length, allowance = FRONT.unpack_from(after)
         numbers = list(struct.unpack_from(f"<{length + count}Q", after, FRONT.size))
-        words, roots = numbers[:length], numbers[length:] if magic == b"PCHEAP02" else []
-    if len(words) != len(was.words):
+        found = Image(2 if magic == b"PCHEAP02" else 1, log, allowance, numbers[:length], numbers[length:])
+        name, expected = ("roots", len(was.roots())) if found.version == 2 else ("live objects", len(was.live()))
+        told += [f"{name} expected {expected} found {count}"] if count != expected else []
+    if len(found.words) != len(was.words):
         return [*told, "the words are not compared"]
-    return told + Explanation(was, words, roots, ignore_free).lines()
+    return told + Explanation(was, found, ignore_free).lines()
 
 
 def verdict_of_words(before: Image, after: Image, words: list[int]) -> str | None:

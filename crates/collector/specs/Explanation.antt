@@ -1,5 +1,5 @@
 -- What is said of the words of a heap that differ from those of a compaction.
-use Rattle.std.specs.Prelude.{◌≡◌, ℕ, ◌+◌, ◌-◌, ◌<◌, ◌≤◌, Bool, if◌then◌else◌, List, All, Contains, Option, Some, None, MatchOption, length, map, slice_index}
+use Rattle.std.specs.Prelude.{◌≡◌, ℕ, ◌+◌, ◌-◌, ◌<◌, ◌≤◌, ◌≢◌, Bool, if◌then◌else◌, List, All, Contains, Option, Some, None, MatchOption, length, map, min, slice_index}
 use Rattle.heap_image.specs.HeapImage.{HeapImage, heap_words, word_at, size_at, references_at}
 use Rattle.summary.specs.LiveObjects.{object_count, object_at}
 use Rattle.summary.specs.NewAddresses.{new_address, new_end_of, new_top}
@@ -15,6 +15,7 @@ use Rattle.collector.specs.declared.verdict_explanation.Part.TheVariants.{Header
 use Rattle.collector.specs.declared.verdict_explanation.Lead.{Lead}
 use Rattle.collector.specs.declared.verdict_explanation.Lead.TheVariants.{Null, Outside, Unchanged, To}
 use Rattle.collector.specs.declared.verdict_explanation.ExplainedWord.{ExplainedWord}
+use Rattle.collector.specs.declared.verdict_explanation.OtherLive.{OtherLive}
 use Rattle.collector.specs.declared.verdict_explanation.OtherRoot.{OtherRoot}
 use Rattle.collector.specs.declared.verdict_explanation.Explanation.{Explanation}
 
@@ -56,8 +57,8 @@ module _ (before : HeapImage) where
   abbrev pub IsLead : ℕ → ℕ → Lead → Type 0
   IsLead was w Null = w ≡ 0
   IsLead was w Outside = heap_words before < w
-  IsLead was w Unchanged = w ≡ was
-  IsLead was w (To part) = (0 < w) × IsPart (w - 1) part
+  IsLead was w Unchanged = (0 < w) × (w ≤ heap_words before) × (w ≡ was)
+  IsLead was w (To part) = (0 < w) × (w ≤ heap_words before) × (w ≢ was) × IsPart (w - 1) part
 
   -- a reference is found to lead somewhere, and nothing else is
   abbrev pub IsLeadOf : Part → ℕ → Option Lead → Type 0
@@ -72,11 +73,11 @@ module _ (before : HeapImage) where
     pub part : IsPart explained.word.address explained.part
     pub lead : IsLeadOf explained.part explained.word.found explained.lead
 
--- The count is that of all words below the limit that differ from the compaction's. The words listed are the first ten
--- of them, in ascending order, each with both words, and with what the compaction has there.
-pub record AreExplained (before after : HeapImage) (limit count : ℕ) (first : List ExplainedWord) : Type 0 where
-  pub tally : IsTally (word_at (compact before)) (word_at after) limit count (map (λ (e : ExplainedWord). e.word) first)
-  pub explained : All (IsExplained before) first
+-- of as many addresses as both lists have, this is the first that isn't the compaction's
+pub record IsOtherLive (before : HeapImage) (live : List ℕ) (other : OtherLive) : Type 0 where
+  pub least : IsLeastDifference (λ i. new_address before (object_at before i)) (slice_index live) (min (object_count before) (length live)) other.index
+  pub expected : other.expected ≡ new_address before (object_at before other.index)
+  pub found : other.found ≡ slice_index live other.index
 
 -- of as many roots as there are, this is the first that isn't the compaction's
 pub record IsOtherRoot (before : HeapImage) (roots : List ℕ) (other : OtherRoot) : Type 0 where
@@ -86,8 +87,14 @@ pub record IsOtherRoot (before : HeapImage) (roots : List ℕ) (other : OtherRoo
   pub found : other.found ≡ slice_index roots other.index
   pub lead : IsLead before (root_at before other.index) other.found other.lead
 
-pub record IsExplanation (before after : HeapImage) (roots : List ℕ) (limit : ℕ) (explanation : Explanation) : Type 0 where
-  pub words : AreExplained before after limit explanation.count explanation.first.items
+-- The count is that of all words below the limit that differ from the compaction's. The words listed are the first ten
+-- of them, in ascending order, each with both words, and with what the compaction has there.
+pub record IsExplanation (before after : HeapImage) (live roots : List ℕ) (limit : ℕ) (explanation : Explanation) : Type 0 where
+  pub tally : IsTally (word_at (compact before)) (word_at after) limit explanation.count (map (λ (e : ExplainedWord). e.word) explanation.first.items)
+  pub words : All (IsExplained before) explanation.first.items
+  pub live : MatchOption explanation.live
+      (AreAlike (λ i. new_address before (object_at before i)) (slice_index live) (min (object_count before) (length live)))
+      (IsOtherLive before live)
   pub root : MatchOption explanation.root
       (length roots ≡ root_count before → AreAlike (λ i. redirected before (root_at before i)) (slice_index roots) (root_count before))
       (IsOtherRoot before roots)

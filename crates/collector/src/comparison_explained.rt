@@ -1,18 +1,21 @@
 //! Explains how the words of a heap differ from those of the compaction that it should be.
-ghost use Rattle.std.specs.Prelude.{◌≡◌, ◌+◌, ◌-◌, ◌<◌, ◌≤◌, All, Contains, IfOk, IfErr, OnOk, IfSome, IfNone, MatchOption, length, slice_index};
+ghost use Rattle.std.specs.Prelude.{◌≡◌, ◌+◌, ◌-◌, ◌<◌, ◌≤◌, All, Contains, IfOk, IfErr, OnOk, IfSome, IfNone, MatchOption, length, map, min, slice_index};
 ghost use Rattle.heap_image.specs.HeapImage.{heap_words, word_at, size_at, references_at, words_alone};
 ghost use Rattle.heap_image.specs.declared.fault.Fault.TheVariants.{Memory};
+ghost use Rattle.summary.specs.LiveObjects.{object_count, object_at};
 ghost use Rattle.summary.specs.NewAddresses.{new_address, new_top};
 ghost use Rattle.summary.specs.Fillers.{IsDeadRun};
 ghost use Rattle.collector.specs.Compared.{IsPlaced};
-ghost use Rattle.collector.specs.Explanation.{IsTallyOf, IsMoved, IsPart, IsPartAt, IsLead, IsLeadOf, IsExplained, AreExplained, IsExplanation, IsOtherRoot, limit_of};
+ghost use Rattle.collector.specs.Explanation.{IsTallyOf, IsMoved, IsPart, IsPartAt, IsLead, IsLeadOf, IsExplained, IsExplanation, IsOtherLive, IsOtherRoot, limit_of};
 ghost use Rattle.collector.specs.Difference.{AreAlike};
 ghost use Rattle.collector.specs.Verdict.{root_count, root_at};
 ghost use Rattle.summary.specs.Compaction.{redirected};
 
 use crate::comparison::{object_references, object_words, objects_are_placed};
 use crate::difference_tally::{OtherWord, Tally};
-use crate::verdict_explanation::{ExplainedWord, Explanation, Lead, Moved, OtherRoot, Part};
+use crate::verdict_explanation::{
+    ExplainedWord, Explanation, Lead, Moved, OtherLive, OtherRoot, Part,
+};
 use heap_image::{Fault, Heap, Image, header, image_is_valid};
 use std::alloc::{AllocError, Global};
 use std::thread::Threads;
@@ -22,11 +25,10 @@ use summary::laws::dense_prefix::fillers_by_runs;
 
 /// Compares the words of `after` with those of the compaction of `before`: all, or if `below_top` those below the new
 /// top. Counts the words that differ, and says of the first ten which object they belong to, which of its words they
-/// are, and where a wrong reference leads; and the same of the first root that differs. Returns `None` if the heaps have
-/// different numbers of words.
+/// are, and where a wrong reference leads; and names the first live address and the first root that differ. Returns
+/// `None` if the heaps have different numbers of words.
 ///
-/// Takes linear time. The only error is
-/// `Fault::Memory`, if memory runs out.
+/// Takes linear time. The only error is `Fault::Memory`, if memory runs out.
 pub fn explain(
     alloc: Global,
     before: &Image,
@@ -36,7 +38,8 @@ pub fn explain(
 ) -> Result<Option<Explanation>, Fault>
     ensures explanation { IfOk result (λ found. MatchOption found
         (heap_words after.entry.heap.now ≡ heap_words before.now → ⊥)
-        (IsExplanation before.now after.entry.heap.now after.entry.roots.now (limit_of below_top before.now))) }
+        (IsExplanation before.now after.entry.heap.now after.entry.live.now after.entry.roots.now
+        (limit_of below_top before.now))) }
     ensures fault { IfErr result (λ fault. fault ≡ Memory) }
 {
     if after.heap.len() != before.len() {
@@ -48,14 +51,15 @@ pub fn explain(
         after: after.heap,
         survey: &survey,
     };
-    let limit = if below_top {
-        survey.plan().new_top()
-    } else {
-        before.len()
-    };
-    let root = words.other_root(after.roots);
-    let (count, first) = words.explained_words(alloc, limit)?;
-    Ok(Some(Explanation { count, first, root }))
+    let limit = words.limit(below_top);
+    let tally = words.tally(alloc, limit)?;
+    let first = words.explain_each(alloc, tally.first.as_slice())?;
+    Ok(Some(Explanation {
+        count: tally.count,
+        first,
+        live: words.other_live(after.live),
+        root: words.other_root(after.roots),
+    }))
 }
 
 /// What was found in place of a compaction.
@@ -63,6 +67,8 @@ pub fn explain(
 pub struct Found<'a> {
     /// The words, also those of a file that is no valid image.
     pub heap: &'a Heap<'a>,
+    /// The live addresses; empty for version 2, which lists none.
+    pub live: &'a [u64],
     /// The roots; empty for version 1.
     pub roots: &'a [u64],
 }
@@ -78,22 +84,34 @@ struct WordComparison<'a> {
 }
 
 impl WordComparison<'_> {
-    /// The number of words that differ below this address, and the first of them.
-    fn explained_words(
+    /// The first address that isn't compared.
+    fn limit(&self, below_top: bool) -> u64
+        ensures value { result ≡ limit_of below_top self.now.before.now }
+        ensures above { new_top self.now.before.now ≤ result }
+        ensures inside { result ≤ heap_words self.now.before.now }
+    {
+        objects_are_placed(self.before);
+        if below_top {
+            self.survey.plan().new_top()
+        } else {
+            self.before.len()
+        }
+    }
+
+    /// Explains each of these words.
+    fn explain_each(
         &self,
         alloc: Global,
-        limit: u64,
-    ) -> Result<(u64, Vec<ExplainedWord>), AllocError>
-        requires above { new_top self.now.before.now ≤ limit }
-        requires inside { limit ≤ heap_words self.now.before.now }
-        ensures { IfOk result (λ words. AreExplained self.now.before.now self.now.after.now limit words.0 words.1.items) }
+        words: &[OtherWord],
+    ) -> Result<Vec<ExplainedWord>, AllocError>
+        ensures words { IfOk result (λ all. map (λ e. e.word) all.items ≡ words.now) }
+        ensures explained { IfOk result (λ all. All (IsExplained self.now.before.now) all.items) }
     {
-        let tally = self.tally(alloc, limit)?;
-        let mut first = Vec::new(alloc);
-        for &word in tally.first.as_slice() {
-            first.push(self.explained(word))?;
+        let mut all = Vec::new(alloc);
+        for &word in words {
+            all.push(self.explained(word))?;
         }
-        Ok((tally.count, first))
+        Ok(all)
     }
 
     /// Counts the words that differ below this address.
@@ -230,6 +248,28 @@ impl WordComparison<'_> {
         Lead::To(self.part(found - 1))
     }
 
+    /// The first live address that differs, of as many as both lists have.
+    fn other_live(&self, found: &[u64]) -> Option<OtherLive>
+        ensures { MatchOption result
+            (AreAlike (λ i. new_address self.now.before.now (object_at self.now.before.now i)) (slice_index found.now)
+            (min (object_count self.now.before.now) (length found.now)))
+            (IsOtherLive self.now.before.now found.now) }
+    {
+        let live = self.before.live();
+        for i in 0..live.len().min(found.len()) {
+            let expected = self.survey.plan().new_address(self.survey.marks(), live[i]);
+            let other = found[i];
+            if other != expected {
+                return Some(OtherLive {
+                    index: i as u64,
+                    expected,
+                    found: other,
+                });
+            }
+        }
+        None
+    }
+
     /// The first root that differs, if as many were found as there are.
     fn other_root(&self, found: &[u64]) -> Option<OtherRoot>
         ensures { MatchOption result
@@ -242,12 +282,13 @@ impl WordComparison<'_> {
         }
         for (i, &root) in self.before.roots().iter().enumerate() {
             let expected = self.survey.plan().redirected(root);
-            if found[i] != expected {
+            let other = found[i];
+            if other != expected {
                 return Some(OtherRoot {
                     index: i as u64,
                     expected,
-                    found: found[i],
-                    lead: self.lead(root, found[i]),
+                    found: other,
+                    lead: self.lead(root, other),
                 });
             }
         }

@@ -50,8 +50,18 @@ pub struct Explanation {
     pub count: u64,
     /// The first of them, at most [`LISTED`](crate::LISTED), ascending.
     pub first: Vec<ExplainedWord>,
+    /// The first live address that differs, of as many as both lists have.
+    pub live: Option<OtherLive>,
     /// The first root that differs, if the numbers of roots are equal.
     pub root: Option<OtherRoot>,
+}
+
+/// A live address that differs from the compaction's.
+#[derive(Debug, Clone, Copy, PartialEq, Eq)]
+pub struct OtherLive {
+    pub index: u64,
+    pub expected: u64,
+    pub found: u64,
 }
 
 /// A root that differs from the compaction's.

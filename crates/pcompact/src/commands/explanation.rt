@@ -1,9 +1,16 @@
 //! The lines of `verify --explain`.
-use collector::{ExplainedWord, Explanation, Found, Lead, Moved, OtherRoot, Part, explain};
-use heap_image::{Fault, Image};
+ghost use Rattle.std.specs.Prelude.{◌≤◌, ◌*◌, ◌^◌, length};
+ghost use Rattle.heap_image.specs.HeapImage.{AreBlocks};
+
+use collector::{
+    ExplainedWord, Explanation, Found, Lead, Moved, OtherLive, OtherRoot, Part, explain,
+};
+use heap_image::limits::MAX_HEAP_WORDS;
+use heap_image::{Body, Extent, FRONT_BYTES, Fault, FileStore, Heap, Image, body_at};
 use std::alloc::Global;
 use std::fmt;
 use std::fmt::Write;
+use std::os::unix::fs::FileExt;
 use std::thread::Threads;
 
 /// The lines on an image that differs from the compaction of another: which of its sizes differ, and then as
@@ -17,15 +24,72 @@ pub fn explanation_of_images(
 ) -> Result<String, Fault> {
     let sizes = Sizes { was, is };
     let heap = is.heap();
-    let roots = is.roots();
-    let found = Found { heap: &heap, roots };
+    let has_roots = is.version() == 2;
+    let tail = if has_roots { is.roots() } else { is.live() };
+    let found = contents(&heap, tail, has_roots);
     let words = explanation_of_words(alloc, was, found, ignore_free, threads)?;
     Ok(format!(in alloc; "{sizes}{words}")?)
 }
 
-/// The lines on the words and roots that should be those of the compaction of an image: how many words differ; for each of
-/// the first ten where it lies, which word is expected and which is found, and where that one leads; and the first root.
-pub fn explanation_of_words(
+/// The lines on a file that is no valid image, if it has the front and the body of one.
+pub fn explanation_of_file<R: AllocGlobal + Threads + Sync, F: FileExt + Sync>(
+    rt: &R,
+    was: &Image,
+    file: &F,
+    ignore_free: bool,
+) -> Option<String> {
+    let mut front = [0; FRONT_BYTES];
+    let Ok(FRONT_BYTES) = file.read_at(&mut front, 0) else {
+        return None;
+    };
+    let extent = Extent::after_front(&front)?;
+    extent.end()?;
+    let store = FileStore::new(file);
+    let body = body_at(rt.alloc(), &store, extent, 1, rt)?;
+    let heap = heap_of(&body, extent.size.region_log)?;
+    let tail = body.tail.as_slice();
+    // The last byte of the magic is the version.
+    let has_roots = front[7] == b'2';
+    let found = contents(&heap, tail, has_roots);
+    let listed = Listed::of(was, has_roots, tail.len());
+    let words = explanation_of_words(rt.alloc(), was, found, ignore_free, rt).ok()?;
+    format!(in rt.alloc(); "{listed}{words}").ok()
+}
+
+/// The heap of a body, if it isn't too large.
+fn heap_of<'a>(body: &'a Body, region_log: u32) -> Option<Heap<'a>>
+    requires log { region_log ≤ 16 }
+    requires blocks { AreBlocks region_log body.now.regions.items }
+    requires few { length body.now.regions.items * 2 ^ region_log ≤ 8388608 }
+{
+    let words = (body.regions.len() as u64) << region_log;
+    if words > MAX_HEAP_WORDS {
+        return None;
+    }
+    Some(Heap::new(body.regions.as_slice(), region_log))
+}
+
+/// What a file holds: behind its words it lists the roots, or the live addresses.
+fn contents<'a>(heap: &'a Heap<'a>, tail: &'a [u64], has_roots: bool) -> Found<'a> {
+    if has_roots {
+        Found {
+            heap,
+            live: &[],
+            roots: tail,
+        }
+    } else {
+        Found {
+            heap,
+            live: tail,
+            roots: &[],
+        }
+    }
+}
+
+/// The lines on what should be the compaction of an image: how many words differ; for each of the first ten where it lies,
+/// which word is expected and which is found, and where that one leads; and the first live address and the first root that
+/// differ.
+fn explanation_of_words(
     alloc: Global,
     was: &Image,
     found: Found<'_>,
@@ -66,6 +130,35 @@ impl fmt::Display for Sizes<'_> {
     }
 }
 
+/// How many live addresses or roots a file has to list, and how many it lists.
+#[derive(Clone, Copy)]
+struct Listed {
+    name: &'static str,
+    expected: u64,
+    found: u64,
+}
+
+impl Listed {
+    fn of(was: &Image, has_roots: bool, found: usize) -> Listed {
+        let (name, expected) = if has_roots {
+            ("roots", was.roots().len())
+        } else {
+            ("live objects", was.live().len())
+        };
+        Listed {
+            name,
+            expected: expected as u64,
+            found: found as u64,
+        }
+    }
+}
+
+impl fmt::Display for Listed {
+    fn fmt<W: fmt::Write>(&self, f: &mut fmt::Formatter<W>) -> fmt::Result {
+        write_size(self.name, self.expected, self.found, f)
+    }
+}
+
 /// Writes a size that differs.
 fn write_size<W: fmt::Write>(
     name: &str,
@@ -92,6 +185,9 @@ impl fmt::Display for Lines<'_> {
         for word in self.explanation.first.as_slice() {
             write_word(word, f)?;
         }
+        if let Some(live) = self.explanation.live {
+            write_live(live, f)?;
+        }
         match self.explanation.root {
             Some(root) => write_root(root, f),
             None => Ok(()),
@@ -117,6 +213,15 @@ fn write_word<W: fmt::Write>(explained: &ExplainedWord, f: &mut fmt::Formatter<W
             word.expected, word.found
         ),
     }
+}
+
+/// Writes the line of a live address.
+fn write_live<W: fmt::Write>(live: OtherLive, f: &mut fmt::Formatter<W>) -> fmt::Result {
+    writeln!(
+        f,
+        "pcompact: live {} expected {}, found {}",
+        live.index, live.expected, live.found
+    )
 }
 
 /// Writes the line of a root.

@@ -3,18 +3,14 @@ ghost use Rattle.heap_image.specs.declared.fault.Fault.TheVariants.{Memory};
 ghost use Rattle.collector.specs.declared.verdict.Verdict.TheVariants.{Same};
 ghost use Rattle.pcompact.specs.Commands.Verify.{IsVerdictOf, IsVerdictOn, IsUnverified, verdict_of};
 
-use super::explanation::{explanation_of_images, explanation_of_words};
-use collector::{Found, Verdict, verify, verify_below_top};
+use super::explanation::{explanation_of_file, explanation_of_images};
+use collector::{Verdict, verify, verify_below_top};
 use command_line::Verify;
 use command_support::{
     Difference, Failure, FileWord, Laps, Phase, Role, Stats, Stopwatch, TimedIntake, Trouble,
     Watched, WorkDone, two_inputs,
 };
-use heap_image::limits::MAX_HEAP_WORDS;
-use heap_image::{
-    Extent, FRONT_BYTES, Fault, FileStore, FromRead, Heap, Image, Intake, body_at,
-    read_image_by_threads,
-};
+use heap_image::{Fault, FromRead, Image, Intake, read_image_by_threads};
 use std::alloc::Global;
 use std::os::unix::fs::FileExt;
 use std::rt::Files;
@@ -94,35 +90,6 @@ where
             Err(trouble_of(refused.why, &before, &after).explained(lines))
         }
     }
-}
-
-/// Explains the words of a file that is no valid image, if it has the front and the body of one.
-fn explanation_of_file<R: AllocGlobal + Threads + Sync, F: FileExt + Sync>(
-    rt: &R,
-    was: &Image,
-    file: &F,
-    ignore_free: bool,
-) -> Option<String> {
-    let mut front = [0; FRONT_BYTES];
-    let Ok(FRONT_BYTES) = file.read_at(&mut front, 0) else {
-        return None;
-    };
-    let extent = Extent::after_front(&front)?;
-    extent.end()?;
-    let store = FileStore::new(file);
-    let body = body_at(rt.alloc(), &store, extent, 1, rt)?;
-    let words = (body.regions.len() as u64) << extent.size.region_log;
-    if words > MAX_HEAP_WORDS {
-        return None;
-    }
-    let heap = Heap::new(body.regions.as_slice(), extent.size.region_log);
-    let roots = if front[7] == b'2' {
-        body.tail.as_slice()
-    } else {
-        &[]
-    };
-    let found = Found { heap: &heap, roots };
-    explanation_of_words(rt.alloc(), was, found, ignore_free, rt).ok()
 }
 
 /// Says which file a fault is about.
