@@ -37,3 +37,11 @@ IsVerdictBelow limit wanted found Shape = ¬ (HaveSameShape wanted found)
 IsVerdictBelow limit wanted found (Word a) = HaveSameShape wanted found × IsLeastDifference (word_at wanted) (word_at found) limit a
 IsVerdictBelow limit wanted found (Live i) = HaveSameShape wanted found × AreAlike (word_at wanted) (word_at found) limit × IsLeastDifference (object_at wanted) (object_at found) (object_count wanted) i
 IsVerdictBelow limit wanted found (Root i) = HaveSameShape wanted found × AreAlike (word_at wanted) (word_at found) limit × (found.live ≡ wanted.live) × IsLeastDifference (root_at wanted) (root_at found) (root_count wanted) i
+
+-- the first difference in the live lists, else in the roots
+abbrev pub IsVerdictOnLists : HeapImage → HeapImage → Verdict → Type 0
+IsVerdictOnLists wanted found Same = (found.live ≡ wanted.live) × (found.roots ≡ wanted.roots)
+IsVerdictOnLists wanted found Shape = ⊥
+IsVerdictOnLists wanted found (Word a) = ⊥
+IsVerdictOnLists wanted found (Live i) = IsLeastDifference (object_at wanted) (object_at found) (object_count wanted) i
+IsVerdictOnLists wanted found (Root i) = (found.live ≡ wanted.live) × IsLeastDifference (root_at wanted) (root_at found) (root_count wanted) i

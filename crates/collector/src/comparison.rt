@@ -6,7 +6,7 @@ ghost use Rattle.summary.specs.Fillers.{IsDeadRun};
 ghost use Rattle.summary.specs.Compaction.{redirected, compact};
 ghost use Rattle.collector.specs.Difference.{AreAlike, IsLeastDifference};
 ghost use Rattle.collector.specs.Compared.{AreCompacted, IsFirstOther, IsPlaced, AreKnown};
-ghost use Rattle.collector.specs.Verdict.{IsVerdict, IsVerdictBelow, HaveSameShape, root_count, root_at};
+ghost use Rattle.collector.specs.Verdict.{IsVerdict, IsVerdictBelow, IsVerdictOnLists, HaveSameShape, root_count, root_at};
 
 use crate::difference::{first_nonzero, first_unlike};
 use crate::verdict::Verdict;
@@ -45,15 +45,9 @@ impl Comparison<'_> {
             after,
             survey,
         };
-        if let Some(a) = comparison.other_word() {
-            return Verdict::Word(a);
-        }
-        if let Some(i) = comparison.other_live() {
-            return Verdict::Live(i);
-        }
-        match comparison.other_root() {
-            Some(i) => Verdict::Root(i),
-            None => Verdict::Same,
+        match comparison.other_word() {
+            Some(a) => Verdict::Word(a),
+            None => comparison.verdict_on_lists(),
         }
     }
 
@@ -71,13 +65,22 @@ impl Comparison<'_> {
             after,
             survey,
         };
-        if let Some(a) = comparison.other_below_top() {
-            return Verdict::Word(a);
+        match comparison.other_below_top() {
+            Some(a) => Verdict::Word(a),
+            None => comparison.verdict_on_lists(),
         }
-        if let Some(i) = comparison.other_live() {
+    }
+
+    /// The verdict on the live lists and the roots alone.
+    fn verdict_on_lists(&self) -> Verdict
+        requires { HaveSameShape self.now.before.now self.now.after.now }
+        ensures { IsVerdictOnLists (compact self.now.before.now) self.now.after.now result }
+    {
+        blocks_of_regions();
+        if let Some(i) = self.other_live() {
             return Verdict::Live(i);
         }
-        match comparison.other_root() {
+        match self.other_root() {
             Some(i) => Verdict::Root(i),
             None => Verdict::Same,
         }
