@@ -100,8 +100,8 @@ module _ (before after : HeapImage) (long : heap_words (compact before) ≡ heap
   pub after_words : HaveSameShape before after → AreCompacted before after 0 (heap_words before)
       → (verdict : Verdict) → IsVerdictOnLists (compact before) after verdict → IsVerdict (compact before) after verdict
   after_words h words Same lists = same_image after (compact before) h.region_log h.allowance (words_same h words) lists.0 lists.1
-  after_words h words Shape no = absurd no
-  after_words h words (Word a) no = absurd no
+  after_words h words Shape w = absurd w
+  after_words h words (Word a) w = absurd w
   after_words h words (Live i) other = (shape h, words_same h words, other)
   after_words h words (Root i) lists = (shape h, words_same h words, lists.0, lists.1)
 
@@ -115,7 +115,7 @@ module _ (before after : HeapImage) (long : heap_words (compact before) ≡ heap
   pub after_words_below : (limit : ℕ) → HaveSameShape before after → AreCompacted before after 0 limit
       → (verdict : Verdict) → IsVerdictOnLists (compact before) after verdict → IsVerdictBelow limit (compact before) after verdict
   after_words_below limit h words Same lists = (shape h, alike_below limit words, lists.0, lists.1)
-  after_words_below limit h words Shape no = absurd no
-  after_words_below limit h words (Word a) no = absurd no
+  after_words_below limit h words Shape w = absurd w
+  after_words_below limit h words (Word a) w = absurd w
   after_words_below limit h words (Live i) other = (shape h, alike_below limit words, other)
   after_words_below limit h words (Root i) lists = (shape h, alike_below limit words, lists.0, lists.1)

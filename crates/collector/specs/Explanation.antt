@@ -74,10 +74,10 @@ module _ (before : HeapImage) where
     pub lead : IsLeadOf explained.part explained.word.found explained.lead
 
 -- of as many addresses as both lists have, this is the first that isn't the compaction's
-pub record IsOtherLive (before : HeapImage) (live : List ℕ) (other : OtherLive) : Type 0 where
-  pub least : IsLeastDifference (λ i. new_address before (object_at before i)) (slice_index live) (min (object_count before) (length live)) other.index
+pub record IsOtherLive (before : HeapImage) (addresses : List ℕ) (other : OtherLive) : Type 0 where
+  pub least : IsLeastDifference (λ i. new_address before (object_at before i)) (slice_index addresses) (min (object_count before) (length addresses)) other.index
   pub expected : other.expected ≡ new_address before (object_at before other.index)
-  pub found : other.found ≡ slice_index live other.index
+  pub found : other.found ≡ slice_index addresses other.index
 
 -- of as many roots as there are, this is the first that isn't the compaction's
 pub record IsOtherRoot (before : HeapImage) (roots : List ℕ) (other : OtherRoot) : Type 0 where
@@ -89,12 +89,12 @@ pub record IsOtherRoot (before : HeapImage) (roots : List ℕ) (other : OtherRoo
 
 -- The count is that of all words below the limit that differ from the compaction's. The words listed are the first ten
 -- of them, in ascending order, each with both words, and with what the compaction has there.
-pub record IsExplanation (before after : HeapImage) (live roots : List ℕ) (limit : ℕ) (explanation : Explanation) : Type 0 where
+pub record IsExplanation (before after : HeapImage) (addresses roots : List ℕ) (limit : ℕ) (explanation : Explanation) : Type 0 where
   pub tally : IsTally (word_at (compact before)) (word_at after) limit explanation.count (map (λ (e : ExplainedWord). e.word) explanation.first.items)
   pub words : All (IsExplained before) explanation.first.items
   pub live : MatchOption explanation.live
-      (AreAlike (λ i. new_address before (object_at before i)) (slice_index live) (min (object_count before) (length live)))
-      (IsOtherLive before live)
+      (AreAlike (λ i. new_address before (object_at before i)) (slice_index addresses) (min (object_count before) (length addresses)))
+      (IsOtherLive before addresses)
   pub root : MatchOption explanation.root
       (length roots ≡ root_count before → AreAlike (λ i. redirected before (root_at before i)) (slice_index roots) (root_count before))
       (IsOtherRoot before roots)

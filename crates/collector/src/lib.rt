@@ -75,6 +75,8 @@ pub use record_streaming::record_stream;
 pub use recording::record;
 pub use streaming::collect_stream;
 pub use verdict::Verdict;
-pub use verdict_explanation::{ExplainedWord, Explanation, Lead, Moved, OtherLive, OtherRoot, Part};
+pub use verdict_explanation::{
+    ExplainedWord, Explanation, Lead, Moved, OtherLive, OtherRoot, Part,
+};
 pub use verification::{verify, verify_below_top};
 pub use workers::Workers;

@@ -1,7 +1,8 @@
 use Rattle.std.proofs.Common.{◌≡◌, ℕ, ◌+◌, ◌<◌, ◌≤◌, List, length, get_or, refl, sym, ◌∙◌, ap, subst, arith}
-use Rattle.heap_image.specs.HeapImage.{HeapImage, heap_words, size_at}
+use Rattle.heap_image.specs.HeapImage.{HeapImage, heap_words, word_at, size_at}
 use Rattle.summary.specs.LiveObjects.{object_count, object_at}
 use Rattle.summary.specs.NewAddresses.{new_address, new_top}
+use Rattle.summary.specs.Compaction.{compact}
 use Rattle.collector.specs.Compared.{behind}
 use Rattle.collector.specs.Explanation.{IsTallyOf}
 use Rattle.collector.proofs.Gaps.{behind-zero, behind-next}
@@ -11,6 +12,12 @@ use Rattle.collector.proofs.comparison_explained.WordComparison.tally.Goals as g
 
 place_inside : (place s n : ℕ) → place + s ≤ n → place ≤ n
 place_inside place s n h = omega (arith, h)
+
+pub loop-a-init : goal.loop-a-init
+loop-a-init c = record {
+  next = sym (behind-zero _);
+  tally = c.new-tally.ensures (word_at (compact c.args.self.now.before.now)) (word_at c.args.self.now.after.now);
+}
 
 pub compare_gap-requires-clause-ordered : goal.compare_gap-requires-clause-ordered
 compare_gap-requires-clause-ordered c =
