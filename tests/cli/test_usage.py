@@ -243,10 +243,12 @@ Arguments:
   <AFTER>   The image to compare with its compaction
 
 Options:
-      --json     Print a JSON object
-      --stats    Print timings and peak memory to stderr
-      --verbose  Print more details about errors
-  -h, --help     Print help
+      --explain      Say which words differ, in which objects, and where wrong references lead
+      --ignore-free  Don't compare the words above the top
+      --json         Print a JSON object
+      --stats        Print timings and peak memory to stderr
+      --verbose      Print more details about errors
+  -h, --help         Print help
 
 Example:
   pcompact verify heap.pcheap out.pcheap

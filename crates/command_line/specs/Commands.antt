@@ -24,8 +24,8 @@ collect_words =
 -- the definition of `verify`
 abbrev pub verify_words : App
 verify_words =
-    with_rule (with_rule (with_rule (with_rule (with_rule (new_app (codes "verify")) (file_rule (codes "BEFORE"))) (file_rule (codes "AFTER")))
-    json_rule) stats_rule) verbose_rule
+    with_rule (with_rule (with_rule (with_rule (with_rule (with_rule (with_rule (new_app (codes "verify")) (file_rule (codes "BEFORE"))) (file_rule (codes "AFTER")))
+    (flag_rule (codes "explain"))) (flag_rule (codes "ignore-free"))) json_rule) stats_rule) verbose_rule
 
 -- the definition of `record`
 abbrev pub record_words : App

@@ -28,6 +28,8 @@ pub struct Trouble<'a> {
     other: Option<FileWord<'a>>,
     reason: Option<Reason>,
     hint: Option<Hint>,
+    /// Further lines for `--explain`.
+    explanation: Option<String>,
 }
 
 impl<'a> Trouble<'a> {
@@ -41,6 +43,7 @@ impl<'a> Trouble<'a> {
             other: None,
             reason: None,
             hint: None,
+            explanation: None,
         }
     }
 
@@ -86,6 +89,16 @@ impl<'a> Trouble<'a> {
         ensures { result.failure ≡ self.entry.failure }
     {
         Trouble { hint, ..self }
+    }
+
+    /// Adds lines that explain it, if there are some.
+    pub fn explained(self, explanation: Option<String>) -> Trouble<'a>
+        ensures { result.failure ≡ self.entry.failure }
+    {
+        Trouble {
+            explanation,
+            ..self
+        }
     }
 
     /// Adds this file and the call, if a call on the file failed.
@@ -163,15 +176,18 @@ impl<'a> Trouble<'a> {
         }
     }
 
-    /// Writes the lines of `--verbose`: the files, the reason and the hint.
+    /// Writes the lines of `--verbose`: the files, the reason and the hint, and those of `--explain`.
     pub fn print_details<B: Write>(&self, err: &mut B) -> io::Result<()> {
         print_file(self.other, err)?;
         print_file(self.file, err)?;
         if let Some(reason) = &self.reason {
             reason.print(err)?;
         }
-        match &self.hint {
-            Some(hint) => writeln!(err, "pcompact: hint {hint}"),
+        if let Some(hint) = &self.hint {
+            writeln!(err, "pcompact: hint {hint}")?;
+        }
+        match &self.explanation {
+            Some(lines) => err.write_all(lines.as_bytes()),
             None => Ok(()),
         }
     }

@@ -6,6 +6,7 @@ ghost use Rattle.pcompact.specs.Commands.{IsPrintedBy};
 ghost use Rattle.command_support.specs.Failure.{out_of_memory};
 
 mod collect;
+mod explanation;
 mod record;
 mod verify;
 
