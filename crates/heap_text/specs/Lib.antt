@@ -1,2 +1,4 @@
 pub mod Text
 pub mod TextLines
+pub mod Tokens
+pub mod Words

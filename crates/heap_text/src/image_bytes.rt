@@ -29,7 +29,7 @@ impl<'a> ImageBytes<'a> {
         tail: &'a [u64],
     ) -> Result<ImageBytes<'a>, AllocError> {
         Ok(ImageBytes {
-            chunks: words.into_reversed_chunks(),
+            chunks: words.into_reversed_chunks()?,
             chunk: Vec::from_slice(alloc, &front)?,
             index: 0,
             tail,

@@ -127,11 +127,11 @@ impl LineParser {
     }
 
     fn parse_roots(&mut self, line: &[u8]) -> Result<(), LineError> {
-        let (name, tokens) = Tokens::of(line);
+        let (name, mut tokens) = Tokens::of(line);
         if name != b"roots".as_slice() {
             return Err(LineError::Expected(Expected::Roots));
         }
-        for token in tokens {
+        while let Some(token) = tokens.next_token() {
             match parse_reference(token, self.len) {
                 Some(root) => self.push_root(root)?,
                 None => return Err(LineError::Expected(Expected::Reference(self.len))),
@@ -163,7 +163,7 @@ impl LineParser {
         if parse_address(place) != Some(here) {
             return Err(LineError::Expected(Expected::Place(here)));
         }
-        match tokens.next() {
+        match tokens.next_token() {
             Some(kind) if kind == b"object".as_slice() => self.parse_object(here, tokens),
             Some(kind) if kind == b"dead".as_slice() => self.parse_dead(here, tokens),
             _ => Err(LineError::Expected(Expected::Kind)),
