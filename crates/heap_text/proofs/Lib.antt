@@ -3,3 +3,10 @@ pub mod TokenSteps
 pub mod WordTexts
 pub mod PartSteps
 pub mod OneText
+pub mod LineSteps
+pub mod HeapLines
+pub mod ParseSteps
+pub mod ImageSteps
+pub mod WaitSteps
+pub mod LineBytes
+pub mod ByteSteps

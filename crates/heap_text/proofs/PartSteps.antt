@@ -1,11 +1,11 @@
 -- One token more of a line's numbers or references.
-use Rattle.std.proofs.Common.{◌≡◌, ◌≢◌, ◌⊎◌, inl, inr, ℕ, zero, suc, ◌+◌, ◌-◌, ◌^◌, ◌<◌, ◌≤◌, Bool, true, false, ◌&&◌, List, [], ◌∷◌, ◌++◌, Option, None, Some, Err, codes, decimal, length, get_or, refl, ap, sym, ◌∙◌, subst, arith, append_assoc, append-nil, length-append}
+use Rattle.std.proofs.Common.{◌≡◌, ◌≢◌, ◌⊎◌, inl, inr, ℕ, zero, suc, ◌+◌, ◌-◌, ◌^◌, ◌<◌, ◌≤◌, Bool, true, false, ◌&&◌, List, [], ◌∷◌, ◌++◌, Option, None, Some, Err, codes, decimal, length, get_or, replicate, refl, ap, sym, ◌∙◌, subst, arith, append_assoc, append-nil, length-append}
 use Rattle.std.specs.Prelude.{◌==◌, flat_map, option_map}
 use Rattle.std.specs.List.{AllByRecursion, list_all}
 use Rattle.heap_text.specs.Text.{number_text, reference_text}
 use Rattle.heap_text.specs.Tokens.{IsToken, IsAfterToken, reference_word}
-use Rattle.std.proofs.lemmas.Bool.{eq-eqb, eqb-true, and_parts}
-use Rattle.heap_text.specs.Words.{words_of, HasPushed, all_equal, references_part, data_part, has_some, Accepts}
+use Rattle.std.proofs.lemmas.Bool.{cases_Bool, eq-eqb, eqb-true, and_parts}
+use Rattle.heap_text.specs.Words.{words_of, HasPushed, all_equal, dead_part, references_part, data_part, has_some, Accepts}
 use Rattle.heap_text.specs.declared.line_error.LineError.{LineError}
 use Rattle.heap_text.specs.declared.line_error.LineError.TheVariants.{Memory, Expected}
 use Rattle.heap_text.specs.declared.word_list.WordList.{WordList}
@@ -439,3 +439,108 @@ fields_after (w ∷ refs) others = refl
 
 pub pushed_word : (old new : WordList) (x w : ℕ) → words_of new ≡ words_of old ++ (x ∷ []) → new.len ≡ old.len + 1 → x ≡ w → HasPushed old new (w ∷ [])
 pushed_word old new x w words len is = record { words = words ∙ ap (λ (y : ℕ). words_of old ++ (y ∷ [])) is; len = len }
+
+-- the words of a dead run
+pub all_replicate : (w : ℕ) (ws : List ℕ) → list_all (λ x. x == w) ws ≡ true → ws ≡ replicate (length ws) w
+all_replicate w [] e = refl
+all_replicate w (x ∷ ws) e =
+    let both = and_parts (x == w) (list_all (λ y. y == w) ws) e in
+    let first : x ≡ w = eqb-true x w both.0 in
+    let others : ws ≡ replicate (length ws) w = all_replicate w ws both.1 in
+    ap (λ (y : ℕ). y ∷ ws) first ∙ ap (λ (t : List ℕ). w ∷ t) others
+
+pub record IsEqualRun (ws name rest : List ℕ) : Type 0 where
+  pub name_is : name ≡ codes "of"
+  pub rest_is : rest ≡ number_text (get_or ws 0 0)
+  pub whole : ws ≡ replicate (length ws) (get_or ws 0 0)
+
+pub record IsUnequalRun (ws name rest : List ℕ) : Type 0 where
+  pub name_is : name ≡ codes "words"
+  pub rest_is : rest ≡ flat_map number_text ws
+  pub unequal : all_equal ws ≡ false
+
+of_token : IsToken (codes "of")
+of_token = (omega arith, (omega arith, tt))
+
+words_token : IsToken (codes "words")
+words_token = (omega arith, (omega arith, (omega arith, (omega arith, (omega arith, tt)))))
+
+pub equal_part : (ws : List ℕ) → all_equal ws ≡ true → dead_part ws ≡ codes " of" ++ number_text (get_or ws 0 0)
+equal_part ws equal = rw equal refl
+
+pub unequal_part : (ws : List ℕ) → all_equal ws ≡ false → dead_part ws ≡ codes " words" ++ flat_map number_text ws
+unequal_part ws other = rw other refl
+
+pub dead_after : (ws : List ℕ) → IsAfterToken (dead_part ws)
+dead_after ws = elim (cases_Bool (all_equal ws)) [
+  | inl equal ↦ subst IsAfterToken (sym (equal_part ws equal)) refl
+  | inr other ↦ subst IsAfterToken (sym (unequal_part ws other)) refl
+]
+
+pub dead_part_next : (ws entry name rest : List ℕ) → entry ≡ dead_part ws → GivesToken entry (Some name) rest → IsEqualRun ws name rest ⊎ IsUnequalRun ws name rest
+dead_part_next ws entry name rest is some = elim (cases_Bool (all_equal ws)) [
+  | inl equal ↦
+      let both = some (codes "of") (number_text (get_or ws 0 0)) of_token refl (is ∙ equal_part ws equal) in
+      inl (record { name_is = some_same name (codes "of") both.0; rest_is = both.1; whole = all_replicate (get_or ws 0 0) ws equal })
+  | inr other ↦
+      let both = some (codes "words") (flat_map number_text ws) words_token (numbers_after ws) (is ∙ unequal_part ws other) in
+      inr (record { name_is = some_same name (codes "words") both.0; rest_is = both.1; unequal = other })
+]
+
+pub dead_part_none : (ws entry rest : List ℕ) (found : Option (List ℕ)) → entry ≡ dead_part ws → found ≡ None → GivesToken entry found rest → ⊥
+dead_part_none ws entry rest found is missing some = elim (cases_Bool (all_equal ws)) [
+  | inl equal ↦ none_some (codes "of") (sym missing ∙ (some (codes "of") (number_text (get_or ws 0 0)) of_token refl (is ∙ equal_part ws equal)).0)
+  | inr other ↦ none_some (codes "words") (sym missing ∙ (some (codes "words") (flat_map number_text ws) words_token (numbers_after ws) (is ∙ unequal_part ws other)).0)
+]
+
+pub of_not_words : codes "of" ≡ codes "words" → ⊥
+of_not_words e =
+    let first : 111 ≡ 119 = ap (λ (xs : List ℕ). get_or xs 0 0) e in
+    omega (arith, first)
+
+-- the first word of a dead run
+pub first_fits : (ws : List ℕ) → AllByRecursion (λ w. w < 2 ^ 64) ws → get_or ws 0 0 < 2 ^ 64
+first_fits [] fits = omega arith
+first_fits (w ∷ ws) fits = fits.0
+
+-- these roots were pushed, and the others are left
+pub record AreRootsLeft (len : ℕ) (now rest roots : List ℕ) : Type 0 where
+  pub left : List ℕ
+  pub fits : AllByRecursion (λ w. w ≤ len) left
+  pub remains : rest ≡ flat_map reference_text left ++ data_part []
+  pub whole : roots ≡ now ++ left
+
+pub roots_begin : (len : ℕ) (now rest roots : List ℕ) → AllByRecursion (λ w. w ≤ len) roots → now ≡ [] → rest ≡ flat_map reference_text roots → AreRootsLeft len now rest roots
+roots_begin len now rest roots fits empty is =
+    record { left = roots; fits = fits; remains = is ∙ sym (append-nil (flat_map reference_text roots)); whole = ap (λ (t : List ℕ). t ++ roots) (sym empty) }
+
+pub roots_step : (len : ℕ) (now new rest rest' token roots : List ℕ) (root : ℕ) → len ≤ 4194304 → AreRootsLeft len now rest roots → (rest ≡ [] → ⊥)
+    → GivesToken rest (Some token) rest' → ParsesReference len token (Some root) → length roots ≤ len → (length now ≤ len → new ≡ now ++ (root ∷ [])) → AreRootsLeft len new rest' roots
+roots_step len now new rest rest' token roots root few p none some parses room push =
+    elim (reference_next len p.left [] rest token rest' few p.fits p.remains none some) [
+      | inl next ↦
+          let same : next.word ≡ root = sym (some_same root next.word (parses next.word next.fits next.token_is)) in
+          let left : p.left ≡ root ∷ next.more = next.left_is ∙ ap (λ (x : ℕ). x ∷ next.more) same in
+          let inside : length now ≤ len = omega (arith, room, ap (λ (xs : List ℕ). length xs) p.whole, length-append now p.left) in
+          record {
+            left = next.more;
+            fits = (subst (AllByRecursion (λ w. w ≤ len)) left p.fits).1;
+            remains = next.rest_is;
+            whole = p.whole ∙ (ap (λ (t : List ℕ). now ++ t) left ∙ (sym (append_assoc now (root ∷ []) next.more) ∙ ap (λ (t : List ℕ). t ++ next.more) (sym (push inside))));
+          }
+      | inr next ↦ let no : false ≡ true = next.some in absurd (true_not_false (sym no))
+    ]
+
+pub roots_wrong : (len : ℕ) (now rest rest' token roots : List ℕ) (found : Option ℕ) → len ≤ 4194304 → AreRootsLeft len now rest roots → (rest ≡ [] → ⊥)
+    → GivesToken rest (Some token) rest' → found ≡ None → ParsesReference len token found → ⊥
+roots_wrong len now rest rest' token roots found few p none some missing parses =
+    elim (reference_next len p.left [] rest token rest' few p.fits p.remains none some) [
+      | inl next ↦ none_some next.word (sym missing ∙ parses next.word next.fits next.token_is)
+      | inr next ↦ let no : false ≡ true = next.some in true_not_false (sym no)
+    ]
+
+pub roots_end : (len : ℕ) (now rest rest' roots : List ℕ) (found : Option (List ℕ)) → len ≤ 4194304 → AreRootsLeft len now rest roots → found ≡ None
+    → GivesToken rest found rest' → now ≡ roots
+roots_end len now rest rest' roots found few p missing some =
+    let last = reference_last len p.left [] rest rest' found few p.fits p.remains missing some in
+    sym (p.whole ∙ (ap (λ (t : List ℕ). now ++ t) last.0 ∙ append-nil now))

@@ -36,6 +36,10 @@ pub record HasPushed (old new : WordList) (ws : List ℕ) : Type 0 where
   pub words : words_of new ≡ words_of old ++ ws
   pub len : new.len ≡ old.len + length ws
 
+-- the numbers after the words of an image: the roots, or the live objects if it has none
+abbrev pub tail_of : ParsedHeap → List ℕ
+tail_of heap = if heap.is_rooted then heap.roots.items else heap.live.items
+
 -- the head and the roots stay
 pub record HasSameHead (old new : ParsedHeap) : Type 0 where
   pub is_rooted : new.is_rooted ≡ old.is_rooted

@@ -25,6 +25,7 @@ mod next_line;
 mod object_line;
 mod parsed_heap;
 mod reading;
+mod roots_line;
 mod text_parser;
 mod tokens;
 mod word_list;

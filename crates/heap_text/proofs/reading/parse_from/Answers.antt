@@ -11,7 +11,7 @@ loop-parser-init g c =
       room = omega (arith, c.in_ok-piece.ensures.len);
       seen = omega (arith, none, c.args.text.now.ok.0);
       came = none_given (g.R.Intake.left c.args.device.now) c.args.text.now.items c.requires;
-      stands = subst (λ (xs : List ℕ). EndsInLine xs 0 c.new-parser.result.line c.new-parser.result.begin) (sym c.requires) c.new-parser.ensures;
+      stands = subst (λ (xs : List ℕ). EndsInLine xs 0 c.new-parser.result.line c.new-parser.result.begin) (sym c.requires) c.new-parser.ensures.stands;
     }
 
 pub returns-in_err-read_piece-clause-line : goal.returns-in_err-read_piece-clause-line
@@ -39,7 +39,7 @@ returns-in_err-check_unfinished_line-clause-line g c =
     let more = c.in_ok-read_piece.ensures.more in
     let given = more_given first (g.R.Intake.left c.loop-parser.device) new c.loop-parser.text.items text more.0 c.loop-parser.invariant.came more.2 more.1 in
     rw (p.1, p.2) (about_all first new text c.in_err-check_unfinished_line.field-0.0 given
-    (subst (λ (xs : List ℕ). IsWithin xs c.in_err-check_unfinished_line.field-0.0) c.as_slice-in-loop-parser.ensures.value c.in_err-check_unfinished_line.ensures))
+    (subst (λ (xs : List ℕ). IsWithin xs c.in_err-check_unfinished_line.field-0.0) c.as_slice-in-loop-parser.ensures.value c.in_err-check_unfinished_line.ensures.line))
 
 pub loop-parser-preserved : goal.loop-parser-preserved
 loop-parser-preserved g c =
@@ -65,7 +65,7 @@ returns-in_err-finish-clause-line g c =
     let more = c.in_ok-read_piece.ensures.more in
     let given = more_given first (g.R.Intake.left c.loop-parser.device) new c.loop-parser.text.items text more.0 c.loop-parser.invariant.came more.2 more.1 in
     rw (p.1, p.2) (about_all first new text c.in_err-finish.field-0.0 given
-    (subst (λ (xs : List ℕ). IsWithin xs c.in_err-finish.field-0.0) c.as_slice-2.ensures.value c.in_err-finish.ensures))
+    (subst (λ (xs : List ℕ). IsWithin xs c.in_err-finish.field-0.0) c.as_slice-2.ensures.value c.in_err-finish.ensures.line))
 
 pub returns-clause-text : goal.returns-clause-text
 returns-clause-text g c =
