@@ -8,6 +8,8 @@ use Rattle.heap_image.specs.ImageText.{front, numbers, text}
 use Rattle.heap_text.specs.ImageBytes.{bytes_left}
 use Rattle.heap_text.specs.Parsing.{HasContents, AcceptsText}
 use Rattle.heap_text.specs.Words.{tail_of, words_of}
+use Rattle.heap_image.specs.declared.fault.Fault.{Fault}
+use Rattle.heap_image.specs.declared.fault.Fault.TheVariants.{Memory as FaultMemory}
 use Rattle.heap_text.specs.declared.error.TextError.{TextError}
 use Rattle.heap_text.specs.declared.error.TextError.TheVariants.{Memory, Line}
 use Rattle.heap_text.specs.declared.parsed_heap.ParsedHeap.{ParsedHeap}
@@ -22,9 +24,23 @@ text_accepted image (Ok found) a = inl (ap Ok a)
 text_accepted image (Err Memory) a = inr refl
 text_accepted image (Err (Line line expected)) a = absurd a
 
-pub accepted_text : {T : Type 0} (image : T) (result : Result T TextError) → (result ≡ Ok image) ⊎ (result ≡ Err Memory) → AcceptsText result (λ found. found ≡ image)
-accepted_text image result (inl e) = subst (λ (r : Result _ TextError). AcceptsText r (λ found. found ≡ image)) (sym e) refl
-accepted_text image result (inr e) = subst (λ (r : Result _ TextError). AcceptsText r (λ found. found ≡ image)) (sym e) tt
+pub image_only : (found image : HeapImage) (answer : Result HeapImage Fault) → answer ≡ Ok found → (answer ≡ Ok image) ⊎ (answer ≡ Err FaultMemory) → found ≡ image
+image_only found image answer is (inl e) = cc
+image_only found image answer is (inr e) = cc
+
+pub fault_only : (image : HeapImage) (fault : Fault) (answer : Result HeapImage Fault) (error : TextError) → answer ≡ Err fault → (fault ≡ FaultMemory → error ≡ Memory)
+    → (answer ≡ Ok image) ⊎ (answer ≡ Err FaultMemory) → AcceptsText {T = HeapImage} (Err error) (λ found. found ≡ image)
+fault_only image fault answer error is memory (inl e) = let no : ◌≡◌ {A = Result HeapImage Fault} (Err fault) (Ok image) = sym is ∙ e in cc
+fault_only image fault answer error is memory (inr e) =
+    let same : fault ≡ FaultMemory = cc in
+    subst (λ (x : TextError). AcceptsText {T = HeapImage} (Err x) (λ found. found ≡ image)) (sym (memory same)) tt
+
+pub memory_only : {T : Type 0} (error : TextError) (P : T → Type 0) → AcceptsText (Err error) P → error ≡ Memory
+memory_only Memory P a = refl
+memory_only (Line line expected) P a = absurd a
+
+pub tails_same : (b : Bool) (t r r' l l' : List ℕ) → t ≡ (if b then r else l) → r ≡ r' → l ≡ l' → t ≡ (if b then r' else l')
+tails_same b t r r' l l' e p q = e ∙ (ap (λ (xs : List ℕ). if b then xs else l) p ∙ ap (λ (xs : List ℕ). if b then r' else xs) q)
 
 module _ (image : HeapImage) (heap : ParsedHeap) (p : HasContents image heap) where
   tail_is : tail_of heap ≡ roots_or image.live image.roots

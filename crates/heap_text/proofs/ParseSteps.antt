@@ -2,7 +2,7 @@
 use Rattle.std.proofs.Common.{◌≡◌, ℕ, zero, suc, ◌+◌, ◌-◌, ◌*◌, ◌^◌, ◌<◌, ◌≤◌, ◌⊎◌, inl, inr, true, false, Bool, List, [], ◌∷◌, ◌++◌, codes, decimal, get_or, drop, take, length, refl, sym, ap, ◌∙◌, subst, arith, append_assoc, append-nil, length-append, Option, None, Some, IfSome, is_some}
 use Rattle.std.specs.Prelude.{◌==◌, if◌then◌else◌, flat_map}
 use Rattle.std.specs.List.{AllByRecursion}
-use Rattle.std.proofs.lemmas.Bool.{cases_lt, false≢true}
+use Rattle.std.proofs.lemmas.Bool.{cases_Bool, cases_lt, false≢true}
 use Rattle.std.proofs.lemmas.List.{take_all}
 use Rattle.std.proofs.lemmas.List.Elements.{recursion_from_All}
 use Rattle.heap_image.specs.Header.{object_header}
@@ -118,6 +118,19 @@ plain_begins image parser text valid empty head len plain is =
     heap_begins image parser text valid (record { words = empty.words; len = empty.len; live = empty.live; roots = refl; follows = empty.follows }) head len
     (empty.roots ∙ sym (plain_roots image.roots plain))
     (is ∙ ap (λ (t : List ℕ). t ++ lines_from image 0 image.live) (plain_line image.roots plain))
+
+-- what comes after the allowance
+pub front_ends : (image : HeapImage) (parser : LineParser) (next : NextLine) (text : List ℕ) → IsValid image → HasNothing parser
+    → HasHead image parser.heap.is_rooted parser.heap.region_log parser.heap.allowance → parser.len ≡ heap_words image
+    → (parser.heap.is_rooted ≡ true → next ≡ Roots) → (parser.heap.is_rooted ≡ false → next ≡ Heap) → text ≡ after_allowance image → ExpectsAt next image parser text
+front_ends image parser next text valid empty head len rooted plain is = elim (cases_Bool (is_some image.roots)) [
+  | inl some ↦
+      subst (λ (n : NextLine). ExpectsAt n image parser text) (sym (rooted (head.is_rooted ∙ some)))
+      (record { empty = empty; head = head; len = len; rooted = some; rest = is })
+  | inr none ↦
+      subst (λ (n : NextLine). ExpectsAt n image parser text) (sym (plain (head.is_rooted ∙ none)))
+      (plain_begins image parser text valid empty head len none is)
+]
 
 -- an object was parsed
 pub object_parsed : (image : HeapImage) (old new : LineParser) (text line rest : List ℕ) (p : IsInHeap image old text) (l : IsObjectLine image old.heap.words.len p.todo line rest)

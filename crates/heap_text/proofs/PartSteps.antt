@@ -1,6 +1,6 @@
 -- One token more of a line's numbers or references.
-use Rattle.std.proofs.Common.{◌≡◌, ◌≢◌, ◌⊎◌, inl, inr, ℕ, zero, suc, ◌+◌, ◌-◌, ◌^◌, ◌<◌, ◌≤◌, Bool, true, false, ◌&&◌, List, [], ◌∷◌, ◌++◌, Option, None, Some, Err, codes, decimal, length, get_or, replicate, refl, ap, sym, ◌∙◌, subst, arith, append_assoc, append-nil, length-append}
-use Rattle.std.specs.Prelude.{◌==◌, flat_map, option_map}
+use Rattle.std.proofs.Common.{◌≡◌, ◌≢◌, ◌⊎◌, inl, inr, ℕ, zero, suc, ◌+◌, ◌-◌, ◌^◌, ◌<◌, ◌≤◌, Bool, true, false, ◌&&◌, List, [], ◌∷◌, ◌++◌, Option, None, Some, Result, Ok, Err, codes, decimal, length, get_or, replicate, refl, ap, sym, ◌∙◌, subst, arith, append_assoc, append-nil, length-append}
+use Rattle.std.specs.Prelude.{◌==◌, flat_map, option_map, not, OnOk}
 use Rattle.std.specs.List.{AllByRecursion, list_all}
 use Rattle.heap_text.specs.Text.{number_text, reference_text}
 use Rattle.heap_text.specs.Tokens.{IsToken, IsAfterToken, reference_word}
@@ -544,3 +544,39 @@ pub roots_end : (len : ℕ) (now rest rest' roots : List ℕ) (found : Option (L
 roots_end len now rest rest' roots found few p missing some =
     let last = reference_last len p.left [] rest rest' found few p.fits p.remains missing some in
     sym (p.whole ∙ (ap (λ (t : List ℕ). now ++ t) last.0 ∙ append-nil now))
+
+pub accepts_map : {T : Type 0} (result : Result T LineError) (P Q : T → Type 0) → ((x : T) → P x → Q x) → Accepts result P → Accepts result Q
+accepts_map (Ok x) P Q f a = f x a
+accepts_map (Err Memory) P Q f a = tt
+accepts_map (Err (Expected _)) P Q f a = absurd a
+
+-- with what else holds of a line that is accepted
+pub accepts_with : {T : Type 0} (result : Result T LineError) (P F Q : Type 0) → (P → F → Q) → Accepts result (λ _. P) → OnOk result F → Accepts result (λ _. Q)
+accepts_with (Ok x) P F Q f a b = f a b
+accepts_with (Err Memory) P F Q f a b = tt
+accepts_with (Err (Expected _)) P F Q f a b = absurd a
+
+pub other_name : (token bytes name : List ℕ) → true ≡ not (pointwise eqb token bytes) → bytes ≡ name → token ≡ name → ⊥
+other_name token bytes name e is same =
+    let equal : pointwise eqb token bytes ≡ true = ap (λ (xs : List ℕ). pointwise eqb xs bytes) (same ∙ sym is) ∙ same_bytes bytes in
+    let no : true ≡ false = e ∙ ap not equal in
+    cc
+
+-- the first token of a line of the heap, and those after it
+abbrev pub SplitsLine : List ℕ → List ℕ → List ℕ → Type 0
+SplitsLine line place rest = (token after : List ℕ) → IsToken token → IsAfterToken after → line ≡ token ++ after → (place ≡ token) × (rest ≡ after)
+
+pub place_of : (here : ℕ) (line kind after place rest : List ℕ) → here < 2 ^ 64 → line ≡ (64 ∷ decimal here) ++ (32 ∷ (kind ++ after)) → SplitsLine line place rest
+    → (place ≡ 64 ∷ decimal here) × (rest ≡ 32 ∷ (kind ++ after))
+place_of here line kind after place rest few is split = split (64 ∷ decimal here) (32 ∷ (kind ++ after)) (omega arith, decimal_is_token here few) refl is
+
+pub object_token : IsToken (codes "object")
+object_token = (omega arith, (omega arith, (omega arith, (omega arith, (omega arith, (omega arith, tt))))))
+
+pub dead_token : IsToken (codes "dead")
+dead_token = four_letters 100 101 97 100 (omega arith) (omega arith) (omega arith) (omega arith)
+
+pub object_not_dead : codes "object" ≡ codes "dead" → ⊥
+object_not_dead e =
+    let first : 111 ≡ 100 = ap (λ (xs : List ℕ). get_or xs 0 0) e in
+    omega (arith, first)

@@ -1,7 +1,7 @@
 -- Parsing a text line by line.
 use Rattle.std.proofs.Common.{◌≡◌, ℕ, zero, suc, ◌+◌, ◌-◌, ◌<◌, ◌≤◌, ◌⊎◌, inl, inr, true, false, List, [], ◌∷◌, ◌++◌, length, take, drop, get_or, slice_index, slice_range, refl, sym, ap, ◌∙◌, subst, arith, append_assoc, append-nil, length-append, length-drop}
 use Rattle.std.specs.Prelude.{◌==◌, if◌then◌else◌}
-use Rattle.std.proofs.lemmas.Bool.{ne_eqb}
+use Rattle.std.proofs.lemmas.Bool.{and_parts, ne_eqb}
 use Rattle.std.proofs.lemmas.List.{drop_more, drop_all, drop-drop, take_all, take-append-drop, nil_from_length, take-append-le, drop-append-le}
 use Rattle.std.proofs.lemmas.List.Sums.{count_by_more_no, sum_by-take-drop}
 use Rattle.std.proofs.Math.Seq.{take-add}
@@ -12,7 +12,8 @@ use Rattle.heap_text.specs.declared.text_parser.TextParser.{TextParser}
 use Rattle.heap_text.proofs.LineSteps.{lines_append, lines_cons, newlines_of}
 use Rattle.heap_text.proofs.ParseSteps.{line_ahead}
 use Rattle.heap_text.proofs.LineBytes.{IsPart, unfinished_part}
-use Rattle.heap_text.specs.TextBytes.{longest}
+use Rattle.heap_text.specs.TextBytes.{is_text_byte, longest}
+use Rattle.std.specs.List.{list_all}
 
 -- a byte more that is no newline
 pub waits_after_byte : (image : HeapImage) (parser : TextParser) (bytes : List ℕ) (place : ℕ) (more : List ℕ) → IsWaiting image parser bytes place more
@@ -91,3 +92,15 @@ waits_for_piece image parser old new came left rest seen p new_is left_is low lo
           ∙ (ap ended_lines (take-append-le seen old came low)
           ∙ (p.one_line ∙ sym (ap (λ (xs : List ℕ). ended_lines (take begin xs)) new_is ∙ ap ended_lines (take-append-le begin old came low'))));
     }
+
+plain_drop : (k : ℕ) (xs : List ℕ) → list_all is_text_byte xs ≡ true → list_all is_text_byte (drop k xs) ≡ true
+plain_drop zero xs h = h
+plain_drop (suc k) [] h = refl
+plain_drop (suc k) (x ∷ xs) h = plain_drop k xs (and_parts (is_text_byte x) (list_all is_text_byte xs) h).1
+
+-- so are the bytes of a line from a later place on
+pub plain_from : (bytes : List ℕ) (begin m : ℕ) → begin ≤ m → list_all is_text_byte (drop begin bytes) ≡ true → list_all is_text_byte (drop m bytes) ≡ true
+plain_from bytes begin m low h =
+    let at : begin + (m - begin) ≡ m = omega (arith, low) in
+    let is : drop (m - begin) (drop begin bytes) ≡ drop m bytes = drop-drop (m - begin) begin bytes ∙ ap (λ (k : ℕ). drop k bytes) at in
+    subst (λ (xs : List ℕ). list_all is_text_byte xs ≡ true) is (plain_drop (m - begin) (drop begin bytes) h)

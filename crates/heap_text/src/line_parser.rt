@@ -195,9 +195,9 @@ impl LineParser {
         requires left { here < self.old.len }
         ensures accepts { (refs others : List ℕ) → AllByRecursion (λ w. w ≤ self.old.len) refs → AllByRecursion (λ w. w < 2 ^ 64) others
             → tokens.entry.rest.now ≡ number_text (1 + (length refs + length others)) ++ (references_part refs ++ data_part others)
-            → here + (1 + (length refs + length others)) ≤ self.old.len
+            → self.old.heap.words.len + (1 + (length refs + length others)) ≤ self.old.len
             → Accepts result (λ _. HasParsed self.old.heap self.new.heap
-            (object_header (1 + (length refs + length others)) (length refs) ∷ (refs ++ others)) (here ∷ [])) }
+            (object_header (1 + (length refs + length others)) (length refs) ∷ (refs ++ others)) (self.old.heap.words.len ∷ [])) }
         ensures next { self.new.next ≡ self.old.next }
         ensures len { self.new.len ≡ self.old.len }
         ensures follows { OnOk result (self.new.follows_dead_run ≡ false) }
@@ -211,7 +211,7 @@ impl LineParser {
         requires here { here ≡ self.old.heap.words.len }
         requires left { here < self.old.len }
         ensures accepts { (ws : List ℕ) → AllByRecursion (λ w. w < 2 ^ 64) ws → 0 < length ws
-            → tokens.entry.rest.now ≡ number_text (length ws) ++ dead_part ws → here + length ws ≤ self.old.len
+            → tokens.entry.rest.now ≡ number_text (length ws) ++ dead_part ws → self.old.heap.words.len + length ws ≤ self.old.len
             → self.old.follows_dead_run ≡ false → Accepts result (λ _. HasParsed self.old.heap self.new.heap ws []) }
         ensures next { self.new.next ≡ self.old.next }
         ensures len { self.new.len ≡ self.old.len }

@@ -84,7 +84,7 @@ impl TextParser {
         requires seen { seen ≤ length text.now }
         ensures line { IfErr result (λ error. IsWithin text.now error) }
         ensures accepts { (image : HeapImage) (more : List ℕ) → IsValid image → IsWaiting image self.now text.now (length text.now) more
-            → result ≡ Ok () }
+            → result ≡ Ok tt }
     {
         if !self.can_be_completed(text, seen) {
             return Err(TextError::Line(self.line, Expected::Newline));

@@ -1,6 +1,7 @@
 use Rattle.std.proofs.Common.{◌≡◌, ◌+◌, ◌<◌, ◌≤◌, ◌-◌, ◌++◌, ◌∷◌, [], ℕ, List, Bool, true, false, Option, None, Some, inl, inr, refl, sym, ap, ◌∙◌, subst, length, arith, codes, decimal, is_some}
 use Rattle.heap_text.specs.Parsing.{ExpectsAt}
 use Rattle.heap_text.specs.declared.next_line.NextLine.{NextLine}
+use Rattle.heap_text.proofs.PartSteps.{accepts_map}
 use Rattle.heap_text.proofs.line_parser.LineParser.parse_line.Goals as goal
 
 pub returns-in-Version : goal.returns-in-Version
@@ -25,4 +26,5 @@ returns-in-Roots c image rest valid e one =
 
 pub returns-in-Heap : goal.returns-in-Heap
 returns-in-Heap c image rest valid e one =
-    c.parse_heap_line.ensures image rest valid (subst (λ (n : NextLine). ExpectsAt n image c.args.self.now (c.args.line.now ++ (10 ∷ rest))) c.in-Heap.is e) one
+    accepts_map c.parse_heap_line.result _ _ (λ _ q. subst (λ (n : NextLine). ExpectsAt n image c.parse_heap_line.new.self rest) (sym (q.0 ∙ c.in-Heap.is)) q.1)
+    (c.parse_heap_line.ensures image rest valid (subst (λ (n : NextLine). ExpectsAt n image c.args.self.now (c.args.line.now ++ (10 ∷ rest))) c.in-Heap.is e) one)
