@@ -10,3 +10,4 @@ pub mod ImageSteps
 pub mod WaitSteps
 pub mod LineBytes
 pub mod ByteSteps
+pub mod DeviceSteps

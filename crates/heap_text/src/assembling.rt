@@ -1,5 +1,5 @@
 //! Makes the image of a text.
-ghost use Rattle.std.specs.Prelude.{◌≡◌, ◌⊎◌, ◌≤◌, IfOk, IfErr, IfSome, IsTrue, OnOk, Ok, Err, length};
+ghost use Rattle.std.specs.Prelude.{◌≡◌, ◌⊎◌, ◌≤◌, IfOk, IfErr, IfSome, IsTrue, OnOk, Ok, Err, Some, length};
 ghost use Rattle.std.specs.Io.KnownBytes.{IsAtEnd};
 ghost use Rattle.heap_image.specs.HeapImage.{HeapImage, IsValid};
 ghost use Rattle.heap_text.specs.ImageBytes.{Gives};
@@ -43,6 +43,9 @@ pub fn assemble_from<R: Intake>(alloc: Global, device: &mut R) -> Result<Image, 
     ensures valid { IfOk result (λ image. IsValid image) }
     ensures line { IfErr result (λ error. IfSome (R.left device.old) (λ bytes. IsAbout bytes error)) }
     ensures device { result ≡ Err AssembleError.Device → IsTrue (R.has_failed device.new) }
+    // The text of a valid image is rejected only if memory runs out or the device fails.
+    ensures only { (image : HeapImage) → IsValid image → R.left device.old ≡ Some (text_of image) → (result ≡ Ok image)
+        ⊎ ((result ≡ Err (AssembleError.Text TextError.Memory)) ⊎ (result ≡ Err AssembleError.Device)) }
 {
     let mut text = Vec::new(alloc);
     let heap = parse_from(alloc, device, &mut text)?;
