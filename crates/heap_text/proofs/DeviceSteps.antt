@@ -1,8 +1,8 @@
 -- The text of a valid image, from a device.
-use Rattle.std.proofs.Common.{◌≡◌, ◌∙◌, ◌⊎◌, inl, inr, ◌≤◌, ℕ, List, [], ◌++◌, Option, None, Some, Result, Ok, Err, refl, sym, ap, subst, length, append-nil}
+use Rattle.std.proofs.Common.{◌≡◌, ◌∙◌, ◌⊎◌, inl, inr, ◌≤◌, ℕ, List, [], ◌++◌, Option, None, Some, Result, Ok, Err, refl, sym, ap, length, append-nil}
 use Rattle.std.specs.Io.KnownBytes.{Consumes, IsAtEnd}
-use Rattle.heap_image.specs.HeapImage.{HeapImage, IsValid}
-use Rattle.heap_text.specs.Parsing.{AcceptsFrom, AcceptsText, HasContents, IsWaiting}
+use Rattle.heap_image.specs.HeapImage.{HeapImage}
+use Rattle.heap_text.specs.Parsing.{AcceptsFrom, AcceptsText, IsWaiting}
 use Rattle.heap_text.specs.TextLines.{IsOfNoLine}
 use Rattle.heap_text.specs.declared.error.AssembleError.{AssembleError}
 use Rattle.heap_text.specs.declared.error.AssembleError.TheVariants.{Device, Text}

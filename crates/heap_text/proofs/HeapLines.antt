@@ -1,14 +1,14 @@
 -- The lines of objects and dead runs, from addresses of an image to lists of words.
-use Rattle.std.proofs.Common.{◌≡◌, ℕ, zero, suc, ◌+◌, ◌-◌, ◌*◌, ◌/◌, ◌%◌, ◌^◌, ◌<◌, ◌≤◌, ◌⊎◌, inl, inr, true, false, Bool, ◌&&◌, ◌||◌, List, [], ◌∷◌, ◌++◌, codes, decimal, get_or, drop, take, length, refl, sym, ap, ◌∙◌, subst, arith, append_assoc, append-nil, length-append, length-drop, All, Option, None, Some, IfSome}
-use Rattle.std.specs.Prelude.{◌==◌, if◌then◌else◌, flat_map}
+use Rattle.std.proofs.Common.{◌≡◌, ℕ, zero, suc, ◌+◌, ◌-◌, ◌^◌, ◌<◌, ◌≤◌, ◌⊎◌, inl, inr, true, false, Bool, ◌&&◌, ◌||◌, List, [], ◌∷◌, ◌++◌, codes, decimal, get_or, drop, take, length, refl, sym, ap, ◌∙◌, subst, arith, append_assoc, append-nil, length-append, length-drop, All}
+use Rattle.std.specs.Prelude.{◌==◌, flat_map}
 use Rattle.std.specs.List.{range_with_len, list_all, list_any, AllByRecursion}
-use Rattle.std.proofs.lemmas.Bool.{cases_lt, cases_Bool, eqb-true, le-leb, lt-leb}
+use Rattle.std.proofs.lemmas.Bool.{cases_lt, cases_Bool, eqb-true}
 use Rattle.std.proofs.lemmas.List.{drop_more, length-take-le, get_or-take, get_or-drop, drop-drop, get_or_at, get_or_default}
 use Rattle.std.proofs.Math.Seq.{take-add}
 use Rattle.std.proofs.lemmas.List.Elements.{All-head, All-tail, All-take, All-drop, recursion_from_All}
-use Rattle.heap_image.specs.Header.{size_of, references_of, kind_of, object_header}
+use Rattle.heap_image.specs.Header.{object_header}
 use Rattle.heap_image.specs.HeapImage.{HeapImage, IsValid, HasSoundHeader, heap_words, word_at, size_at, references_at, reference_at, end_of, is_null_or_live}
-use Rattle.heap_text.specs.Text.{addresses_between, reference_text, number_text, references_text, numbers_text, object_text, are_equal, dead_words_text, dead_text, lines_from}
+use Rattle.heap_text.specs.Text.{reference_text, number_text, references_text, numbers_text, object_text, are_equal, dead_words_text, dead_text, lines_from}
 use Rattle.heap_text.specs.TextLines.{ended_lines}
 use Rattle.heap_text.specs.Words.{all_equal, data_part, dead_part, references_part}
 use Rattle.heap_text.specs.Parsing.{LiesAhead, next_live}
@@ -222,10 +222,16 @@ module _ (image : HeapImage) (valid : IsValid image) where
         let few : size < 2 ^ 64 = omega (arith, size_is, sound.inside, few_words) in
         let parts : List ℕ = references_part refs_of ++ data_part others_of in
         omega (
-          arith, lines_append (64 ∷ decimal a) (32 ∷ (codes "object" ++ (number_text size ++ parts))), lines_cons 64 (decimal a), decimal_lines a (omega (arith, sound.inside, few_words)),
-          lines_append (codes " object") (number_text size ++ parts), lines_append (number_text size) parts, number_lines size few,
-          lines_append (references_part refs_of) (data_part others_of), references_part_lines (heap_words image) refs_of few_words refs_low,
-          data_part_lines others_of (fits_between (a + 1 + references_at image a) (size_at image a - 1 - references_at image a))
+          arith,
+          lines_append (64 ∷ decimal a) (32 ∷ (codes "object" ++ (number_text size ++ parts))),
+          lines_cons 64 (decimal a),
+          decimal_lines a (omega (arith, sound.inside, few_words)),
+          lines_append (codes " object") (number_text size ++ parts),
+          lines_append (number_text size) parts,
+          number_lines size few,
+          lines_append (references_part refs_of) (data_part others_of),
+          references_part_lines (heap_words image) refs_of few_words refs_low,
+          data_part_lines others_of (fits_between (a + 1 + references_at image a) (size_at image a - 1 - references_at image a)),
         )
 
   -- a line that begins with an object
@@ -276,9 +282,14 @@ module _ (image : HeapImage) (valid : IsValid image) where
     dead_one_line =
         let few : length run < 2 ^ 64 = omega (arith, run_length image n from inside, inside, few_words) in
         omega (
-          arith, lines_append (64 ∷ decimal from) (32 ∷ (codes "dead" ++ (number_text (length run) ++ dead_part run))), lines_cons 64 (decimal from),
-          decimal_lines from (omega (arith, inside, few_words)), lines_append (codes " dead") (number_text (length run) ++ dead_part run),
-          lines_append (number_text (length run)) (dead_part run), number_lines (length run) few, dead_part_lines run (fits_between from n)
+          arith,
+          lines_append (64 ∷ decimal from) (32 ∷ (codes "dead" ++ (number_text (length run) ++ dead_part run))),
+          lines_cons 64 (decimal from),
+          decimal_lines from (omega (arith, inside, few_words)),
+          lines_append (codes " dead") (number_text (length run) ++ dead_part run),
+          lines_append (number_text (length run)) (dead_part run),
+          number_lines (length run) few,
+          dead_part_lines run (fits_between from n),
         )
 
     dead_words : take (from + n) image.words ≡ take from image.words ++ run
@@ -340,9 +351,9 @@ module _ (image : HeapImage) (valid : IsValid image) where
     | inr none ↦
         let at : a ≡ here = omega (arith, ahead.0, none) in
         inr (
-          subst (λ (k : ℕ). IsObjectLine image here (k ∷ live) line rest) (sym at)
-          (object_line_next here live line rest (omega arith, subst (λ (k : ℕ). HasSoundHeader image k) at ahead.1, subst (λ (k : ℕ). LiesAhead image live (end_of image k)) at ahead.2)
-          (points here live (ap (λ (k : ℕ). k ∷ live) at)) one (is ∙ ap (λ (k : ℕ). lines_from image here (k ∷ live)) at))
+        subst (λ (k : ℕ). IsObjectLine image here (k ∷ live) line rest) (sym at)
+        (object_line_next here live line rest (omega arith, subst (λ (k : ℕ). HasSoundHeader image k) at ahead.1, subst (λ (k : ℕ). LiesAhead image live (end_of image k)) at ahead.2)
+        (points here live (ap (λ (k : ℕ). k ∷ live) at)) one (is ∙ ap (λ (k : ℕ). lines_from image here (k ∷ live)) at))
         )
   ]
 

@@ -1,11 +1,10 @@
 -- The bytes of the image of a parsed heap.
-use Rattle.std.proofs.Common.{◌≡◌, ℕ, zero, suc, ◌+◌, ◌^◌, ◌<◌, ◌≤◌, ◌⊎◌, inl, inr, true, false, Bool, List, [], ◌∷◌, ◌++◌, length, take, drop, set, get_or, refl, sym, ap, ◌∙◌, subst, arith, append_assoc, append-nil, Option, None, Some, IfSome, is_some, Result, Ok, Err}
-use Rattle.std.specs.Prelude.{if◌then◌else◌, flat_map}
+use Rattle.std.proofs.Common.{◌≡◌, ℕ, ◌^◌, ◌<◌, ◌≤◌, ◌⊎◌, inl, inr, Bool, List, [], ◌++◌, length, refl, sym, ap, ◌∙◌, subst, arith, append_assoc, Option, None, Some, IfSome, is_some, Result, Ok, Err}
+use Rattle.std.specs.Prelude.{if◌then◌else◌}
 use Rattle.std.proofs.lemmas.List.Concat.{flat_map-append}
 use Rattle.std.specs.Int.{w64, to_le_bytes}
 use Rattle.heap_image.specs.HeapImage.{HeapImage, IsValid, AreRoots, heap_words, roots_or}
 use Rattle.heap_image.specs.ImageText.{front, numbers, text}
-use Rattle.heap_text.specs.ImageBytes.{bytes_left}
 use Rattle.heap_text.specs.Parsing.{HasContents, AcceptsText}
 use Rattle.heap_text.specs.Words.{tail_of, words_of}
 use Rattle.heap_image.specs.declared.fault.Fault.{Fault}
@@ -67,11 +66,11 @@ module _ (image : HeapImage) (heap : ParsedHeap) (p : HasContents image heap) wh
       let tails : tail ≡ T = same ∙ tail_is in
       let F : List ℕ = front (is_some image.roots) image.region_log (length T) (heap_words image) image.allowance in
       let fronts : array ≡ F = front_is
-          ∙ (ap (λ (b : Bool). front b heap.region_log (length (tail_of heap)) heap.words.len heap.allowance) p.head.is_rooted
-          ∙ (ap (λ (k : ℕ). front (is_some image.roots) k (length (tail_of heap)) heap.words.len heap.allowance) p.head.region_log
-          ∙ (ap (λ (xs : List ℕ). front (is_some image.roots) image.region_log (length xs) heap.words.len heap.allowance) tail_is
-          ∙ (ap (λ (k : ℕ). front (is_some image.roots) image.region_log (length T) k heap.allowance) p.len
-          ∙ ap (λ (k : ℕ). front (is_some image.roots) image.region_log (length T) (heap_words image) k) p.head.allowance)))) in
+      ∙ (ap (λ (b : Bool). front b heap.region_log (length (tail_of heap)) heap.words.len heap.allowance) p.head.is_rooted
+      ∙ (ap (λ (k : ℕ). front (is_some image.roots) k (length (tail_of heap)) heap.words.len heap.allowance) p.head.region_log
+      ∙ (ap (λ (xs : List ℕ). front (is_some image.roots) image.region_log (length xs) heap.words.len heap.allowance) tail_is
+      ∙ (ap (λ (k : ℕ). front (is_some image.roots) image.region_log (length T) k heap.allowance) p.len
+      ∙ ap (λ (k : ℕ). front (is_some image.roots) image.region_log (length T) (heap_words image) k) p.head.allowance)))) in
       let body : numbers (words_of heap.words ++ tail) ≡ numbers image.words ++ numbers T =
       flat_map-append (to_le_bytes w64) (words_of heap.words) tail
       ∙ (ap (λ (xs : List ℕ). numbers xs ++ numbers tail) p.words ∙ ap (λ (xs : List ℕ). numbers image.words ++ numbers xs) tails) in

@@ -1,5 +1,5 @@
 -- How many bytes a line can have, and which.
-use Rattle.std.proofs.Common.{◌≡◌, ℕ, zero, suc, ◌+◌, ◌*◌, ◌-◌, ◌^◌, ◌<◌, ◌≤◌, ◌⊎◌, inl, inr, true, false, Bool, ◌&&◌, ◌||◌, List, [], ◌∷◌, ◌++◌, codes, decimal, get_or, drop, length, refl, sym, ap, ◌∙◌, subst, arith, append_assoc, append-nil, length-append, ◌==◌}
+use Rattle.std.proofs.Common.{◌≡◌, ℕ, zero, suc, ◌+◌, ◌*◌, ◌-◌, ◌^◌, ◌<◌, ◌≤◌, ◌⊎◌, inl, inr, true, false, ◌&&◌, ◌||◌, List, [], ◌∷◌, ◌++◌, codes, decimal, get_or, drop, length, refl, sym, ap, ◌∙◌, subst, arith, length-append, ◌==◌}
 use Rattle.std.specs.Prelude.{flat_map, nat_le}
 use Rattle.std.specs.List.{AllByRecursion, list_all}
 use Rattle.std.proofs.lemmas.Bool.{and_parts, cases_Bool, le-leb}
@@ -8,7 +8,6 @@ use Rattle.std.proofs.lemmas.List.Folds.{list_all-append}
 use Rattle.heap_text.specs.Text.{number_text, reference_text}
 use Rattle.heap_text.specs.TextLines.{ended_lines}
 use Rattle.heap_text.specs.TextBytes.{is_text_byte}
-use Rattle.heap_text.specs.Tokens.{reference_word}
 use Rattle.heap_text.specs.Words.{all_equal, data_part, dead_part, references_part}
 use Rattle.heap_text.proofs.LineSteps.{no_newline, less_lines}
 use Rattle.heap_text.proofs.PartSteps.{equal_part, unequal_part, first_fits}

@@ -1,15 +1,15 @@
 -- No two valid images have the same text: the lines of one text determine the fields, words and objects of its image.
-use Rattle.std.proofs.Common.{◌≡◌, ◌≢◌, ℕ, zero, suc, ◌+◌, ◌-◌, ◌*◌, ◌/◌, ◌%◌, ◌^◌, ◌<◌, ◌≤◌, ◌⊎◌, inl, inr, Bool, true, false, List, [], ◌∷◌, ◌++◌, codes, decimal, get_or, drop, length, refl, sym, ap, ◌∙◌, subst, arith, append_assoc, add-one, All, Option, None, Some, ext_get_or, IfSome, is_some, append-nil}
-use Rattle.std.specs.Prelude.{◌==◌, if◌then◌else◌, flat_map, ⊤, nat_le}
+use Rattle.std.proofs.Common.{◌≡◌, ◌≢◌, ℕ, zero, suc, ◌+◌, ◌-◌, ◌^◌, ◌<◌, ◌≤◌, ◌⊎◌, inl, inr, Bool, true, false, List, [], ◌∷◌, ◌++◌, codes, decimal, get_or, drop, length, refl, sym, ap, ◌∙◌, subst, arith, append_assoc, add-one, All, Option, None, Some, ext_get_or, IfSome, is_some, append-nil}
+use Rattle.std.specs.Prelude.{◌==◌, if◌then◌else◌, flat_map}
 use Rattle.std.specs.List.{range_with_len, list_all, AllAdjacentBelow, AllByRecursion}
 use Rattle.std.proofs.lemmas.Bool.{cases_lt, cases_Bool, and_parts, le-leb, lt-leb, eqb-true}
 use Rattle.std.proofs.lemmas.List.Elements.{recursion_from_All, All-head, All-tail}
 use Rattle.std.proofs.lemmas.Fmt.{decimal_injective}
 use Rattle.heap_image.specs.Header.{size_of, references_of, kind_of}
-use Rattle.heap_image.specs.HeapImage.{HeapImage, IsValid, AreRoots, roots_or, HasSoundHeader, HasLiveList, heap_words, word_at, size_at, references_at, kind_at, end_of, version_of, roots_of}
-use Rattle.heap_text.specs.Text.{addresses_between, reference_text, number_text, number_line, roots_text, front_text, roots_line, references_text, numbers_text, object_text, are_equal, dead_words_text, dead_text, lines_from, text_of}
+use Rattle.heap_image.specs.HeapImage.{HeapImage, IsValid, AreRoots, roots_or, HasSoundHeader, heap_words, word_at, size_at, references_at, end_of, version_of}
+use Rattle.heap_text.specs.Text.{addresses_between, reference_text, number_text, number_line, roots_text, roots_line, references_text, numbers_text, object_text, are_equal, dead_words_text, dead_text, lines_from, text_of}
 use Rattle.heap_text.specs.Parsing.{LiesAhead}
-use Rattle.heap_text.proofs.WordTexts.{some_reference, IsToken, EndsToken, AreAlike, decimal_unique, decimal_is_word, reference_word, reference_is, reference_is_word, reference_injective, run_unique, list_unique}
+use Rattle.heap_text.proofs.WordTexts.{some_reference, EndsToken, AreAlike, decimal_unique, decimal_is_word, reference_word, reference_is, reference_is_word, reference_injective, run_unique, list_unique}
 
 -- a text in front of another, with the parts associated to the right
 five : (a b c d e X : List ℕ) → (a ++ (b ++ (c ++ (d ++ e)))) ++ X ≡ a ++ (b ++ (c ++ (d ++ (e ++ X))))

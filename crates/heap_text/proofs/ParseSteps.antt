@@ -1,17 +1,17 @@
 -- What a parser expects, one line after the other.
-use Rattle.std.proofs.Common.{◌≡◌, ℕ, zero, suc, ◌+◌, ◌-◌, ◌*◌, ◌^◌, ◌<◌, ◌≤◌, ◌⊎◌, inl, inr, true, false, Bool, List, [], ◌∷◌, ◌++◌, codes, decimal, get_or, drop, take, length, refl, sym, ap, ◌∙◌, subst, arith, append_assoc, append-nil, length-append, Option, None, Some, IfSome, is_some}
-use Rattle.std.specs.Prelude.{◌==◌, if◌then◌else◌, flat_map}
+use Rattle.std.proofs.Common.{◌≡◌, ℕ, suc, ◌+◌, ◌-◌, ◌*◌, ◌^◌, ◌<◌, ◌≤◌, ◌⊎◌, inl, inr, true, false, List, [], ◌∷◌, ◌++◌, codes, decimal, take, length, refl, sym, ap, ◌∙◌, subst, arith, append_assoc, append-nil, length-append, Option, None, Some, IfSome, is_some}
+use Rattle.std.specs.Prelude.{flat_map}
 use Rattle.std.specs.List.{AllByRecursion}
 use Rattle.std.proofs.lemmas.Bool.{cases_Bool, cases_lt, false≢true}
 use Rattle.std.proofs.lemmas.List.{take_all}
 use Rattle.std.proofs.lemmas.List.Elements.{recursion_from_All}
 use Rattle.heap_image.specs.Header.{object_header}
-use Rattle.heap_image.specs.HeapImage.{HeapImage, IsValid, AreRoots, heap_words, end_of, size_at, references_at, reference_at, is_null_or_live, roots_or, roots_of, version_of}
-use Rattle.heap_text.specs.Text.{number_line, number_text, reference_text, roots_line, roots_text, object_text, dead_text, lines_from, text_of}
+use Rattle.heap_image.specs.HeapImage.{HeapImage, IsValid, AreRoots, heap_words, end_of, size_at, references_at, roots_or, roots_of, version_of}
+use Rattle.heap_text.specs.Text.{number_line, reference_text, roots_text, object_text, dead_text, lines_from, text_of}
 use Rattle.heap_text.specs.TextLines.{ended_lines}
-use Rattle.heap_text.specs.Tokens.{IsToken, IsAfterToken, reference_word}
-use Rattle.heap_text.specs.Words.{HasParsed, HasPushed, HasSameHead, dead_part, data_part, references_part, words_of}
-use Rattle.heap_text.specs.Parsing.{LiesAhead, next_live, HasNothing, HasHead, HasContents, IsEmpty, IsAtVersion, IsAtRegionLog, IsAtWords, IsAtAllowance, IsAtRoots, IsInHeap, ExpectsAt, Expects, after_version, after_region_log, after_words, after_allowance}
+use Rattle.heap_text.specs.Tokens.{IsToken, IsAfterToken}
+use Rattle.heap_text.specs.Words.{HasParsed}
+use Rattle.heap_text.specs.Parsing.{LiesAhead, next_live, HasNothing, HasHead, HasContents, IsEmpty, IsAtVersion, IsAtRegionLog, IsAtWords, IsAtAllowance, IsAtRoots, IsInHeap, ExpectsAt, after_version, after_region_log, after_words, after_allowance}
 use Rattle.heap_text.specs.declared.line_parser.LineParser.{LineParser}
 use Rattle.heap_text.specs.declared.next_line.NextLine.{NextLine}
 use Rattle.heap_text.specs.declared.next_line.NextLine.TheVariants.{Version, RegionLog, Words, Allowance, Roots, Heap}
@@ -196,12 +196,12 @@ module _ (image : HeapImage) (valid : IsValid image) where
         let ws : List ℕ = run image valid here n some' within in
         let X : List ℕ = lines_from image (next_live image todo) todo in
         inr (record {
-            line = dead_line here ws;
-            rest = X;
-            is = lines_split image valid here todo ∙ (ap (λ (k : ℕ). dead_text image here k ++ X) at ∙ dead_text_is image valid here n some' within X);
-            part = dead_line_part (heap_words image) here ws (few_words image valid) (fits_between image valid here n)
-                (omega (arith, run_length image n here within, within)) (omega (arith, run_length image n here within, some'));
-          })
+          line = dead_line here ws;
+          rest = X;
+          is = lines_split image valid here todo ∙ (ap (λ (k : ℕ). dead_text image here k ++ X) at ∙ dead_text_is image valid here n some' within X);
+          part = dead_line_part (heap_words image) here ws (few_words image valid) (fits_between image valid here n)
+              (omega (arith, run_length image n here within, within)) (omega (arith, run_length image n here within, some'));
+        })
     | inr none ↦ after todo whole ahead none
   ]
     where
@@ -215,13 +215,13 @@ module _ (image : HeapImage) (valid : IsValid image) where
           let others : List ℕ = others_of image valid a ahead.1 points in
           let X : List ℕ = lines_from image (end_of image a) live in
           inr (record {
-              line = object_line a refs others;
-              rest = X;
-              is = ap (λ (t : List ℕ). t ++ (object_text image a ++ X)) (no_dead image here a (omega (arith, at))) ∙ object_text_is image valid a ahead.1 points X;
-              part = object_line_part (heap_words image) a refs others (few_words image valid) (refs_low image valid a ahead.1 points)
-                  (fits_between image valid (a + 1 + references_at image a) (size_at image a - 1 - references_at image a))
-                  (omega (arith, size_is image valid a ahead.1 points, ahead.1.inside));
-            })
+            line = object_line a refs others;
+            rest = X;
+            is = ap (λ (t : List ℕ). t ++ (object_text image a ++ X)) (no_dead image here a (omega (arith, at))) ∙ object_text_is image valid a ahead.1 points X;
+            part = object_line_part (heap_words image) a refs others (few_words image valid) (refs_low image valid a ahead.1 points)
+                (fits_between image valid (a + 1 + references_at image a) (size_at image a - 1 - references_at image a))
+                (omega (arith, size_is image valid a ahead.1 points, ahead.1.inside));
+          })
 
   module _ (parser : LineParser) (text : List ℕ) where
     heap_begins_line : IsInHeap image parser text → (text ≡ []) ⊎ HasLine text (64 + 21 * parser.len)
@@ -236,11 +236,11 @@ module _ (image : HeapImage) (valid : IsValid image) where
     roots_begin_line p =
         let X : List ℕ = lines_from image 0 image.live in
         subst (λ (n : ℕ). HasLine text (64 + 21 * n)) (sym p.len) (record {
-            line = codes "roots" ++ flat_map reference_text (roots_of image);
-            rest = X;
-            is = p.rest ∙ (ap (λ (t : List ℕ). t ++ X) (rooted_line image.roots p.rooted) ∙ roots_shape (codes "roots") (flat_map reference_text (roots_of image)) (codes "\n") X);
-            part = roots_line_part (heap_words image) (roots_of image) valid.limits.few_words (roots_low image valid) (roots_few image valid);
-          })
+          line = codes "roots" ++ flat_map reference_text (roots_of image);
+          rest = X;
+          is = p.rest ∙ (ap (λ (t : List ℕ). t ++ X) (rooted_line image.roots p.rooted) ∙ roots_shape (codes "roots") (flat_map reference_text (roots_of image)) (codes "\n") X);
+          part = roots_line_part (heap_words image) (roots_of image) valid.limits.few_words (roots_low image valid) (roots_few image valid);
+        })
 
     version_begins : IsAtVersion image parser text → HasLine text 64
     version_begins p =

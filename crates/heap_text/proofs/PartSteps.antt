@@ -1,6 +1,6 @@
 -- One token more of a line's numbers or references.
-use Rattle.std.proofs.Common.{◌≡◌, ◌≢◌, ◌⊎◌, inl, inr, ℕ, zero, suc, ◌+◌, ◌-◌, ◌^◌, ◌<◌, ◌≤◌, Bool, true, false, ◌&&◌, List, [], ◌∷◌, ◌++◌, Option, None, Some, Result, Ok, Err, codes, decimal, length, get_or, replicate, refl, ap, sym, ◌∙◌, subst, arith, append_assoc, append-nil, length-append}
-use Rattle.std.specs.Prelude.{◌==◌, flat_map, option_map, not, OnOk}
+use Rattle.std.proofs.Common.{◌≡◌, ◌⊎◌, inl, inr, ℕ, zero, suc, ◌+◌, ◌^◌, ◌<◌, ◌≤◌, Bool, true, false, ◌&&◌, List, [], ◌∷◌, ◌++◌, Option, None, Some, Result, Ok, Err, codes, decimal, length, get_or, replicate, refl, ap, sym, ◌∙◌, subst, arith, append_assoc, append-nil, length-append}
+use Rattle.std.specs.Prelude.{◌==◌, flat_map, not, OnOk}
 use Rattle.std.specs.List.{AllByRecursion, list_all}
 use Rattle.heap_text.specs.Text.{number_text, reference_text}
 use Rattle.heap_text.specs.Tokens.{IsToken, IsAfterToken, reference_word}
@@ -201,7 +201,7 @@ pub references_begin : (old new : WordList) (entry rest : List ℕ) (first len :
 references_begin old new entry rest first len [] others fits some is room gives push = absurd (omega arith)
 references_begin old new entry rest first len (w ∷ more) others fits some is room gives push =
     let both = gives w (flat_map reference_text more ++ data_part others) fits.0 (references_after more others)
-        (is ∙ append_assoc (reference_text w) (flat_map reference_text more) (data_part others)) in
+    (is ∙ append_assoc (reference_text w) (flat_map reference_text more) (data_part others)) in
     let same : first ≡ w = some_same first w both.0 in
     record {
       parsing = record {
@@ -219,7 +219,7 @@ pub references_missing : (len : ℕ) (entry rest : List ℕ) (found : Option ℕ
 references_missing len entry rest found [] others fits some is missing gives = absurd (omega arith)
 references_missing len entry rest found (w ∷ more) others fits some is missing gives =
     none_some w (sym missing ∙ (gives w (flat_map reference_text more ++ data_part others) fits.0 (references_after more others)
-        (is ∙ append_assoc (reference_text w) (flat_map reference_text more) (data_part others))).0)
+    (is ∙ append_assoc (reference_text w) (flat_map reference_text more) (data_part others))).0)
 
 -- the next token is the next reference
 pub record IsNextReference (len : ℕ) (left others token new : List ℕ) : Type 0 where
@@ -246,7 +246,7 @@ reference_next len [] (d ∷ ds) rest token new few fits is none some =
     inr (record { left_is = refl; token_is = some_same token (codes "data") both.0; some = refl; rest_is = both.1 })
 reference_next len (w ∷ more) others rest token new few fits is none some =
     let both = some (reference_word w) (flat_map reference_text more ++ data_part others) (reference_is_word w (omega (arith, few, fits.0))) (references_after more others)
-        (is ∙ references_front w more (data_part others)) in
+    (is ∙ references_front w more (data_part others)) in
     inl (record { word = w; more = more; left_is = refl; token_is = some_same token (reference_word w) both.0; rest_is = both.1; fits = fits.0 })
 
 pub references_step : (len : ℕ) (old now new : WordList) (rest rest' token : List ℕ) (word : ℕ) (refs others : List ℕ) → len ≤ 4194304
@@ -273,9 +273,9 @@ references_data len old now rest rest' token refs others found few a none some m
     elim (reference_next len p.left others rest token rest' few p.fits a.remains none some) [
       | inl next ↦ absurd (none_some next.word (sym missing ∙ parses next.word next.fits next.token_is))
       | inr next ↦ (
-          subst (HasPushed old now) (parsing_end (λ w. w ≤ len) old now refs p next.left_is) p.pushed,
-          record { left_is = refl; token_is = next.token_is; some = next.some; rest_is = next.rest_is }
-        )
+        subst (HasPushed old now) (parsing_end (λ w. w ≤ len) old now refs p next.left_is) p.pushed,
+        record { left_is = refl; token_is = next.token_is; some = next.some; rest_is = next.rest_is },
+      )
     ]
 
 reference_last : (len : ℕ) (left others rest new : List ℕ) (found : Option (List ℕ)) → len ≤ 4194304 → AllByRecursion (λ w. w ≤ len) left
@@ -285,7 +285,7 @@ reference_last len [] (d ∷ ds) rest new found few fits is missing some =
     absurd (none_some (codes "data") (sym missing ∙ (some (codes "data") (flat_map number_text (d ∷ ds)) (omega arith, (omega arith, (omega arith, (omega arith, tt)))) (numbers_after (d ∷ ds)) is).0))
 reference_last len (w ∷ more) others rest new found few fits is missing some =
     absurd (none_some (reference_word w) (sym missing ∙ (some (reference_word w) (flat_map reference_text more ++ data_part others) (reference_is_word w (omega (arith, few, fits.0))) (references_after more others)
-        (is ∙ references_front w more (data_part others))).0))
+    (is ∙ references_front w more (data_part others))).0))
 
 pub references_end : (len : ℕ) (old now : WordList) (rest rest' : List ℕ) (refs others : List ℕ) (found : Option (List ℕ)) → len ≤ 4194304
     → AreReferences len old now rest refs others → found ≡ None → GivesToken rest found rest' → (rest ≡ [] → rest' ≡ [])

@@ -1,5 +1,5 @@
 -- Splitting a line at its spaces, and reading numbers.
-use Rattle.std.proofs.Common.{◌≡◌, ◌≢◌, ◌⊎◌, inl, inr, ℕ, zero, suc, ◌+◌, ◌*◌, ◌-◌, ◌%◌, ◌^◌, ◌<◌, ◌≤◌, Bool, true, ◌&&◌, decimal, List, [], ◌∷◌, ◌++◌, rules, length, get_or, take, drop, refl, ap, sym, ◌∙◌, arith, append-nil}
+use Rattle.std.proofs.Common.{◌≡◌, ◌≢◌, inl, inr, ℕ, zero, suc, ◌+◌, ◌*◌, ◌-◌, ◌%◌, ◌^◌, ◌<◌, ◌≤◌, true, ◌&&◌, decimal, List, [], ◌∷◌, ◌++◌, rules, length, get_or, take, drop, refl, ap, ◌∙◌, arith}
 use Rattle.std.specs.Str.{all_ascii_digits}
 use lib.Pointwise.{pointwise}
 use lib.Dec.{eqb}

@@ -1,6 +1,6 @@
 -- Parsing a text line by line.
-use Rattle.std.proofs.Common.{◌≡◌, ℕ, zero, suc, ◌+◌, ◌-◌, ◌<◌, ◌≤◌, ◌⊎◌, inl, inr, true, false, List, [], ◌∷◌, ◌++◌, length, take, drop, get_or, slice_index, slice_range, refl, sym, ap, ◌∙◌, subst, arith, append_assoc, append-nil, length-append, length-drop}
-use Rattle.std.specs.Prelude.{◌==◌, if◌then◌else◌}
+use Rattle.std.proofs.Common.{◌≡◌, ℕ, zero, suc, ◌+◌, ◌-◌, ◌<◌, ◌≤◌, inl, inr, true, List, [], ◌∷◌, ◌++◌, length, take, drop, get_or, refl, sym, ap, ◌∙◌, subst, arith, append_assoc, append-nil, length-append, length-drop}
+use Rattle.std.specs.Prelude.{◌==◌}
 use Rattle.std.proofs.lemmas.Bool.{and_parts, ne_eqb}
 use Rattle.std.proofs.lemmas.List.{drop_more, drop_all, drop-drop, take_all, take-append-drop, nil_from_length, take-append-le, drop-append-le}
 use Rattle.std.proofs.lemmas.List.Sums.{count_by_more_no, sum_by-take-drop}
@@ -58,12 +58,12 @@ unfinished image valid parser bytes more p =
           let empty : rest ≡ [] = nil_from_length rest (omega (arith, lengths, length-append rest more)) in
           (subst (λ (xs : List ℕ). IsPart xs (longest parser.parser.next parser.parser.len)) (sym empty) (record { short = omega arith; plain = refl }), λ _. empty)
       | inr line ↦ (
-          unfinished_part rest line.line more line.rest (longest parser.parser.next parser.parser.len) one line.part line.is,
-          λ last. absurd (
+        unfinished_part rest line.line more line.rest (longest parser.parser.next parser.parser.len) one line.part line.is,
+        λ last. absurd (
             let is : rest ≡ line.line ++ (10 ∷ line.rest) = sym (append-nil rest) ∙ (ap (λ (t : List ℕ). rest ++ t) (sym last) ∙ line.is) in
             let no : ⊥ = omega (arith, one, ap ended_lines is, lines_append line.line (10 ∷ line.rest), lines_cons 10 line.rest) in no
-          )
-        )
+            ),
+      )
     ]
 
 -- no line is unfinished at the end of a text

@@ -60,7 +60,11 @@ impl WordList {
     }
 
     /// Parses references, then `data` and numbers if they come.
-    fn parse_references_and_data(&mut self, len: u64, mut tokens: Tokens<'_>) -> Result<(), LineError>
+    fn parse_references_and_data(
+        &mut self,
+        len: u64,
+        mut tokens: Tokens<'_>,
+    ) -> Result<(), LineError>
         requires few { len ≤ 4194304 }
         ensures accepts { (refs others : List ℕ) → AllByRecursion (λ w. w ≤ len) refs → AllByRecursion (λ w. w < 2 ^ 64) others
             → 0 < length refs → tokens.entry.rest.now ≡ flat_map reference_text refs ++ data_part others
@@ -110,7 +114,11 @@ impl WordList {
     }
 
     /// Parses one number or more, up to the end of the line. Returns whether all are equal.
-    pub(crate) fn parse_numbers(&mut self, len: u64, mut tokens: Tokens<'_>) -> Result<bool, LineError>
+    pub(crate) fn parse_numbers(
+        &mut self,
+        len: u64,
+        mut tokens: Tokens<'_>,
+    ) -> Result<bool, LineError>
         requires few { len ≤ 4194304 }
         ensures grown { OnOk result (self.old.len ≤ self.new.len) }
         ensures accepts { (ws : List ℕ) → AllByRecursion (λ w. w < 2 ^ 64) ws → 0 < length ws

@@ -55,7 +55,11 @@ impl<'a> Tokens<'a> {
         let Some(count) = self.next_number() else {
             return None;
         };
-        if is_within(count, most) { Some(count) } else { None }
+        if is_within(count, most) {
+            Some(count)
+        } else {
+            None
+        }
     }
 
     /// Returns the reference of the next token in a heap of `len` words, or `None` if that is no reference or there is none.

@@ -1,4 +1,4 @@
-use Rattle.std.proofs.Common.{◌≡◌, inr, ap, subst, Err}
+use Rattle.std.proofs.Common.{inr, ap, Err}
 use Rattle.std.proofs.lemmas.Result.{err_from_is_err_and}
 use Rattle.heap_text.proofs.ImageSteps.{memory_only, text_accepted}
 use Rattle.heap_text.proofs.assembling.assemble.Goals as goal

@@ -1,10 +1,6 @@
-use Rattle.std.proofs.Common.{◌≡◌, ◌⊎◌, inl, inr, Some, Ok, Err, Result, sym, subst}
-use Rattle.heap_image.specs.HeapImage.{HeapImage}
+use Rattle.std.proofs.Common.{Some}
 use Rattle.heap_image.proofs.WholeBytes.{decodes_only}
-use Rattle.heap_image.specs.declared.fault.Fault.{Fault}
 use Rattle.heap_text.specs.ImageBytes.{bytes_left}
-use Rattle.heap_text.specs.Parsing.{AcceptsText}
-use Rattle.heap_text.specs.declared.error.TextError.{TextError}
 use Rattle.heap_text.proofs.ImageSteps.{fault_only, image_only}
 use Rattle.heap_text.proofs.assembling.decode_heap.Goals as goal
 

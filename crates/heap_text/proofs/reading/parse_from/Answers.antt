@@ -1,4 +1,4 @@
-use Rattle.std.proofs.Common.{◌≡◌, ◌∙◌, ◌++◌, ◌≤◌, [], List, ℕ, Option, Some, Ok, ap, sym, subst, length, arith}
+use Rattle.std.proofs.Common.{◌≡◌, ◌∙◌, ◌++◌, [], List, ℕ, Option, Ok, ap, sym, subst, length, arith}
 use Rattle.std.proofs.lemmas.Result.{err_from_is_err_and}
 use Rattle.heap_text.specs.TextLines.{EndsInLine, IsWithin}
 use Rattle.heap_text.proofs.TextSteps.{about_all, about_none, more_given, none_given}
@@ -65,11 +65,11 @@ loop-parser-preserved g c =
           let more = c.in_ok-read_piece.ensures.more in
           let inv = c.loop-parser.invariant in
           let next = next_piece image c.loop-parser.parser (text_of image) c.loop-parser.text.items c.read_piece.new.text.items more.0 c.loop-parser.seen
-              (g.R.Intake.left c.args.device.now) (g.R.Intake.left c.loop-parser.device) (g.R.Intake.left c.read_piece.new.device) known inv.came
-              (λ left e. inv.waits image left valid known e) more.2 more.1 (omega (arith, inv.seen, c.loop-parser.text.ok.0)) (omega (arith, inv.seen, inv.stands.begun, c.loop-parser.text.ok.0)) in
+          (g.R.Intake.left c.args.device.now) (g.R.Intake.left c.loop-parser.device) (g.R.Intake.left c.read_piece.new.device) known inv.came
+          (λ left e. inv.waits image left valid known e) more.2 more.1 (omega (arith, inv.seen, c.loop-parser.text.ok.0)) (omega (arith, inv.seen, inv.stands.begun, c.loop-parser.text.ok.0)) in
           let same : next.rest ≡ left = some_same next.rest left (sym next.new_is ∙ now) in
           let parsed : IsWaiting image c.parse_lines.new.self c.as_slice.result.now (length c.as_slice.result.now) next.rest = c.in_ok-parse_lines.ensures.accepts image next.rest valid
-              (subst (λ (xs : List ℕ). IsWaiting image c.loop-parser.parser xs c.loop-parser.seen next.rest) (sym c.as_slice.ensures.value) next.waits) in
+          (subst (λ (xs : List ℕ). IsWaiting image c.loop-parser.parser xs c.loop-parser.seen next.rest) (sym c.as_slice.ensures.value) next.waits) in
           subst (λ (r : List ℕ). IsWaiting image c.parse_lines.new.self text c.len-seen.result r) same
           (subst (λ (n : ℕ). IsWaiting image c.parse_lines.new.self text n next.rest) seen
           (subst (λ (xs : List ℕ). IsWaiting image c.parse_lines.new.self xs (length xs) next.rest) c.as_slice.ensures.value parsed));
@@ -103,22 +103,22 @@ returns-in_err-parse_lines-clause-accepts g c image valid known =
     let more = c.in_ok-read_piece.ensures.more in
     let inv = c.loop-parser.invariant in
     let next = next_piece image c.loop-parser.parser (text_of image) c.loop-parser.text.items c.read_piece.new.text.items more.0 c.loop-parser.seen
-        (g.R.Intake.left c.args.device.now) (g.R.Intake.left c.loop-parser.device) (g.R.Intake.left c.read_piece.new.device) known inv.came
-        (λ left e. inv.waits image left valid known e) more.2 more.1 (omega (arith, inv.seen, c.loop-parser.text.ok.0)) (omega (arith, inv.seen, inv.stands.begun, c.loop-parser.text.ok.0)) in
+    (g.R.Intake.left c.args.device.now) (g.R.Intake.left c.loop-parser.device) (g.R.Intake.left c.read_piece.new.device) known inv.came
+    (λ left e. inv.waits image left valid known e) more.2 more.1 (omega (arith, inv.seen, c.loop-parser.text.ok.0)) (omega (arith, inv.seen, inv.stands.begun, c.loop-parser.text.ok.0)) in
     rw (p.1, p.2) (text_from c.in_err-parse_lines.field-0.0 _ _ (c.in_err-parse_lines.ensures.accepts image next.rest valid
-        (subst (λ (xs : List ℕ). IsWaiting image c.loop-parser.parser xs c.loop-parser.seen next.rest) (sym c.as_slice.ensures.value) next.waits)))
+    (subst (λ (xs : List ℕ). IsWaiting image c.loop-parser.parser xs c.loop-parser.seen next.rest) (sym c.as_slice.ensures.value) next.waits)))
 
 pub returns-in_err-check_unfinished_line-clause-accepts : goal.returns-in_err-check_unfinished_line-clause-accepts
 returns-in_err-check_unfinished_line-clause-accepts g c image valid known =
     let more = c.in_ok-read_piece.ensures.more in
     let inv = c.loop-parser.invariant in
     let next = next_piece image c.loop-parser.parser (text_of image) c.loop-parser.text.items c.read_piece.new.text.items more.0 c.loop-parser.seen
-        (g.R.Intake.left c.args.device.now) (g.R.Intake.left c.loop-parser.device) (g.R.Intake.left c.read_piece.new.device) known inv.came
-        (λ left e. inv.waits image left valid known e) more.2 more.1 (omega (arith, inv.seen, c.loop-parser.text.ok.0)) (omega (arith, inv.seen, inv.stands.begun, c.loop-parser.text.ok.0)) in
+    (g.R.Intake.left c.args.device.now) (g.R.Intake.left c.loop-parser.device) (g.R.Intake.left c.read_piece.new.device) known inv.came
+    (λ left e. inv.waits image left valid known e) more.2 more.1 (omega (arith, inv.seen, c.loop-parser.text.ok.0)) (omega (arith, inv.seen, inv.stands.begun, c.loop-parser.text.ok.0)) in
     let parsed : IsWaiting image c.parse_lines.new.self c.as_slice.result.now (length c.as_slice.result.now) next.rest = c.in_ok-parse_lines.ensures.accepts image next.rest valid
-        (subst (λ (xs : List ℕ). IsWaiting image c.loop-parser.parser xs c.loop-parser.seen next.rest) (sym c.as_slice.ensures.value) next.waits) in
+    (subst (λ (xs : List ℕ). IsWaiting image c.loop-parser.parser xs c.loop-parser.seen next.rest) (sym c.as_slice.ensures.value) next.waits) in
     let no = c.in_err-check_unfinished_line.ensures.accepts image next.rest valid
-        (subst (λ (xs : List ℕ). IsWaiting image c.parse_lines.new.self xs (length xs) next.rest) (c.as_slice.ensures.value ∙ sym c.as_slice-in-loop-parser.ensures.value) parsed) in
+    (subst (λ (xs : List ℕ). IsWaiting image c.parse_lines.new.self xs (length xs) next.rest) (c.as_slice.ensures.value ∙ sym c.as_slice-in-loop-parser.ensures.value) parsed) in
     absurd (let none : ⊥ = cc in none)
 
 pub returns-in_err-finish-clause-accepts : goal.returns-in_err-finish-clause-accepts
@@ -127,8 +127,8 @@ returns-in_err-finish-clause-accepts g c image valid known =
     let more = c.in_ok-read_piece.ensures.more in
     let inv = c.loop-parser.invariant in
     let next = next_piece image c.loop-parser.parser (text_of image) c.loop-parser.text.items c.read_piece.new.text.items more.0 c.loop-parser.seen
-        (g.R.Intake.left c.args.device.now) (g.R.Intake.left c.loop-parser.device) (g.R.Intake.left c.read_piece.new.device) known inv.came
-        (λ left e. inv.waits image left valid known e) more.2 more.1 (omega (arith, inv.seen, c.loop-parser.text.ok.0)) (omega (arith, inv.seen, inv.stands.begun, c.loop-parser.text.ok.0)) in
+    (g.R.Intake.left c.args.device.now) (g.R.Intake.left c.loop-parser.device) (g.R.Intake.left c.read_piece.new.device) known inv.came
+    (λ left e. inv.waits image left valid known e) more.2 more.1 (omega (arith, inv.seen, c.loop-parser.text.ok.0)) (omega (arith, inv.seen, inv.stands.begun, c.loop-parser.text.ok.0)) in
     let stop = c.in_ok-read_piece.ensures.end (ap Ok c.if-branch.false) in
     let empty : next.rest ≡ [] = at_end_of (g.R.Intake.left c.read_piece.new.device) next.rest next.new_is stop.0 in
     let seen : c.loop-parser.seen ≡ length c.read_piece.new.text.items = omega (arith, inv.seen, c.loop-parser.text.ok.0, ap (λ (xs : List ℕ). length xs) stop.1) in
@@ -142,8 +142,8 @@ returns-clause-accepts g c image valid known =
     let more = c.in_ok-read_piece.ensures.more in
     let inv = c.loop-parser.invariant in
     let next = next_piece image c.loop-parser.parser (text_of image) c.loop-parser.text.items c.read_piece.new.text.items more.0 c.loop-parser.seen
-        (g.R.Intake.left c.args.device.now) (g.R.Intake.left c.loop-parser.device) (g.R.Intake.left c.read_piece.new.device) known inv.came
-        (λ left e. inv.waits image left valid known e) more.2 more.1 (omega (arith, inv.seen, c.loop-parser.text.ok.0)) (omega (arith, inv.seen, inv.stands.begun, c.loop-parser.text.ok.0)) in
+    (g.R.Intake.left c.args.device.now) (g.R.Intake.left c.loop-parser.device) (g.R.Intake.left c.read_piece.new.device) known inv.came
+    (λ left e. inv.waits image left valid known e) more.2 more.1 (omega (arith, inv.seen, c.loop-parser.text.ok.0)) (omega (arith, inv.seen, inv.stands.begun, c.loop-parser.text.ok.0)) in
     let stop = c.in_ok-read_piece.ensures.end (ap Ok c.if-branch.false) in
     let empty : next.rest ≡ [] = at_end_of (g.R.Intake.left c.read_piece.new.device) next.rest next.new_is stop.0 in
     let seen : c.loop-parser.seen ≡ length c.read_piece.new.text.items = omega (arith, inv.seen, c.loop-parser.text.ok.0, ap (λ (xs : List ℕ). length xs) stop.1) in

@@ -1,4 +1,4 @@
-use Rattle.std.proofs.Common.{◌≡◌, [], ◌∙◌, append-nil, subst}
+use Rattle.std.proofs.Common.{[], ◌∙◌, append-nil}
 use Rattle.std.proofs.lemmas.Result.{err_from_is_err_and}
 use Rattle.heap_text.proofs.ImageSteps.{text_error}
 use Rattle.heap_text.proofs.reading.parse_text.Goals as goal

@@ -1,4 +1,4 @@
-use Rattle.std.proofs.Common.{◌≡◌, ◌+◌, ◌<◌, ◌≤◌, ℕ, List, Option, None, Some, refl, ap, sym, ◌∙◌, length, arith}
+use Rattle.std.proofs.Common.{ℕ, List, refl, ap, length, arith}
 use Rattle.std.specs.Prelude.{option_map}
 use Rattle.heap_text.proofs.PartSteps.{roots_begin, roots_step, roots_wrong, roots_end, some_none}
 use Rattle.heap_text.proofs.roots_line.parse_roots.Goals as goal
@@ -31,6 +31,6 @@ pub returns-then-len : goal.returns-then-len
 returns-then-len c = record {
   accepts = λ all fits few empty is.
       let whole = roots_end c.args.len c.loop-token.roots.items c.loop-token.tokens.rest.now c.next_token.new.self.rest.now all (option_map (λ t. t.now) c.next_token.result) c.requires.few
-          (c.loop-token.invariant all fits few empty is) (rw c.in_default.is refl) c.next_token.ensures.some in
+      (c.loop-token.invariant all fits few empty is) (rw c.in_default.is refl) c.next_token.ensures.some in
       absurd (omega (arith, few, ap (λ (xs : List ℕ). length xs) whole, c.if-len.true, c.len.ensures, c.loop-token.roots.ok.0));
 }

@@ -1,4 +1,4 @@
-use Rattle.std.proofs.Common.{◌≡◌, ◌∙◌, sym, ℕ, List, true, false, decimal}
+use Rattle.std.proofs.Common.{◌≡◌, ◌∙◌, sym, true, false, decimal}
 use Rattle.heap_text.proofs.TokenSteps.{begins_with}
 use Rattle.heap_text.proofs.tokens.parse_labelled.Goals as goal
 

@@ -1,4 +1,4 @@
-use Rattle.std.proofs.Common.{◌≡◌, ◌∙◌, ◌<◌, ℕ, List, Some, [], ap, sym, length, get_or, drop, arith}
+use Rattle.std.proofs.Common.{◌∙◌, Some, ap, sym, arith}
 use Rattle.std.proofs.lemmas.List.{at_drop_all}
 use Rattle.heap_text.proofs.TokenSteps.{decimal_some, decimal_short, decimal_digits, decimal_so_far, decimal_value, read_on}
 use Rattle.heap_text.proofs.tokens.parse_number.Goals as goal

@@ -1,5 +1,4 @@
-use Rattle.std.proofs.Common.{rules, ◌≡◌, ◌∙◌, ◌≤◌, ◌++◌, ℕ, List, [], ap, sym, length, take, drop, append-nil, arith, length-drop}
-use Rattle.std.specs.Int.{w64, to_le_bytes}
+use Rattle.std.proofs.Common.{rules, ◌≡◌, ◌∙◌, ◌++◌, ℕ, List, ap, length, take, drop, append-nil, arith, length-drop}
 use Rattle.std.proofs.lemmas.List.{drop_all, drop_at, length-take-le}
 use borrow.Rule.Slice.PartMut.{put_mid}
 use Rattle.heap_text.specs.ImageBytes.{numbers_left}

@@ -1,12 +1,13 @@
-use Rattle.std.proofs.Common.{◌≡◌, ◌∙◌, ◌++◌, ℕ, List, ap, sym, take, arith}
+use Rattle.std.proofs.Common.{◌∙◌, ◌++◌, ℕ, List, ap, sym, take, arith}
 use Rattle.heap_text.specs.ImageBytes.{bytes_left}
 use Rattle.heap_text.proofs.ByteSteps.{byte_given}
 use Rattle.heap_text.proofs.image_bytes.ImageBytesIntake.take.Goals as goal
 
 pub returns-in_default-clause-bytes : goal.returns-in_default-clause-bytes
-returns-in_default-clause-bytes c =
-    (c.loop-count.invariant ∙ ap (λ (t : List ℕ). take c.loop-count.count c.loop-count.buffer ++ t) (sym (c.next_byte.ensures.none c.in_default.is)),
-    λ _ _. c.next_byte.ensures.end c.in_default.is)
+returns-in_default-clause-bytes c = (
+  c.loop-count.invariant ∙ ap (λ (t : List ℕ). take c.loop-count.count c.loop-count.buffer ++ t) (sym (c.next_byte.ensures.none c.in_default.is)),
+  λ _ _. c.next_byte.ensures.end c.in_default.is,
+)
 
 pub loop-count-preserved : goal.loop-count-preserved
 loop-count-preserved c =

@@ -1,4 +1,4 @@
-use Rattle.std.proofs.Common.{◌≡◌, ◌+◌, ◌<◌, ◌≤◌, ◌-◌, ◌++◌, ◌∷◌, [], ℕ, List, Bool, true, false, Option, None, Some, inl, inr, refl, sym, ap, ◌∙◌, subst, length, arith, codes, decimal, is_some}
+use Rattle.std.proofs.Common.{[], subst}
 use Rattle.heap_text.specs.Parsing.{ExpectsAt}
 use Rattle.heap_text.specs.declared.next_line.NextLine.{NextLine}
 use Rattle.heap_text.proofs.ParseSteps.{at_version_more, at_region_log_more, at_words_more, at_allowance_more, at_roots_more}

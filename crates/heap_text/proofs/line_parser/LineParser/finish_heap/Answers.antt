@@ -1,4 +1,4 @@
-use Rattle.std.proofs.Common.{◌≡◌, ◌+◌, ◌<◌, ◌≤◌, ◌-◌, ◌++◌, ◌∷◌, [], ℕ, List, Bool, true, false, Option, None, Some, inl, inr, refl, sym, ap, ◌∙◌, subst, length, arith, codes, decimal, is_some}
+use Rattle.std.proofs.Common.{arith}
 use Rattle.heap_text.proofs.ParseSteps.{heap_end, contents}
 use Rattle.heap_text.proofs.line_parser.LineParser.finish_heap.Goals as goal
 

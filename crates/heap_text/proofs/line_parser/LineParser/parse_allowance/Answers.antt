@@ -1,4 +1,4 @@
-use Rattle.std.proofs.Common.{◌≡◌, ◌+◌, ◌<◌, ◌≤◌, ◌-◌, ◌++◌, ◌∷◌, [], ℕ, List, Bool, true, false, Option, None, Some, inl, inr, refl, sym, ap, ◌∙◌, subst, length, arith, codes, decimal, is_some}
+use Rattle.std.proofs.Common.{◌≡◌, sym, ◌∙◌}
 use Rattle.heap_text.specs.Parsing.{HasHead}
 use Rattle.heap_text.proofs.PartSteps.{none_some, some_same}
 use Rattle.heap_text.proofs.ParseSteps.{allowance_line, front_ends}

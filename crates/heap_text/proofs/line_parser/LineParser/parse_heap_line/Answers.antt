@@ -1,8 +1,8 @@
-use Rattle.std.proofs.Common.{◌≡◌, ◌+◌, ◌<◌, ◌≤◌, ◌-◌, ◌^◌, ◌++◌, ◌∷◌, [], ◌⊎◌, ℕ, List, Bool, true, false, Option, None, Some, inl, inr, refl, sym, ap, ◌∙◌, subst, length, arith, codes, decimal, is_some}
+use Rattle.std.proofs.Common.{◌≡◌, ◌+◌, ◌<◌, ◌≤◌, ◌^◌, ◌++◌, ◌∷◌, ◌⊎◌, ℕ, false, None, inl, inr, refl, sym, ap, ◌∙◌, subst, length, arith, codes, decimal}
 use Rattle.std.specs.Prelude.{option_map}
 use Rattle.std.specs.List.{AllByRecursion}
 use Rattle.std.proofs.lemmas.Bool.{cases_Bool}
-use Rattle.heap_image.specs.HeapImage.{HeapImage, IsValid, heap_words}
+use Rattle.heap_image.specs.HeapImage.{heap_words}
 use Rattle.heap_text.specs.Words.{dead_part, data_part, references_part}
 use Rattle.heap_text.specs.Text.{number_text}
 use Rattle.heap_text.proofs.HeapLines.{heap_line, points_ahead, IsDeadLine, IsObjectLine}

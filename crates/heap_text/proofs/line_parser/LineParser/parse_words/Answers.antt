@@ -1,4 +1,4 @@
-use Rattle.std.proofs.Common.{◌≡◌, ◌+◌, ◌<◌, ◌≤◌, ◌-◌, ◌++◌, ◌∷◌, [], ℕ, List, Bool, true, false, Option, None, Some, inl, inr, refl, sym, ap, ◌∙◌, subst, length, arith, codes, decimal, is_some}
+use Rattle.std.proofs.Common.{◌≡◌, ℕ, sym, ◌∙◌, subst, length, arith}
 use Rattle.heap_image.specs.HeapImage.{IsWithinLimits, heap_words}
 use Rattle.heap_text.proofs.PartSteps.{none_some, some_same, true_not_false}
 use Rattle.heap_text.proofs.ParseSteps.{words_line}

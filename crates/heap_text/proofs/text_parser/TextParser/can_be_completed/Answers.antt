@@ -1,4 +1,4 @@
-use Rattle.std.proofs.Common.{◌≡◌, ◌+◌, ◌<◌, ◌≤◌, ◌-◌, ◌++◌, ◌∷◌, [], ℕ, List, true, false, refl, sym, ap, ◌∙◌, subst, length, length-drop, drop, arith}
+use Rattle.std.proofs.Common.{◌≡◌, ℕ, List, true, sym, subst, length-drop, arith}
 use Rattle.std.specs.List.{list_all}
 use Rattle.std.proofs.lemmas.List.{take_rest}
 use Rattle.heap_text.specs.TextBytes.{is_text_byte}

@@ -1,4 +1,3 @@
-use Rattle.std.proofs.Common.{◌≡◌, ◌+◌, ◌<◌, ◌≤◌, ◌-◌, ◌++◌, ◌∷◌, [], ℕ, List, true, false, refl, sym, ap, ◌∙◌, subst, length, length-drop, drop, arith}
 use Rattle.heap_text.proofs.WaitSteps.{at_end, nothing_unfinished}
 use Rattle.heap_text.proofs.text_parser.TextParser.finish.Goals as goal
 

@@ -1,4 +1,4 @@
-use Rattle.std.proofs.Common.{◌≡◌, ◌++◌, inl, inr, ℕ, List, Option, None, Some, refl, sym, ap, ◌∙◌, length, length-append, arith, codes}
+use Rattle.std.proofs.Common.{◌≡◌, ◌++◌, inl, inr, ℕ, List, refl, sym, ap, ◌∙◌, length, length-append, arith, codes}
 use Rattle.std.specs.Prelude.{option_map}
 use Rattle.heap_text.proofs.PartSteps.{fields_next, fields_none, named, not_named, refs_not_data, some_none}
 use Rattle.heap_text.proofs.tokens.Tokens.count_references.Goals as goal
@@ -6,7 +6,7 @@ use Rattle.heap_text.proofs.tokens.Tokens.count_references.Goals as goal
 pub returns-in_default : goal.returns-in_default
 returns-in_default c len refs others few fits is =
     let none = fields_none refs others c.args.self.now.rest.now c.next_token.new.self.rest.now (option_map (λ t. t.now) c.next_token.result) is
-        (rw c.in_default.is refl) c.next_token.ensures.some in
+    (rw c.in_default.is refl) c.next_token.ensures.some in
     let empty : length (refs ++ others) ≡ 0 = ap (λ (xs : List ℕ). length xs) none in
     omega (arith, empty, length-append refs others)
 

@@ -1,4 +1,4 @@
-use Rattle.std.proofs.Common.{◌≡◌, ◌+◌, ◌<◌, ◌≤◌, ℕ, List, Option, None, Some, refl, arith, codes}
+use Rattle.std.proofs.Common.{refl, arith, codes}
 use Rattle.std.specs.Prelude.{option_map}
 use Rattle.heap_text.proofs.PartSteps.{counting_step, counting_data, counting_end, named, not_named, some_none}
 use Rattle.heap_text.proofs.tokens.Tokens.count_to_data.Goals as goal

@@ -1,4 +1,4 @@
-use Rattle.std.proofs.Common.{◌≡◌, ◌∙◌, ◌<◌, ◌^◌, ◌++◌, ◌∷◌, ℕ, List, Option, Some, None, decimal, option_map, ap, sym}
+use Rattle.std.proofs.Common.{◌≡◌, ℕ, List, Option, Some, None, decimal}
 use Rattle.heap_text.proofs.TokenSteps.{decimal_is_token}
 use Rattle.heap_text.proofs.tokens.Tokens.next_number.Goals as goal
 

@@ -1,4 +1,4 @@
-use Rattle.std.proofs.Common.{◌≡◌, ◌∙◌, ◌++◌, ◌<◌, ◌≤◌, ℕ, List, Option, Some, None, ap, arith}
+use Rattle.std.proofs.Common.{◌≡◌, ◌∙◌, ◌++◌, ℕ, List, Option, Some, None, ap, arith}
 use Rattle.heap_text.specs.Tokens.{reference_word}
 use Rattle.heap_text.proofs.WordTexts.{reference_is, reference_is_word}
 use Rattle.heap_text.proofs.tokens.Tokens.next_reference.Goals as goal

@@ -1,4 +1,4 @@
-use Rattle.std.proofs.Common.{◌≡◌, ◌∙◌, ℕ, List, [], Option, None, Some, refl, sym, subst, true, replicate, append-nil, arith, is_some}
+use Rattle.std.proofs.Common.{◌≡◌, ◌∙◌, ℕ, [], Some, sym, subst, true, replicate, append-nil, arith, is_some}
 use Rattle.heap_text.specs.Words.{HasPushed}
 use Rattle.heap_text.specs.Text.{number_text}
 use Rattle.heap_text.proofs.PartSteps.{none_some, some_same, true_not_false}

@@ -1,4 +1,4 @@
-use Rattle.std.proofs.Common.{◌≡◌, ◌+◌, ◌<◌, ◌≤◌, ◌++◌, inl, inr, ℕ, List, Option, None, Some, refl, sym, ◌∙◌, subst, arith, codes}
+use Rattle.std.proofs.Common.{◌++◌, inl, inr, ℕ, List, refl, sym, ◌∙◌, subst, arith, codes}
 use Rattle.std.specs.Prelude.{option_map}
 use Rattle.heap_text.specs.Words.{Accepts, HasPushed}
 use Rattle.heap_text.proofs.PartSteps.{fields_next, fields_none, pushed_none, named, not_named, refs_not_data, some_none}

@@ -1,4 +1,4 @@
-use Rattle.std.proofs.Common.{◌≡◌, ◌+◌, ◌<◌, ◌≤◌, ◌&&◌, ℕ, List, Option, None, Some, refl, arith}
+use Rattle.std.proofs.Common.{◌&&◌, refl, arith}
 use Rattle.std.specs.Prelude.{◌==◌, option_map}
 use Rattle.heap_text.proofs.PartSteps.{numbers_begin, numbers_missing, numbers_step, numbers_wrong, numbers_end, some_none}
 use Rattle.heap_text.proofs.word_list.WordList.parse_numbers.Goals as goal

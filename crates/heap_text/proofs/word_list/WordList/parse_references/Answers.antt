@@ -1,4 +1,4 @@
-use Rattle.std.proofs.Common.{◌≡◌, ◌+◌, ◌<◌, ◌≤◌, ℕ, List, Option, None, Some, refl, sym, arith, codes}
+use Rattle.std.proofs.Common.{refl, sym, codes}
 use Rattle.std.specs.Prelude.{option_map}
 use Rattle.heap_text.proofs.PartSteps.{references_begin, references_missing, references_step, references_data, references_end, not_named, some_none}
 use Rattle.heap_text.proofs.word_list.WordList.parse_references.Goals as goal
@@ -26,8 +26,8 @@ pub returns-in-None : goal.returns-in-None
 returns-in-None c = record {
   accepts = λ refs others fits some is room.
       let both = references_data c.args.len c.args.self.now c.loop-token.self c.loop-token.tokens.rest.now c.next_token.new.self.rest.now
-          c.in-Some-next_token.token.now refs others c.parse_reference.result c.requires.few (c.loop-token.invariant refs others fits some is room)
-          (λ e. some_none _ (c.in-Some-next_token.ensures.none e).0) c.in-Some-next_token.ensures.some c.in-None.is c.parse_reference.ensures.reference in
+      c.in-Some-next_token.token.now refs others c.parse_reference.result c.requires.few (c.loop-token.invariant refs others fits some is room)
+      (λ e. some_none _ (c.in-Some-next_token.ensures.none e).0) c.in-Some-next_token.ensures.some c.in-None.is c.parse_reference.ensures.reference in
       (sym both.1.some, both.0, both.1.rest_is);
 }
 
@@ -35,8 +35,8 @@ pub returns-in-None-2 : goal.returns-in-None-2
 returns-in-None-2 c = record {
   accepts = λ refs others fits some is room.
       let both = references_data c.args.len c.args.self.now c.loop-token.self c.loop-token.tokens.rest.now c.next_token.new.self.rest.now
-          c.in-Some-next_token.token.now refs others c.parse_reference.result c.requires.few (c.loop-token.invariant refs others fits some is room)
-          (λ e. some_none _ (c.in-Some-next_token.ensures.none e).0) c.in-Some-next_token.ensures.some c.in-None-2.is c.parse_reference.ensures.reference in
+      c.in-Some-next_token.token.now refs others c.parse_reference.result c.requires.few (c.loop-token.invariant refs others fits some is room)
+      (λ e. some_none _ (c.in-Some-next_token.ensures.none e).0) c.in-Some-next_token.ensures.some c.in-None-2.is c.parse_reference.ensures.reference in
       absurd (not_named c.in-Some-next_token.token.now c.as_slice.result.now (codes "data") c.if-eq.ensures c.as_slice.ensures both.1.token_is);
 }
 
