@@ -1,7 +1,7 @@
 use Rattle.std.proofs.Common.{◌∙◌, ap, ap₂}
 use Rattle.std.proofs.lemmas.Result.{IfOk-weaker}
 use Rattle.clap.specs.Words.{App, app_of, with_subcommand}
-use Rattle.command_line.proofs.commands.with_followers.Goals as goal
+use Rattle.command_line.proofs.commands.with_schedules.Goals as goal
 
 pub returns : goal.returns
 returns c =
