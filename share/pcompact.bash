@@ -15,6 +15,7 @@ _pcompact_read() {
             case "$command $word" in
             'collect --workers' | \
                 'map --width' | \
+                'map --height' | \
                 'map --svg' | \
                 'record --workers' | \
                 'timeline --width' | \
@@ -47,7 +48,7 @@ _pcompact_takes() {
     verify) options='--json --stats --verbose -h --help' most=2 ;;
     summary) options='--heading --json --verbose -h --help' most=1 ;;
     order) options='--json --verbose -h --help' most=1 ;;
-    map) options='--after --width --svg --letters --color --no-color --atomic --verbose -h --help' most=1 ;;
+    map) options='--after --width --height --svg --letters --color --no-color --atomic --verbose -h --help' most=1 ;;
     text) options='--verbose -h --help' most=1 ;;
     assemble) options='--atomic --verbose -h --help' most=2 ;;
     record) options='--workers --atomic --stats --verbose -h --help' most=3 ;;
