@@ -47,7 +47,7 @@ _pcompact_takes() {
     board) options='-h --help' most=0 ;;
     summary) options='--verbose -h --help' most=1 ;;
     collect) options='--workers --atomic --stats --verbose -h --help' most=2 ;;
-    verify) options='--stats --verbose -h --help' most=2 ;;
+    verify) options='--explain --ignore-free --stats --verbose -h --help' most=2 ;;
     record) options='--workers --atomic --stats --verbose -h --help' most=3 ;;
     replay) options='--verbose -h --help' most=2 ;;
     upgrade) options='--atomic --verbose -h --help' most=2 ;;

@@ -43,6 +43,8 @@ complete -c pcompact -n '__pcompact_is collect' -l stats -d 'Print timings and p
 complete -c pcompact -n '__pcompact_is collect' -l verbose -d 'Print more details about errors'
 complete -c pcompact -n '__pcompact_is collect' -s h -l help -d 'Print help'
 complete -c pcompact -n '__pcompact_is verify' -F
+complete -c pcompact -n '__pcompact_is verify' -l explain -d 'Say which words differ, in which objects, and where wrong references lead'
+complete -c pcompact -n '__pcompact_is verify' -l ignore-free -d 'Don\'t compare the words above the top'
 complete -c pcompact -n '__pcompact_is verify' -l stats -d 'Print timings and peak memory to stderr'
 complete -c pcompact -n '__pcompact_is verify' -l verbose -d 'Print more details about errors'
 complete -c pcompact -n '__pcompact_is verify' -s h -l help -d 'Print help'
