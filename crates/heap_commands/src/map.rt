@@ -1,4 +1,4 @@
-ghost use Rattle.std.specs.Prelude.{◌≡◌, ◌≢◌, ◌⊎◌, ◌++◌, codes, option_map, ℕ, List, IfOk, IfErr, IfSome, OnErr, IsTrue, string_bytes};
+ghost use Rattle.std.specs.Prelude.{◌≡◌, ◌≢◌, ◌≤◌, ◌⊎◌, ◌++◌, codes, option_map, ℕ, List, IfOk, IfErr, IfSome, OnErr, IsTrue, string_bytes};
 ghost use Rattle.std.specs.Io.KnownBytes.{Appends};
 ghost use Rattle.heap_image.specs.Refusals.{IsReason};
 ghost use Rattle.heap_map.specs.Cells.{cells_before};
@@ -63,7 +63,7 @@ pub struct Cut<'a> {
 impl Cut<'_> {
     /// The shape of the rows. Addresses follow them where there can be more than one row.
     fn shape(self) -> Shape
-        ensures { result ≡ shape_of self }
+        ensures { result ≡ shape_of self.entry }
     {
         Shape {
             width: self.width.max(1).min(1000),
@@ -73,7 +73,7 @@ impl Cut<'_> {
 
     /// The largest number of cells.
     fn cells(self) -> u32
-        ensures value { result ≡ cells_shown self }
+        ensures value { result ≡ cells_shown self.entry }
         ensures some { 1 ≤ result }
         ensures few { result ≤ 100000 }
     {
@@ -210,7 +210,7 @@ pub fn map<R: Intake, T: Threads + Sync>(
     style: Style,
     threads: &T,
 ) -> Result<String, Fault>
-    ensures map { IfOk result (λ text. IsPrinted style cut
+    ensures map { IfOk result (λ text. IsPrinted style cut.entry
         (R.left input.old) (R.left input.new) (string_bytes text)) }
     ensures fault { IfErr result (λ fault. IfSome (R.left input.old) (λ bytes. IsReason bytes fault)) }
 {
@@ -226,7 +226,7 @@ fn text_of_image(
     style: Style,
     threads: &(impl Threads + Sync),
 ) -> Result<String, Fault>
-    ensures map { IfOk result (λ text. IsPicture style cut image.now (string_bytes text)) }
+    ensures map { IfOk result (λ text. IsPicture style cut.entry image.now (string_bytes text)) }
     ensures fault { IfErr result (λ fault. fault ≡ Fault.Memory) }
 {
     let picture = picture_of_image(alloc, image, cut, threads)?;
@@ -291,8 +291,8 @@ fn picture_of_image(
     threads: &(impl Threads + Sync),
 ) -> Result<Picture, Fault>
     ensures figures { IfOk result (λ picture. AreFiguresOf image.now picture.figures) }
-    ensures before { IfOk result (λ picture. picture.before.cells.items ≡ cells_before image.now (cells_shown cut)) }
-    ensures after { IfOk result (λ picture. option_map (λ map. map.cells.items) picture.after ≡ after_shown image.now cut) }
+    ensures before { IfOk result (λ picture. picture.before.cells.items ≡ cells_before image.now (cells_shown cut.entry)) }
+    ensures after { IfOk result (λ picture. option_map (λ map. map.cells.items) picture.after ≡ after_shown image.now cut.entry) }
     ensures fault { IfErr result (λ fault. fault ≡ Fault.Memory) }
 {
     let survey = Survey::of(alloc, image, threads)?;
@@ -308,8 +308,8 @@ fn picture_of(
 ) -> Result<Picture, AllocError>
     requires { survey.now ≡ image.now }
     ensures figures { IfOk result (λ picture. AreFiguresOf image.now picture.figures) }
-    ensures before { IfOk result (λ picture. picture.before.cells.items ≡ cells_before image.now (cells_shown cut)) }
-    ensures after { IfOk result (λ picture. option_map (λ map. map.cells.items) picture.after ≡ after_shown image.now cut) }
+    ensures before { IfOk result (λ picture. picture.before.cells.items ≡ cells_before image.now (cells_shown cut.entry)) }
+    ensures after { IfOk result (λ picture. option_map (λ map. map.cells.items) picture.after ≡ after_shown image.now cut.entry) }
 {
     let cells = cut.cells();
     if cut.after {

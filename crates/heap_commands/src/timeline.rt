@@ -242,7 +242,7 @@ pub fn write_into<R: Intake, S: Intake, O: Outlet, T: AllocGlobal + Threads + Sy
     output: &mut O,
     wanted: Wanted<'_>,
 ) -> Result<TimelinePicture, Unreplayed>
-    ensures picture { IfOk result (λ picture. HasPicture wanted.form (R.left input.old) (R.left input.new)
+    ensures picture { IfOk result (λ picture. HasPicture wanted.entry.form (R.left input.old) (R.left input.new)
         (S.left source.old) (string_bytes picture.line) picture.bytes.items) }
     ensures bytes { IfOk result (λ picture. Appends (O.took output.old) (O.took output.new) picture.bytes.items) }
     // Only the device stops it once it writes.
@@ -275,7 +275,7 @@ fn make_picture<R: Intake, S: Intake, T: AllocGlobal + Threads + Sync>(
     source: &mut S,
     wanted: Wanted<'_>,
 ) -> Result<TimelinePicture, Unreplayed>
-    ensures picture { IfOk result (λ picture. HasPicture wanted.form (R.left input.old) (R.left input.new)
+    ensures picture { IfOk result (λ picture. HasPicture wanted.entry.form (R.left input.old) (R.left input.new)
         (S.left source.old) (string_bytes picture.line) picture.bytes.items) }
     ensures fault { IfErr result (λ unreplayed. IsUnreplayed (R.left input.old) (R.left input.new)
         (S.left source.old) unreplayed.fault) }
@@ -290,7 +290,7 @@ fn picture_of(
     followed: &Followed,
     wanted: Wanted<'_>,
 ) -> Result<TimelinePicture, AllocError>
-    ensures { IfOk result (λ picture. IsPictureOf wanted.form followed.now.timeline (string_bytes picture.line) picture.bytes.items) }
+    ensures { IfOk result (λ picture. IsPictureOf wanted.entry.form followed.now.timeline (string_bytes picture.line) picture.bytes.items) }
 {
     let line = followed.timeline.line(alloc)?;
     let bytes = bytes_of(alloc, followed, wanted)?;
@@ -299,7 +299,7 @@ fn picture_of(
 
 /// Makes a drawing or a page of a schedule.
 fn bytes_of(alloc: Global, followed: &Followed, wanted: Wanted<'_>) -> Result<Vec<u8>, AllocError>
-    ensures { IfOk result (λ bytes. wanted.form ≡ Form.Page → Has (schedule_text followed.now.timeline.schedule) bytes.items) }
+    ensures { IfOk result (λ bytes. wanted.entry.form ≡ Form.Page → Has (schedule_text followed.now.timeline.schedule) bytes.items) }
 {
     match wanted.form {
         Form::Drawing => Ok(followed.timeline.svg(alloc, wanted.names)?.into_bytes()),
