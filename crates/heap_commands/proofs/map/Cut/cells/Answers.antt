@@ -9,7 +9,7 @@ overflow_mul-result c =
 
 pub returns-clause-some : goal.returns-clause-some
 returns-clause-some c =
-    let least = mul-le 1 1 c.min-width.result c.min-rows.result (omega (arith, c.min-width.ensures, c.max-width.ensures)) (omega (arith, c.min-rows.ensures, c.max-rows.ensures)) in
+    let least = mul-le 1 1 c.min-width.result c.min-rows.result (omega (arith, c.min-width.ensures, c.max.ensures)) (omega (arith, c.min-rows.ensures, c.max-2.ensures)) in
     omega (arith, least)
 
 pub returns-clause-few : goal.returns-clause-few
