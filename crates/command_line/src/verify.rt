@@ -11,6 +11,10 @@ use crate::unread::Unread;
 use clap::{ArgMatches, Command};
 use std::alloc::{AllocError, Global};
 
+const EXAMPLE: &str = "\
+Example:
+  pcompact verify heap.pcheap out.pcheap";
+
 /// The definition of `verify`.
 pub fn words<'a>(alloc: Global) -> Result<Command<'a>, AllocError>
     ensures app { IfOk result (λ command. app_of command ≡ verify_words) }
@@ -18,6 +22,7 @@ pub fn words<'a>(alloc: Global) -> Result<Command<'a>, AllocError>
 {
     Command::new(alloc, "verify")
         .about("Compare a heap image with the compaction of another")
+        .after_help(EXAMPLE)
         .arg(arguments::file(alloc, "BEFORE", "The image before its collection"))?
         .arg(arguments::file(alloc, "AFTER", "The image to compare with its compaction"))?
         .arg(arguments::flag(
@@ -30,6 +35,7 @@ pub fn words<'a>(alloc: Global) -> Result<Command<'a>, AllocError>
             "ignore-free",
             "Don't compare the words above the top",
         ))?
+        .arg(arguments::json(alloc))?
         .arg(arguments::stats(alloc))?
         .arg(arguments::verbose(alloc))
 }
@@ -45,6 +51,8 @@ pub struct Verify<'a> {
     pub explain: bool,
     /// Whether words at or above the new top count as equal.
     pub ignore_free: bool,
+    /// Whether to print a JSON object.
+    pub json: bool,
     /// Whether to print timings and peak memory.
     pub stats: bool,
     /// Whether to print more details about errors.
@@ -61,6 +69,7 @@ impl<'a> Verify<'a> {
             after: arguments::file_in(matches, "AFTER")?,
             explain,
             ignore_free: matches.get_flag("ignore-free"),
+            json: arguments::asks_json(matches),
             stats: arguments::asks_stats(matches),
             verbose: explain || arguments::is_verbose(matches),
         })
