@@ -14,7 +14,8 @@ sys.path.insert(0, str(pathlib.Path(__file__).resolve().parents[2]))
 from tests.models.explanation import verified
 from tests.models.image import decode, encode, upgraded
 from tests.support.cases import BASE, COMPACTED, MOVED, MOVED_LIVE, image, try_groups, with_word
-from tests.support.program import TOP, Answer, Tried, built
+from tests.support.program import TOP, Answer, Tried
+from tests.support.terminal import on_terminal
 
 COLLECTOR = TOP / "examples" / "collector.py"
 BUGS = ["", "reference", "data", "plan", "null", "filler", "free", "root"]
@@ -67,7 +68,17 @@ def try_heaps(tried: Tried) -> None:
         try_bugs(tried, tried.read("heap"))
 
 
-GROUPS = (try_others, try_heaps)
+def try_terminal(tried: Tried) -> None:
+    """On a terminal a difference is explained by itself."""
+    tried.write("before", BASE)
+    tried.write("after", image(with_word(MOVED, 1, 10), MOVED_LIVE))
+    whole = answer(verified(tried.read("before"), tried.read("after"))).err
+    for option, wanted in (("", whole), ("--explain", whole), ("--verbose=never", whole.splitlines(keepends=True)[0])):
+        if (found := on_terminal(tried, f"verify before after {option}")) != (1, wanted):
+            tried.is_wrong(f"verify before after {option}, on a terminal: {found}")
+
+
+GROUPS = (try_others, try_heaps, try_terminal)
 
 if __name__ == "__main__":
     sys.exit(try_groups(GROUPS))

@@ -6,7 +6,6 @@ usage: tests/cli/test_streams.py [PROGRAM]
 import json
 import os
 import pathlib
-import pty
 import subprocess
 import sys
 
@@ -16,6 +15,7 @@ sys.path.insert(0, str(pathlib.Path(__file__).resolve().parents[2]))
 from tests.cli.test_import import DUMP, NAME, imported
 from tests.support.cases import BASE, COLLECTED, COMPACTED, REPORT, try_groups
 from tests.support.program import Answer, Tried
+from tests.support.terminal import on_terminal
 
 SAME = Answer(2, err="pcompact: same file\n")
 IRREGULAR = Answer(2, err="pcompact: not a regular file\n")
@@ -84,23 +84,6 @@ def try_objects(tried: Tried) -> None:
     tried.count += 1
     if json.loads(said.stdout) != {"prefix": 0, "top": 19, "regions": regions}:
         tried.is_wrong(f"pcompact summary base --json: {said}")
-
-
-def on_terminal(tried: Tried, words: str, stream: str = "stderr") -> tuple[int, str]:
-    """The status, and what comes on a terminal that is this stream."""
-    mine, its = pty.openpty()
-    tried.count += 1
-    streams = {"stdin": subprocess.DEVNULL, "stdout": subprocess.DEVNULL, "stderr": subprocess.DEVNULL, stream: its}
-    done = subprocess.run([tried.program, *words.split()], cwd=tried.folder, **streams)
-    os.close(its)
-    said = b""
-    try:
-        while part := os.read(mine, 4096):
-            said += part
-    except OSError:
-        pass
-    os.close(mine)
-    return done.returncode, said.decode().replace("\r\n", "\n")
 
 
 def try_terminal(tried: Tried) -> None:

@@ -5,7 +5,7 @@ use Rattle.std.proofs.lemmas.List.Elements.{All-contains}
 use Rattle.heap_image.specs.Header.{filler_header}
 use Rattle.heap_image.specs.HeapImage.{HeapImage, IsValid, HasSoundHeader, heap_words, word_at, size_at, references_at}
 use Rattle.summary.specs.LiveObjects.{object_count, object_at}
-use Rattle.summary.specs.NewAddresses.{new_address, new_end_of, new_top}
+use Rattle.summary.specs.NewAddresses.{new_address, new_top}
 use Rattle.summary.specs.Fillers.{IsDeadRun}
 use Rattle.summary.specs.Compaction.{compacted_word, compact}
 use Rattle.collector.specs.Compared.{IsPlaced, AreKnown, behind}

@@ -7,7 +7,6 @@ use Rattle.summary.specs.Compaction.{redirected, compact}
 use Rattle.collector.specs.Difference.{AreAlike, IsLeastDifference}
 use Rattle.collector.specs.Verdict.{root_count, root_at}
 use Rattle.collector.specs.Tally.{IsTally}
-use Rattle.collector.specs.declared.difference_tally.OtherWord.{OtherWord}
 use Rattle.collector.specs.declared.difference_tally.Tally.{Tally}
 use Rattle.collector.specs.declared.verdict_explanation.Moved.{Moved}
 use Rattle.collector.specs.declared.verdict_explanation.Part.{Part}

@@ -39,7 +39,7 @@ where
         Request::Board => board::answer(rt),
         Request::Summary(request) => summarize::answer(rt, screen, request),
         Request::Collect(request) => collect::answer(rt, request),
-        Request::Verify(request) => verify::answer(rt, request),
+        Request::Verify(request) => verify::answer(rt, screen, request),
         Request::Record(request) => record::answer(rt, request),
         Request::Replay(request) => replay::answer(rt, request),
         Request::Upgrade(request) => upgrade::answer(rt, request),

@@ -10,6 +10,7 @@ use command_support::{
     Difference, Failure, FileWord, Laps, Phase, Role, Stats, Stopwatch, TimedIntake, Trouble,
     Watched, WorkDone, two_inputs,
 };
+use heap_commands::screen::Screen;
 use heap_image::{Fault, FromRead, Image, Intake, read_image_by_threads};
 use std::alloc::Global;
 use std::os::unix::fs::FileExt;
@@ -17,15 +18,21 @@ use std::rt::Files;
 use std::thread::Threads;
 use std::time::Clock;
 
-/// Compares the image in one file with the compaction of another, and returns what `verify` prints if they are equal.
+/// Compares the image in one file with the compaction of another, and returns what `verify` prints if they are equal. A
+/// difference is explained if the request asks for it, or if a person reads standard error.
 pub fn answer<'a, R: Files + AllocGlobal + Threads + Clock + Sync>(
     rt: &R,
+    screen: Screen,
     request: Verify<'a>,
 ) -> Result<WorkDone<'a>, Trouble<'a>>
 where
     R::File: FileExt + Sync,
     ensures { IfOk result (λ done. done.text.items ≡ codes "same\n") }
 {
+    let request = Verify {
+        explain: request.explain || screen.shows_errors,
+        ..request
+    };
     let (compared, stats) = compare(rt, &request)?;
     match difference(compared.verdict) {
         None => {

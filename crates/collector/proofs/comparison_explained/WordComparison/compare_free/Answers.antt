@@ -1,6 +1,6 @@
-use Rattle.std.proofs.Common.{◌≡◌, ℕ, ◌+◌, ◌≤◌, ◌<◌, refl, sym, ◌∙◌, ap, subst, arith}
-use Rattle.heap_image.specs.HeapImage.{HeapImage, heap_words, word_at, size_at, references_at}
-use Rattle.summary.specs.Compaction.{redirected, compact}
+use Rattle.std.proofs.Common.{◌≡◌, ℕ, ◌<◌, sym, arith}
+use Rattle.heap_image.specs.HeapImage.{HeapImage, heap_words, word_at}
+use Rattle.summary.specs.Compaction.{compact}
 use Rattle.collector.proofs.Comparing.{tally_to, zero_above}
 use Rattle.collector.proofs.comparison_explained.WordComparison.compare_free.Goals as goal
 

@@ -1,4 +1,4 @@
-use Rattle.std.proofs.Common.{◌≡◌, ℕ, ◌<◌, ◌≤◌, refl, sym, ◌∙◌, ap, arith}
+use Rattle.std.proofs.Common.{◌≡◌, ℕ, ◌<◌, ◌≤◌, sym, ◌∙◌, ap, arith}
 use Rattle.heap_image.specs.HeapImage.{HeapImage, word_at}
 use Rattle.summary.specs.Compaction.{compact}
 use Rattle.collector.proofs.Comparing.{gap_zero}

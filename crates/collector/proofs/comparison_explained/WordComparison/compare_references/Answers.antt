@@ -1,5 +1,5 @@
-use Rattle.std.proofs.Common.{◌≡◌, ℕ, ◌+◌, ◌≤◌, ◌<◌, refl, sym, ◌∙◌, ap, subst, arith}
-use Rattle.heap_image.specs.HeapImage.{HeapImage, heap_words, word_at, size_at, references_at}
+use Rattle.std.proofs.Common.{◌≡◌, ℕ, ◌+◌, ◌<◌, sym, ◌∙◌, ap, subst, arith}
+use Rattle.heap_image.specs.HeapImage.{HeapImage, word_at, references_at}
 use Rattle.summary.specs.Compaction.{redirected, compact}
 use Rattle.collector.proofs.Comparing.{tally_to}
 use Rattle.collector.proofs.Placing.{reference_word}

@@ -1,4 +1,4 @@
-use Rattle.std.proofs.Common.{◌≡◌, ℕ, ◌∙◌, ap, sym}
+use Rattle.std.proofs.Common.{◌≡◌, ◌∙◌}
 use Rattle.collector.proofs.comparison_explained.WordComparison.other_root.Goals as goal
 
 pub redirected-expected-requires : goal.redirected-expected-requires

@@ -1,10 +1,9 @@
-use Rattle.std.proofs.Common.{◌≡◌, ℕ, ◌+◌, ◌<◌, ◌≤◌, List, length, get_or, refl, sym, ◌∙◌, ap, subst, arith}
-use Rattle.heap_image.specs.HeapImage.{HeapImage, heap_words, word_at, size_at}
-use Rattle.summary.specs.LiveObjects.{object_count, object_at}
-use Rattle.summary.specs.NewAddresses.{new_address, new_top}
+use Rattle.std.proofs.Common.{◌≡◌, ℕ, ◌+◌, ◌≤◌, List, length, get_or, refl, sym, ◌∙◌, ap, subst, arith}
+use Rattle.heap_image.specs.HeapImage.{HeapImage, word_at, size_at}
+use Rattle.summary.specs.LiveObjects.{object_count}
+use Rattle.summary.specs.NewAddresses.{new_top}
 use Rattle.summary.specs.Compaction.{compact}
 use Rattle.collector.specs.Compared.{behind}
-use Rattle.collector.specs.Explanation.{IsTallyOf}
 use Rattle.collector.proofs.Gaps.{behind-zero, behind-next}
 use Rattle.collector.proofs.Placing.{place_end, top_reached, place_of, end_of_place}
 use Rattle.collector.proofs.Comparing.{low, run, object, top_exact, tally_to}
