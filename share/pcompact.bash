@@ -25,6 +25,7 @@ _pcompact_read() {
                 'generate --version' | \
                 'generate --allowance' | \
                 'map --width' | \
+                'map --height' | \
                 'map --svg' | \
                 'timeline --width' | \
                 'timeline --svg' | \
@@ -46,7 +47,7 @@ _pcompact_takes() {
     board) options='-h --help' most=0 ;;
     summary) options='--verbose -h --help' most=1 ;;
     collect) options='--workers --atomic --stats --verbose -h --help' most=2 ;;
-    verify) options='--stats --verbose -h --help' most=2 ;;
+    verify) options='--explain --ignore-free --stats --verbose -h --help' most=2 ;;
     record) options='--workers --atomic --stats --verbose -h --help' most=3 ;;
     replay) options='--verbose -h --help' most=2 ;;
     upgrade) options='--atomic --verbose -h --help' most=2 ;;
@@ -55,7 +56,7 @@ _pcompact_takes() {
     order) options='--verbose -h --help' most=1 ;;
     text) options='--verbose -h --help' most=1 ;;
     assemble) options='--atomic --verbose -h --help' most=2 ;;
-    map) options='--after --width --svg --letters --color --no-color --atomic --verbose -h --help' most=1 ;;
+    map) options='--after --width --height --svg --letters --color --no-color --atomic --verbose -h --help' most=1 ;;
     timeline) options='--width --svg --html --letters --color --no-color --atomic --verbose -h --help' most=2 ;;
     help) options='' most=1 ;;
     esac

@@ -43,6 +43,8 @@ complete -c pcompact -n '__pcompact_is collect' -l stats -d 'Print timings and p
 complete -c pcompact -n '__pcompact_is collect' -l verbose -d 'Print more details about errors'
 complete -c pcompact -n '__pcompact_is collect' -s h -l help -d 'Print help'
 complete -c pcompact -n '__pcompact_is verify' -F
+complete -c pcompact -n '__pcompact_is verify' -l explain -d 'Say which words differ, in which objects, and where wrong references lead'
+complete -c pcompact -n '__pcompact_is verify' -l ignore-free -d 'Don\'t compare the words above the top'
 complete -c pcompact -n '__pcompact_is verify' -l stats -d 'Print timings and peak memory to stderr'
 complete -c pcompact -n '__pcompact_is verify' -l verbose -d 'Print more details about errors'
 complete -c pcompact -n '__pcompact_is verify' -s h -l help -d 'Print help'
@@ -89,7 +91,8 @@ complete -c pcompact -n '__pcompact_is assemble' -l verbose -d 'Print more detai
 complete -c pcompact -n '__pcompact_is assemble' -s h -l help -d 'Print help'
 complete -c pcompact -n '__pcompact_is map' -F
 complete -c pcompact -n '__pcompact_is map' -l after -d 'Also draw the heap after its collection'
-complete -c pcompact -n '__pcompact_is map' -l width -x -d 'Number of cells, from 1 to 1000 (default 64)'
+complete -c pcompact -n '__pcompact_is map' -l width -x -d 'Number of cells of a row, from 1 to 1000 (default: what a terminal has room for, or 64)'
+complete -c pcompact -n '__pcompact_is map' -l height -x -d 'Number of rows, from 1 to 100 (default: 1, or what a terminal has room for, or 8 of a drawing)'
 complete -c pcompact -n '__pcompact_is map' -l svg -r -F -d 'Write the picture to this file as SVG, and print only the figures'
 complete -c pcompact -n '__pcompact_is map' -l letters -d 'Draw with letters even if the locale has block characters'
 complete -c pcompact -n '__pcompact_is map' -l color -d 'Use colours even if standard output is no terminal'
@@ -98,7 +101,7 @@ complete -c pcompact -n '__pcompact_is map' -l atomic -d 'Replace files only onc
 complete -c pcompact -n '__pcompact_is map' -l verbose -d 'Print more details about errors'
 complete -c pcompact -n '__pcompact_is map' -s h -l help -d 'Print help'
 complete -c pcompact -n '__pcompact_is timeline' -F
-complete -c pcompact -n '__pcompact_is timeline' -l width -x -d 'Number of cells of a lane, from 1 to 1000 (default 64)'
+complete -c pcompact -n '__pcompact_is timeline' -l width -x -d 'Number of cells of a lane, from 1 to 1000 (default: what a terminal has room for, or 64)'
 complete -c pcompact -n '__pcompact_is timeline' -l svg -r -F -d 'Write the lanes to this file as SVG, and print only the figures'
 complete -c pcompact -n '__pcompact_is timeline' -l html -r -F -d 'Write a page to this file that steps through the schedule, and print only the figures'
 complete -c pcompact -n '__pcompact_is timeline' -l letters -d 'Draw with letters even if the locale has block characters'
