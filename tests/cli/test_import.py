@@ -131,6 +131,21 @@ def try_collected(tried: Tried, data: bytes) -> None:
     tried.run("collect whole out --workers 2", Answer(0, after.figures(), made={"out": model.encode(after.compaction())}))
 
 
+def try_lists(tried: Tried) -> None:
+    """The list of objects and the histogram of classes, of each kept dump and of a written one, as the model has them."""
+    for data in (DUMP, *(kept.read_bytes() for kept in sorted((TOP / "examples" / "dumps").glob("*.hprof")))):
+        tried.write("dump", data)
+        for flag, live_only in (("", False), (" --live-only", True)):
+            lists, made = dump_model.lists(data, live_only=live_only, rows=7), dump_model.make(data, live_only=live_only)
+            files = {"out": made.image, "list": lists.objects.encode()}
+            tried.run(f"import dump out{flag} --classes list", Answer(0, f"{made.line}\n", made=files))
+            tried.run(f"import dump out{flag} --classes list --histogram 7 --atomic",
+                      Answer(0, f"{made.line}\n{lists.histogram}", made=files))
+            tried.run(f"import dump out{flag} --histogram 7", Answer(0, f"{made.line}\n{lists.histogram}"))
+    for name in ("dump", "out", "./dump", "./out"):
+        tried.run(f"import dump out --classes {name}", SAME)
+
+
 def try_sample(tried: Tried) -> None:
     """The dump that was worked by hand, whole and of its live objects alone; and each beginning of it."""
     tried.write("dump", sample())
@@ -247,7 +262,7 @@ def try_import_files(tried: Tried) -> None:
         tried.is_wrong("a dump that was named twice is changed")
 
 
-GROUPS = (try_imports, try_sample, try_malformed_dumps, try_most_words, try_refused_dumps, try_import_words, try_import_files)
+GROUPS = (try_imports, try_lists, try_sample, try_malformed_dumps, try_most_words, try_refused_dumps, try_import_words, try_import_files)
 
 if __name__ == "__main__":
     sys.exit(try_groups(GROUPS))

@@ -18,7 +18,7 @@ pub struct Stats {
     laps: Laps,
     /// Of a collection only.
     moved: Option<Moved>,
-    /// Of a collection only. A comparison uses a thread for each processor.
+    /// Of a collection or an import. A comparison uses a thread for each processor.
     workers: Option<u32>,
 }
 
@@ -40,6 +40,16 @@ impl Stats {
             laps,
             moved: None,
             workers: None,
+        }
+    }
+
+    /// The timings of an import, which uses one thread.
+    pub fn of_import(watch: Stopwatch, laps: Laps) -> Stats {
+        Stats {
+            watch,
+            laps,
+            moved: None,
+            workers: Some(1),
         }
     }
 

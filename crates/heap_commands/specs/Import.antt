@@ -23,5 +23,14 @@ IsImport allowance took took' shown = (image : HeapImage) × IsLineOf image show
 abbrev pub IsImportLine : List ℕ → Type 0
 IsImportLine shown = (image : HeapImage) × IsLineOf image shown
 
+-- The line with the figures of some valid image of version 2. After it comes nothing, or the text of a histogram.
+abbrev pub IsImportText : List ℕ → Type 0
+IsImportText shown = (line more : List ℕ) × IsImportLine line × (shown ≡ line ++ more)
+
+-- the text of a valid image of version 2 with this allowance was written, and what is printed begins with its figures
+abbrev pub IsListedImport : ℕ → Option (List ℕ) → Option (List ℕ) → List ℕ → Type 0
+IsListedImport allowance took took' shown =
+    (line more : List ℕ) × IsImport allowance took took' line × (shown ≡ line ++ more)
+
 abbrev pub import_command : Command
-import_command = record { name = codes "import"; prints = IsImportLine }
+import_command = record { name = codes "import"; prints = IsImportText }

@@ -19,9 +19,11 @@
 pub mod assemble;
 pub mod board;
 pub mod generate;
+pub mod histogram;
 pub mod import;
 pub mod line;
 pub mod map;
+pub mod object_list;
 pub mod order;
 pub mod replay;
 pub mod screen;

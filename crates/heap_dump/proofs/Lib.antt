@@ -1,2 +1,3 @@
 pub mod Concats
 pub mod Increasing
+pub mod Listings

@@ -1,3 +1,4 @@
 pub mod Window
 pub mod ImportFigures
 pub mod Requested
+pub mod Listing

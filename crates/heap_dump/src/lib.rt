@@ -11,6 +11,8 @@
 
 mod arrangement;
 mod class_head;
+mod class_names;
+mod class_number;
 mod classes;
 mod contents;
 mod draft;
@@ -23,7 +25,10 @@ mod heap;
 mod importing;
 mod inventory;
 mod limits;
+mod listing;
 mod marking;
+mod name_ids;
+mod object_classes;
 mod objects;
 mod options;
 mod packed;
@@ -35,12 +40,17 @@ mod sections;
 mod slots;
 mod survivor_heap;
 mod survivors;
+mod texts;
+mod totals;
 mod transcribed;
 mod transcription;
 mod window;
 
+pub use class_names::ClassNames;
 pub use draft::Imported;
 pub use error::{ImportError, Problem};
 pub use figures::ImportFigures;
-pub use importing::import;
+pub use importing::{ListedImport, import, import_listed};
+pub use listing::ListedObject;
 pub use options::Options;
+pub use totals::{ClassTotals, DeadWords};
