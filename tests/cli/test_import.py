@@ -26,6 +26,8 @@ CUT = f"byte {len(DUMP) - 1}: the dump ends here, inside a record"
 NAME = "byte 0: this is no heap dump of version 1.0.1 or 1.0.2"
 SAME = Answer(2, err="pcompact: same file\n")
 IRREGULAR = Answer(2, err="pcompact: not a regular file\n")
+TIMINGS = re.compile("".join(rf"pcompact: {phase} \d+\.\d ms\n" for phase in ("read", "check", "write", "finish", "total"))
+                     + r"pcompact: threads 1\npcompact: peak memory \d+\.\d MiB\n")
 
 
 # A dump with an object of each kind, worked by hand: a gap of a word behind the class, one of 513 before the last array, roots
@@ -131,17 +133,23 @@ def try_collected(tried: Tried, data: bytes) -> None:
     tried.run("collect whole out --workers 2", Answer(0, after.figures(), made={"out": model.encode(after.compaction())}))
 
 
+def files_of(made: dump_model.Import) -> dict[str, bytes | None]:
+    return {"out": made.image}
+
+
 def try_lists(tried: Tried) -> None:
     """The list of objects and the histogram of classes, of each kept dump and of a written one, as the model has them."""
     for data in (DUMP, *(kept.read_bytes() for kept in sorted((TOP / "examples" / "dumps").glob("*.hprof")))):
         tried.write("dump", data)
         for flag, live_only in (("", False), (" --live-only", True)):
             lists, made = dump_model.lists(data, live_only=live_only, rows=7), dump_model.make(data, live_only=live_only)
-            files = {"out": made.image, "list": lists.objects.encode()}
+            files = {**files_of(made), "list": lists.objects.encode()}
             tried.run(f"import dump out{flag} --classes list", Answer(0, f"{made.line}\n", made=files))
             tried.run(f"import dump out{flag} --classes list --histogram 7 --atomic",
                       Answer(0, f"{made.line}\n{lists.histogram}", made=files))
             tried.run(f"import dump out{flag} --histogram 7", Answer(0, f"{made.line}\n{lists.histogram}"))
+            tried.run(f"import dump out{flag} --stats", Answer(0, f"{made.line}\n", TIMINGS, files_of(made)))
+            tried.run(f"import dump out{flag} --stats --histogram 7", Answer(0, f"{made.line}\n{lists.histogram}", TIMINGS, files_of(made)))
     for name in ("dump", "out", "./dump", "./out"):
         tried.run(f"import dump out --classes {name}", SAME)
 
@@ -223,8 +231,13 @@ def try_import_words(tried: Tried) -> None:
                                 ("--allowance <m>", "1.5", "invalid digit found in string")):
         answer = usage(f"error: invalid value '{value}' for '{option}': {said}\n")
         tried.run(f"import dump out {option.split()[0]} {value}", dataclasses.replace(answer, made=nothing))
-    for option in ("--region-log 3", "--allowance 3", "--live-only"):
-        name = {"--region-log 3": "--region-log <k>", "--allowance 3": "--allowance <m>"}.get(option, option)
+    for value, said in (("0", "0 is not in 1..=1000000"), ("1000001", "1000001 is not in 1..=1000000"), ("all", "invalid digit found in string")):
+        answer = usage(f"error: invalid value '{value}' for '--histogram <n>': {said}\n")
+        tried.run(f"import dump out --histogram {value}", dataclasses.replace(answer, made=nothing))
+    named = {"--region-log 3": "--region-log <k>", "--allowance 3": "--allowance <m>", "--histogram 3": "--histogram <n>",
+             "--classes list": "--classes <FILE>"}
+    for option in (*named, "--live-only"):
+        name = named.get(option, option)
         tried.run(f"import dump out {option} {option}", usage(f"error: the argument '{name}' cannot be used multiple times\n"))
         tried.run(f"upgrade base out {option}", usage(f"error: unexpected argument '{option.split()[0]}' found\n"))
 

@@ -1,2 +1,3 @@
 pub mod Timelines
 pub mod Unreplayed
+pub mod Texts

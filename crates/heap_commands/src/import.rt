@@ -1,7 +1,9 @@
 ghost use Rattle.std.specs.Prelude.{◌≡◌, ◌≢◌, ◌⊎◌, ◌++◌, codes, ℕ, List, IfOk, IfErr, OnOk, OnErr, IsTrue, string_bytes};
 ghost use Rattle.std.specs.Io.KnownBytes.{IsAtEnd};
-ghost use Rattle.heap_dump.specs.ImportFigures.{figures_text};
-ghost use Rattle.heap_commands.specs.Import.{IsImport, IsImportLine, IsImportText, IsListedImport};
+ghost use Rattle.heap_image.specs.HeapImage.{IsValid, version_of};
+ghost use Rattle.heap_dump.specs.ImportFigures.{AreFiguresOf, figures_text};
+ghost use Rattle.heap_dump.specs.Listing.{AreObjectsOf};
+ghost use Rattle.heap_commands.specs.Import.{IsImport, IsImportLine, IsImportText, IsListedImport, IsTextOf};
 ghost use Rattle.command_support.specs.Failure.{failed_device};
 
 use crate::histogram::push_histogram;
@@ -30,7 +32,7 @@ pub fn answer<'a, R: Files + AllocGlobal + Clock>(
 ) -> Result<WorkDone<'a>, Trouble<'a>>
 where
     R::File: SystemFile,
-    ensures { IfOk result (λ done. IsImportText done.text.items) }
+    ensures { IfOk result (λ done. IsImportText request.entry.histogram done.text.items) }
 {
     if request.classes.is_some() || request.histogram.is_some() {
         import_with_lists(rt, request)
@@ -77,7 +79,7 @@ fn import_with_lists<'a, R: Files + AllocGlobal + Clock>(
 ) -> Result<WorkDone<'a>, Trouble<'a>>
 where
     R::File: SystemFile,
-    ensures { IfOk result (λ done. IsImportText done.text.items) }
+    ensures { IfOk result (λ done. IsImportText request.entry.histogram done.text.items) }
 {
     let watch = Stopwatch::start(rt, request.stats);
     let Opened { dump, again, image } = open(rt, &request)?;
@@ -87,7 +89,7 @@ where
     let mut output = TimedOutlet::new(rt, watch, ToWrite::new(Late::new(rt, image)));
     let wish = ListWish {
         options: options_of(&request),
-        rows: request.histogram,
+        histogram: request.histogram,
     };
     let made = import_listed_into(rt.alloc(), &mut dump, &mut again, &mut output, wish);
     let laps = laps_of(&again, &output);
@@ -330,8 +332,8 @@ fn push_import_line(figures: ImportFigures, line: &mut String) -> Result<(), All
 #[derive(Clone, Copy)]
 pub struct ListWish {
     pub options: Options,
-    /// How many classes are printed, if they are.
-    pub rows: Option<u32>,
+    /// The most classes that are printed, if a histogram is wanted.
+    pub histogram: Option<u32>,
 }
 
 /// An imported heap, and the text for standard output.
@@ -350,8 +352,9 @@ pub fn import_listed_into<R: Intake, O: Outlet>(
     output: &mut O,
     wish: ListWish,
 ) -> Result<ListedText, Failure>
-    ensures image { IfOk result (λ made. IsListedImport wish.options.allowance
+    ensures image { IfOk result (λ made. IsListedImport wish.options.allowance wish.histogram
         (O.took output.old) (O.took output.new) (string_bytes made.text)) }
+    ensures objects { IfOk result (λ made. AreObjectsOf made.import.imported.image made.import.objects.items) }
     ensures first_end { OnOk result (IsAtEnd (R.left first.new)) }
     ensures second_end { OnOk result (IsAtEnd (R.left second.new)) }
     // Only the device for the image stops it once it writes.
@@ -360,12 +363,28 @@ pub fn import_listed_into<R: Intake, O: Outlet>(
     ensures device { result ≡ Err failed_device → IsTrue (R.has_failed first.new)
         ⊎ IsTrue (R.has_failed second.new) ⊎ IsTrue (O.has_failed output.new) }
 {
-    let mut text = String::with_capacity(alloc, LINE_ROOM)?;
     let import = import_listed(alloc, first, second, wish.options)?;
-    push_import_line(import.imported.figures, &mut text)?;
-    if let Some(rows) = wish.rows {
-        push_histogram(alloc, &import, rows, &mut text)?;
-    }
+    let text = text_of(alloc, &import, wish.histogram)?;
     write_image_buffered(alloc, &import.imported.image, output)?;
     Ok(ListedText { text, import })
+}
+
+/// The line with the figures of an import, and a histogram with at most so many classes if one is wanted.
+fn text_of(
+    alloc: Global,
+    import: &ListedImport,
+    histogram: Option<u32>,
+) -> Result<String, AllocError>
+    requires valid { IsValid import.now.imported.image }
+    requires rooted { version_of import.now.imported.image ≡ 2 }
+    requires objects { AreObjectsOf import.now.imported.image import.now.objects.items }
+    requires figures { AreFiguresOf import.now.imported.image import.now.imported.figures }
+    ensures { IfOk result (λ text. IsTextOf import.now.imported.image histogram (string_bytes text)) }
+{
+    let mut text = String::with_capacity(alloc, LINE_ROOM)?;
+    push_import_line(import.imported.figures, &mut text)?;
+    if let Some(most) = histogram {
+        push_histogram(alloc, import, most, &mut text)?;
+    }
+    Ok(text)
 }

@@ -1,4 +1,9 @@
 //! The list of the objects of an imported image.
+ghost use Rattle.std.specs.Prelude.{◌≡◌, ◌++◌, OnOk, string_bytes};
+ghost use Rattle.std.specs.Io.KnownBytes.{Appends};
+ghost use Rattle.heap_commands.specs.ObjectList.{list_text, object_line, state_of};
+
+use crate::histogram::bytes_of;
 use heap_dump::{ClassNames, ListedImport, ListedObject};
 use heap_image::{Fault, Outlet, give_all};
 use std::alloc::{AllocError, Global};
@@ -14,7 +19,10 @@ pub fn give_list<O: Outlet>(
     alloc: Global,
     import: &ListedImport,
     output: &mut O,
-) -> Result<(), Fault> {
+) -> Result<(), Fault>
+    ensures { OnOk result (Appends (O.took output.old) (O.took output.new)
+        (list_text import.now.names import.now.objects.items)) }
+{
     let mut lines = String::with_capacity(alloc, PIECE)?;
     for object in import.objects.as_slice() {
         push_object(&mut lines, object, &import.names)?;
@@ -32,10 +40,20 @@ fn push_object(
     lines: &mut String,
     object: &ListedObject,
     names: &ClassNames,
-) -> Result<(), AllocError> {
-    write!(lines, "{} ", object.address)?;
+) -> Result<(), AllocError>
+    ensures { OnOk result (string_bytes lines.new ≡ string_bytes lines.old ++ object_line names.now object.now) }
+{
+    let address = object.address;
+    write!(lines, "{address} ")?;
     names.push_name(object.class, lines)?;
-    let bytes = object.words.saturating_mul(8);
-    let state = if object.is_live { "live" } else { "dead" };
-    writeln!(lines, " {bytes} {state}")
+    let (bytes, state) = (bytes_of(object.words), state_of(object.is_live));
+    writeln!(lines, " {bytes} {state}")?;
+    Ok(())
+}
+
+/// How the list says whether an object is live.
+fn state_of(is_live: bool) -> &'static str
+    ensures { result.now ≡ state_of is_live }
+{
+    if is_live { "live" } else { "dead" }
 }

@@ -1,3 +1,5 @@
 pub mod Concats
 pub mod Increasing
 pub mod Listings
+pub mod Sums
+pub mod Gaps

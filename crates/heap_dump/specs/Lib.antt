@@ -2,3 +2,5 @@ pub mod Window
 pub mod ImportFigures
 pub mod Requested
 pub mod Listing
+pub mod ClassNames
+pub mod Totals

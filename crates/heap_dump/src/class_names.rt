@@ -1,18 +1,21 @@
 //! The names of the classes in a list of objects.
-use crate::class_number::{CLASS_OBJECTS, FIRST_NAMES};
+ghost use Rattle.std.specs.Prelude.{◌≡◌, ◌++◌, OnOk, string_bytes, option_copied, flat_map};
+ghost use Rattle.heap_dump.specs.ClassNames.{class_of, inner_name, most_padding, name_of, shown_byte};
+
+use crate::class_kind::ClassKind;
+use crate::class_number::{CLASS_OBJECTS, FIRST_CLASS, first_name};
 use crate::inventory::Inventory;
 use crate::texts::Texts;
 use std::alloc::{AllocError, Global};
 
-/// The name of the class of class objects in a dump.
-const CLASS_OF_CLASSES: &[u8] = b"java/lang/Class";
-
-/// The id of a class, and the range of its name, which is empty if the dump has none.
+/// A class of the dump.
 #[derive(Clone, Copy)]
 struct NamedClass {
     id: u64,
+    /// The range of its name, which is empty if the dump has none.
     start: usize,
     end: usize,
+    kind: ClassKind,
 }
 
 /// The names of classes by their numbers: 0 is arrays of a class that is missing from the dump, 1 to 8 are arrays of
@@ -48,58 +51,54 @@ impl ClassNames {
         })
     }
 
-    /// How many numbers there are.
-    pub fn len(&self) -> usize {
-        self.classes.len().saturating_add(FIRST_NAMES.len())
-    }
-
     /// The number of class objects: that of the first class named `java.lang.Class`, or 9.
     pub(crate) fn number_of_class_objects(&self) -> u32 {
         let mut number = CLASS_OBJECTS;
         for class in self.classes.as_slice() {
             number = number.saturating_add(1);
-            if self.bytes.get(class.start..class.end) == Some(CLASS_OF_CLASSES) {
+            if class.kind == ClassKind::Classes {
                 return number;
             }
         }
         CLASS_OBJECTS
     }
 
-    fn class(&self, number: u32) -> Option<&NamedClass> {
-        let index = (number as usize).checked_sub(FIRST_NAMES.len())?;
-        self.classes.get(index)
+    /// The class of the dump with this number, if it is one.
+    fn class(&self, number: u32) -> Option<NamedClass>
+        ensures { result ≡ class_of self.now number }
+    {
+        let index = number.checked_sub(FIRST_CLASS)?;
+        self.classes.get(index as usize).copied()
     }
 
-    fn bytes_of(&self, class: &NamedClass) -> &[u8] {
+    /// The name of a class in the dump.
+    fn inner_name(&self, class: NamedClass) -> &[u8]
+        ensures { result.now ≡ inner_name self.now class }
+    {
         self.bytes.get(class.start..class.end).unwrap_or(&[])
     }
 
-    /// Whether the objects of this class are arrays.
-    pub(crate) fn is_array(&self, number: u32) -> bool {
-        match self.class(number) {
-            Some(class) => self.bytes_of(class).first() == Some(&b'['),
-            None => number < CLASS_OBJECTS,
-        }
-    }
-
-    /// Whether this is the number of class objects.
-    pub(crate) fn is_class_of_classes(&self, number: u32) -> bool {
-        match self.class(number) {
-            Some(class) => self.bytes_of(class) == CLASS_OF_CLASSES,
-            None => number == CLASS_OBJECTS,
-        }
+    /// The most words by which an object of this class may be larger in the machine than in an image.
+    pub(crate) fn most_padding(&self, number: u32) -> u64
+        ensures { result ≡ most_padding self.now number }
+    {
+        let kind = match self.class(number) {
+            Some(class) => class.kind,
+            None if number == CLASS_OBJECTS => ClassKind::Classes,
+            None => ClassKind::Arrays,
+        };
+        kind.most_padding()
     }
 
     /// Appends the name of the class with this number: with dots between packages, and each byte that is no visible
     /// ASCII character, and `\`, as `\xNN`. A class without a name is `class@` and its id in hexadecimal digits.
-    pub fn push_name(&self, number: u32, line: &mut String) -> Result<(), AllocError> {
+    pub fn push_name(&self, number: u32, line: &mut String) -> Result<(), AllocError>
+        ensures { OnOk result (string_bytes line.new ≡ string_bytes line.old ++ name_of self.now number) }
+    {
         match self.class(number) {
-            Some(class) if class.start < class.end => push_bytes(self.bytes_of(class), line),
+            Some(class) if class.start < class.end => push_bytes(self.inner_name(class), line),
             Some(class) => write!(line, "class@{:x}", class.id),
-            None => {
-                let name = FIRST_NAMES.get(number as usize).copied();
-                line.push_str(name.unwrap_or("?"))
-            }
+            None => line.push_str(first_name(number)),
         }
     }
 }
@@ -112,18 +111,31 @@ fn named_class(inventory: &Inventory, texts: &Texts, index: usize) -> NamedClass
         Some(text) => texts.find(text).unwrap_or((0, 0)),
         None => (0, 0),
     };
-    NamedClass { id, start, end }
+    NamedClass {
+        id,
+        start,
+        end,
+        kind: ClassKind::of_name(texts.text(start, end)),
+    }
 }
 
 /// Appends a name as a dump has it.
-fn push_bytes(name: &[u8], line: &mut String) -> Result<(), AllocError> {
+fn push_bytes(name: &[u8], line: &mut String) -> Result<(), AllocError>
+    ensures { OnOk result (string_bytes line.new ≡ string_bytes line.old ++ flat_map shown_byte name.now) }
+{
     for byte in name {
-        match *byte {
-            b'/' => line.push('.')?,
-            b'\\' => line.push_str("\\x5c")?,
-            byte if byte.is_ascii_graphic() => line.push(byte as char)?,
-            byte => write!(line, "\\x{byte:02x}")?,
-        }
+        push_byte(*byte, line)?;
     }
     Ok(())
+}
+
+/// Appends a byte of a name.
+fn push_byte(byte: u8, line: &mut String) -> Result<(), AllocError>
+    ensures { OnOk result (string_bytes line.new ≡ string_bytes line.old ++ shown_byte byte) }
+{
+    match byte {
+        b'/' => line.push_str("."),
+        b'!'..=b'[' | b']'..=b'~' => line.push(byte as char),
+        _ => write!(line, "\\x{byte:02x}"),
+    }
 }

@@ -6,8 +6,10 @@ ghost use Rattle.heap_image.specs.HeapImage.{IsValid, roots_of, version_of};
 ghost use Rattle.heap_dump.specs.Requested.{requested_log};
 ghost use Rattle.heap_dump.specs.ImportFigures.{AreFiguresOf};
 ghost use Rattle.heap_dump.specs.Listing.{AreObjectsOf};
+ghost use Rattle.heap_dump.specs.Totals.{AreDeadWords, IsRanking, sums_of};
 
 use crate::class_names::ClassNames;
+use crate::dead_words::DeadWords;
 use crate::draft::{Draft, Imported};
 use crate::error::ImportError;
 use crate::inventory::Inventory;
@@ -16,7 +18,7 @@ use crate::object_classes::ObjectClasses;
 use crate::options::{Options, Regions};
 use crate::packed::Packed;
 use crate::survivor_heap::SurvivorHeap;
-use crate::totals::{ClassTotals, DeadWords, totals_of};
+use crate::totals::{ClassTotals, Totals, ranking};
 use crate::transcribed::Transcribed;
 use heap_image::Intake;
 use std::alloc::{AllocError, Global};
@@ -87,13 +89,25 @@ pub fn import_listed<R: Intake>(
 }
 
 impl ListedImport {
-    /// Sums the objects of each class, in the order of class numbers.
-    pub fn totals(&self, alloc: Global) -> Result<Vec<ClassTotals>, AllocError> {
-        totals_of(alloc, self.objects.as_slice(), self.names.len())
+    /// Sums all objects.
+    pub fn totals(&self) -> Totals
+        ensures { result ≡ sums_of self.now.objects.items }
+    {
+        Totals::of(self.objects.as_slice())
+    }
+
+    /// Ranks the classes that have objects by their words, the most first. Of two with as many words the lower number is
+    /// first.
+    pub fn ranking(&self, alloc: Global) -> Result<Vec<ClassTotals>, AllocError>
+        ensures { IfOk result (λ ranked. IsRanking self.now.objects.items ranked.items) }
+    {
+        ranking(alloc, self.objects.as_slice())
     }
 
     /// Sums the words of the image that belong to no live object.
-    pub fn dead_words(&self) -> DeadWords {
+    pub fn dead_words(&self) -> DeadWords
+        ensures { AreDeadWords self.now.names self.now.objects.items self.now.imported.figures.words result }
+    {
         let words = self.imported.figures.words;
         DeadWords::of(self.objects.as_slice(), &self.names, words)
     }

@@ -11,10 +11,12 @@
 
 mod arrangement;
 mod class_head;
+mod class_kind;
 mod class_names;
 mod class_number;
 mod classes;
 mod contents;
+mod dead_words;
 mod draft;
 mod dump;
 mod error;
@@ -47,10 +49,11 @@ mod transcription;
 mod window;
 
 pub use class_names::ClassNames;
+pub use dead_words::DeadWords;
 pub use draft::Imported;
 pub use error::{ImportError, Problem};
 pub use figures::ImportFigures;
 pub use importing::{ListedImport, import, import_listed};
 pub use listing::ListedObject;
 pub use options::Options;
-pub use totals::{ClassTotals, DeadWords};
+pub use totals::{ClassTotals, Totals};

@@ -75,6 +75,11 @@ impl Texts {
         Some((place.start, place.end))
     }
 
+    /// The bytes of a range of all texts.
+    pub(crate) fn text(&self, start: usize, end: usize) -> &[u8] {
+        self.bytes.get(start..end).unwrap_or(&[])
+    }
+
     /// Returns all texts, one after another.
     pub(crate) fn into_bytes(self) -> Vec<u8> {
         let Texts { bytes, .. } = self;
