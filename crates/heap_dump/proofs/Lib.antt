@@ -3,3 +3,4 @@ pub mod Increasing
 pub mod Listings
 pub mod Sums
 pub mod Gaps
+pub mod Lookups

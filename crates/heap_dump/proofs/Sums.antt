@@ -1,6 +1,7 @@
 -- Sums with one object more.
-use Rattle.std.proofs.Common.{◌≡◌, ◌≢◌, ℕ, ◌+◌, ◌<◌, Bool, true, false, not, cond, eqb, List, [], ◌∷◌, ◌++◌, length, get_or, take, refl, sym, ◌∙◌, ap, subst, arith}
+use Rattle.std.proofs.Common.{◌≡◌, ◌≢◌, ◌⊎◌, inl, inr, ℕ, ◌+◌, ◌<◌, true, false, not, cond, eqb, List, [], ◌∷◌, ◌++◌, length, length-set, get_or, get_or-set_other, get_or-set_same, set, take, sym, ◌∙◌, ap, ap₂, arith}
 use Rattle.std.specs.Prelude.{min, filter, sum_by}
+use Rattle.std.proofs.lemmas.Bool.Decides.{eqb_tells}
 use Rattle.std.proofs.lemmas.List.{append-nil, take_more}
 use Rattle.std.proofs.lemmas.List.Elements.{filter_more}
 use Rattle.std.proofs.lemmas.List.Sums.{sum_by_push}
@@ -15,6 +16,9 @@ totals a b c d = record { live_objects = a; live_words = b; dead_objects = c; de
 same : (a a' b b' c c' d d' : ℕ) → a ≡ a' → b ≡ b' → c ≡ c' → d ≡ d' → totals a b c d ≡ totals a' b' c' d'
 same a a' b b' c c' d d' p q r s =
     ap (λ x. totals x b c d) p ∙ ap (λ x. totals a' x c d) q ∙ ap (λ x. totals a' b' x d) r ∙ ap (λ x. totals a' b' c' x) s
+
+abbrev class_record : ℕ → Totals → ClassTotals
+class_record n t = record { class = n; totals = t }
 
 abbrev one_live : ListedObject → ℕ
 one_live o = cond o.is_live 1 0
@@ -70,3 +74,24 @@ module _ (objects : List ListedObject) (i : ℕ) (o : ListedObject) (l : i < len
   pub class_other : (k : ℕ) → eqb o.class k ≡ false → objects_in k (take (i + 1) objects) ≡ objects_in k (take i objects)
   class_other k no =
       objects_more k ∙ ap (λ b. objects_in k (take i objects) ++ cond b (o ∷ []) []) no ∙ append-nil (objects_in k (take i objects))
+
+  -- the sums of each class, after the object is added to those of its class
+  pub each_more : (totals : List ClassTotals) (new : ClassTotals) → o.class < length totals
+      → ((k : ℕ) (d : ClassTotals) → k < length totals → get_or totals k d ≡ sums_in k (take i objects))
+      → new.class ≡ o.class → new.totals ≡ sums_of (objects_in o.class (take i objects) ++ o ∷ [])
+      → (k : ℕ) (d : ClassTotals) → k < length (set totals o.class new) → get_or (set totals o.class new) k d ≡ sums_in k (take (i + 1) objects)
+  each_more totals new room each class sums k d below = go (eqb_tells o.class k)
+    where
+      long : length (set totals o.class new) ≡ length totals
+      long = length-set totals o.class new
+      go : ((eqb o.class k ≡ true) × (o.class ≡ k)) ⊎ ((eqb o.class k ≡ false) × (o.class ≢ k)) → get_or (set totals o.class new) k d ≡ sums_in k (take (i + 1) objects)
+      go (inl yes) =
+          let at : get_or (set totals o.class new) o.class d ≡ new = get_or-set_same totals o.class new d room in
+          let here : sums_of (objects_in o.class (take i objects) ++ o ∷ []) ≡ sums_of (objects_in k (take (i + 1) objects)) =
+              ap (λ n. sums_of (objects_in n (take i objects) ++ o ∷ [])) yes.1 ∙ sym (ap sums_of (class_same k yes.0)) in
+          ap (λ n. get_or (set totals o.class new) n d) (sym yes.1) ∙ at ∙ ap₂ (λ n t. class_record n t) (class ∙ yes.1) (sums ∙ here)
+      go (inr no) =
+          let other : k ≢ o.class = λ e. no.1 (sym e) in
+          get_or-set_other totals o.class k new d other
+          ∙ each k d (omega (arith, below, long))
+          ∙ ap (λ xs. class_record k (sums_of xs)) (sym (class_other k no.0))

@@ -67,15 +67,20 @@ impl ClassNames {
     fn class(&self, number: u32) -> Option<NamedClass>
         ensures { result ≡ class_of self.now number }
     {
-        let index = number.checked_sub(FIRST_CLASS)?;
-        self.classes.get(index as usize).copied()
+        if number < FIRST_CLASS {
+            return None;
+        }
+        self.classes.get((number - FIRST_CLASS) as usize).copied()
     }
 
     /// The name of a class in the dump.
     fn inner_name(&self, class: NamedClass) -> &[u8]
         ensures { result.now ≡ inner_name self.now class }
     {
-        self.bytes.get(class.start..class.end).unwrap_or(&[])
+        match self.bytes.get(class.start..class.end) {
+            Some(name) => name,
+            None => &[],
+        }
     }
 
     /// The most words by which an object of this class may be larger in the machine than in an image.

@@ -380,6 +380,7 @@ impl Dump {
     {
         self.window.skip(source, count)
     }
+
     /// Skips what is unread of the record.
     pub(crate) fn skip_rest<R: Intake>(&mut self, source: &mut R) -> Result<(), ImportError>
         ensures input { result ≡ Err ImportError.Input → IsTrue (R.has_failed source.new) }
