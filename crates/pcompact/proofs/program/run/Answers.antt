@@ -1,4 +1,4 @@
-use Rattle.std.proofs.Common.{◌≡◌, None, Some, ⊥, absurd}
+use Rattle.std.proofs.Common.{◌≡◌, None, Some}
 use Rattle.pcompact.proofs.program.run.Goals as goal
 
 some_none : {A : Type 0} {x : A} → Some x ≡ None → ⊥
