@@ -32,6 +32,8 @@ ENVIRONMENT = [
     ("GLIBC_TUNABLES", "Settings of the C library. If it isn't set, the script that starts the program requests huge pages by it."),
     ("LC_ALL, LC_CTYPE, LANG", "*map* and *timeline* draw with blocks if the first of these that is set and not empty names "
                                "UTF-8, and else with letters."),
+    ("COLUMNS, LINES", "The size of a terminal, which *map* and *timeline* fill."),
+    ("NO_COLOR, TERM", "*map* and *timeline* use no colours on a terminal if the first isn't empty, or the second is dumb."),
 ]
 
 LAUNCHER_STATUS = ("70", "the script that starts the program in the repository can't build it")

@@ -14,7 +14,13 @@ _pcompact_read() {
             given+="$word "
             case "$command $word" in
             'collect --workers' | \
+                'map --width' | \
+                'map --height' | \
+                'map --svg' | \
                 'record --workers' | \
+                'timeline --width' | \
+                'timeline --svg' | \
+                'timeline --html' | \
                 'import --region-log' | \
                 'import --allowance' | \
                 'generate --words' | \
@@ -23,12 +29,7 @@ _pcompact_read() {
                 'generate --seed' | \
                 'generate --refs' | \
                 'generate --version' | \
-                'generate --allowance' | \
-                'map --width' | \
-                'map --svg' | \
-                'timeline --width' | \
-                'timeline --svg' | \
-                'timeline --html') option=$word ;;
+                'generate --allowance') option=$word ;;
             esac
         elif [[ -z $command ]]; then
             command=$word
@@ -43,20 +44,20 @@ _pcompact_takes() {
     options= most=0
     case $command in
     '') options='-h --help -V --version' ;;
-    board) options='-h --help' most=0 ;;
-    summary) options='--verbose -h --help' most=1 ;;
-    collect) options='--workers --atomic --stats --verbose -h --help' most=2 ;;
-    verify) options='--stats --verbose -h --help' most=2 ;;
-    record) options='--workers --atomic --stats --verbose -h --help' most=3 ;;
-    replay) options='--verbose -h --help' most=2 ;;
-    upgrade) options='--atomic --verbose -h --help' most=2 ;;
-    import) options='--region-log --allowance --live-only --atomic --verbose -h --help' most=2 ;;
-    generate) options='--words --live --region-log --seed --refs --version --allowance --atomic --verbose -h --help' most=1 ;;
-    order) options='--verbose -h --help' most=1 ;;
+    collect) options='--workers --atomic --json --stats --verbose -h --help' most=2 ;;
+    verify) options='--explain --ignore-free --json --stats --verbose -h --help' most=2 ;;
+    summary) options='--heading --json --verbose -h --help' most=1 ;;
+    order) options='--json --verbose -h --help' most=1 ;;
+    map) options='--after --width --height --svg --letters --color --no-color --atomic --verbose -h --help' most=1 ;;
     text) options='--verbose -h --help' most=1 ;;
     assemble) options='--atomic --verbose -h --help' most=2 ;;
-    map) options='--after --width --svg --letters --color --no-color --atomic --verbose -h --help' most=1 ;;
+    record) options='--workers --atomic --stats --verbose -h --help' most=3 ;;
+    replay) options='--verbose -h --help' most=2 ;;
     timeline) options='--width --svg --html --letters --color --no-color --atomic --verbose -h --help' most=2 ;;
+    upgrade) options='--atomic --verbose -h --help' most=2 ;;
+    import) options='--region-log --allowance --live-only --json --atomic --verbose -h --help' most=2 ;;
+    generate) options='--words --live --region-log --seed --refs --version --allowance --atomic --verbose -h --help' most=1 ;;
+    board) options='-h --help' most=0 ;;
     help) options='' most=1 ;;
     esac
 }
@@ -71,13 +72,13 @@ _pcompact_files() {
 _pcompact_value() {
     case "$command $option" in
     'collect --workers') _pcompact_words {1..64} ;;
+    'map --svg') _pcompact_files ;;
     'record --workers') _pcompact_words {1..64} ;;
+    'timeline --svg') _pcompact_files ;;
+    'timeline --html') _pcompact_files ;;
     'import --region-log') _pcompact_words {3..16} ;;
     'generate --region-log') _pcompact_words {3..16} ;;
     'generate --version') _pcompact_words {1..2} ;;
-    'map --svg') _pcompact_files ;;
-    'timeline --svg') _pcompact_files ;;
-    'timeline --html') _pcompact_files ;;
     *) compopt +o default +o bashdefault 2>/dev/null ;;
     esac
 }
@@ -101,7 +102,7 @@ _pcompact() {
     elif [[ -z $ended && $current = -* ]]; then
         _pcompact_words $left
     elif [[ -z $command || $command = help && $count = 0 ]]; then
-        _pcompact_words board summary collect verify record replay upgrade import generate order text assemble map timeline help
+        _pcompact_words collect verify summary order map text assemble record replay timeline upgrade import generate board help
     elif ((count < most)); then
         _pcompact_files
     elif [[ -z $ended ]]; then

@@ -89,8 +89,8 @@ def try_workers(tried: Tried) -> None:
     for workers in ("0", "65", "4294967295"):
         tried.run(f"collect base out --workers {workers}", fault("12 workers", untouched))
         tried.run(f"record base out schedule --workers {workers}", fault("12 workers", untouched))
-    for workers, said in (("abc", "invalid value 'abc' for '--workers <n>': invalid digit found in string"),
-                          ("1.5", "invalid value '1.5' for '--workers <n>': invalid digit found in string"),
+    for workers, said in (("abc", "invalid value 'abc' for '--workers <n>': a whole number is wanted"),
+                          ("1.5", "invalid value '1.5' for '--workers <n>': a whole number is wanted"),
                           ("", "invalid value '' for '--workers <n>': cannot parse integer from empty string"),
                           ("-1", "unexpected argument '-1' found"),
                           ("4294967296", "invalid value '4294967296' for '--workers <n>': 4294967296 is not in ")):
@@ -285,6 +285,8 @@ def try_collections(tried: Tried) -> None:
         tried.run("summary image", Answer(0, said))
     tried.write("image", image(WORDS, []))
     tried.run("order image", Answer(0, "chain 0 words 0 speedup 1.00 workers 1\n"))
+    tried.write("image", image(plain(800, {0: 800}), [0]))
+    tried.run("order image", Answer(0, "chain 8 words 800 speedup 100.00 workers 64\n"))
     for allowance, said in CHAINS:
         tried.write("image", image(WORDS, LIVE, allowance))
         tried.run("order image", Answer(0, said))

@@ -18,6 +18,7 @@ sys.path.insert(0, str(pathlib.Path(__file__).resolve().parents[2]))
 from tests.models import image as model
 from tests.models.generated_heap import Wanted, generated
 from tests.support.cases import BASE, LIVE, WORDS, image, rooted, try_groups
+from tests.support.contrast import over, schemes, worst
 from tests.support.program import Answer, Tried, fault, usage
 
 FULL = pathlib.Path("/dev/full")
@@ -27,18 +28,21 @@ OLD = b"what stood there before" * 4000
 SVG = "{http://www.w3.org/2000/svg}"
 MAX_BYTES = 300_000
 
-LEGEND = """\
-live: _ none . few : half + most # all
-area: p prefix f prefix with fillers m moving - free x several
-"""
-BLOCK_LEGEND = LEGEND.replace("_ none . few : half + most # all", "▁ none ░ few ▒ half ▓ most █ all")
+LETTERS = "live: _ none . few : half + most # all\n"
+BLOCKS = "live: ▁ none ░ few ▒ half ▓ most █ all\n"
+
+
+def legend(areas: str, shades: str = LETTERS) -> str:
+    """The legend of a picture in which these areas occur."""
+    return shades + "area:" + "".join(f" {area} {name}" for area, name in model.AREAS.items() if area in areas) + "\n"
+
 
 # Of the base heap by its allowance: the figures, and the strips before and after of four cells, region by region.
 ROWS = [
-    (0, "prefix 0 top 19 filled 3", "+::+", "mmmx", "##:_", "mmx-"),
-    (1, "prefix 0 top 19 filled 3", "+::+", "mmmx", "##:_", "mmx-"),
-    (2, "prefix 8 top 21 filled 3", "+::+", "fmmx", "+#:_", "fmx-"),
-    (LARGEST, "prefix 24 top 30 filled 4", "+::+", "fffx", "+::+", "fffx"),
+    (0, "prefix 0 top 19 filled 3", "+::+", "mmmm", "##:_", "mm--"),
+    (1, "prefix 0 top 19 filled 3", "+::+", "mmmm", "##:_", "mm--"),
+    (2, "prefix 8 top 21 filled 3", "+::+", "fmmm", "+#:_", "fmm-"),
+    (LARGEST, "prefix 24 top 30 filled 4", "+::+", "fffm", "+::+", "fffm"),
 ]
 
 # Of each word of the base heap with M = 2.
@@ -48,7 +52,15 @@ before |###__####___##______##########__|
        |pppffpppmmmmmmmmmmmmmmmmmmmmmm--|
 after  |###__################___________|
        |pppffpppmmmmmmmmmmmmm-----------|
-""" + LEGEND
+""" + legend("pfm-")
+# The same before the collection, in two rows.
+IN_ROWS = """\
+words 32 live 19 dead 13 prefix 8 top 21 filled 3
+before |###__####___##__| 0
+       |pppffpppmmmmmmmm| 0.0 MiB
+       |____##########__| 16
+       |mmmmmmmmmmmmmm--| 0.0 MiB
+""" + legend("pfm-")
 
 
 def environment(**names: str) -> dict[str, str]:
@@ -66,18 +78,20 @@ def try_rows(tried: Tried) -> None:
         after = f"after  |{new_shades}|\n       |{new_areas}|\n"
         for made in (image(WORDS, LIVE, allowance), rooted(WORDS, [1 + a for a in LIVE], allowance)):
             tried.write("image", made)
-            tried.run("map image --letters --width 4", Answer(0, line + before + LEGEND))
-            tried.run("map --after image --width 4 --letters --verbose", Answer(0, line + before + after + LEGEND))
-            tried.run("map image --svg drawn --width 4", Answer(0, line))
+            tried.run("map image --letters --width 4", Answer(0, line + before + legend(areas)))
+            tried.run("map --after image --width 4 --letters --verbose", Answer(0, line + before + after + legend(areas + new_areas)))
+            tried.run("map image --svg drawn --width 4 --height 1", Answer(0, line))
     tried.write("image", image(WORDS, LIVE, 2))
     # No more cells than words.
     for width in ("", "--width 32", "--width 33", "--width 1000"):
         tried.run(f"map image --after --letters {width}", Answer(0, WHOLE))
-    tried.run("map image --letters --width 1", Answer(0, f"{WHOLE.splitlines()[0]}\nbefore |:|\n       |x|\n{LEGEND}"))
+    tried.run("map image --letters --width 1", Answer(0, f"{WHOLE.splitlines()[0]}\nbefore |:|\n       |m|\n{legend('m')}"))
+    tried.run("map image --letters --width 16 --height 2", Answer(0, IN_ROWS))
+    tried.run("map image --letters --width 16 --height 100", Answer(0, IN_ROWS))
     tried.write("image", image([999] * 32, []))
     for width in (2, 3):
         tried.run(f"map image --letters --width {width}", Answer(0, (
-            f"words 32 live 0 dead 32 prefix 0 top 0 filled 0\nbefore |{'_' * width}|\n       |{'-' * width}|\n{LEGEND}")))
+            f"words 32 live 0 dead 32 prefix 0 top 0 filled 0\nbefore |{'_' * width}|\n       |{'-' * width}|\n{legend('-')}")))
 
 
 def try_words(tried: Tried) -> None:
@@ -85,6 +99,9 @@ def try_words(tried: Tried) -> None:
     for width in ("0", "1001", "4294967296"):
         tried.run(f"map base --width {width}",
                   usage(f"error: invalid value '{width}' for '--width <n>': {width} is not in 1..=1000\n"))
+    for height in ("0", "101"):
+        tried.run(f"map base --height {height}",
+                  usage(f"error: invalid value '{height}' for '--height <n>': {height} is not in 1..=100\n"))
     tried.run("map", usage("error: the following required arguments were not provided:\n  <IMAGE>\n"))
     tried.run("map base --svg", usage("error: a value is required for '--svg <FILE>' but none was supplied\n"))
 
@@ -93,8 +110,8 @@ def try_looks(tried: Tried) -> None:
     """Letters and blocks by the locale, and colours where they are asked for."""
     tried.write("image", image(WORDS, LIVE, 2))
     line = "words 32 live 19 dead 13 prefix 8 top 21 filled 3\n"
-    letters = Answer(0, f"{line}before |+::+|\n       |fmmx|\n{LEGEND}")
-    blocks = Answer(0, f"{line}before |▓▒▒▓|\n       |fmmx|\n{BLOCK_LEGEND}")
+    letters = Answer(0, f"{line}before |+::+|\n       |fmmm|\n{legend('fm')}")
+    blocks = Answer(0, f"{line}before |▓▒▒▓|\n       |fmmm|\n{legend('fm', BLOCKS)}")
     for names, answer in (({}, letters), ({"LANG": "C"}, letters), ({"LANG": "C.UTF-8"}, blocks),
                           ({"LC_ALL": "", "LC_CTYPE": "de_DE.utf8", "LANG": "C"}, blocks),
                           ({"LC_ALL": "C", "LC_CTYPE": "C.UTF-8", "LANG": "C.UTF-8"}, letters),
@@ -102,17 +119,17 @@ def try_looks(tried: Tried) -> None:
         tried.run("map image --width 4", answer, env=environment(**names))
         tried.run("map image --width 4 --letters", letters, env=environment(**names))
         tried.run("map image --width 4 --no-color --color", answer, env=environment(**names))
-    before = f"before |{coloured('+::+', BEFORE)}|\n       |{coloured('fmmx', BEFORE)}|\n"
-    tried.run("map image --width 4 --letters --color", Answer(0, f"{line}{before}{LEGEND}"))
-    after = f"after  |{coloured('+#:_', AFTER)}|\n       |{coloured('fmx-', AFTER)}|\n"
-    tried.run("map image --after --width 4 --letters --color", Answer(0, f"{line}{before}{after}{LEGEND}"))
-    both = "before |▓▒▒▓|\n       |fmmx|\nafter  |▓█▒▁|\n       |fmx-|\n"
-    tried.run("map image --after --width 4", Answer(0, f"{line}{both}{BLOCK_LEGEND}"), env=environment(LANG="C.UTF-8"))
+    before = f"before |{coloured('+::+', BEFORE)}|\n       |{coloured('fmmm', BEFORE)}|\n"
+    tried.run("map image --width 4 --letters --color", Answer(0, f"{line}{before}{legend('fm')}"))
+    after = f"after  |{coloured('+#:_', AFTER)}|\n       |{coloured('fmm-', AFTER)}|\n"
+    tried.run("map image --after --width 4 --letters --color", Answer(0, f"{line}{before}{after}{legend('fm-')}"))
+    both = "before |▓▒▒▓|\n       |fmmm|\nafter  |▓█▒▁|\n       |fmm-|\n"
+    tried.run("map image --after --width 4", Answer(0, f"{line}{both}{legend('fm-', BLOCKS)}"), env=environment(LANG="C.UTF-8"))
 
 
-# The colours of the base heap with M = 2 in four cells: yellow fillers, green, magenta and cyan.
-BEFORE = (33, 32, 32, 35)
-AFTER = (33, 32, 35, 36)
+# The colours of the base heap with M = 2 in four cells: yellow fillers, green and cyan.
+BEFORE = (33, 32, 32, 32)
+AFTER = (33, 32, 32, 36)
 
 
 def coloured(marks: str, colours: tuple[int, ...]) -> str:
@@ -120,18 +137,30 @@ def coloured(marks: str, colours: tuple[int, ...]) -> str:
 
 
 def try_terminal(tried: Tried) -> None:
-    """On a terminal there are colours, unless that is asked for."""
+    """On a terminal there are colours, but not with --no-color, and not by NO_COLOR or TERM=dumb without --color."""
     tried.write("image", image(WORDS, LIVE, 2))
-    for flag, has_colours in (("", True), ("--no-color", False)):
+    for flag, names, has_colours in (
+            ("", {}, True), ("--no-color", {}, False), ("", {"NO_COLOR": "1"}, False), ("", {"NO_COLOR": ""}, True),
+            ("", {"TERM": "dumb"}, False), ("--color", {"NO_COLOR": "1", "TERM": "dumb"}, True)):
         ours, theirs = pty.openpty()
-        words = [tried.program, "map", "image", "--width", "4", "--letters", *flag.split()]
+        words = [tried.program, "map", "image", "--width", "4", "--height", "1", "--letters", *flag.split()]
         tried.count += 1
-        subprocess.run(words, cwd=tried.folder, stdout=theirs, check=False)
+        kept = {name: value for name, value in os.environ.items() if name != "NO_COLOR"}
+        subprocess.run(words, cwd=tried.folder, stdout=theirs, check=False, env={**kept, "TERM": "xterm", **names})
         os.close(theirs)
         shown = os.read(ours, 4096)
         os.close(ours)
         if (b"\x1b[33m+\x1b[0m" in shown) != has_colours or b"prefix 8" not in shown:
-            tried.is_wrong(f"map on a terminal {flag}: {shown!r}")
+            tried.is_wrong(f"map on a terminal {flag} {names}: {shown!r}")
+    for names, rows in (({"COLUMNS": "36", "LINES": "10"}, 2), ({"COLUMNS": "36", "LINES": "7"}, 1)):
+        ours, theirs = pty.openpty()
+        tried.count += 1
+        subprocess.run([tried.program, "map", "image", "--letters", "--no-color"], cwd=tried.folder, stdout=theirs, check=False, env={**os.environ, **names})
+        os.close(theirs)
+        shown = os.read(ours, 4096).decode().replace("\r", "")
+        os.close(ours)
+        if rows == 2 and shown != IN_ROWS or shown.count("|\n") + shown.count(" MiB\n") < rows:
+            tried.is_wrong(f"map on a terminal of {names}: {shown!r}")
 
 
 def drawing(tried: Tried, name: str) -> xml.etree.ElementTree.Element:
@@ -151,24 +180,84 @@ def cells_of(root: xml.etree.ElementTree.Element) -> list[tuple[str, str]]:
 def try_drawings(tried: Tried) -> None:
     """What a drawing shows: each cell with its pattern and its title, all areas, and a legend."""
     tried.write("image", image(WORDS, LIVE, 2))
-    tried.run("map image --after --svg drawn --width 4", Answer(0, WHOLE.splitlines(True)[0]))
+    tried.run("map image --after --svg drawn --width 4 --height 1", Answer(0, WHOLE.splitlines(True)[0]))
     root = drawing(tried, "drawn")
     wanted = [("f3", "words 0 to 7: 6 live, prefix with fillers"), ("m2", "words 8 to 15: 3 live, moving"),
-              ("m2", "words 16 to 23: 4 live, moving"), ("x3", "words 24 to 31: 6 live, several"),
+              ("m2", "words 16 to 23: 4 live, moving"), ("m3", "words 24 to 31: 6 live, moving"),
               ("f3", "words 0 to 7: 6 live, prefix with fillers"), ("m4", "words 8 to 15: 8 live, moving"),
-              ("x2", "words 16 to 23: 5 live, several"), ("e0", "words 24 to 31: 0 live, free")]
+              ("m2", "words 16 to 23: 5 live, moving"), ("e0", "words 24 to 31: 0 live, free")]
     if cells_of(root) != wanted:
         tried.is_wrong(f"a drawing has other cells: {cells_of(root)}")
     try_drawing_of_words(tried)
     patterns = {pattern.get("id"): pattern for pattern in root.iter(f"{SVG}pattern")}
     looks = {(rect.get("fill-opacity"), path.get("d"))
              for pattern in patterns.values() for rect, path in [list(pattern)]}
-    if len(patterns) != 25 or len(looks) != 25:
+    if len(patterns) != 20 or len(looks) != 20:
         tried.is_wrong("without colours two patterns look alike")
     texts = [text.text for text in root.iter(f"{SVG}text")]
-    for name in ("prefix", "prefix with fillers", "moving", "free", "several", "none lives", "few", "half", "most", "all live"):
+    for name in ("prefix with fillers", "moving", "free", "none lives", "few", "half", "most", "all live", "image",
+                 "end of the dense prefix", "top after the collection", "0.0 MiB"):
         if name not in texts:
-            tried.is_wrong(f"a drawing has no legend for {name}")
+            tried.is_wrong(f"a drawing has no text {name}")
+    if "prefix" in texts:
+        tried.is_wrong("the legend of a drawing has an area that no cell has")
+    if marks_of(root) != ["prefix end: word 8", "new top: word 21"] * 2:
+        tried.is_wrong(f"a drawing has other marks: {marks_of(root)}")
+    try_full_heap(tried)
+
+
+def marks_of(root: xml.etree.ElementTree.Element) -> list[str]:
+    """The titles of the marks."""
+    return [path.find(f"{SVG}title").text for path in root.iter(f"{SVG}path") if path.find(f"{SVG}title") is not None]
+
+
+def try_full_heap(tried: Tried) -> None:
+    """A heap without a dead word: its top is where it ends, and still has a mark."""
+    full = image([model.header(32, 0)] + [0] * 31, [0], 0)
+    collection = model.Collection(model.decode(full))
+    tried.write("full", full)
+    tried.run("map full --svg drawn --width 4 --height 2", Answer(0, collection.map_line()))
+    marks = marks_of(drawing(tried, "drawn"))
+    if marks != [f"prefix end: word {collection.prefix_end}", "new top: word 32"]:
+        tried.is_wrong(f"the drawing of a full heap has other marks: {marks}")
+    tried.run("map full --after --letters --width 4 --height 2", Answer(0, collection.map(4, True, 2)))
+
+
+def try_contrast(tried: Tried) -> None:
+    """The colours of a drawing, light and dark, also as people with each kind of colour blindness see them: text, marks, the
+    covers of each area, each beside the next, and the hatching on them."""
+    tried.write("image", image(WORDS, LIVE, 2))
+    tried.run("map image --svg drawn", Answer(0, None))
+    css = tried.read("drawn").decode().split("<style>")[1].split("</style>")[0]
+    looks = sorted({(float(rect.get("fill-opacity")), line.get("class"))
+                    for rect, line in map(list, drawing(tried, "drawn").iter(f"{SVG}pattern"))})
+    if len(looks) != 5 or looks[-1][0] != 1:
+        tried.is_wrong(f"a drawing has other covers: {looks}")
+    hatching = float(re.search(r"stroke-opacity: ([.\d]+)", css)[1])
+    for scheme, colours in zip(("light", "dark"), schemes(css, r"(?m)^\.?(\w+)(?:, \.\w+)? \{ (?:fill|stroke): (#\w+)")):
+        page = colours["page"]
+        pairs = [(colours["text"], page, 4.5), (colours["mark"], page, 4.5)]
+        for area in ("p", "f", "m", "e", "shade"):
+            shown = [over(colours[area], page, cover) for cover, _ in looks]
+            pairs += [(shown[-1], page, 4.5), *((one, other, 1.3) for one, other in zip(shown, shown[1:]))]
+            pairs += [(over(colours[line], under, hatching), under, 2) for under, (_, line) in zip(shown, looks)]
+        for one, other, least in pairs:
+            tried.count += 1
+            if worst(one, other) < least:
+                tried.is_wrong(f"{one} on {other} has a contrast of {worst(one, other):.2f}, {scheme}")
+
+
+def try_names(tried: Tried) -> None:
+    """The name of the heap's file in a drawing, which must stay XML."""
+    for name in ("a<b>&'c'.pcheap", 'say "heap".pcheap', "ä\u3042.pcheap", "]]>"):
+        tried.write(name, image(WORDS, LIVE, 2))
+        tried.run(["map", f"./{name}", "--svg", "drawn"], Answer(0, WHOLE.splitlines(True)[0]))
+        if name not in [text.text for text in drawing(tried, "drawn").iter(f"{SVG}text")]:
+            tried.is_wrong(f"a drawing hasn't the name {name!r}")
+    tried.write("a\tb", image(WORDS, LIVE, 2))
+    tried.run(["map", "a\tb", "--svg", "drawn"], Answer(0, WHOLE.splitlines(True)[0]))
+    if "a?b" not in [text.text for text in drawing(tried, "drawn").iter(f"{SVG}text")]:
+        tried.is_wrong("a drawing shows a tab in a name otherwise")
 
 
 def try_drawing_of_words(tried: Tried) -> None:
@@ -176,7 +265,7 @@ def try_drawing_of_words(tried: Tried) -> None:
     tried.run("map image --after --svg drawn --width 32", Answer(0, WHOLE.splitlines(True)[0]))
     text = tried.read("drawn")
     titles = [title for _, title in cells_of(drawing(tried, "drawn"))]
-    if len(titles) != 64 or text.count(b"<title>") != 65 or "words 3 to 3: 0 live, prefix with fillers" not in titles:
+    if len(titles) != 64 or text.count(b"<title>") != 69 or "words 3 to 3: 0 live, prefix with fillers" not in titles:
         tried.is_wrong(f"a drawing has other titles: {titles}")
     if not text.startswith(b"<?xml") or not text.endswith(b"</svg>\n"):
         tried.is_wrong("a drawing begins or ends otherwise")
@@ -197,11 +286,13 @@ def try_large_drawings(tried: Tried) -> None:
         if [pattern for pattern, _ in shown] != [f"{name}{'_.:+#'.index(shade)}" for name, (shade, _) in zip(names, right)]:
             tried.is_wrong(f"a drawing of {wanted} has other cells")
         tried.run("map heap --after --letters --width 1000", Answer(0, collection.map(1000, True)))
+        tried.run("map heap --after --letters --width 53 --height 7", Answer(0, collection.map(53, True, 7)))
     largest = "generate most --words 4194304 --live 60 --region-log 16 --seed 2 --allowance 800000"
     tried.run(largest, Answer(0, None))
-    tried.run("map most --after --svg drawn --width 1000", Answer(0, None))
-    if len(cells_of(drawing(tried, "drawn"))) != 2000:
-        tried.is_wrong("a drawing of the largest heap hasn't 2000 cells")
+    for shape, cells in (("--width 1000 --height 100", 2000), ("--width 10 --height 100", 1900), ("--height 100", 2048), ("", 1024)):
+        tried.run(f"map most --after --svg drawn {shape}", Answer(0, None))
+        if len(cells_of(drawing(tried, "drawn"))) != cells:
+            tried.is_wrong(f"a drawing of the largest heap hasn't {cells} cells with {shape!r}")
 
 
 def try_most_regions(tried: Tried) -> None:
@@ -248,7 +339,7 @@ def try_files(tried: Tried) -> None:
         tried.run("map base", fault(FAULT_13), stdout=full)
         tried.run("map base --svg drawn --atomic", fault(FAULT_13, {"drawn": None}), stdout=full)
     tried.run("map /dev/stdin --letters --width 4", Answer(
-        0, f"{line.out}before |+::+|\n       |mmmx|\n{LEGEND}"), input=BASE)
+        0, f"{line.out}before |+::+|\n       |mmmm|\n{legend('m')}"), input=BASE)
     tried.run("map nothing --svg kept --verbose", Answer(1, err=(
         "pcompact: fault 13 input or output\npcompact: file IMAGE nothing\npcompact: call open\n"
         "pcompact: reason no such file or folder\n")))
@@ -257,7 +348,7 @@ def try_files(tried: Tried) -> None:
         "pcompact: reason no such file or folder\n")))
 
 
-GROUPS = (try_rows, try_words, try_looks, try_terminal, try_drawings, try_large_drawings, try_most_regions, try_files)
+GROUPS = (try_rows, try_words, try_looks, try_terminal, try_drawings, try_contrast, try_names, try_large_drawings, try_most_regions, try_files)
 
 if __name__ == "__main__":
     sys.exit(try_groups(GROUPS))

@@ -42,7 +42,7 @@ def lines_of(phases: list[str], threads: int | None) -> list[str]:
     """All lines, in order, with `#` for each row of digits. So many workers collect; without a number it is a comparison."""
     lines = [f"{phase} #.# ms" for phase in phases + END]
     if threads is not None:
-        lines.append("live #.# MiB moved, # MiB a second")
+        lines += ["heap #.# MiB, #.# per cent kept", "live #.# MiB moved, # MiB a second"]
     lines += [f"threads {threads or '#'}", "peak memory #.# MiB"]
     return [f"pcompact: {line}\n" for line in lines]
 
@@ -91,13 +91,13 @@ def try_lines(tried: Tried) -> None:
 
 
 def figures_of(err: str) -> dict[str, float]:
-    """The numbers that the lines tell, the last on each line but in that of the live words, which has both."""
+    """The first numbers that the lines tell, and the second ones of the heap and of the live words."""
     found = {}
     for line in err.splitlines():
         name, *numbers = re.split(r" (?=\d)", line.removeprefix("pcompact: "))
         found[name] = float(numbers[0].split()[0])
-        if name == "live":
-            found["rate"] = float(numbers[1].split()[0])
+        if name in ("heap", "live"):
+            found[{"heap": "share", "live": "rate"}[name]] = float(numbers[1].split()[0])
     return found
 
 
@@ -119,7 +119,7 @@ def try_figures(tried: Tried) -> None:
         if phases is not VERIFY:
             in_memory = sum(told[phase] for phase in ("prepare", "fills", "clean-up"))
             rates = [4e3 / (in_memory + error) for error in (-0.2, 0.2)]
-            is_right = is_right and told["live"] == 4.0 and rates[1] - 1 <= told["rate"] <= rates[0] + 1
+            is_right = is_right and (told["heap"], told["share"], told["live"]) == (8.0, 50.0, 4.0) and rates[1] - 1 <= told["rate"] <= rates[0] + 1
         if not is_right:
             tried.is_wrong(f"pcompact {words} --stats tells {done.stderr!r}, and {passed} ms have passed")
     one = {"preexec_fn": lambda: os.sched_setaffinity(0, {min(os.sched_getaffinity(0))})}
@@ -144,7 +144,8 @@ def try_peak(tried: Tried) -> None:
 def try_nothing_filled(tried: Tried) -> None:
     """With no live object there is nothing to fill or to move."""
     phases = [phase for phase in COLLECT if phase != "fills"]
-    lines = [line.replace("live #.# MiB moved, # MiB", "live 0.0 MiB moved, 0 MiB") for line in lines_of(phases, 2)]
+    lines = [line.replace("live #.# MiB moved, # MiB", "live 0.0 MiB moved, 0 MiB").replace("#.# per cent", "0.0 per cent")
+             for line in lines_of(phases, 2)]
     for text in (image(WORDS, []), rooted(WORDS, [])):
         tried.write("empty", text)
         tried.run("collect empty out --workers 2 --stats", Answer(0, "prefix 0 top 0 filled 0\n", re.compile(matching(lines))))

@@ -24,6 +24,7 @@ LINE = "workers 1 lines 19 granted 3 completed 3 settled 3 freed 3 taken 2 finis
 MARKS = "mark: c claims t takes a freed region f frees one s settles x several\n"
 HANDS = "region in hand: _ never . seldom : half + mostly # always\n"
 BLOCK_HANDS = "region in hand: ▁ never ░ seldom ▒ half ▓ mostly █ always\n"
+AXIS = "          lines 2 to 20 of the schedule, not time\n"
 TAKEN = """\
 line 5: worker 0 drains 1 into 0 and frees 1, worker 0 takes it in line 8
 line 11: worker 0 drains 2 into 1 and frees 2, worker 0 takes it in line 16
@@ -32,7 +33,7 @@ line 18: worker 0 drains 3 into 2 and frees 3, nobody takes it
 
 
 def lanes(shares: str, marks: str, hands: str = HANDS) -> Answer:
-    return Answer(0, f"{LINE}worker  0 |{shares}|\n          |{marks}|\n{hands}{MARKS}{TAKEN}")
+    return Answer(0, f"{LINE}worker  0 |{shares}|\n          |{marks}|\n{AXIS}{hands}{MARKS}{TAKEN}")
 
 
 def put(tried: Tried) -> None:
@@ -68,12 +69,23 @@ def try_looks(tried: Tried) -> None:
         ours, theirs = pty.openpty()
         words = [tried.program, "timeline", "image", "schedule", "--width", "1", "--letters", *flag.split()]
         tried.count += 1
-        subprocess.run(words, cwd=tried.folder, stdout=theirs, check=False)
+        names = {name: value for name, value in os.environ.items() if name != "NO_COLOR"}
+        subprocess.run(words, cwd=tried.folder, stdout=theirs, check=False, env={**names, "TERM": "xterm"})
         os.close(theirs)
         shown = os.read(ours, 4096)
         os.close(ours)
         if (b"\x1b[35mx\x1b[0m" in shown) != has_colours or b"granted 3" not in shown:
             tried.is_wrong(f"timeline on a terminal {flag}: {shown!r}")
+    for columns in (30, 29):
+        ours, theirs = pty.openpty()
+        words = [tried.program, "timeline", "image", "schedule", "--letters", "--no-color"]
+        tried.count += 1
+        subprocess.run(words, cwd=tried.folder, stdout=theirs, check=False, env={**os.environ, "COLUMNS": str(columns)})
+        os.close(theirs)
+        lane = os.read(ours, 4096).decode().replace("\r", "").splitlines()[1]
+        os.close(ours)
+        if len(lane) != columns or not lane.startswith("worker  0 |#"):
+            tried.is_wrong(f"on a terminal of {columns} columns a lane is {lane!r}")
 
 
 def marks_of() -> str:

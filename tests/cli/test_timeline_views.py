@@ -28,11 +28,12 @@ from tests.models.schedule import Line, Machine, Schedule, fill, read
 from tests.models.timeline import LEGEND, Timeline, stages_at
 from tests.support.browser import part, run_page, runner
 from tests.support.cases import LIVE, WORDS, image
+from tests.support.contrast import schemes, worst
 from tests.support.program import TOP, Answer, Tried, built
 
 SVG = "{http://www.w3.org/2000/svg}"
 MAX_BYTES = 300_000
-SHOWN_BARS, SHOWN_FREEINGS = 600, 300
+SHOWN_BARS, SHOWN_FREEINGS = 200, 300
 # Of the schedule below, with a bar of each region and each kind of line from a drain to who takes the region.
 DRAWN = TOP / "tests" / "rows" / "timeline.svg"
 
@@ -72,6 +73,7 @@ worker  0 |################___#######|
           |c        f     s   t  f  s|
 worker  1 |___________#############__|
           |           t    f      s  |
+          lines 2 to 27 of the schedule, not time
 """ + LEGEND + """\
 line 11: worker 0 drains 1 into 0 and frees 1, worker 1 takes it in line 13
 line 18: worker 1 drains 2 into 1 and frees 2, worker 0 takes it in line 21
@@ -95,6 +97,7 @@ worker  0 |#######_|
           |c  f  s |
 worker  1 |____####|
           |    t   |
+          lines 2 to 9 of the schedule, not time
 """ + LEGEND + """\
 line 5: worker 0 drains 1 into 0 and frees 1, worker 1 takes it in line 6
 """
@@ -102,6 +105,18 @@ OPEN_TITLES = [
     "region 0: worker 0, claimed in line 2, completed in line 7, settled in line 8",
     "region 1: worker 1, claimed in line 6, not settled",
     "line 5: worker 0 drains 1 into 0 and frees 1, worker 1 takes it in line 6",
+]
+# The least contrast that two colours have for every eye: those of text 4.5, and edges and neighbours less.
+PAGE_COLOURS = [
+    ("text", "page", 4.5), ("quiet", "page", 4.5), ("text", "start", 4.5), ("text", "outside", 4.5), ("on-filled", "filled", 4.5),
+    ("on-settled", "settled", 4.5), ("on-bar", "even", 4.5), ("on-bar", "odd", 4.5), ("mark", "page", 4.5), ("frame", "lane", 3),
+    ("edge", "page", 3), ("claimed", "start", 3), ("filled", "settled", 2.8), ("start", "filled", 2.2), ("start", "settled", 4.5),
+    ("outside", "filled", 1.6), ("stripe", "start", 1.7), ("even", "odd", 1.5), ("lane", "even", 1.2), ("lane", "odd", 1.25),
+    ("lane", "share1", 1.25), ("share1", "share2", 1.4), ("share2", "share3", 1.6), ("share3", "share4", 1.6),
+]
+DRAWING_COLOURS = [
+    ("text", "page", 4.5), ("text", "e", 4.5), ("text", "o", 4.5), ("e", "o", 1.5), ("lane", "e", 1.2), ("lane", "o", 1.25),
+    ("lane", "s1", 1.25), ("s1", "s2", 1.4), ("s2", "s3", 1.6), ("s3", "s4", 1.6),
 ]
 # Of some lines of the first one what a page says.
 WORDS_OF = {
@@ -160,7 +175,7 @@ def try_base(tried: Tried) -> None:
     tried.write("schedule", "schedule 1 3\n")
     empty = "".join(f"worker  {worker} ||\n          ||\n" for worker in range(3))
     tried.run("timeline base schedule --letters", Answer(
-        0, "workers 3 lines 0 granted 0 completed 0 settled 0 freed 0 taken 0 open\n" + empty + LEGEND))
+        0, "workers 3 lines 0 granted 0 completed 0 settled 0 freed 0 taken 0 open\n" + empty + "          lines 2 to 1 of the schedule, not time\n" + LEGEND))
 
 
 def try_kept_drawing(tried: Tried) -> None:
@@ -172,6 +187,20 @@ def try_kept_drawing(tried: Tried) -> None:
     bars = re.findall(r"(?m)^<g>.*</g>$", DRAWN.read_text())
     if len(bars) != 3 or DRAWN.read_bytes() == tried.read("page"):
         tried.is_wrong("the kept drawing has other bars, or a page is the drawing")
+
+
+def try_contrast(tried: Tried) -> None:
+    """The colours of a page and of a drawing, light and dark, also as people with each kind of colour blindness see them."""
+    tried.write("base", image(WORDS, LIVE, 0))
+    tried.write("schedule", BASE)
+    for option, pattern, pairs in (("html", r"--([\w-]+): (#\w+)", PAGE_COLOURS), ("svg", r"(?m)^\.?(\w+) \{ fill: (#\w+)", DRAWING_COLOURS)):
+        tried.run(f"timeline base schedule --{option} drawn", Answer(0, TEXT.splitlines(True)[0]))
+        css = tried.read("drawn").decode().split("<style>")[1].split("</style>")[0]
+        for scheme, colours in zip(("light", "dark"), schemes(css, pattern)):
+            for one, other, least in pairs:
+                tried.count += 1
+                if worst(colours[one], colours[other]) < least:
+                    tried.is_wrong(f"{one} on {other} has a contrast of {worst(colours[one], colours[other]):.2f} in {option}, {scheme}")
 
 
 def write_drawing(tried: Tried) -> None:
@@ -190,7 +219,7 @@ def try_open(tried: Tried) -> None:
     figures, *_, freed = OPEN_TEXT.splitlines(True)
     tried.run("timeline base schedule --width 1 --color", Answer(0, (
         f"{figures}worker  0 |\x1b[32m▓\x1b[0m|\n          |\x1b[35mx\x1b[0m|\n"
-        f"worker  1 |\x1b[32m▒\x1b[0m|\n          |\x1b[36mt\x1b[0m|\n{BLOCK_HANDS}{MARKS}{freed}")),
+        f"worker  1 |\x1b[32m▒\x1b[0m|\n          |\x1b[36mt\x1b[0m|\n          lines 2 to 9 of the schedule, not time\n{BLOCK_HANDS}{MARKS}{freed}")),
               env=environment(LANG="C.UTF-8"))
     tried.run("timeline base schedule --svg drawn", Answer(0, figures))
     drawn = tried.read("drawn").decode()
@@ -235,7 +264,7 @@ def try_seeded(tried: Tried) -> None:
 
 
 def try_drawing(tried: Tried, timeline: Timeline) -> None:
-    """A drawing has a title for each bar and each freed region, as far as they are not too many."""
+    """A drawing has a title for each bar and each freed region, or for each cell in which a worker has a region in hand."""
     tried.run("timeline heap schedule --svg drawn", Answer(0, timeline.figures()))
     text = tried.read("drawn")
     if len(text) >= MAX_BYTES:
@@ -244,18 +273,19 @@ def try_drawing(tried: Tried, timeline: Timeline) -> None:
     titles = [title.text for title in root.iter(f"{SVG}title")][1:]
     bars = sorted(title for title in titles if title.startswith("region "))
     freeings = [title for title in titles if title.startswith("line ")]
-    if len(timeline.bars) <= SHOWN_BARS and bars != sorted(bar_title(bar) for bar in timeline.bars):
+    if len(timeline.bars) > SHOWN_BARS:
+        if titles != [title for worker in range(timeline.schedule.workers) for title in share_titles(timeline, worker)]:
+            tried.is_wrong("a drawing has other shares")
+        return
+    if bars != sorted(bar_title(bar) for bar in timeline.bars):
         tried.is_wrong("a drawing has other bars")
     if len(timeline.freeings) <= SHOWN_FREEINGS and freeings != [freeing.text() for freeing in timeline.freeings]:
         tried.is_wrong("a drawing has other freed regions")
-    merged = sum(int(title.split()[0]) for title in titles if re.match(r"\d+ regions, ", title))
-    if len(bars) + merged != len(timeline.bars):
-        tried.is_wrong("a drawing leaves regions out")
     for group in root.iter(f"{SVG}g"):
         if group.find(f"{SVG}title") is not None and wrong_look(group):
             tried.is_wrong(f"a drawing shows {group.find(f'{SVG}title').text} by {wrong_look(group)}")
     legend = " ".join(text.text for text in root.iter(f"{SVG}text"))
-    for name in ("being filled", "completed, not settled yet", "several regions", "a drain frees a region"):
+    for name in ("being filled", "completed, not settled yet", "a drain frees a region", "lines of the schedule, not time", "Heap heap, schedule schedule"):
         if name not in legend:
             tried.is_wrong(f"a drawing has no legend for {name}")
 
@@ -265,9 +295,18 @@ def wrong_look(group: xml.etree.ElementTree.Element) -> list[str]:
     title, looks = group.find(f"{SVG}title").text, [rect.get("class") for rect in group.iter(f"{SVG}rect")]
     region = re.match(r"region (\d+): ", title)
     if region is None:
-        return [] if title.startswith("line ") or looks == ["g"] else looks
+        return [] if title.startswith("line ") else looks
     filled = "eo"[int(region[1]) % 2]
     return [] if looks in ([filled], [filled, "w"]) and ("w" in looks) == ("completed in" in title) else looks
+
+
+def share_titles(timeline: Timeline, worker: int) -> list[str]:
+    """The titles of the cells of a worker's lane in which it has a region in hand, where regions are too many for a bar each."""
+    titles = []
+    for cell in timeline.cells(min(275, 2000 // timeline.schedule.workers)):
+        held = min(timeline.held(worker, cell), len(cell))
+        titles += [f"lines {cell[0]} to {cell[-1]}: {held} of {len(cell)}"] * (held > 0)
+    return titles
 
 
 def bar_title(bar) -> str:
@@ -306,8 +345,11 @@ def try_pages(tried: Tried) -> None:
     schedule = read(BASE.encode())
     machine = Machine(model.Collection(model.decode(image(WORDS, LIVE, 0))))
     page = page_of(tried, TEXT.splitlines(True)[0])
-    keys = ["ArrowRight", "ArrowRight", "ArrowLeft", "End", "ArrowRight", "PageUp", "PageDown", "Home", "ArrowLeft", " ", " ", "x"]
-    lines = [[2, False], [3, False], [2, False], [27, False], [27, False], [1, False], [27, False], [1, False], [1, False], [1, True], [1, False], [1, False]]
+    keys = ["ArrowRight", "ArrowRight", "ArrowLeft", "End", "ArrowRight", "PageUp", "PageDown", "Home", "ArrowLeft", " ", " ", "x", "r", "r", "R", "w", "W"]
+    lines = [[2, False], [3, False], [2, False], [27, False], [27, False], [1, False], [27, False], [1, False], [1, False], [1, True], [1, False], [1, False],
+             [2, False], [3, False], [2, False], [9, False], [2, False]]
+    if '<p id="whose">Heap heap, schedule schedule</p>' not in page:
+        tried.is_wrong("a page doesn't say whose heap it shows")
     found, said = run_page(page, {"lines": list(range(1, 28)), "keys": keys}, tried.folder)
     tried.count += 2
     if said or found.get("keys") != lines:
@@ -361,7 +403,7 @@ def main() -> None:
     words.add_argument("--write", action="store_true")
     asked = words.parse_args()
     name = runner()
-    groups = [try_base, try_open, try_seeded, *([try_pages, try_large] if name else [])]
+    groups = [try_base, try_open, try_contrast, try_seeded, *([try_pages, try_large] if name else [])]
     with tempfile.TemporaryDirectory() as room:
         tried = Tried(asked.program or built(), pathlib.Path(room))
         if asked.write:

@@ -18,20 +18,20 @@ Parallel mark-compact collection of heap images
 Usage: pcompact <COMMAND>
 
 Commands:
-  board     Schedule three regions among two workers, and count claims and completions
-  summary   Print the plan of a collection, region by region
   collect   Collect a heap image and write the compacted one
   verify    Compare a heap image with the compaction of another
+  summary   Print the plan of a collection, region by region
+  order     Print how many workers a collection can keep busy
+  map       Draw a heap image, also as its collection leaves it
+  text      Print a heap image as text
+  assemble  Convert a heap text to a heap image
   record    Collect a heap image and record what each worker does
   replay    Replay a schedule word by word and print it with all replies
+  timeline  Draw which worker has which region along the lines of a schedule
   upgrade   Convert a heap image to version 2, which has roots
   import    Convert the heap dump of a Java virtual machine to a heap image
   generate  Generate a heap image from a seed, for benchmarks and experiments
-  order     Print how many workers a collection can keep busy
-  text      Print a heap image as text
-  assemble  Convert a heap text to a heap image
-  map       Draw a heap image, also as its collection leaves it
-  timeline  Draw which worker has which region along the lines of a schedule
+  board     Schedule three regions among two workers, and count claims and completions
   help      Print this message or the help of the given subcommand(s)
 
 Options:
@@ -51,6 +51,9 @@ Usage: pcompact board
 
 Options:
   -h, --help  Print help
+
+Example:
+  pcompact board
 """
 
 SUMMARY_HELP = """\
@@ -62,8 +65,13 @@ Arguments:
   <IMAGE>  A heap image
 
 Options:
+      --heading  Print the names of the columns even if standard output is no terminal
+      --json     Print a JSON object
       --verbose  Print more details about errors
   -h, --help     Print help
+
+Example:
+  pcompact summary heap.pcheap
 """
 
 COLLECT_HELP = """\
@@ -78,9 +86,13 @@ Arguments:
 Options:
       --workers <n>  Number of worker threads, from 1 to 64
       --atomic       Replace files only once the command has succeeded
+      --json         Print a JSON object
       --stats        Print timings and peak memory to stderr
       --verbose      Print more details about errors
   -h, --help         Print help
+
+Example:
+  pcompact collect heap.pcheap out.pcheap --workers 4
 """
 
 RECORD_HELP = """\
@@ -99,6 +111,9 @@ Options:
       --stats        Print timings and peak memory to stderr
       --verbose      Print more details about errors
   -h, --help         Print help
+
+Example:
+  pcompact record heap.pcheap out.pcheap schedule --workers 4
 """
 
 REPLAY_HELP = """\
@@ -113,6 +128,9 @@ Arguments:
 Options:
       --verbose  Print more details about errors
   -h, --help     Print help
+
+Example:
+  pcompact replay heap.pcheap schedule
 """
 
 ORDER_HELP = """\
@@ -124,8 +142,12 @@ Arguments:
   <IMAGE>  A heap image
 
 Options:
+      --json     Print a JSON object
       --verbose  Print more details about errors
   -h, --help     Print help
+
+Example:
+  pcompact order heap.pcheap
 """
 
 TEXT_HELP = """\
@@ -139,6 +161,9 @@ Arguments:
 Options:
       --verbose  Print more details about errors
   -h, --help     Print help
+
+Example:
+  pcompact text heap.pcheap
 """
 
 ASSEMBLE_HELP = """\
@@ -154,6 +179,9 @@ Options:
       --atomic   Replace files only once the command has succeeded
       --verbose  Print more details about errors
   -h, --help     Print help
+
+Example:
+  pcompact assemble heap.txt heap.pcheap
 """
 
 MAP_HELP = """\
@@ -166,7 +194,8 @@ Arguments:
 
 Options:
       --after       Also draw the heap after its collection
-      --width <n>   Number of cells, from 1 to 1000 (default 64)
+      --width <n>   Number of cells of a row, from 1 to 1000 (default: what a terminal has room for, or 64)
+      --height <n>  Number of rows, from 1 to 100 (default: 1, or what a terminal has room for, or 8 of a drawing)
       --svg <FILE>  Write the picture to this file as SVG, and print only the figures
       --letters     Draw with letters even if the locale has block characters
       --color       Use colours even if standard output is no terminal
@@ -174,6 +203,9 @@ Options:
       --atomic      Replace files only once the command has succeeded
       --verbose     Print more details about errors
   -h, --help        Print help
+
+Example:
+  pcompact map heap.pcheap --after
 """
 
 TIMELINE_HELP = """\
@@ -186,7 +218,7 @@ Arguments:
   <SCHEDULE>  A schedule for the image
 
 Options:
-      --width <n>    Number of cells of a lane, from 1 to 1000 (default 64)
+      --width <n>    Number of cells of a lane, from 1 to 1000 (default: what a terminal has room for, or 64)
       --svg <FILE>   Write the lanes to this file as SVG, and print only the figures
       --html <FILE>  Write a page to this file that steps through the schedule, and print only the figures
       --letters      Draw with letters even if the locale has block characters
@@ -211,9 +243,15 @@ Arguments:
   <AFTER>   The image to compare with its compaction
 
 Options:
-      --stats    Print timings and peak memory to stderr
-      --verbose  Print more details about errors
-  -h, --help     Print help
+      --explain      Say which words differ, in which objects, and where wrong references lead
+      --ignore-free  Don't compare the words above the top
+      --json         Print a JSON object
+      --stats        Print timings and peak memory to stderr
+      --verbose      Print more details about errors
+  -h, --help         Print help
+
+Example:
+  pcompact verify heap.pcheap out.pcheap
 """
 
 UPGRADE_HELP = """\
@@ -229,6 +267,9 @@ Options:
       --atomic   Replace files only once the command has succeeded
       --verbose  Print more details about errors
   -h, --help     Print help
+
+Example:
+  pcompact upgrade heap.pcheap rooted.pcheap
 """
 
 IMPORT_HELP = """\
@@ -244,9 +285,14 @@ Options:
       --region-log <k>  Regions have 2^k words, k from 3 to 16 (default 9)
       --allowance <m>   Number of dead words that the dense prefix may keep (default 0)
       --live-only       Keep only objects that are reachable from the roots
+      --json            Print a JSON object
       --atomic          Replace files only once the command has succeeded
       --verbose         Print more details about errors
   -h, --help            Print help
+
+Example:
+  jcmd PID GC.heap_dump -all /tmp/heap.hprof
+  pcompact import /tmp/heap.hprof heap.pcheap
 """
 
 GENERATE_HELP = """\
@@ -268,11 +314,14 @@ Options:
       --atomic          Replace files only once the command has succeeded
       --verbose         Print more details about errors
   -h, --help            Print help
+
+Example:
+  pcompact generate heap.pcheap --words 65536 --live 50 --region-log 9 --seed 1
 """
 
 NO_COMMAND = """\
 error: 'pcompact' requires a subcommand but one was not provided
-  [subcommands: board, summary, collect, verify, record, replay, upgrade, import, generate, order, text, assemble, map, timeline, help]
+  [subcommands: collect, verify, summary, order, map, text, assemble, record, replay, timeline, upgrade, import, generate, board, help]
 
 Usage: pcompact <COMMAND>
 
@@ -346,7 +395,7 @@ For more information, try '--help'.
 """
 
 NO_NUMBER = """\
-error: invalid value 'two' for '--workers <n>': invalid digit found in string
+error: invalid value 'two' for '--workers <n>': a whole number is wanted
 
 For more information, try '--help'.
 """
@@ -360,9 +409,47 @@ For more information, try '--help'.
 BELOW_ZERO = """\
 error: unexpected argument '-1' found
 
-  tip: to pass '-1' as a value, use '-- -1'
-
 Usage: pcompact collect [OPTIONS] --workers <n> <IMAGE> <OUT>
+
+For more information, try '--help'.
+"""
+
+OPTION_AS_VALUE = """\
+error: unexpected argument '--allowance' found
+
+Usage: pcompact collect --workers <n> <IMAGE> <OUT>
+
+For more information, try '--help'.
+"""
+
+NO_UNIT = """\
+error: invalid value '32MiB' for '--words <n>': a whole number is wanted, of words of 8 bytes
+
+For more information, try '--help'.
+"""
+
+NO_POINT = """\
+error: invalid value '50.5' for '--live <share>': a whole number is wanted, of per cent
+
+For more information, try '--help'.
+"""
+
+VERSION = """\
+error: unrecognized subcommand 'version'
+
+  tip: a similar argument exists: '--version'
+
+Usage: pcompact <COMMAND>
+
+For more information, try '--help'.
+"""
+
+OTHER_COMMAND = """\
+error: unrecognized subcommand 'generat'
+
+  tip: a similar subcommand exists: 'generate'
+
+Usage: pcompact <COMMAND>
 
 For more information, try '--help'.
 """
@@ -401,6 +488,11 @@ REFUSED = [
     ("collect in out --workers two", NO_NUMBER),
     ("collect in out --workers 4294967296", TOO_LARGE),
     ("collect in out --workers -1", BELOW_ZERO),
+    ("collect in out --workers --allowance", OPTION_AS_VALUE),
+    ("generate out --words 32MiB --live 50 --region-log 3 --seed 1", NO_UNIT),
+    ("generate out --words 64 --live 50.5 --region-log 3 --seed 1", NO_POINT),
+    ("version", VERSION),
+    ("generat out", OTHER_COMMAND),
 ]
 
 

@@ -17,6 +17,7 @@ sys.dont_write_bytecode = True
 sys.path.insert(0, str(pathlib.Path(__file__).resolve().parents[2]))
 from tests.cli.test_import import CUT, DUMP, NAME
 from tests.models.image import header
+from tests.support import dump_writer
 from tests.support.cases import BASE, COMPACTED, MOVED, MOVED_LIVE, ONE_WORKER, WORDS, head, image, with_word
 from tests.support.program import PRELOAD, Answer, Tried, built
 
@@ -75,13 +76,30 @@ def try_images(tried: Tried) -> None:
               (image(with_word(WORDS, 0, header(6, 2)), [0, 5, 12, 20]), "8 overlap at 5"),
               (image(with_word(WORDS, 6, 9), [0, 5, 12, 20]), "9 reference at 5 field 0")]
     for text, owed in faulty:
+        hint = [] if text else ["hint it is empty"]
         tried.write("image", text)
         tried.write("of two", text)
-        try_both(tried, "summary image", told(f"fault {owed}", "file IMAGE image"))
-        tried.run(["verify", "of two", "base", "--verbose"], told(f"fault {owed}", "file BEFORE of two"))
-        tried.run(["verify", "base", "of two", "--verbose"], told(f"fault {owed}", "file AFTER of two"))
+        try_both(tried, "summary image", told(f"fault {owed}", "file IMAGE image", *hint))
+        tried.run(["verify", "of two", "base", "--verbose"], told(f"fault {owed}", "file BEFORE of two", *hint))
+        tried.run(["verify", "base", "of two", "--verbose"], told(f"fault {owed}", "file AFTER of two", *hint))
         # The first of two faulty images is told.
-        tried.run(["verify", "image", "of two", "--verbose"], told(f"fault {owed}", "file BEFORE image"))
+        tried.run(["verify", "image", "of two", "--verbose"], told(f"fault {owed}", "file BEFORE image", *hint))
+
+
+def try_hints(tried: Tried) -> None:
+    """Files of another kind than what is wanted."""
+    dump, text, packed, schedule = DUMP, "heap version 1\n" + "x" * 20, b"\x1f\x8b" + b"\0" * 40, "schedule 1 1\n" + "x" * 20
+    for content, hint in ((dump, "it is a heap dump, pcompact import makes an image of it"),
+                          (text, "it is a heap text, pcompact assemble makes an image of it"),
+                          (packed, "it is packed by gzip, gunzip unpacks it"), (schedule, "it is a schedule")):
+        tried.write("image", content)
+        try_both(tried, "summary image", told("fault 2 magic", "file IMAGE image", f"hint {hint}"))
+    try_both(tried, "replay base base", told("same file", "file IMAGE base", "file SCHEDULE base", status=2))
+    tried.write("image", BASE)
+    try_both(tried, "replay base image", told("fault 14 schedule line 1", "file SCHEDULE image",
+                                              "reason the line is malformed", "hint it is a heap image"))
+    tried.write("image", packed)
+    try_both(tried, "import image out", told(NAME, "file DUMP image", "hint it is packed by gzip, gunzip unpacks it"))
 
 
 def try_missing(tried: Tried) -> None:
@@ -160,7 +178,8 @@ def try_schedules(tried: Tried) -> None:
     for text, number, more in schedules:
         tried.write("schedule", text)
         owed = f"fault 14 schedule line {number}"
-        try_both(tried, "replay base schedule", told(owed, "file SCHEDULE schedule", *more))
+        hint = [] if text else ["hint it is empty"]
+        try_both(tried, "replay base schedule", told(owed, "file SCHEDULE schedule", *more, *hint))
 
 
 def try_verdicts(tried: Tried) -> None:
@@ -195,8 +214,17 @@ def try_dumps(tried: Tried) -> None:
     """What `import` says of dumps: the file, where there is something wrong with it."""
     tried.write("dump", DUMP)
     tried.write("cut", DUMP[:-1])
-    for words, said in (("import cut out", CUT), ("import base out", NAME), ("import cut out --atomic --live-only", CUT)):
+    for words, said in (("import cut out", CUT), ("import cut out --atomic --live-only", CUT)):
         try_both(tried, words, told(said, f"file DUMP {words.split()[1]}"))
+    try_both(tried, "import base out", told(NAME, "file DUMP base", "hint it is a heap image"))
+    to = dump_writer.Writer()
+    array = to.primitives(8, 11, [0] * 200_000) + to.references(4_000_000, [])
+    many = "the heap has 200002 words, and 131072 are the most"
+    for root, live, hint in ((4_000_000, 1, "it has 1.5 MiB, 1.0 MiB are the most, and with --live-only it has 0.0 MiB"),
+                             (8, 200_001, "its live objects have 1.5 MiB, and 1.0 MiB are the most")):
+        tried.write("large", dump_writer.Writer().record(0x0C, array + to.root(0x05, root)).text())
+        try_both(tried, "import large out --region-log 3",
+                 told(f"{many}; with --live-only it has {live}", "file DUMP large", f"hint {hint}"))
     missing = "no such file or folder"
     for words in ("import nothing out", "import nothing out --atomic"):
         try_both(tried, words, io("DUMP nothing", "open", missing))
@@ -235,7 +263,7 @@ def try_calls(tried: Tried) -> None:
     there stands then. No new file is left."""
     failed = "other, error 5 of the system"
     calls = {"sync": ("sync", failed), "mode": ("access", failed), "rename": ("rename", failed), "empty": ("empty", failed),
-             "none": ("write", "no byte was taken")}
+             "none": ("write", "no byte was taken"), "close": ("close", failed)}
     commands = {"collect base kept --workers 1": "OUT", "upgrade base kept": "OUT", "record base kept made --workers 1": "OUT",
                 "import dump kept --region-log 3": "IMAGE", "assemble text kept": "IMAGE", "map base --svg kept": "FILE",
                 "generate kept --words 64 --live 50 --region-log 3 --seed 1": "IMAGE"}
@@ -246,6 +274,7 @@ def try_calls(tried: Tried) -> None:
     before = {path.name for path in tried.folder.iterdir()} | {"made", "kept"}
     rows = [(words + (" --atomic" if call != "empty" else ""), call, io(f"{role} kept", *told))
             for words, role in commands.items() for call, told in calls.items()]
+    rows += [(words, "close", io(f"{role} kept", "close", failed)) for words, role in commands.items()]
     rows += [("collect base kept --workers 1", "stat", io("IMAGE base", "stat", failed)),
              ("generate kept --words 64 --live 50 --region-log 3 --seed 1", "stat", io("IMAGE kept", "stat", failed)),
              ("generate kept --words 64 --live 50 --region-log 3 --seed 1 --atomic", "stat", io("IMAGE kept", "stat", failed))]
@@ -286,7 +315,7 @@ def main() -> int:
         tried = Tried(pathlib.Path(sys.argv[1]) if len(sys.argv) > 1 else built(), pathlib.Path(folder))
         tried.write("base", BASE)
         tried.write("compacted", COMPACTED)
-        for group in (try_lengths, try_images, try_missing, try_not_permitted, try_full, try_workers, try_schedules,
+        for group in (try_lengths, try_images, try_hints, try_missing, try_not_permitted, try_full, try_workers, try_schedules,
                       try_verdicts, try_refused_files, try_dumps, try_generated, try_calls):
             group(tried)
         tried.write("schedule", "schedule 1 1\n0 look 1 open2\n")

@@ -15,6 +15,8 @@ MAGICS = {b"PCHEAP01": 1, b"PCHEAP02": 2}
 FRONT = struct.Struct("<8sIIQQ")
 MAX_WORDS = 4_194_304
 MAX_REGIONS = 16_384
+# The areas of a map by their letters, from the lowest.
+AREAS = {"p": "prefix", "f": "prefix with fillers", "m": "moving", "-": "free"}
 
 
 class Fault(Exception):
@@ -223,19 +225,25 @@ class Collection:
 
         chain = max((longest_to(s) for s in sorted(words)), default=0)
         hundredths = self.top * 100 // chain if chain else 100
-        workers = next(n for n in itertools.count(1) if self.top <= n * chain)
+        workers = min(64, next(n for n in itertools.count(1) if self.top <= n * chain))
         return f"chain {chain} words {self.top} speedup {hundredths // 100}.{hundredths % 100:02} workers {workers}\n"
 
-    def map(self, width: int, after: bool) -> str:
+    def map(self, width: int, after: bool, height: int = 1) -> str:
         """What `map` prints in letters and without colours."""
         last_end = self.image.end(self.live[-1]) if self.live else 0
         strips = [("before", set(self.owner), last_end)] + [("after ", set(self.origins), self.top)] * after
         lines = [self.map_line()]
+        shown = set()
         for name, living, top in strips:
-            cells = list(self.cells(width, living, top))
-            lines += [f"{name} |{''.join(shade for shade, _ in cells)}|\n", f"       |{''.join(area for _, area in cells)}|\n"]
-        return "".join([*lines, "live: _ none . few : half + most # all\n",
-                        "area: p prefix f prefix with fillers m moving - free x several\n"])
+            cells = list(self.cells(width * height, living, top))
+            shown |= {area for _, area in cells}
+            for start in range(0, len(cells), width):
+                row, first = cells[start:start + width], start * len(self.image.words) // len(cells)
+                words, mib = (f" {first}", f" {first // 131072}.{first % 131072 * 10 // 131072} MiB") if height > 1 else ("", "")
+                lines += [f"{'      ' if start else name} |{''.join(shade for shade, _ in row)}|{words}\n",
+                          f"       |{''.join(area for _, area in row)}|{mib}\n"]
+        names = "".join(f" {area} {name}" for area, name in AREAS.items() if area in shown)
+        return "".join([*lines, f"live: _ none . few : half + most # all\narea:{names}\n"])
 
     def map_line(self) -> str:
         words, live = len(self.image.words), len(self.owner)
@@ -249,8 +257,8 @@ class Collection:
             cell = range(i * words // count, (i + 1) * words // count)
             live = sum(word in living for word in cell)
             shade = "_" if live == 0 else "#" if live == len(cell) else ".:+"[3 * live // len(cell)]
-            areas = {"p" if word < self.prefix_end else "-" if word >= top else "m" for word in cell}
-            area = areas.pop() if len(areas) == 1 else "x"
+            areas = ["p" if word < self.prefix_end else "-" if word >= top else "m" for word in cell]
+            area = max("pm-", key=areas.count)
             yield shade, "f" if area == "p" and live < len(cell) else area
 
     def report_line(self, r: int) -> str:

@@ -64,9 +64,13 @@ class Timeline:
         count = min(width, lines)
         return [range(i * lines // count + 2, (i + 1) * lines // count + 2) for i in range(count)]
 
-    def share(self, worker: int, cell: range) -> str:
-        held = sum(max(0, min(bar.settled or self.last, cell[-1]) - max(bar.claimed, cell[0]) + 1)
+    def held(self, worker: int, cell: range) -> int:
+        """In how many lines of a cell a worker has a region in hand, added up over the regions."""
+        return sum(max(0, min(bar.settled or self.last, cell[-1]) - max(bar.claimed, cell[0]) + 1)
                    for bar in self.bars if bar.worker == worker)
+
+    def share(self, worker: int, cell: range) -> str:
+        held = self.held(worker, cell)
         if held == 0 or held >= len(cell):
             return LETTERS[0 if held == 0 else 4]
         return LETTERS[1 + held * 3 // len(cell)]
@@ -87,7 +91,8 @@ class Timeline:
             rows.append(f"worker {worker:2} |{shares}|\n          |{''.join(self.mark(worker, cell) for cell in cells)}|\n")
         told = "".join(freeing.text() + "\n" for freeing in self.freeings[:MAX_TOLD])
         more = len(self.freeings) - MAX_TOLD
-        return self.figures() + "".join(rows) + LEGEND + told + (f"and {more} more\n" if more > 0 else "")
+        axis = f"          lines 2 to {self.last} of the schedule, not time\n"
+        return self.figures() + "".join(rows) + axis + LEGEND + told + (f"and {more} more\n" if more > 0 else "")
 
 
 def stages_at(machine: Machine, lines: list[Line]) -> dict:

@@ -10,3 +10,5 @@ pub mod Reasons
 pub mod Streams
 mod Losses
 mod Upgrades
+mod Tallies
+mod Comparing

@@ -9,7 +9,9 @@ use Rattle.summary.specs.NewAddresses.{new_address, new_live}
 use Rattle.summary.specs.Compaction.{redirected, compact}
 use Rattle.collector.specs.Difference.{AreAlike, IsLeastDifference}
 use Rattle.collector.specs.Compared.{AreCompacted, IsFirstOther}
-use Rattle.collector.specs.Verdict.{HaveSameShape, root_count, root_at}
+use Rattle.collector.specs.Verdict.{HaveSameShape, IsVerdict, IsVerdictBelow, IsVerdictOnLists, root_count, root_at}
+use Rattle.collector.specs.declared.verdict.Verdict.{Verdict}
+use Rattle.collector.specs.declared.verdict.Verdict.TheVariants.{Same, Shape, Word, Live, Root}
 
 pub same_image : (x y : HeapImage) → x.region_log ≡ y.region_log → x.allowance ≡ y.allowance → x.words ≡ y.words → x.live ≡ y.live → x.roots ≡ y.roots → x ≡ y
 same_image x y a b c d e = λ i. record { region_log = a i; allowance = b i; words = c i; live = d i; roots = e i }
@@ -78,7 +80,7 @@ module _ (before after : HeapImage) (long : heap_words (compact before) ≡ heap
       below : (k i n : ℕ) → k < i → i < n → k < n
       below k i n h m = omega (arith, h, m)
 
-  roots_same : HaveSameShape before after → AreAlike new_root (root_at after) (root_count before) → after.roots ≡ (compact before).roots
+  pub roots_same : HaveSameShape before after → AreAlike new_root (root_at after) (root_count before) → after.roots ≡ (compact before).roots
   roots_same h alike = same_roots after.roots (compact before).roots (h.version ∙ sym (same_version (map (redirected before)) before.roots))
       (ext_get_or 0 (roots_of after) (roots_of (compact before)) (h.roots ∙ sym root_count_same) (λ k l.
       let m : k < root_count before = subst (λ n. k < n) h.roots l in
@@ -94,5 +96,26 @@ module _ (before after : HeapImage) (long : heap_words (compact before) ≡ heap
       below : (k i n : ℕ) → k < i → i < n → k < n
       below k i n h m = omega (arith, h, m)
 
-  pub all_same : HaveSameShape before after → AreCompacted before after 0 (heap_words before) → AreAlike places (object_at after) (object_count before) → AreAlike new_root (root_at after) (root_count before) → after ≡ compact before
-  all_same h words live roots = same_image after (compact before) h.region_log h.allowance (words_same h words) (live_same h live) (roots_same h roots)
+  -- the verdict on live lists and roots, once all words agree
+  pub after_words : HaveSameShape before after → AreCompacted before after 0 (heap_words before)
+      → (verdict : Verdict) → IsVerdictOnLists (compact before) after verdict → IsVerdict (compact before) after verdict
+  after_words h words Same lists = same_image after (compact before) h.region_log h.allowance (words_same h words) lists.0 lists.1
+  after_words h words Shape w = absurd w
+  after_words h words (Word a) w = absurd w
+  after_words h words (Live i) other = (shape h, words_same h words, other)
+  after_words h words (Root i) lists = (shape h, words_same h words, lists.0, lists.1)
+
+  -- the same below a limit
+  alike_below : (limit : ℕ) → AreCompacted before after 0 limit → AreAlike (word_at (compact before)) (word_at after) limit
+  alike_below limit words = λ k l. words.alike k (omega arith) l
+
+  pub least_below : (limit a : ℕ) → IsFirstOther before after 0 limit a → IsLeastDifference (word_at (compact before)) (word_at after) limit a
+  least_below limit a other = record { inside = other.inside; differs = other.differs; least = λ k l. other.least k (omega arith) l }
+
+  pub after_words_below : (limit : ℕ) → HaveSameShape before after → AreCompacted before after 0 limit
+      → (verdict : Verdict) → IsVerdictOnLists (compact before) after verdict → IsVerdictBelow limit (compact before) after verdict
+  after_words_below limit h words Same lists = (shape h, alike_below limit words, lists.0, lists.1)
+  after_words_below limit h words Shape w = absurd w
+  after_words_below limit h words (Word a) w = absurd w
+  after_words_below limit h words (Live i) other = (shape h, alike_below limit words, other)
+  after_words_below limit h words (Root i) lists = (shape h, alike_below limit words, lists.0, lists.1)

@@ -1,5 +1,7 @@
 pub mod Difference
+pub mod Tally
 pub mod Verdict
+pub mod Explanation
 pub mod Compared
 pub mod Ready
 pub mod Halts

@@ -2,7 +2,7 @@
 use Rattle.std.specs.Prelude.{◌≡◌, ℕ, length, slice_index}
 use Rattle.heap_image.specs.HeapImage.{HeapImage, heap_words, word_at, version_of, roots_of}
 use Rattle.summary.specs.LiveObjects.{object_count, object_at}
-use Rattle.collector.specs.Difference.{IsLeastDifference}
+use Rattle.collector.specs.Difference.{AreAlike, IsLeastDifference}
 use Rattle.collector.specs.declared.verdict.Verdict.{Verdict}
 use Rattle.collector.specs.declared.verdict.Verdict.TheVariants.{Same, Shape, Word, Live, Root}
 
@@ -29,3 +29,19 @@ IsVerdict wanted found Shape = ¬ (HaveSameShape wanted found)
 IsVerdict wanted found (Word a) = HaveSameShape wanted found × IsLeastDifference (word_at wanted) (word_at found) (heap_words wanted) a
 IsVerdict wanted found (Live i) = HaveSameShape wanted found × (found.words ≡ wanted.words) × IsLeastDifference (object_at wanted) (object_at found) (object_count wanted) i
 IsVerdict wanted found (Root i) = HaveSameShape wanted found × (found.words ≡ wanted.words) × (found.live ≡ wanted.live) × IsLeastDifference (root_at wanted) (root_at found) (root_count wanted) i
+
+-- the same, where the words at this address and above count as equal
+abbrev pub IsVerdictBelow : ℕ → HeapImage → HeapImage → Verdict → Type 0
+IsVerdictBelow limit wanted found Same = HaveSameShape wanted found × AreAlike (word_at wanted) (word_at found) limit × (found.live ≡ wanted.live) × (found.roots ≡ wanted.roots)
+IsVerdictBelow limit wanted found Shape = ¬ (HaveSameShape wanted found)
+IsVerdictBelow limit wanted found (Word a) = HaveSameShape wanted found × IsLeastDifference (word_at wanted) (word_at found) limit a
+IsVerdictBelow limit wanted found (Live i) = HaveSameShape wanted found × AreAlike (word_at wanted) (word_at found) limit × IsLeastDifference (object_at wanted) (object_at found) (object_count wanted) i
+IsVerdictBelow limit wanted found (Root i) = HaveSameShape wanted found × AreAlike (word_at wanted) (word_at found) limit × (found.live ≡ wanted.live) × IsLeastDifference (root_at wanted) (root_at found) (root_count wanted) i
+
+-- the first difference in the live lists, else in the roots
+abbrev pub IsVerdictOnLists : HeapImage → HeapImage → Verdict → Type 0
+IsVerdictOnLists wanted found Same = (found.live ≡ wanted.live) × (found.roots ≡ wanted.roots)
+IsVerdictOnLists wanted found Shape = ⊥
+IsVerdictOnLists wanted found (Word a) = ⊥
+IsVerdictOnLists wanted found (Live i) = IsLeastDifference (object_at wanted) (object_at found) (object_count wanted) i
+IsVerdictOnLists wanted found (Root i) = (found.live ≡ wanted.live) × IsLeastDifference (root_at wanted) (root_at found) (root_count wanted) i

@@ -6,7 +6,7 @@ ghost use Rattle.summary.specs.Fillers.{IsDeadRun};
 ghost use Rattle.summary.specs.Compaction.{redirected, compact};
 ghost use Rattle.collector.specs.Difference.{AreAlike, IsLeastDifference};
 ghost use Rattle.collector.specs.Compared.{AreCompacted, IsFirstOther, IsPlaced, AreKnown};
-ghost use Rattle.collector.specs.Verdict.{IsVerdict, HaveSameShape, root_count, root_at};
+ghost use Rattle.collector.specs.Verdict.{IsVerdict, IsVerdictBelow, IsVerdictOnLists, HaveSameShape, root_count, root_at};
 
 use crate::difference::{first_nonzero, first_unlike};
 use crate::verdict::Verdict;
@@ -45,15 +45,58 @@ impl Comparison<'_> {
             after,
             survey,
         };
-        if let Some(a) = comparison.other_word() {
-            return Verdict::Word(a);
+        match comparison.other_word() {
+            Some(a) => Verdict::Word(a),
+            None => comparison.verdict_on_lists(),
         }
-        if let Some(i) = comparison.other_live() {
+    }
+
+    /// The same as [`verdict`](Comparison::verdict), but words at or above the new top count as equal.
+    pub(crate) fn verdict_below_top(before: &Image, after: &Image, survey: &Survey) -> Verdict
+        requires survey { survey.now ≡ before.now }
+        ensures { IsVerdictBelow (new_top before.now) (compact before.now) after.now result }
+    {
+        blocks_of_regions();
+        if !have_same_shape(before, after) {
+            return Verdict::Shape;
+        }
+        let comparison = Comparison {
+            before,
+            after,
+            survey,
+        };
+        match comparison.other_below_top() {
+            Some(a) => Verdict::Word(a),
+            None => comparison.verdict_on_lists(),
+        }
+    }
+
+    /// The verdict on the live lists and the roots alone.
+    fn verdict_on_lists(&self) -> Verdict
+        requires { HaveSameShape self.now.before.now self.now.after.now }
+        ensures { IsVerdictOnLists (compact self.now.before.now) self.now.after.now result }
+    {
+        blocks_of_regions();
+        if let Some(i) = self.other_live() {
             return Verdict::Live(i);
         }
-        match comparison.other_root() {
+        match self.other_root() {
             Some(i) => Verdict::Root(i),
             None => Verdict::Same,
+        }
+    }
+
+    /// The lowest address below the new top whose word differs from the compaction's.
+    fn other_below_top(&self) -> Option<u64>
+        ensures { MatchOption result
+            (AreCompacted self.now.before.now self.now.after.now 0 (new_top self.now.before.now))
+            (IsFirstOther self.now.before.now self.now.after.now 0 (new_top self.now.before.now)) }
+    {
+        objects_are_placed(self.before);
+        let top = self.survey.plan().new_top();
+        match self.other_word() {
+            Some(a) if a < top => Some(a),
+            _ => None,
         }
     }
 
@@ -198,7 +241,7 @@ impl Comparison<'_> {
 }
 
 /// A law: where the live objects of an image go.
-fn objects_are_placed(image: &Image)
+pub(crate) fn objects_are_placed(image: &Image)
     ensures { AreKnown image.now }
 {
     image_is_valid(image);
@@ -224,7 +267,7 @@ fn have_same_shape(before: &Image, after: &Image) -> bool
 }
 
 /// The size of the object at `a`, in words.
-fn object_words(image: &Image, a: u64) -> u64
+pub(crate) fn object_words(image: &Image, a: u64) -> u64
     requires { a < heap_words image.now }
     ensures { result ≡ size_at image.now a }
 {
@@ -232,7 +275,7 @@ fn object_words(image: &Image, a: u64) -> u64
 }
 
 /// The number of references of the object at `a`.
-fn object_references(image: &Image, a: u64) -> u64
+pub(crate) fn object_references(image: &Image, a: u64) -> u64
     requires { a < heap_words image.now }
     ensures { result ≡ references_at image.now a }
 {

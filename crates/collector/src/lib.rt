@@ -5,7 +5,9 @@
 //! - [`record`] collects as `collect` does, and returns the schedule of everything that the workers did.
 //!   [`record_stream`] does so from bytes to bytes.
 //! - [`verify`] says whether an image is the compaction of another, and if not, where it first differs: in its shape,
-//!   its words, its live list or its roots.
+//!   its words, its live list or its roots. [`verify_below_top`] passes over the words above the top.
+//! - [`explain`] says which words differ from the compaction's, in which objects, and where wrong references lead, also
+//!   for the words of a file that is no valid image.
 //! - [`Ready`] holds the regions that one worker has found ready to be filled, first in first out. Its room is reserved
 //!   when it is made, so that no push allocates. Others steal from it through a [`Thief`]; [`Ready::take`] tries the
 //!   worker's own queue and then all others.
@@ -23,7 +25,8 @@
 //! `record_stream` writes the texts of both, and nothing before `record` has succeeded.
 //!
 //! `verify` returns `Same` exactly if the second image is the compaction of the first by the definitions of `summary`,
-//! and otherwise the first difference; its only error is that memory runs out. `push` returns true exactly while fewer
+//! and otherwise the first difference; its only error is that memory runs out. `explain` returns the number of words
+//! that differ, and the first ten with what the compaction has there. `push` returns true exactly while fewer
 //! numbers than the room were pushed, and then the number is queued after the earlier ones; what `pop` returns was
 //! pushed. A gate refuses only where it states that it may.
 //!
@@ -40,8 +43,10 @@ mod clean_up;
 mod collection;
 mod collection_desk;
 mod comparison;
+mod comparison_explained;
 mod crew;
 mod difference;
+mod difference_tally;
 mod equipment;
 mod gate;
 mod laws;
@@ -54,11 +59,14 @@ mod recording;
 mod staff;
 mod streaming;
 mod verdict;
+mod verdict_explanation;
 mod verification;
 mod worker;
 mod workers;
 
 pub use collection::collect;
+pub use comparison_explained::{Found, explain};
+pub use difference_tally::{LISTED, OtherWord};
 pub use gate::{Gate, OpenGate};
 pub use laws::an_upgrade_is_collected_alike;
 pub use outcome::{Figures, Outcome, Refusal};
@@ -67,5 +75,8 @@ pub use record_streaming::record_stream;
 pub use recording::record;
 pub use streaming::collect_stream;
 pub use verdict::Verdict;
-pub use verification::verify;
+pub use verdict_explanation::{
+    ExplainedWord, Explanation, Lead, Moved, OtherLive, OtherRoot, Part,
+};
+pub use verification::{verify, verify_below_top};
 pub use workers::Workers;

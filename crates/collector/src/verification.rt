@@ -1,7 +1,8 @@
 ghost use Rattle.std.specs.Prelude.{◌≡◌, ◌↔◌, IfOk, IfErr};
 ghost use Rattle.heap_image.specs.declared.fault.Fault.TheVariants.{Memory};
 ghost use Rattle.summary.specs.Compaction.{compact};
-ghost use Rattle.collector.specs.Verdict.{IsVerdict};
+ghost use Rattle.summary.specs.NewAddresses.{new_top};
+ghost use Rattle.collector.specs.Verdict.{IsVerdict, IsVerdictBelow};
 ghost use Rattle.collector.specs.declared.verdict.Verdict.TheVariants.{Same};
 
 use crate::comparison::Comparison;
@@ -28,4 +29,18 @@ pub fn verify(
 {
     let survey = Survey::of(alloc, before, threads)?;
     Ok(Comparison::verdict(before, after, &survey))
+}
+
+/// Like [`verify`], but words at or above the new top count as equal, whatever they are.
+pub fn verify_below_top(
+    alloc: Global,
+    before: &Image,
+    after: &Image,
+    threads: &(impl Threads + Sync),
+) -> Result<Verdict, Fault>
+    ensures verdict { IfOk result (λ verdict. IsVerdictBelow (new_top before.now) (compact before.now) after.now verdict) }
+    ensures fault { IfErr result (λ fault. fault ≡ Memory) }
+{
+    let survey = Survey::of(alloc, before, threads)?;
+    Ok(Comparison::verdict_below_top(before, after, &survey))
 }

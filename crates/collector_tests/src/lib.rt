@@ -6,6 +6,8 @@
 #[cfg(test)]
 mod checks;
 #[cfg(test)]
+mod explanations;
+#[cfg(test)]
 mod forced;
 #[cfg(test)]
 mod gates;

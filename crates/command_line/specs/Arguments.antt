@@ -30,6 +30,10 @@ verbose_rule = flag_rule (codes "verbose")
 abbrev pub stats_rule : Rule
 stats_rule = flag_rule (codes "stats")
 
+-- the option `--json`
+abbrev pub json_rule : Rule
+json_rule = flag_rule (codes "json")
+
 -- the option `--atomic`
 abbrev pub atomic_rule : Rule
 atomic_rule = flag_rule (codes "atomic")

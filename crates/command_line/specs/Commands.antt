@@ -3,7 +3,7 @@ use Rattle.std.specs.Prelude.{ℕ, true, List, [], ◌∷◌, Some, codes, pos}
 use Rattle.clap.specs.Walk.{Rule, Text}
 use Rattle.clap.specs.Words.{App, new_app, new_rule, with_rule}
 use Rattle.clap.specs.declared.builder.value_parser.ValueParser.TheVariants.{Signed, Unsigned}
-use Rattle.command_line.specs.Arguments.{atomic_rule, file_rule, flag_rule, stats_rule, verbose_rule, workers_rule}
+use Rattle.command_line.specs.Arguments.{atomic_rule, file_rule, flag_rule, json_rule, stats_rule, verbose_rule, workers_rule}
 
 -- the definition of `board`
 abbrev pub board_words : App
@@ -12,19 +12,20 @@ board_words = new_app (codes "board")
 -- the definition of `summary`
 abbrev pub summary_words : App
 summary_words =
-    with_rule (with_rule (new_app (codes "summary")) (file_rule (codes "IMAGE"))) verbose_rule
+    with_rule (with_rule (with_rule (with_rule (new_app (codes "summary")) (file_rule (codes "IMAGE"))) (flag_rule (codes "heading")))
+    json_rule) verbose_rule
 
 -- the definition of `collect`
 abbrev pub collect_words : App
 collect_words =
-    with_rule (with_rule (with_rule (with_rule (with_rule (with_rule (new_app (codes "collect")) (file_rule (codes "IMAGE"))) (file_rule (codes "OUT")))
-    workers_rule) atomic_rule) stats_rule) verbose_rule
+    with_rule (with_rule (with_rule (with_rule (with_rule (with_rule (with_rule (new_app (codes "collect")) (file_rule (codes "IMAGE")))
+    (file_rule (codes "OUT"))) workers_rule) atomic_rule) json_rule) stats_rule) verbose_rule
 
 -- the definition of `verify`
 abbrev pub verify_words : App
 verify_words =
-    with_rule (with_rule (with_rule (with_rule (new_app (codes "verify")) (file_rule (codes "BEFORE"))) (file_rule (codes "AFTER"))) stats_rule)
-    verbose_rule
+    with_rule (with_rule (with_rule (with_rule (with_rule (with_rule (with_rule (new_app (codes "verify")) (file_rule (codes "BEFORE"))) (file_rule (codes "AFTER")))
+    (flag_rule (codes "explain"))) (flag_rule (codes "ignore-free"))) json_rule) stats_rule) verbose_rule
 
 -- the definition of `record`
 abbrev pub record_words : App
@@ -62,9 +63,9 @@ allowance_rule = record (new_rule (codes "allowance")) {
 -- the definition of `import`
 abbrev pub import_words : App
 import_words =
-    with_rule (with_rule (with_rule (with_rule (with_rule (with_rule (with_rule (new_app (codes "import"))
+    with_rule (with_rule (with_rule (with_rule (with_rule (with_rule (with_rule (with_rule (new_app (codes "import"))
     (file_rule (codes "DUMP"))) (file_rule (codes "IMAGE"))) region_log_rule) allowance_rule) (flag_rule (codes "live-only")))
-    atomic_rule) verbose_rule
+    json_rule) atomic_rule) verbose_rule
 
 -- makes an option required
 abbrev pub required : Rule → Rule
@@ -119,7 +120,7 @@ generate_words =
 -- the definition of `order`
 abbrev pub order_words : App
 order_words =
-    with_rule (with_rule (new_app (codes "order")) (file_rule (codes "IMAGE"))) verbose_rule
+    with_rule (with_rule (with_rule (new_app (codes "order")) (file_rule (codes "IMAGE"))) json_rule) verbose_rule
 
 -- the definition of `text`
 abbrev pub text_words : App
@@ -136,6 +137,10 @@ assemble_words =
 abbrev pub width_rule : Rule
 width_rule = number_rule (codes "width") 1 1000
 
+-- the option `--height`, with a number from 1 to 100
+abbrev pub height_rule : Rule
+height_rule = number_rule (codes "height") 1 100
+
 -- the option `--svg`, with a file name
 abbrev pub svg_rule : Rule
 svg_rule = record (new_rule (codes "svg")) { long = Some (codes "svg"); value_names = 1 }
@@ -143,13 +148,14 @@ svg_rule = record (new_rule (codes "svg")) { long = Some (codes "svg"); value_na
 -- `map` with its file, and with the options for the content and the file of the picture
 abbrev pub map_cells : App
 map_cells =
-    with_rule (with_rule (with_rule (with_rule (new_app (codes "map")) (file_rule (codes "IMAGE"))) (flag_rule (codes "after"))) width_rule) svg_rule
+    with_rule (with_rule (with_rule (with_rule (with_rule (new_app (codes "map")) (file_rule (codes "IMAGE"))) (flag_rule (codes "after"))) width_rule)
+    height_rule) svg_rule
 
 -- the definition of `map`
 abbrev pub map_words : App
 map_words =
-    with_rule (with_rule (with_rule (with_rule (with_rule (with_rule (with_rule (with_rule (with_rule (new_app (codes "map"))
-    (file_rule (codes "IMAGE"))) (flag_rule (codes "after"))) width_rule) svg_rule) (flag_rule (codes "letters")))
+    with_rule (with_rule (with_rule (with_rule (with_rule (with_rule (with_rule (with_rule (with_rule (with_rule (new_app (codes "map"))
+    (file_rule (codes "IMAGE"))) (flag_rule (codes "after"))) width_rule) height_rule) svg_rule) (flag_rule (codes "letters")))
     (flag_rule (codes "color"))) (flag_rule (codes "no-color"))) atomic_rule) verbose_rule
 
 -- the option `--html`, with a file name
@@ -174,18 +180,18 @@ timeline_words =
 -- the definitions of the commands, in the order of help
 abbrev pub listed : List App
 listed =
-    board_words
-    ∷ summary_words
-    ∷ collect_words
+    collect_words
     ∷ verify_words
+    ∷ summary_words
+    ∷ order_words
+    ∷ map_words
+    ∷ text_words
+    ∷ assemble_words
     ∷ record_words
     ∷ replay_words
+    ∷ timeline_words
     ∷ upgrade_words
     ∷ import_words
     ∷ generate_words
-    ∷ order_words
-    ∷ text_words
-    ∷ assemble_words
-    ∷ map_words
-    ∷ timeline_words
+    ∷ board_words
     ∷ []

@@ -30,6 +30,15 @@ asks_stats (Verify call) = call.stats
 asks_stats (Record call) = call.stats
 asks_stats request = false
 
+-- the request has `--json`
+abbrev pub asks_json : Request → Bool
+asks_json (Summary call) = call.json
+asks_json (Collect call) = call.json
+asks_json (Verify call) = call.json
+asks_json (Import call) = call.json
+asks_json (Order call) = call.json
+asks_json request = false
+
 -- the error isn't a usage error
 abbrev pub IsNoUsage : Unread → Type 0
 IsNoUsage (Usage text) = ⊥

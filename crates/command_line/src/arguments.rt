@@ -94,6 +94,18 @@ pub fn asks_stats(matches: &ArgMatches<'_>) -> bool {
     matches.get_flag("stats")
 }
 
+/// The option `--json`.
+pub fn json<'a>(alloc: Global) -> Arg<'a>
+    ensures rule { rule_of result ≡ flag_rule (codes "json") }
+    ensures local { result.global ≡ false }
+{
+    flag(alloc, "json", "Print a JSON object")
+}
+
+pub fn asks_json(matches: &ArgMatches<'_>) -> bool {
+    matches.get_flag("json")
+}
+
 /// The option `--verbose`.
 pub fn verbose<'a>(alloc: Global) -> Arg<'a>
     ensures rule { rule_of result ≡ flag_rule (codes "verbose") }

@@ -11,6 +11,10 @@ use crate::unread::Unread;
 use clap::{ArgMatches, Command};
 use std::alloc::{AllocError, Global};
 
+const EXAMPLE: &str = "\
+Example:
+  pcompact assemble heap.txt heap.pcheap";
+
 /// The definition of `assemble`.
 pub fn words<'a>(alloc: Global) -> Result<Command<'a>, AllocError>
     ensures app { IfOk result (λ command. app_of command ≡ assemble_words) }
@@ -18,6 +22,7 @@ pub fn words<'a>(alloc: Global) -> Result<Command<'a>, AllocError>
 {
     let command = Command::new(alloc, "assemble")
         .about("Convert a heap text to a heap image")
+        .after_help(EXAMPLE)
         .arg(arguments::file(alloc, "TEXT", "A heap text"))?
         .arg(arguments::file(alloc, "IMAGE", "Where to write the image"))?;
     arguments::with_last(alloc, command)

@@ -11,6 +11,10 @@ use crate::unread::Unread;
 use clap::{ArgMatches, Command};
 use std::alloc::{AllocError, Global};
 
+const EXAMPLE: &str = "\
+Example:
+  pcompact collect heap.pcheap out.pcheap --workers 4";
+
 /// The definition of `collect`.
 pub fn words<'a>(alloc: Global) -> Result<Command<'a>, AllocError>
     ensures app { IfOk result (λ command. app_of command ≡ collect_words) }
@@ -18,10 +22,12 @@ pub fn words<'a>(alloc: Global) -> Result<Command<'a>, AllocError>
 {
     Command::new(alloc, "collect")
         .about("Collect a heap image and write the compacted one")
+        .after_help(EXAMPLE)
         .arg(arguments::image(alloc))?
         .arg(arguments::file(alloc, "OUT", "Where to write the compacted image"))?
         .arg(arguments::workers(alloc))?
         .arg(arguments::atomic(alloc))?
+        .arg(arguments::json(alloc))?
         .arg(arguments::stats(alloc))?
         .arg(arguments::verbose(alloc))
 }
@@ -37,6 +43,8 @@ pub struct Collect<'a> {
     pub workers: u32,
     /// Whether files are replaced only once all is done.
     pub atomic: bool,
+    /// Whether to print a JSON object.
+    pub json: bool,
     /// Whether to print timings and peak memory.
     pub stats: bool,
     /// Whether to print more details about errors.
@@ -52,6 +60,7 @@ impl<'a> Collect<'a> {
             out: arguments::file_in(matches, "OUT")?,
             workers: arguments::workers_in(matches)?,
             atomic: arguments::is_atomic(matches),
+            json: arguments::asks_json(matches),
             stats: arguments::asks_stats(matches),
             verbose: arguments::is_verbose(matches),
         })
@@ -61,5 +70,5 @@ impl<'a> Collect<'a> {
 /// Lines that call `collect`.
 pub fn lines_call_collect()
     ensures line { IsCallOf (codes "collect") (codes "collect" ∷ codes "heap.pcheap" ∷ codes "out.pcheap" ∷ codes "--workers" ∷ codes "2" ∷ []) }
-    ensures options { IsCallOf (codes "collect") (codes "collect" ∷ codes "heap.pcheap" ∷ codes "heap.pcheap" ∷ codes "--workers" ∷ codes "2" ∷ codes "--atomic" ∷ codes "--stats" ∷ codes "--verbose" ∷ []) }
+    ensures options { IsCallOf (codes "collect") (codes "collect" ∷ codes "heap.pcheap" ∷ codes "heap.pcheap" ∷ codes "--workers" ∷ codes "2" ∷ codes "--atomic" ∷ codes "--stats" ∷ codes "--json" ∷ codes "--verbose" ∷ []) }
 {}

@@ -42,55 +42,55 @@ pub fn words<'a>(alloc: Global) -> Result<Command<'a>, AllocError>
     ensures { IfOk result (λ command. app_of command ≡ commands) }
 {
     let command = with_collections(alloc, program(alloc)?)?;
-    let command = with_followers(alloc, command)?;
-    let command = with_sources(alloc, command)?;
-    with_pictures(alloc, command)
+    let command = with_views(alloc, command)?;
+    let command = with_schedules(alloc, command)?;
+    with_sources(alloc, command)
 }
 
-/// Adds `board` and the commands that plan, make or check a collection.
+/// Adds the commands that make, check or plan a collection.
 fn with_collections<'a>(alloc: Global, command: Command<'a>) -> Result<Command<'a>, AllocError>
     ensures { IfOk result (λ made. app_of made
-        ≡ with_commands (app_of command.entry) (board_words ∷ summary_words ∷ collect_words ∷ verify_words ∷ [])) }
+        ≡ with_commands (app_of command.entry) (collect_words ∷ verify_words ∷ summary_words ∷ order_words ∷ [])) }
 {
     command
-        .subcommand(board::words(alloc))?
-        .subcommand(summary::words(alloc)?)?
         .subcommand(collect::words(alloc)?)?
-        .subcommand(verify::words(alloc)?)
+        .subcommand(verify::words(alloc)?)?
+        .subcommand(summary::words(alloc)?)?
+        .subcommand(order::words(alloc)?)
 }
 
-/// Adds the commands on schedules, and `upgrade`.
-fn with_followers<'a>(alloc: Global, command: Command<'a>) -> Result<Command<'a>, AllocError>
+/// Adds the commands that show a heap, and `assemble`.
+fn with_views<'a>(alloc: Global, command: Command<'a>) -> Result<Command<'a>, AllocError>
     ensures { IfOk result (λ made. app_of made
-        ≡ with_commands (app_of command.entry) (record_words ∷ replay_words ∷ upgrade_words ∷ [])) }
+        ≡ with_commands (app_of command.entry) (map_words ∷ text_words ∷ assemble_words ∷ [])) }
+{
+    command
+        .subcommand(map::words(alloc)?)?
+        .subcommand(text::words(alloc)?)?
+        .subcommand(assemble::words(alloc)?)
+}
+
+/// Adds the commands on schedules.
+fn with_schedules<'a>(alloc: Global, command: Command<'a>) -> Result<Command<'a>, AllocError>
+    ensures { IfOk result (λ made. app_of made
+        ≡ with_commands (app_of command.entry) (record_words ∷ replay_words ∷ timeline_words ∷ [])) }
 {
     command
         .subcommand(record::words(alloc)?)?
         .subcommand(replay::words(alloc)?)?
-        .subcommand(upgrade::words(alloc)?)
+        .subcommand(timeline::words(alloc)?)
 }
 
-/// Adds the commands that make images, and `order`.
+/// Adds the commands that make images, and `board`.
 fn with_sources<'a>(alloc: Global, command: Command<'a>) -> Result<Command<'a>, AllocError>
     ensures { IfOk result (λ made. app_of made
-        ≡ with_commands (app_of command.entry) (import_words ∷ generate_words ∷ order_words ∷ [])) }
+        ≡ with_commands (app_of command.entry) (upgrade_words ∷ import_words ∷ generate_words ∷ board_words ∷ [])) }
 {
     command
+        .subcommand(upgrade::words(alloc)?)?
         .subcommand(import::words(alloc)?)?
         .subcommand(generate::words(alloc)?)?
-        .subcommand(order::words(alloc)?)
-}
-
-/// Adds the commands that show a heap or a schedule, and `assemble`.
-fn with_pictures<'a>(alloc: Global, command: Command<'a>) -> Result<Command<'a>, AllocError>
-    ensures { IfOk result (λ made. app_of made
-        ≡ with_commands (app_of command.entry) (text_words ∷ assemble_words ∷ map_words ∷ timeline_words ∷ [])) }
-{
-    command
-        .subcommand(text::words(alloc)?)?
-        .subcommand(assemble::words(alloc)?)?
-        .subcommand(map::words(alloc)?)?
-        .subcommand(timeline::words(alloc)?)
+        .subcommand(board::words(alloc))
 }
 
 /// The request of a parsed line.

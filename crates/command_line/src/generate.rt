@@ -17,6 +17,10 @@ const USUAL_REFERENCES: u32 = 25;
 /// The version of the image without `--version`.
 const USUAL_VERSION: u32 = 2;
 
+const EXAMPLE: &str = "\
+Example:
+  pcompact generate heap.pcheap --words 65536 --live 50 --region-log 9 --seed 1";
+
 /// The definition of `generate`.
 pub fn words<'a>(alloc: Global) -> Result<Command<'a>, AllocError>
     ensures app { IfOk result (λ command. app_of command ≡ generate_words) }
@@ -33,6 +37,7 @@ fn with_needs<'a>(alloc: Global) -> Result<Command<'a>, AllocError>
 {
     Command::new(alloc, "generate")
         .about("Generate a heap image from a seed, for benchmarks and experiments")
+        .after_help(EXAMPLE)
         .arg(arguments::file(alloc, "IMAGE", "Where to write the image"))?
         .arg(heap_words(alloc))?
         .arg(live(alloc))?

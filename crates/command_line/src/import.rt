@@ -11,6 +11,11 @@ use crate::unread::Unread;
 use clap::{ArgMatches, Command};
 use std::alloc::{AllocError, Global};
 
+const EXAMPLE: &str = "\
+Example:
+  jcmd PID GC.heap_dump -all /tmp/heap.hprof
+  pcompact import /tmp/heap.hprof heap.pcheap";
+
 /// The definition of `import`.
 pub fn words<'a>(alloc: Global) -> Result<Command<'a>, AllocError>
     ensures app { IfOk result (λ command. app_of command ≡ import_words) }
@@ -18,6 +23,7 @@ pub fn words<'a>(alloc: Global) -> Result<Command<'a>, AllocError>
 {
     let command = Command::new(alloc, "import")
         .about("Convert the heap dump of a Java virtual machine to a heap image")
+        .after_help(EXAMPLE)
         .arg(arguments::file(alloc, "DUMP", "A heap dump"))?
         .arg(arguments::file(alloc, "IMAGE", "Where to write the image"))?
         .arg(arguments::region_log(alloc, "Regions have 2^k words, k from 3 to 16 (default 9)"))?
@@ -26,7 +32,8 @@ pub fn words<'a>(alloc: Global) -> Result<Command<'a>, AllocError>
             alloc,
             "live-only",
             "Keep only objects that are reachable from the roots",
-        ))?;
+        ))?
+        .arg(arguments::json(alloc))?;
     arguments::with_last(alloc, command)
 }
 
@@ -43,6 +50,8 @@ pub struct Import<'a> {
     pub allowance: u64,
     /// Whether only reachable objects are kept.
     pub live_only: bool,
+    /// Whether to print a JSON object.
+    pub json: bool,
     /// Whether files are replaced only once all is done.
     pub atomic: bool,
     /// Whether to print more details about errors.
@@ -59,6 +68,7 @@ impl<'a> Import<'a> {
             region_log: matches.get_one("region-log"),
             allowance: matches.get_one("allowance").unwrap_or(0),
             live_only: matches.get_flag("live-only"),
+            json: arguments::asks_json(matches),
             atomic: arguments::is_atomic(matches),
             verbose: arguments::is_verbose(matches),
         })

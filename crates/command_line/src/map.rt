@@ -1,18 +1,19 @@
 //! The command `map`: its arguments, their help, and how they are parsed.
 ghost use Rattle.std.specs.Prelude.{◌≡◌, codes, false, IfErr, IfOk, ◌∷◌, []};
-ghost use Rattle.clap.specs.Words.{app_of};
+ghost use Rattle.clap.specs.Words.{app_of, rule_of};
 ghost use Rattle.clap.specs.declared.builder.command.Command.TheViews.{out-Command as fields_of};
 ghost use Rattle.command_line.specs.CommandLine.{IsCallOf};
 ghost use Rattle.command_line.specs.Request.{IsNoUsage};
-ghost use Rattle.command_line.specs.Commands.{map_cells, map_words};
+ghost use Rattle.command_line.specs.Commands.{height_rule, map_cells, map_words};
 
 use crate::arguments;
 use crate::unread::Unread;
-use clap::{ArgMatches, Command};
+use clap::{Arg, ArgMatches, Command, value_parser};
 use std::alloc::{AllocError, Global};
 
-/// The number of cells without `--width`.
-const USUAL_WIDTH: u32 = 64;
+const EXAMPLE: &str = "\
+Example:
+  pcompact map heap.pcheap --after";
 
 /// The definition of `map`.
 pub fn words<'a>(alloc: Global) -> Result<Command<'a>, AllocError>
@@ -30,13 +31,32 @@ fn with_cells<'a>(alloc: Global) -> Result<Command<'a>, AllocError>
 {
     Command::new(alloc, "map")
         .about("Draw a heap image, also as its collection leaves it")
+        .after_help(EXAMPLE)
         .arg(arguments::image(alloc))?
         .arg(arguments::flag(alloc, "after", "Also draw the heap after its collection"))?
-        .arg(arguments::width(alloc, "Number of cells, from 1 to 1000 (default 64)"))?
+        .arg(arguments::width(
+            alloc,
+            "Number of cells of a row, from 1 to 1000 (default: what a terminal has room for, or 64)",
+        ))?
+        .arg(height(alloc))?
         .arg(arguments::svg(
             alloc,
             "Write the picture to this file as SVG, and print only the figures",
         ))
+}
+
+/// The option `--height`, the number of rows.
+fn height<'a>(alloc: Global) -> Arg<'a>
+    ensures rule { rule_of result ≡ height_rule }
+    ensures local { result.global ≡ false }
+{
+    Arg::new(alloc, "height")
+        .long("height")
+        .value_name("n")
+        .value_parser(value_parser!(u32).range(1..=100))
+        .help(
+            "Number of rows, from 1 to 100 (default: 1, or what a terminal has room for, or 8 of a drawing)",
+        )
 }
 
 /// The arguments of `map`.
@@ -46,8 +66,10 @@ pub struct Map<'a> {
     pub image: &'a str,
     /// Whether to draw the heap after its collection, too.
     pub after: bool,
-    /// The number of cells.
-    pub width: u32,
+    /// The number of cells of a row, if requested.
+    pub width: Option<u32>,
+    /// The number of rows, if requested.
+    pub height: Option<u32>,
     /// The file for a drawing.
     pub svg: Option<&'a str>,
     /// How the picture is printed.
@@ -86,7 +108,8 @@ impl<'a> Map<'a> {
         Ok(Map {
             image: arguments::file_in(matches, "IMAGE")?,
             after: matches.get_flag("after"),
-            width: matches.get_one("width").unwrap_or(USUAL_WIDTH),
+            width: matches.get_one("width"),
+            height: matches.get_one("height"),
             svg: matches.get_str("svg"),
             look: Look::of(matches),
             atomic: arguments::is_atomic(matches),
@@ -98,6 +121,6 @@ impl<'a> Map<'a> {
 /// Lines that call `map`.
 pub fn lines_call_map()
     ensures line { IsCallOf (codes "map") (codes "map" ∷ codes "heap.pcheap" ∷ []) }
-    ensures options { IsCallOf (codes "map") (codes "map" ∷ codes "heap.pcheap" ∷ codes "--after" ∷ codes "--width" ∷ codes "100" ∷ codes "--svg" ∷ codes "heap.svg" ∷ codes "--atomic" ∷ codes "--verbose" ∷ []) }
+    ensures options { IsCallOf (codes "map") (codes "map" ∷ codes "heap.pcheap" ∷ codes "--after" ∷ codes "--width" ∷ codes "100" ∷ codes "--height" ∷ codes "4" ∷ codes "--svg" ∷ codes "heap.svg" ∷ codes "--atomic" ∷ codes "--verbose" ∷ []) }
     ensures looks { IsCallOf (codes "map") (codes "map" ∷ codes "--letters" ∷ codes "--color" ∷ codes "--no-color" ∷ codes "heap.pcheap" ∷ []) }
 {}

@@ -11,6 +11,10 @@ use crate::unread::Unread;
 use clap::{ArgMatches, Command};
 use std::alloc::{AllocError, Global};
 
+const EXAMPLE: &str = "\
+Example:
+  pcompact order heap.pcheap";
+
 /// The definition of `order`.
 pub fn words<'a>(alloc: Global) -> Result<Command<'a>, AllocError>
     ensures app { IfOk result (λ command. app_of command ≡ order_words) }
@@ -18,7 +22,9 @@ pub fn words<'a>(alloc: Global) -> Result<Command<'a>, AllocError>
 {
     Command::new(alloc, "order")
         .about("Print how many workers a collection can keep busy")
+        .after_help(EXAMPLE)
         .arg(arguments::image(alloc))?
+        .arg(arguments::json(alloc))?
         .arg(arguments::verbose(alloc))
 }
 
@@ -27,6 +33,8 @@ pub fn words<'a>(alloc: Global) -> Result<Command<'a>, AllocError>
 pub struct Order<'a> {
     /// The file with the image.
     pub image: &'a str,
+    /// Whether to print a JSON object.
+    pub json: bool,
     /// Whether to print more details about errors.
     pub verbose: bool,
 }
@@ -37,6 +45,7 @@ impl<'a> Order<'a> {
     {
         Ok(Order {
             image: arguments::file_in(matches, "IMAGE")?,
+            json: arguments::asks_json(matches),
             verbose: arguments::is_verbose(matches),
         })
     }

@@ -8,6 +8,7 @@ ghost use Rattle.command_line.specs.declared.unread.Unread.TheVariants.{Memory};
 use crate::commands;
 use crate::request::Request;
 use crate::unread::Unread;
+use crate::usage_text::usage_text;
 use clap::Error;
 use clap::error::ErrorKind;
 use std::alloc::Global;
@@ -36,7 +37,7 @@ fn interpret_error<'a>(alloc: Global, error: &Error) -> Result<Request<'a>, Unre
     }
     let text = error.to_string(alloc)?;
     if error.use_stderr() {
-        Err(Unread::Usage(text))
+        Err(Unread::Usage(usage_text(alloc, text.as_str())?))
     } else {
         Ok(Request::Show(text))
     }

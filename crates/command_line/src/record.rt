@@ -11,6 +11,10 @@ use crate::unread::Unread;
 use clap::{ArgMatches, Command};
 use std::alloc::{AllocError, Global};
 
+const EXAMPLE: &str = "\
+Example:
+  pcompact record heap.pcheap out.pcheap schedule --workers 4";
+
 /// The definition of `record`.
 pub fn words<'a>(alloc: Global) -> Result<Command<'a>, AllocError>
     ensures app { IfOk result (λ command. app_of command ≡ record_words) }
@@ -18,6 +22,7 @@ pub fn words<'a>(alloc: Global) -> Result<Command<'a>, AllocError>
 {
     Command::new(alloc, "record")
         .about("Collect a heap image and record what each worker does")
+        .after_help(EXAMPLE)
         .arg(arguments::image(alloc))?
         .arg(arguments::file(alloc, "OUT", "Where to write the compacted image"))?
         .arg(arguments::file(

@@ -11,6 +11,10 @@ use crate::unread::Unread;
 use clap::{ArgMatches, Command};
 use std::alloc::{AllocError, Global};
 
+const EXAMPLE: &str = "\
+Example:
+  pcompact replay heap.pcheap schedule";
+
 /// The definition of `replay`.
 pub fn words<'a>(alloc: Global) -> Result<Command<'a>, AllocError>
     ensures app { IfOk result (λ command. app_of command ≡ replay_words) }
@@ -18,6 +22,7 @@ pub fn words<'a>(alloc: Global) -> Result<Command<'a>, AllocError>
 {
     Command::new(alloc, "replay")
         .about("Replay a schedule word by word and print it with all replies")
+        .after_help(EXAMPLE)
         .arg(arguments::image(alloc))?
         .arg(arguments::file(alloc, "SCHEDULE", "A schedule for the image"))?
         .arg(arguments::verbose(alloc))

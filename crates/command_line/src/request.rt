@@ -36,7 +36,7 @@ pub enum Request<'a> {
 
 impl Request<'_> {
     ghost use Rattle.std.specs.Prelude.{◌≡◌};
-    ghost use Rattle.command_line.specs.Request.{asks_stats};
+    ghost use Rattle.command_line.specs.Request.{asks_json, asks_stats};
 
     /// Whether to print timings and peak memory. A command without `--stats` prints none.
     pub fn asks_stats(&self) -> bool
@@ -46,6 +46,20 @@ impl Request<'_> {
             Request::Collect(call) => call.stats,
             Request::Verify(call) => call.stats,
             Request::Record(call) => call.stats,
+            _ => false,
+        }
+    }
+
+    /// Whether to print a JSON object. A command without `--json` prints none.
+    pub fn asks_json(&self) -> bool
+        ensures { result ≡ asks_json self.now }
+    {
+        match self {
+            Request::Summary(call) => call.json,
+            Request::Collect(call) => call.json,
+            Request::Verify(call) => call.json,
+            Request::Import(call) => call.json,
+            Request::Order(call) => call.json,
             _ => false,
         }
     }

@@ -11,6 +11,10 @@ use crate::unread::Unread;
 use clap::{ArgMatches, Command};
 use std::alloc::{AllocError, Global};
 
+const EXAMPLE: &str = "\
+Example:
+  pcompact summary heap.pcheap";
+
 /// The definition of `summary`.
 pub fn words<'a>(alloc: Global) -> Result<Command<'a>, AllocError>
     ensures app { IfOk result (λ command. app_of command ≡ summary_words) }
@@ -18,7 +22,14 @@ pub fn words<'a>(alloc: Global) -> Result<Command<'a>, AllocError>
 {
     Command::new(alloc, "summary")
         .about("Print the plan of a collection, region by region")
+        .after_help(EXAMPLE)
         .arg(arguments::image(alloc))?
+        .arg(arguments::flag(
+            alloc,
+            "heading",
+            "Print the names of the columns even if standard output is no terminal",
+        ))?
+        .arg(arguments::json(alloc))?
         .arg(arguments::verbose(alloc))
 }
 
@@ -27,6 +38,10 @@ pub fn words<'a>(alloc: Global) -> Result<Command<'a>, AllocError>
 pub struct Summary<'a> {
     /// The file with the image.
     pub image: &'a str,
+    /// Whether to print the names of the columns.
+    pub heading: bool,
+    /// Whether to print a JSON object.
+    pub json: bool,
     /// Whether to print more details about errors.
     pub verbose: bool,
 }
@@ -37,6 +52,8 @@ impl<'a> Summary<'a> {
     {
         Ok(Summary {
             image: arguments::file_in(matches, "IMAGE")?,
+            heading: matches.get_flag("heading"),
+            json: arguments::asks_json(matches),
             verbose: arguments::is_verbose(matches),
         })
     }
@@ -45,5 +62,5 @@ impl<'a> Summary<'a> {
 /// Lines that call `summary`.
 pub fn lines_call_summary()
     ensures line { IsCallOf (codes "summary") (codes "summary" ∷ codes "heap.pcheap" ∷ []) }
-    ensures options { IsCallOf (codes "summary") (codes "summary" ∷ codes "--verbose" ∷ codes "heap.pcheap" ∷ []) }
+    ensures options { IsCallOf (codes "summary") (codes "summary" ∷ codes "--verbose" ∷ codes "heap.pcheap" ∷ codes "--heading" ∷ codes "--json" ∷ []) }
 {}

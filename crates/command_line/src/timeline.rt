@@ -12,9 +12,6 @@ use crate::unread::Unread;
 use clap::{Arg, ArgMatches, Command};
 use std::alloc::{AllocError, Global};
 
-/// The most cells of a lane without `--width`.
-const USUAL_WIDTH: u32 = 64;
-
 const EXAMPLE: &str = "\
 Example:
   pcompact record heap.pcheap out.pcheap schedule --workers 4
@@ -51,7 +48,7 @@ fn with_pictures<'a>(alloc: Global, command: Command<'a>) -> Result<Command<'a>,
     command
         .arg(arguments::width(
             alloc,
-            "Number of cells of a lane, from 1 to 1000 (default 64)",
+            "Number of cells of a lane, from 1 to 1000 (default: what a terminal has room for, or 64)",
         ))?
         .arg(arguments::svg(
             alloc,
@@ -77,8 +74,8 @@ pub struct Timeline<'a> {
     pub image: &'a str,
     /// The file with the schedule.
     pub schedule: &'a str,
-    /// The most cells of a lane.
-    pub width: u32,
+    /// The most cells of a lane, if requested.
+    pub width: Option<u32>,
     /// The file for a drawing.
     pub svg: Option<&'a str>,
     /// The file for a page.
@@ -98,7 +95,7 @@ impl<'a> Timeline<'a> {
         Ok(Timeline {
             image: arguments::file_in(matches, "IMAGE")?,
             schedule: arguments::file_in(matches, "SCHEDULE")?,
-            width: matches.get_one("width").unwrap_or(USUAL_WIDTH),
+            width: matches.get_one("width"),
             svg: matches.get_str("svg"),
             html: matches.get_str("html"),
             look: Look::of(matches),

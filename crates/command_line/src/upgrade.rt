@@ -11,6 +11,10 @@ use crate::unread::Unread;
 use clap::{ArgMatches, Command};
 use std::alloc::{AllocError, Global};
 
+const EXAMPLE: &str = "\
+Example:
+  pcompact upgrade heap.pcheap rooted.pcheap";
+
 /// The definition of `upgrade`.
 pub fn words<'a>(alloc: Global) -> Result<Command<'a>, AllocError>
     ensures app { IfOk result (λ command. app_of command ≡ upgrade_words) }
@@ -18,6 +22,7 @@ pub fn words<'a>(alloc: Global) -> Result<Command<'a>, AllocError>
 {
     let command = Command::new(alloc, "upgrade")
         .about("Convert a heap image to version 2, which has roots")
+        .after_help(EXAMPLE)
         .arg(arguments::image(alloc))?
         .arg(arguments::file(alloc, "OUT", "Where to write the upgraded image"))?;
     arguments::with_last(alloc, command)

@@ -11,6 +11,10 @@ use crate::unread::Unread;
 use clap::{ArgMatches, Command};
 use std::alloc::{AllocError, Global};
 
+const EXAMPLE: &str = "\
+Example:
+  pcompact verify heap.pcheap out.pcheap";
+
 /// The definition of `verify`.
 pub fn words<'a>(alloc: Global) -> Result<Command<'a>, AllocError>
     ensures app { IfOk result (λ command. app_of command ≡ verify_words) }
@@ -18,8 +22,20 @@ pub fn words<'a>(alloc: Global) -> Result<Command<'a>, AllocError>
 {
     Command::new(alloc, "verify")
         .about("Compare a heap image with the compaction of another")
+        .after_help(EXAMPLE)
         .arg(arguments::file(alloc, "BEFORE", "The image before its collection"))?
         .arg(arguments::file(alloc, "AFTER", "The image to compare with its compaction"))?
+        .arg(arguments::flag(
+            alloc,
+            "explain",
+            "Say which words differ, in which objects, and where wrong references lead",
+        ))?
+        .arg(arguments::flag(
+            alloc,
+            "ignore-free",
+            "Don't compare the words above the top",
+        ))?
+        .arg(arguments::json(alloc))?
         .arg(arguments::stats(alloc))?
         .arg(arguments::verbose(alloc))
 }
@@ -31,6 +47,12 @@ pub struct Verify<'a> {
     pub before: &'a str,
     /// The file with the image that should be its compaction.
     pub after: &'a str,
+    /// Whether to say which words differ. It implies `verbose`.
+    pub explain: bool,
+    /// Whether words at or above the new top count as equal.
+    pub ignore_free: bool,
+    /// Whether to print a JSON object.
+    pub json: bool,
     /// Whether to print timings and peak memory.
     pub stats: bool,
     /// Whether to print more details about errors.
@@ -41,11 +63,15 @@ impl<'a> Verify<'a> {
     pub(crate) fn of(matches: &ArgMatches<'a>) -> Result<Verify<'a>, Unread>
         ensures { IfErr result IsNoUsage }
     {
+        let explain = matches.get_flag("explain");
         Ok(Verify {
             before: arguments::file_in(matches, "BEFORE")?,
             after: arguments::file_in(matches, "AFTER")?,
+            explain,
+            ignore_free: matches.get_flag("ignore-free"),
+            json: arguments::asks_json(matches),
             stats: arguments::asks_stats(matches),
-            verbose: arguments::is_verbose(matches),
+            verbose: explain || arguments::is_verbose(matches),
         })
     }
 }

@@ -52,7 +52,7 @@ enum Way<F: Drop> {
 
 impl<'a, F: OpenFile + Drop> FileTarget<'a, F> {
     /// Opens the file of this word for writing, and makes it if it isn't there. With `atomic` it only looks at what is there,
-    /// which must be a regular file or nothing.
+    /// which must be a regular file or nothing, and not standard output.
     ///
     /// Fault 13 if the file can't be opened for writing, and 11 if memory runs out.
     pub fn find<H: Files<File = F> + AllocGlobal>(
@@ -60,7 +60,9 @@ impl<'a, F: OpenFile + Drop> FileTarget<'a, F> {
         word: FileWord<'a>,
         writing: Writing,
     ) -> Result<FileTarget<'a, F>, Trouble<'a>> {
-        if writing.atomic {
+        if writing.atomic && word.is_standard() {
+            Err(not_regular(host.alloc(), word)?)
+        } else if writing.atomic {
             FileTarget::beside(host, word, writing)
         } else {
             FileTarget::in_place(host, word, writing)
@@ -72,7 +74,7 @@ impl<'a, F: OpenFile + Drop> FileTarget<'a, F> {
         word: FileWord<'a>,
         writing: Writing,
     ) -> Result<FileTarget<'a, F>, Trouble<'a>> {
-        let opened = open(host, word.name, writing.is_private);
+        let opened = open(host, word.path_to_write(), writing.is_private);
         let (file, is_new) = on_file(word, SystemCall::Open, opened)?;
         match on_file(word, SystemCall::Stat, file.metadata()) {
             Ok(found) => Ok(FileTarget {
@@ -84,7 +86,7 @@ impl<'a, F: OpenFile + Drop> FileTarget<'a, F> {
             }),
             Err(trouble) => {
                 if is_new {
-                    remove_made(host, word.name);
+                    remove_made(host, word.path_to_write());
                 }
                 Err(trouble)
             }
@@ -162,7 +164,7 @@ impl<'a, F: OpenFile + Drop> FileTarget<'a, F> {
     /// Leaves the file unchanged. If it was made it is removed.
     pub fn leave<H: Files<File = F> + AllocGlobal>(self, host: &H) {
         if let Way::InPlace { is_new: true, .. } = self.way {
-            remove_made(host, self.word.name);
+            remove_made(host, self.word.path_to_write());
         }
     }
 

@@ -1,6 +1,15 @@
 //! The files of a command line.
 use std::fmt;
 
+/// The name of standard input where a file is read, and of standard output where one is written.
+const STANDARD: &str = "-";
+
+/// The path of standard input's file.
+const STANDARD_INPUT: &str = "/proc/self/fd/0";
+
+/// The path of standard output's file.
+const STANDARD_OUTPUT: &str = "/proc/self/fd/1";
+
 /// A file of a command, by the name that the command's usage gives it.
 #[derive(Debug, Clone, Copy, PartialEq, Eq)]
 pub enum Role {
@@ -41,5 +50,28 @@ impl<'a> FileWord<'a> {
     /// The file of this name.
     pub fn new(role: Role, name: &'a str) -> FileWord<'a> {
         FileWord { role, name }
+    }
+
+    /// Whether it is standard input or standard output.
+    pub fn is_standard(self) -> bool {
+        self.name == STANDARD
+    }
+
+    /// The path by which the file is opened for reading. A regular file that is standard input is read from its beginning.
+    pub fn path_to_read(self) -> &'a str {
+        if self.is_standard() {
+            STANDARD_INPUT
+        } else {
+            self.name
+        }
+    }
+
+    /// The path by which the file is opened for writing.
+    pub fn path_to_write(self) -> &'a str {
+        if self.is_standard() {
+            STANDARD_OUTPUT
+        } else {
+            self.name
+        }
     }
 }

@@ -45,19 +45,22 @@ fn image_and_target<'a, H: Files + AllocGlobal>(
     atomic: bool,
 ) -> Result<ImageAndTarget<'a, H::File>, Trouble<'a>> {
     if !atomic {
-        must_differ(host.alloc(), image, out)?;
+        output_must_differ(host.alloc(), image, out)?;
     }
     let image = Watched::open(host, image)?;
     let out = target_beside(host, &image, out, atomic)?;
     Ok((image, out))
 }
 
-/// Opens two files to read.
-pub fn two_inputs<'a, H: Files>(
+/// Opens two files to read. Standard input can't be both.
+pub fn two_inputs<'a, H: Files + AllocGlobal>(
     host: &H,
     one: FileWord<'a>,
     other: FileWord<'a>,
 ) -> Result<(Watched<'a, H::File>, Watched<'a, H::File>), Trouble<'a>> {
+    if one.is_standard() && other.is_standard() {
+        return Err(same_file(host.alloc(), one, other)?);
+    }
     let one = Watched::open(host, one)?;
     let other = Watched::open(host, other)?;
     Ok((one, other))
@@ -130,6 +133,18 @@ pub fn must_differ<'a>(
         return Err(same_file(alloc, one, other)?);
     }
     Ok(())
+}
+
+/// Refuses a file to write that has the name of a file to read. Standard input and standard output have one name.
+pub fn output_must_differ<'a>(
+    alloc: Global,
+    read: FileWord<'a>,
+    written: FileWord<'a>,
+) -> Result<(), Trouble<'a>> {
+    if read.is_standard() {
+        return Ok(());
+    }
+    must_differ(alloc, read, written)
 }
 
 /// The failure of two words of one command that name one file.

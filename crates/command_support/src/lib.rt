@@ -5,8 +5,8 @@
 //! [`FileTarget::begin`] makes an [`Output`] of it: the emptied file, or a new file that takes its place in the end
 //! ([`Replacement`]). [`Late`] begins with the first byte. [`WorkDone`] is the outcome of a command before it prints.
 //!
-//! **Failures.** A [`Failure`] decides the exit status and the first line on standard error. [`Trouble`] adds the file and the
-//! [`Reason`], which `--verbose` prints.
+//! **Failures.** A [`Failure`] decides the exit status and the first line on standard error. [`Trouble`] adds the file, the
+//! [`Reason`] and a [`Hint`], which `--verbose` prints.
 //!
 //! **Timings.** [`Stats`] has what `--stats` prints: times by a [`Stopwatch`] and by devices that note when bytes go through them
 //! ([`TimedIntake`], [`TimedOutlet`]).
@@ -14,7 +14,8 @@
 //! # What is proved
 //!
 //! - The exit status of a failure (`status_of` of `specs/Failure.antt`), and which failure comes of which error.
-//! - Adding a file or a reason leaves a failure the same.
+//! - Adding a file, a reason or a hint leaves a failure the same.
+//! - Which hint comes of which first bytes (`hint_of` of `specs/Hints.antt`).
 //! - A system call that fails on a file is fault 13.
 //! - A timed device has the contract of the device that it wraps.
 //! - Nothing here reads out of bounds, overflows or stops the process, and every loop ends.
@@ -26,6 +27,7 @@
 #![tactic(auto)]
 
 mod access;
+mod content;
 mod difference;
 mod failed_call;
 mod failure;
@@ -33,6 +35,8 @@ mod file_id;
 mod file_target;
 mod file_word;
 mod files;
+mod hint;
+mod json;
 mod laps;
 mod late;
 mod leftovers;
@@ -53,6 +57,7 @@ mod trouble;
 mod watched;
 mod work_done;
 
+pub use content::Content;
 pub use difference::Difference;
 pub use failed_call::{FailedCall, SystemCall};
 pub use failure::Failure;
@@ -60,9 +65,11 @@ pub use file_id::FileId;
 pub use file_target::{FileTarget, Writing};
 pub use file_word::{FileWord, Role};
 pub use files::{
-    ended, failed, failed_between, image_and_out, must_differ, not_regular, reject_same_file,
-    same_file, target_beside, two_different_inputs, two_inputs,
+    ended, failed, failed_between, image_and_out, must_differ, not_regular, output_must_differ,
+    reject_same_file, same_file, target_beside, two_different_inputs, two_inputs,
 };
+pub use hint::Hint;
+pub use json::push_json;
 pub use laps::Laps;
 pub use late::Late;
 pub use moved::Moved;

@@ -1,4 +1,4 @@
-//! The amount of live data that a collection moves.
+//! The amount of data that a collection keeps and moves.
 use crate::tenths::Tenths;
 use std::io;
 use std::io::Write;
@@ -6,21 +6,27 @@ use std::time::Duration;
 
 const BYTES_IN_A_WORD: u64 = 8;
 
-/// The number of live words that a collection moved, and the time that it worked in memory.
+/// The numbers of words that a collection kept and moved, and the time that it worked in memory.
 #[derive(Clone, Copy)]
 pub struct Moved {
-    words: u64,
-    took: Option<Duration>,
+    /// The words of the heap, if they are known.
+    pub heap: Option<u64>,
+    /// The words below the new top.
+    pub kept: u64,
+    /// The live words after the dense prefix.
+    pub words: u64,
+    /// None if the clock failed.
+    pub took: Option<Duration>,
 }
 
 impl Moved {
-    /// `took` is None if the clock failed.
-    pub fn new(words: u64, took: Option<Duration>) -> Moved {
-        Moved { words, took }
-    }
-
-    /// Writes the line of `--stats`, with the rate if the time is known.
+    /// Writes the lines of `--stats`, with the rate if the time is known.
     pub fn print<B: Write>(&self, err: &mut B) -> io::Result<()> {
+        if let Some(heap) = self.heap {
+            let size = Tenths::of_mib(heap.saturating_mul(BYTES_IN_A_WORD));
+            let share = Tenths::of_per_cent(self.kept, heap);
+            writeln!(err, "pcompact: heap {size} MiB, {share} per cent kept")?;
+        }
         let bytes = self.words.saturating_mul(BYTES_IN_A_WORD);
         write!(err, "pcompact: live {} MiB moved", Tenths::of_mib(bytes))?;
         match self.took {

@@ -26,6 +26,17 @@ impl Tenths {
             count: tenths / BYTES_IN_A_MIB,
         }
     }
+
+    /// A part of a whole in per cent, rounded. Of nothing there is nothing.
+    pub fn of_per_cent(part: u64, whole: u64) -> Tenths {
+        if whole == 0 {
+            return Tenths { count: 0 };
+        }
+        let tenths = part.saturating_mul(1000).saturating_add(whole / 2);
+        Tenths {
+            count: tenths / whole,
+        }
+    }
 }
 
 impl fmt::Display for Tenths {

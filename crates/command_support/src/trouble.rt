@@ -4,9 +4,11 @@ ghost use Rattle.command_support.specs.Failure.{failed_device};
 ghost use Rattle.heap_image.specs.declared.fault.Fault.TheVariants.{Memory};
 ghost use Rattle.command_support.specs.declared.failure.Failure.TheVariants.{Fault};
 
+use crate::content::Content;
 use crate::failed_call::{FailedCall, SystemCall};
 use crate::failure::Failure;
 use crate::file_word::FileWord;
+use crate::hint::Hint;
 use crate::printable::Printable;
 use crate::reason::{LineReason, Reason};
 use crate::watched::Watched;
@@ -25,6 +27,9 @@ pub struct Trouble<'a> {
     /// The other file that it is about.
     other: Option<FileWord<'a>>,
     reason: Option<Reason>,
+    hint: Option<Hint>,
+    /// Further lines for `--explain`.
+    explanation: Option<String>,
 }
 
 impl<'a> Trouble<'a> {
@@ -37,6 +42,8 @@ impl<'a> Trouble<'a> {
             file: None,
             other: None,
             reason: None,
+            hint: None,
+            explanation: None,
         }
     }
 
@@ -70,6 +77,30 @@ impl<'a> Trouble<'a> {
         }
     }
 
+    /// Adds this file, which the failure says to be none of what is wanted, and the hint about it.
+    fn about_content<F: Drop>(self, wanted: Content, file: &Watched<'a, F>) -> Trouble<'a>
+        ensures { result.failure ≡ self.entry.failure }
+    {
+        self.about(file.word())
+            .hinted(Hint::of(wanted, file.first_bytes()))
+    }
+
+    fn hinted(self, hint: Option<Hint>) -> Trouble<'a>
+        ensures { result.failure ≡ self.entry.failure }
+    {
+        Trouble { hint, ..self }
+    }
+
+    /// Adds lines that explain it, if there are some.
+    pub fn explained(self, explanation: Option<String>) -> Trouble<'a>
+        ensures { result.failure ≡ self.entry.failure }
+    {
+        Trouble {
+            explanation,
+            ..self
+        }
+    }
+
     /// Adds this file and the call, if a call on the file failed.
     pub fn if_failed<F: Drop>(self, file: &Watched<'a, F>) -> Trouble<'a>
         ensures { result.failure ≡ self.entry.failure }
@@ -88,7 +119,7 @@ impl<'a> Trouble<'a> {
     {
         match self.fault() {
             Some(Fault::Length) => self.because_of_length(image).about(image.word()),
-            Some(fault) if is_of_image(fault) => self.about(image.word()),
+            Some(fault) if is_of_image(fault) => self.about_content(Content::Image, image),
             _ => self.if_failed(image),
         }
     }
@@ -97,10 +128,12 @@ impl<'a> Trouble<'a> {
     pub fn if_dump<F: Drop>(self, dump: &Watched<'a, F>, again: &Watched<'a, F>) -> Trouble<'a>
         ensures { result.failure ≡ self.entry.failure }
     {
-        if self.is_of_dump() {
-            self.about(dump.word())
-        } else {
-            self.if_failed(dump).if_failed(again)
+        match &self.failure {
+            Failure::Dump(error) => {
+                let hint = Hint::of_dump(*error, dump.first_bytes());
+                self.about(dump.word()).hinted(hint)
+            }
+            _ => self.if_failed(dump).if_failed(again),
         }
     }
 
@@ -109,7 +142,7 @@ impl<'a> Trouble<'a> {
         ensures { result.failure ≡ self.entry.failure }
     {
         if self.is_of_text() {
-            self.about(text.word())
+            self.about_content(Content::Text, text)
         } else {
             self.if_failed(text)
         }
@@ -134,7 +167,7 @@ impl<'a> Trouble<'a> {
         ensures { result.failure ≡ self.entry.failure }
     {
         let trouble = match self.fault() {
-            Some(Fault::Schedule(_)) => self.about(schedule.word()),
+            Some(Fault::Schedule(_)) => self.about_content(Content::Schedule, schedule),
             _ => self.if_failed(schedule),
         };
         match reason {
@@ -143,12 +176,18 @@ impl<'a> Trouble<'a> {
         }
     }
 
-    /// Writes the lines of `--verbose`: the files and the reason.
+    /// Writes the lines of `--verbose`: the files, the reason and the hint, and those of `--explain`.
     pub fn print_details<B: Write>(&self, err: &mut B) -> io::Result<()> {
         print_file(self.other, err)?;
         print_file(self.file, err)?;
-        match &self.reason {
-            Some(reason) => reason.print(err),
+        if let Some(reason) = &self.reason {
+            reason.print(err)?;
+        }
+        if let Some(hint) = &self.hint {
+            writeln!(err, "pcompact: hint {hint}")?;
+        }
+        match &self.explanation {
+            Some(lines) => err.write_all(lines.as_bytes()),
             None => Ok(()),
         }
     }
@@ -157,13 +196,6 @@ impl<'a> Trouble<'a> {
         match &self.failure {
             Failure::Fault(fault) => Some(*fault),
             _ => None,
-        }
-    }
-
-    fn is_of_dump(&self) -> bool {
-        match &self.failure {
-            Failure::Dump(_) => true,
-            _ => false,
         }
     }
 

@@ -1,9 +1,13 @@
 //! Open files that note how calls on them fail.
+ghost use Rattle.std.specs.Prelude.{◌≡◌, IfErr};
+ghost use Rattle.command_support.specs.Failure.{failed_device};
+
 use crate::access::is_private;
 use crate::failed_call::{FailedCall, SystemCall};
 use crate::file_id::FileId;
 use crate::file_target::Writing;
 use crate::file_word::FileWord;
+use crate::system_file::SystemFile;
 use crate::trouble::{Trouble, on_file};
 use heap_image::FRONT_BYTES;
 use std::fs::{Metadata, OpenFile};
@@ -39,7 +43,7 @@ impl<'a, F: Drop> Watched<'a, F> {
         host: &H,
         word: FileWord<'a>,
     ) -> Result<Watched<'a, F>, Trouble<'a>> {
-        let file = on_file(word, SystemCall::Open, fs::open(host, word.name))?;
+        let file = on_file(word, SystemCall::Open, fs::open(host, word.path_to_read()))?;
         Ok(Watched::new(word, file))
     }
 
@@ -87,6 +91,11 @@ impl<'a, F: Drop> Watched<'a, F> {
         &self.front.bytes
     }
 
+    /// The first 32 bytes that were read, or fewer if no more were.
+    pub fn first_bytes(&self) -> &[u8] {
+        &self.front.bytes[..self.front.count.min(FRONT_BYTES)]
+    }
+
     /// The last call on the file that failed.
     pub fn failed(&self) -> Option<FailedCall> {
         self.failed
@@ -132,6 +141,16 @@ impl<'a, F: OpenFile + Seek + Drop> Watched<'a, F> {
             return Ok(());
         }
         self.file.set_len(end)
+    }
+}
+
+impl<'a, F: SystemFile + Drop> Watched<'a, F> {
+    /// Closes the file, which was written. Fault 13 if that fails.
+    pub fn close(self) -> Result<(), Trouble<'a>>
+        ensures { IfErr result (λ trouble. trouble.failure ≡ failed_device) }
+    {
+        let Watched { file, word, .. } = self;
+        on_file(word, SystemCall::Close, file.close())
     }
 }
 

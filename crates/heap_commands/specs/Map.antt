@@ -1,4 +1,4 @@
-use Rattle.std.specs.Prelude.{◌≡◌, ◌⊎◌, ℕ, min, max, if◌then◌else◌, List, ◌++◌, Option, Some, None, codes}
+use Rattle.std.specs.Prelude.{◌≡◌, ◌⊎◌, ℕ, ◌*◌, nat_lt, min, max, if◌then◌else◌, List, ◌++◌, Option, Some, None, codes}
 use Rattle.std.specs.Io.KnownBytes.{Consumes}
 use Rattle.heap_image.specs.HeapImage.{HeapImage, IsValid}
 use Rattle.heap_image.specs.ImageText.{text}
@@ -7,23 +7,28 @@ use Rattle.heap_map.specs.MapFigures.{AreFiguresOf, figures_text}
 use Rattle.heap_map.specs.Text.{picture_text}
 use Rattle.heap_map.specs.declared.cell.Cell.{Cell}
 use Rattle.heap_map.specs.declared.figures.MapFigures.{MapFigures}
+use Rattle.heap_map.specs.declared.style.Shape.{Shape}
 use Rattle.heap_map.specs.declared.style.Style.{Style}
 use Rattle.heap_commands.specs.Command.{Command}
 use Rattle.heap_commands.specs.declared.map.Cut.{Cut}
 
--- the number of cells shown for a requested number
-abbrev pub cells_shown : ℕ → ℕ
-cells_shown requested = min (max requested 1) 1000
+-- the shape of the rows; addresses follow them where there can be more than one row
+abbrev pub shape_of : Cut → Shape
+shape_of cut = record { width = min (max cut.width 1) 1000; has_axis = nat_lt 1 cut.rows }
+
+-- the largest number of cells of a strip
+abbrev pub cells_shown : Cut → ℕ
+cells_shown cut = min (max cut.width 1) 1000 * min (max cut.rows 1) 100
 
 -- the cells after the collection, where the cut includes them
 abbrev pub after_shown : HeapImage → Cut → Option (List Cell)
-after_shown image cut = if cut.after then Some (cells_after image (cells_shown cut.cells)) else None
+after_shown image cut = if cut.after then Some (cells_after image (cells_shown cut)) else None
 
 -- the picture of an image in this style
 pub record IsPicture (style : Style) (cut : Cut) (image : HeapImage) (shown : List ℕ) : Type 0 where
   pub figures : MapFigures
   pub counted : AreFiguresOf image figures
-  pub printed : shown ≡ picture_text style figures (cells_before image (cells_shown cut.cells)) (after_shown image cut)
+  pub printed : shown ≡ picture_text style (shape_of cut) figures (cells_before image (cells_shown cut)) (after_shown image cut)
 
 -- the line with the figures of an image
 pub record IsMapLine (image : HeapImage) (shown : List ℕ) : Type 0 where

@@ -7,7 +7,7 @@ ghost use Rattle.command_support.specs.Failure.{failed_device};
 use command_line::Assemble;
 use command_support::{
     Failure, FileTarget, FileWord, Late, Role, SystemFile, Trouble, Watched, WorkDone, ended,
-    must_differ, target_beside,
+    output_must_differ, target_beside,
 };
 use heap_image::{Fault, FromRead, Image, Intake, Outlet, ToWrite, write_image_buffered};
 use heap_text::{AssembleError, assemble_from};
@@ -48,7 +48,7 @@ fn open<'a, H: Files + AllocGlobal>(
     let text = FileWord::new(Role::Text, request.text);
     let image = FileWord::new(Role::Image, request.image);
     if !request.atomic {
-        must_differ(host.alloc(), text, image)?;
+        output_must_differ(host.alloc(), text, image)?;
     }
     let text = Watched::open(host, text)?;
     let target = target_beside(host, &text, image, request.atomic)?;

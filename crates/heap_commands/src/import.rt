@@ -6,17 +6,20 @@ ghost use Rattle.command_support.specs.Failure.{failed_device};
 
 use command_line::Import;
 use command_support::{
-    Failure, FileTarget, FileWord, Late, Role, SystemFile, Trouble, Watched, WorkDone, ended,
-    must_differ, not_regular, target_beside,
+    Content, Failure, FileTarget, FileWord, Late, Role, SystemFile, Trouble, Watched, WorkDone,
+    ended, not_regular, output_must_differ, target_beside,
 };
 use heap_dump::{ImportFigures, Imported, Options, import};
-use heap_image::{FromRead, Intake, Outlet, ToWrite, write_image_buffered};
+use heap_image::{Fault, FromRead, Intake, Outlet, ToWrite, write_image_buffered};
 use std::alloc::{AllocError, Global};
-use std::fs::Metadata;
+use std::io::{ErrorKind, Read};
 use std::rt::Files;
 
 /// Room for the line with the figures, with 20 digits for each number.
 const LINE_ROOM: usize = 240;
+
+/// The number of first bytes that tell a dump from anything else.
+const NAME_BYTES: u64 = 19;
 
 /// Imports the dump in one file as the image of another, and returns what `import` prints.
 pub fn answer<'a, R: Files + AllocGlobal>(
@@ -32,10 +35,33 @@ where
         allowance: request.allowance,
         live_only: request.live_only,
     };
-    let Opened { dump, again, image } = open(rt, &request)?;
+    let (dump, image) = open(rt, &request)?;
+    if dump.metadata()?.is_file() {
+        answer_from_file(rt, dump, image, options)
+    } else {
+        answer_from_pipe(rt, dump, image, options)
+    }
+}
+
+/// Imports the dump in a regular file, which is opened again for its second reading.
+fn answer_from_file<'a, R: Files + AllocGlobal>(
+    rt: &R,
+    dump: Watched<'a, R::File>,
+    image: FileTarget<'a, R::File>,
+    options: Options,
+) -> Result<WorkDone<'a>, Trouble<'a>>
+where
+    R::File: SystemFile,
+    ensures { IfOk result (λ done. IsImportLine done.text.items) }
+{
+    let late = Late::new(rt, image);
+    let again = match Watched::open(rt, dump.word()) {
+        Ok(again) => again,
+        Err(trouble) => return Err(late.failed(trouble)),
+    };
     let mut dump = FromRead::new(dump);
     let mut again = FromRead::new(again);
-    let mut output = ToWrite::new(Late::new(rt, image));
+    let mut output = ToWrite::new(late);
     let line = import_into(rt.alloc(), &mut dump, &mut again, &mut output, options);
     let late = output.into_inner();
     match line {
@@ -47,43 +73,72 @@ where
     }
 }
 
-/// The files of `import`.
-#[derive(Drop)]
-struct Opened<'a, F: Drop> {
-    /// The dump.
-    dump: Watched<'a, F>,
-    /// The dump, opened again for its second reading.
-    again: Watched<'a, F>,
-    /// The file for the image.
-    image: FileTarget<'a, F>,
+/// Imports the dump that a pipe or a device gives. It gives its bytes once, and they are kept for both readings.
+fn answer_from_pipe<'a, R: Files + AllocGlobal>(
+    rt: &R,
+    mut dump: Watched<'a, R::File>,
+    image: FileTarget<'a, R::File>,
+    options: Options,
+) -> Result<WorkDone<'a>, Trouble<'a>>
+where
+    R::File: SystemFile,
+    ensures { IfOk result (λ done. IsImportLine done.text.items) }
+{
+    let late = Late::new(rt, image);
+    let bytes = match keep(rt.alloc(), &mut dump) {
+        Ok(bytes) => bytes,
+        Err(fault) => return Err(late.failed(Trouble::from(fault).if_failed(&dump))),
+    };
+    let mut output = ToWrite::new(late);
+    let mut first = FromRead::new(bytes.as_slice());
+    let mut second = FromRead::new(bytes.as_slice());
+    let figures = import_into(rt.alloc(), &mut first, &mut second, &mut output, options);
+    let late = output.into_inner();
+    match figures {
+        Ok(figures) => ended(rt, figures, late.into_output()?),
+        Err(failure) => Err(late.failed(Trouble::new(failure).if_dump(&dump, &dump))),
+    }
 }
 
-/// Opens the dump twice, and finds the file for the image. Both may be one file only with `--atomic`.
+/// The bytes that a pipe or a device gives, or the first of them if no dump begins so: a device may never end.
+///
+/// Fault 13 if a call for them fails, and 11 if memory runs out.
+fn keep<R: Read>(alloc: Global, dump: &mut R) -> Result<Vec<u8>, Fault>
+    ensures { IfErr result (λ fault. (fault ≡ Fault.Io) ⊎ (fault ≡ Fault.Memory)) }
+{
+    let mut bytes = Vec::new(alloc);
+    let begun = dump.by_ref().take(NAME_BYTES).read_to_end(&mut bytes);
+    let kept = if begun.is_ok() && Content::of(bytes.as_slice()) == Some(Content::Dump) {
+        dump.read_to_end(&mut bytes)
+    } else {
+        begun
+    };
+    match kept {
+        Ok(_) => Ok(bytes),
+        Err(error) if error.kind() == ErrorKind::OutOfMemory => Err(Fault::Memory),
+        Err(_) => Err(Fault::Io),
+    }
+}
+
+/// A dump that is open, and the file for its image.
+type DumpAndImage<'a, F> = (Watched<'a, F>, FileTarget<'a, F>);
+
+/// Opens the dump, and finds the file for the image. Both may be one file only with `--atomic`. A folder is no dump.
 fn open<'a, H: Files + AllocGlobal>(
     host: &H,
     request: &Import<'a>,
-) -> Result<Opened<'a, H::File>, Trouble<'a>> {
+) -> Result<DumpAndImage<'a, H::File>, Trouble<'a>> {
     let word = FileWord::new(Role::Dump, request.dump);
     let image = FileWord::new(Role::Image, request.image);
     if !request.atomic {
-        must_differ(host.alloc(), word, image)?;
+        output_must_differ(host.alloc(), word, image)?;
     }
-    let (dump, again) = open_dump(host, word)?;
-    let image = target_beside(host, &dump, image, request.atomic)?;
-    Ok(Opened { dump, again, image })
-}
-
-/// Opens a dump twice. Only a regular file can be read twice; any other is refused.
-fn open_dump<'a, H: Files + AllocGlobal>(
-    host: &H,
-    word: FileWord<'a>,
-) -> Result<(Watched<'a, H::File>, Watched<'a, H::File>), Trouble<'a>> {
     let dump = Watched::open(host, word)?;
-    if !dump.metadata()?.is_file() {
+    if dump.metadata()?.is_dir() {
         return Err(not_regular(host.alloc(), word)?);
     }
-    let again = Watched::open(host, word)?;
-    Ok((dump, again))
+    let image = target_beside(host, &dump, image, request.atomic)?;
+    Ok((dump, image))
 }
 
 /// Makes an image of the dump that both devices give, and writes it. Returns the line for standard output, with the

@@ -1,20 +1,20 @@
-ghost use Rattle.std.specs.Prelude.{◌≡◌, ◌≢◌, ◌⊎◌, ◌++◌, codes, option_map, ℕ, List, IfOk, IfErr, IfSome, OnErr, IsTrue, string_bytes};
+ghost use Rattle.std.specs.Prelude.{◌≡◌, ◌≢◌, ◌≤◌, ◌⊎◌, ◌++◌, codes, option_map, ℕ, List, IfOk, IfErr, IfSome, OnErr, IsTrue, string_bytes};
 ghost use Rattle.std.specs.Io.KnownBytes.{Appends};
 ghost use Rattle.heap_image.specs.Refusals.{IsReason};
 ghost use Rattle.heap_map.specs.Cells.{cells_before};
 ghost use Rattle.heap_map.specs.MapFigures.{AreFiguresOf, figures_text};
-ghost use Rattle.heap_commands.specs.Map.{IsDrawing, IsMap, IsMapLine, IsPicture, IsPrinted, after_shown, cells_shown};
+ghost use Rattle.heap_commands.specs.Map.{IsDrawing, IsMap, IsMapLine, IsPicture, IsPrinted, after_shown, cells_shown, shape_of};
 
-use crate::screen::Screen;
+use crate::screen::{Screen, USUAL_WIDTH};
 use command_line::{Look, Map};
 use command_support::{
-    FileTarget, FileWord, Late, Role, SystemFile, Trouble, Watched, WorkDone, ended, must_differ,
-    reject_same_file,
+    FileTarget, FileWord, Late, Role, SystemFile, Trouble, Watched, WorkDone, ended,
+    output_must_differ, reject_same_file,
 };
 use heap_image::{
     Fault, FromRead, Image, Intake, Outlet, ToWrite, give_all, read_image_by_threads,
 };
-use heap_map::{Glyphs, MAX_CELLS, MapFigures, Picture, Style};
+use heap_map::{Glyphs, MapFigures, Picture, Shape, Style};
 use std::alloc::{AllocError, Global};
 use std::rt::Files;
 use std::thread::Threads;
@@ -31,9 +31,12 @@ where
     ensures { IfOk result (λ done. IsMap done.text.items) }
 {
     let image = FileWord::new(Role::Image, request.image);
+    let width = width_on(screen, &request);
     let cut = Cut {
-        cells: request.width,
+        width,
+        rows: rows_on(screen, &request, width),
         after: request.after,
+        name: request.image,
     };
     match request.svg {
         Some(svg) => {
@@ -46,11 +49,75 @@ where
 
 /// How a heap is cut into cells.
 #[derive(Clone, Copy)]
-pub struct Cut {
-    /// The number of cells. 0 counts as 1, and more than [`MAX_CELLS`] count as that many.
-    pub cells: u32,
+pub struct Cut<'a> {
+    /// The number of cells of a row, from 1 to 1000; other numbers count as the nearest of these.
+    pub width: u32,
+    /// The number of rows, from 1 to 100; other numbers count as the nearest of these.
+    pub rows: u32,
     /// Whether the heap after its collection is shown as well.
     pub after: bool,
+    /// The name of the heap's file.
+    pub name: &'a str,
+}
+
+impl Cut<'_> {
+    /// The shape of the rows. Addresses follow them where there can be more than one row.
+    fn shape(self) -> Shape
+        ensures { result ≡ shape_of self.entry }
+    {
+        Shape {
+            width: self.width.max(1).min(1000),
+            has_axis: 1 < self.rows,
+        }
+    }
+
+    /// The largest number of cells.
+    fn cells(self) -> u32
+        ensures value { result ≡ cells_shown self.entry }
+        ensures some { 1 ≤ result }
+        ensures few { result ≤ 100000 }
+    {
+        let width = self.width.max(1).min(1000);
+        let rows = self.rows.max(1).min(100);
+        width * rows
+    }
+}
+
+/// The number of columns that the name, the edges and the address of a row take.
+const BESIDE_ROWS: u32 = 20;
+
+/// The number of rows without `--height` of a drawing, and on a terminal that doesn't say how high it is.
+const USUAL_ROWS: u32 = 8;
+
+/// The largest number of cells and rows of a strip of a drawing, so that it stays small.
+const MAX_DRAWN: u32 = 1050;
+
+/// The number of cells of a row. A drawing doesn't depend on the screen.
+fn width_on(screen: Screen, request: &Map<'_>) -> u32 {
+    match request.svg {
+        Some(_) => request.width.unwrap_or(USUAL_WIDTH),
+        None => screen.cells_beside(BESIDE_ROWS, request.width),
+    }
+}
+
+/// The number of rows of `width` cells: as requested, else one where no terminal shows them. A drawing has no more than
+/// it has cells for.
+fn rows_on(screen: Screen, request: &Map<'_>, width: u32) -> u32 {
+    match (request.height, screen.rows) {
+        (height, _) if request.svg.is_some() => height
+            .unwrap_or(USUAL_ROWS)
+            .min((MAX_DRAWN / width.saturating_add(1)).max(1)),
+        (Some(height), _) => height,
+        (None, Some(rows)) if screen.is_terminal => rows_in(rows, request.after),
+        (None, None) if screen.is_terminal => USUAL_ROWS,
+        _ => 1,
+    }
+}
+
+/// The number of rows of a strip that fit into the lines of a terminal, with the figures, the legend and a prompt.
+fn rows_in(lines: u32, both: bool) -> u32 {
+    let strips = if both { 2 } else { 1 };
+    (lines.saturating_sub(5) / 2 / strips).max(1).min(100)
 }
 
 /// The style of a picture on standard output.
@@ -61,7 +128,7 @@ pub fn style_on(screen: Screen, look: Look) -> Style {
         } else {
             Glyphs::Letters
         },
-        is_coloured: (screen.is_terminal || look.coloured) && !look.plain,
+        is_coloured: (screen.has_colours() || look.coloured) && !look.plain,
     }
 }
 
@@ -69,7 +136,7 @@ pub fn style_on(screen: Screen, look: Look) -> Style {
 fn print<'a, R: Files + AllocGlobal + Threads + Sync>(
     rt: &R,
     image: FileWord<'a>,
-    cut: Cut,
+    cut: Cut<'_>,
     style: Style,
 ) -> Result<WorkDone<'a>, Trouble<'a>>
     ensures { IfOk result (λ done. IsMap done.text.items) }
@@ -86,7 +153,7 @@ fn draw<'a, R: Files + AllocGlobal + Threads + Sync>(
     rt: &R,
     image: FileWord<'a>,
     svg: FileWord<'a>,
-    cut: Cut,
+    cut: Cut<'_>,
     atomic: bool,
 ) -> Result<WorkDone<'a>, Trouble<'a>>
 where
@@ -102,7 +169,7 @@ where
 fn draw_to<'a, R: Files + AllocGlobal + Threads + Sync>(
     rt: &R,
     image: Watched<'a, R::File>,
-    cut: Cut,
+    cut: Cut<'_>,
     target: FileTarget<'a, R::File>,
 ) -> Result<WorkDone<'a>, Trouble<'a>>
 where
@@ -129,7 +196,7 @@ pub(crate) fn drawing_target<'a, H: Files + AllocGlobal>(
     file: FileWord<'a>,
     atomic: bool,
 ) -> Result<FileTarget<'a, H::File>, Trouble<'a>> {
-    must_differ(host.alloc(), image.word(), file)?;
+    output_must_differ(host.alloc(), image.word(), file)?;
     let (id, writing) = (image.id()?, image.writing(atomic)?);
     let target = FileTarget::find(host, file, writing)?;
     reject_same_file(host, target, image.word(), id)
@@ -139,11 +206,11 @@ pub(crate) fn drawing_target<'a, H: Files + AllocGlobal>(
 pub fn map<R: Intake, T: Threads + Sync>(
     alloc: Global,
     input: &mut R,
-    cut: Cut,
+    cut: Cut<'_>,
     style: Style,
     threads: &T,
 ) -> Result<String, Fault>
-    ensures map { IfOk result (λ text. IsPrinted style cut
+    ensures map { IfOk result (λ text. IsPrinted style cut.entry
         (R.left input.old) (R.left input.new) (string_bytes text)) }
     ensures fault { IfErr result (λ fault. IfSome (R.left input.old) (λ bytes. IsReason bytes fault)) }
 {
@@ -155,15 +222,15 @@ pub fn map<R: Intake, T: Threads + Sync>(
 fn text_of_image(
     alloc: Global,
     image: &Image,
-    cut: Cut,
+    cut: Cut<'_>,
     style: Style,
     threads: &(impl Threads + Sync),
 ) -> Result<String, Fault>
-    ensures map { IfOk result (λ text. IsPicture style cut image.now (string_bytes text)) }
+    ensures map { IfOk result (λ text. IsPicture style cut.entry image.now (string_bytes text)) }
     ensures fault { IfErr result (λ fault. fault ≡ Fault.Memory) }
 {
     let picture = picture_of_image(alloc, image, cut, threads)?;
-    Ok(picture.text(alloc, style)?)
+    Ok(picture.text(alloc, style, cut.shape())?)
 }
 
 /// Reads an image and draws its picture to a device. Returns the drawing, whose bytes were written, with the line of
@@ -174,7 +241,7 @@ pub fn draw_into<R: Intake, O: Outlet, T: Threads + Sync>(
     alloc: Global,
     input: &mut R,
     output: &mut O,
-    cut: Cut,
+    cut: Cut<'_>,
     threads: &T,
 ) -> Result<MapDrawing, Fault>
     ensures drawing { IfOk result (λ drawing. IsDrawing (R.left input.old) (R.left input.new) (string_bytes drawing.line)) }
@@ -203,7 +270,7 @@ pub struct MapDrawing {
 fn drawing_of(
     alloc: Global,
     image: &Image,
-    cut: Cut,
+    cut: Cut<'_>,
     threads: &(impl Threads + Sync),
 ) -> Result<MapDrawing, Fault>
     ensures line { IfOk result (λ drawing. IsMapLine image.now (string_bytes drawing.line)) }
@@ -212,7 +279,7 @@ fn drawing_of(
     let picture = picture_of_image(alloc, image, cut, threads)?;
     Ok(MapDrawing {
         line: text_of_figures(alloc, picture.figures)?,
-        svg: picture.svg(alloc)?,
+        svg: picture.svg(alloc, cut.shape(), cut.name)?,
     })
 }
 
@@ -220,12 +287,12 @@ fn drawing_of(
 fn picture_of_image(
     alloc: Global,
     image: &Image,
-    cut: Cut,
+    cut: Cut<'_>,
     threads: &(impl Threads + Sync),
 ) -> Result<Picture, Fault>
     ensures figures { IfOk result (λ picture. AreFiguresOf image.now picture.figures) }
-    ensures before { IfOk result (λ picture. picture.before.cells.items ≡ cells_before image.now (cells_shown cut.cells)) }
-    ensures after { IfOk result (λ picture. option_map (λ map. map.cells.items) picture.after ≡ after_shown image.now cut) }
+    ensures before { IfOk result (λ picture. picture.before.cells.items ≡ cells_before image.now (cells_shown cut.entry)) }
+    ensures after { IfOk result (λ picture. option_map (λ map. map.cells.items) picture.after ≡ after_shown image.now cut.entry) }
     ensures fault { IfErr result (λ fault. fault ≡ Fault.Memory) }
 {
     let survey = Survey::of(alloc, image, threads)?;
@@ -237,14 +304,14 @@ fn picture_of(
     alloc: Global,
     image: &Image,
     survey: &Survey,
-    cut: Cut,
+    cut: Cut<'_>,
 ) -> Result<Picture, AllocError>
     requires { survey.now ≡ image.now }
     ensures figures { IfOk result (λ picture. AreFiguresOf image.now picture.figures) }
-    ensures before { IfOk result (λ picture. picture.before.cells.items ≡ cells_before image.now (cells_shown cut.cells)) }
-    ensures after { IfOk result (λ picture. option_map (λ map. map.cells.items) picture.after ≡ after_shown image.now cut) }
+    ensures before { IfOk result (λ picture. picture.before.cells.items ≡ cells_before image.now (cells_shown cut.entry)) }
+    ensures after { IfOk result (λ picture. option_map (λ map. map.cells.items) picture.after ≡ after_shown image.now cut.entry) }
 {
-    let cells = cut.cells.max(1).min(MAX_CELLS);
+    let cells = cut.cells();
     if cut.after {
         Picture::of_both(alloc, image, survey, cells)
     } else {

@@ -5,23 +5,92 @@ use std::env::{Env, FillError};
 /// Room for the name of a locale. A longer name counts as unknown.
 const NAME_ROOM: usize = 128;
 
-/// What standard output can show.
+/// Room for a number of columns or lines, or for the name of a terminal.
+const NUMBER_ROOM: usize = 16;
+
+/// The number of cells of a row without `--width`, where the screen doesn't say how wide it is.
+pub(crate) const USUAL_WIDTH: u32 = 64;
+
+/// What standard output can show, and whether a person reads standard error.
 #[derive(Debug, Clone, Copy, PartialEq, Eq)]
 pub struct Screen {
-    /// Whether it is a terminal.
+    /// Whether standard output is a terminal.
     pub is_terminal: bool,
+    /// Whether standard error is a terminal.
+    pub shows_errors: bool,
     /// Whether the locale is a UTF-8 one.
     pub is_utf8: bool,
+    /// Whether `NO_COLOR` isn't empty, or `TERM` is `dumb`.
+    pub is_plain: bool,
+    /// The number of columns, where `COLUMNS` has it.
+    pub columns: Option<u32>,
+    /// The number of lines, where `LINES` has it.
+    pub rows: Option<u32>,
 }
 
 impl Screen {
-    /// The screen of a standard output that is a terminal or not, with the locale of this environment.
-    pub fn of<E: Env>(env: &E, is_terminal: bool) -> Screen {
+    /// The screen of a standard output and a standard error that are terminals or not, with the locale of this environment.
+    pub fn of<E: Env>(env: &E, is_terminal: bool, shows_errors: bool) -> Screen {
         Screen {
             is_terminal,
+            shows_errors,
             is_utf8: is_utf8(env),
+            is_plain: is_plain(env),
+            columns: number_in(env, "COLUMNS"),
+            rows: number_in(env, "LINES"),
         }
     }
+
+    /// Whether colours are shown unless an option says otherwise.
+    pub fn has_colours(self) -> bool {
+        self.is_terminal && !self.is_plain
+    }
+
+    /// The number of cells of a row: as requested, else as many as a terminal has columns for beside this many others.
+    pub(crate) fn cells_beside(self, others: u32, requested: Option<u32>) -> u32 {
+        match (requested, self.columns) {
+            (Some(width), _) => width,
+            (None, Some(columns)) if self.is_terminal => {
+                columns.saturating_sub(others).max(16).min(1000)
+            }
+            _ => USUAL_WIDTH,
+        }
+    }
+}
+
+/// Whether `NO_COLOR` isn't empty, or `TERM` is `dumb`.
+fn is_plain<E: Env>(env: &E) -> bool {
+    let mut value = [0; NUMBER_ROOM];
+    let is_refused = match env.var("NO_COLOR", &mut value) {
+        Ok(len) => 0 < len,
+        Err(FillError::TooLong) => true,
+        Err(FillError::NotPresent) => false,
+    };
+    is_refused || is_dumb(env)
+}
+
+/// Whether `TERM` is `dumb`.
+fn is_dumb<E: Env>(env: &E) -> bool {
+    let mut value = [0; NUMBER_ROOM];
+    match env.var("TERM", &mut value) {
+        Ok(len) => value[..len].eq_ignore_ascii_case(b"dumb"),
+        Err(_) => false,
+    }
+}
+
+/// The number in a variable, if it has one and it isn't 0.
+fn number_in<E: Env>(env: &E, name: &str) -> Option<u32> {
+    let mut value = [0; NUMBER_ROOM];
+    match env.var(name, &mut value) {
+        Ok(len) => number_of(&value[..len]),
+        Err(_) => None,
+    }
+}
+
+/// The number that these digits write, unless it is 0.
+fn number_of(digits: &[u8]) -> Option<u32> {
+    let number: u32 = std::str::from_utf8(digits).ok()?.parse().ok()?;
+    if number == 0 { None } else { Some(number) }
 }
 
 /// Whether the locale is a UTF-8 one. The first of these variables that is set decides.

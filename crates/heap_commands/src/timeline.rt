@@ -13,17 +13,21 @@ use crate::screen::Screen;
 use command_line::Timeline;
 use command_support::{
     Failure, FileTarget, FileWord, Late, Role, SystemFile, Trouble, Watched, WorkDone, ended,
-    must_differ, reject_same_file, two_different_inputs,
+    output_must_differ, reject_same_file, two_different_inputs,
 };
 use heap_image::{
     Fault, FromRead, Image, Intake, Outlet, ToWrite, give_all, read_image_by_threads,
 };
 use heap_map::Style;
 use history::Schedule;
+use schedule_timeline::Names;
 use std::alloc::{AllocError, Global};
 use std::rt::Files;
 use std::thread::Threads;
 use summary::Survey;
+
+/// The number of columns that a lane's name and edges take.
+const BESIDE_LANES: u32 = 12;
 
 /// Follows the schedule of one file on the image of another, and returns what `timeline` prints. A drawing or a page
 /// goes to a third file where the request names one.
@@ -42,7 +46,7 @@ where
     };
     let lanes = Lanes {
         style: style_on(screen, request.look),
-        width: request.width,
+        width: screen.cells_beside(BESIDE_LANES, request.width),
     };
     let (form, file) = match (request.svg, request.html) {
         (Some(_), Some(_)) => return Err(two_pictures(rt.alloc())?),
@@ -50,8 +54,15 @@ where
         (Some(svg), None) => (Form::Drawing, svg),
         (None, Some(html)) => (Form::Page, html),
     };
+    let wanted = Wanted {
+        form,
+        names: Names {
+            heap: request.image,
+            schedule: request.schedule,
+        },
+    };
     let file = FileWord::new(Role::Drawing, file);
-    write_picture(rt, inputs, form, file, request.atomic)
+    write_picture(rt, inputs, wanted, file, request.atomic)
 }
 
 /// The two files to read.
@@ -75,6 +86,14 @@ pub struct Lanes {
     pub style: Style,
     /// The largest number of cells of a lane.
     pub width: u32,
+}
+
+/// A picture to write.
+#[derive(Clone, Copy)]
+pub struct Wanted<'a> {
+    pub form: Form,
+    /// The names of the files that it shows.
+    pub names: Names<'a>,
 }
 
 /// The form of a picture.
@@ -119,7 +138,7 @@ fn print_lanes<'a, R: Files + AllocGlobal + Threads + Sync>(
 fn write_picture<'a, R: Files + AllocGlobal + Threads + Sync>(
     rt: &R,
     inputs: Inputs<'a>,
-    form: Form,
+    wanted: Wanted<'_>,
     file: FileWord<'a>,
     atomic: bool,
 ) -> Result<WorkDone<'a>, Trouble<'a>>
@@ -129,14 +148,14 @@ where
 {
     let opened = open(rt, inputs)?;
     let target = picture_target(rt, &opened, file, atomic)?;
-    write_picture_to(rt, opened, form, target)
+    write_picture_to(rt, opened, wanted, target)
 }
 
 /// Writes a drawing or a page of the schedule in a file to this file, and prints the figures.
 fn write_picture_to<'a, R: Files + AllocGlobal + Threads + Sync>(
     rt: &R,
     opened: Opened<'a, R::File>,
-    form: Form,
+    wanted: Wanted<'_>,
     target: FileTarget<'a, R::File>,
 ) -> Result<WorkDone<'a>, Trouble<'a>>
 where
@@ -153,7 +172,7 @@ where
         &mut FromRead::new(&mut image),
         &mut FromRead::new(&mut schedule),
         &mut output,
-        form,
+        wanted,
     );
     let late = output.into_inner();
     match written {
@@ -179,7 +198,7 @@ fn picture_target<'a, H: Files + AllocGlobal>(
     atomic: bool,
 ) -> Result<FileTarget<'a, H::File>, Trouble<'a>> {
     let Opened { image, schedule } = opened;
-    must_differ(host.alloc(), schedule.word(), file)?;
+    output_must_differ(host.alloc(), schedule.word(), file)?;
     let id = schedule.id()?;
     let target = drawing_target(host, image, file, atomic)?;
     reject_same_file(host, target, schedule.word(), id)
@@ -221,9 +240,9 @@ pub fn write_into<R: Intake, S: Intake, O: Outlet, T: AllocGlobal + Threads + Sy
     input: &mut R,
     source: &mut S,
     output: &mut O,
-    form: Form,
+    wanted: Wanted<'_>,
 ) -> Result<TimelinePicture, Unreplayed>
-    ensures picture { IfOk result (λ picture. HasPicture form (R.left input.old) (R.left input.new)
+    ensures picture { IfOk result (λ picture. HasPicture wanted.entry.form (R.left input.old) (R.left input.new)
         (S.left source.old) (string_bytes picture.line) picture.bytes.items) }
     ensures bytes { IfOk result (λ picture. Appends (O.took output.old) (O.took output.new) picture.bytes.items) }
     // Only the device stops it once it writes.
@@ -233,7 +252,7 @@ pub fn write_into<R: Intake, S: Intake, O: Outlet, T: AllocGlobal + Threads + Sy
         (S.left source.old) unreplayed.fault
         ⊎ ((unreplayed.fault ≡ Fault.Io) × IsTrue (O.has_failed output.new))) }
 {
-    let picture = make_picture(rt, input, source, form)?;
+    let picture = make_picture(rt, input, source, wanted)?;
     match give_all(output, &picture.bytes) {
         Ok(()) => Ok(picture),
         Err(failed) => Err(Unreplayed::from(Fault::from(failed))),
@@ -254,33 +273,39 @@ fn make_picture<R: Intake, S: Intake, T: AllocGlobal + Threads + Sync>(
     rt: &T,
     input: &mut R,
     source: &mut S,
-    form: Form,
+    wanted: Wanted<'_>,
 ) -> Result<TimelinePicture, Unreplayed>
-    ensures picture { IfOk result (λ picture. HasPicture form (R.left input.old) (R.left input.new)
+    ensures picture { IfOk result (λ picture. HasPicture wanted.entry.form (R.left input.old) (R.left input.new)
         (S.left source.old) (string_bytes picture.line) picture.bytes.items) }
     ensures fault { IfErr result (λ unreplayed. IsUnreplayed (R.left input.old) (R.left input.new)
         (S.left source.old) unreplayed.fault) }
 {
     let followed = follow(rt, input, source)?;
-    Ok(picture_of(rt.alloc(), &followed, form)?)
+    Ok(picture_of(rt.alloc(), &followed, wanted)?)
 }
 
 /// Makes the picture of a schedule on its image.
-fn picture_of(alloc: Global, followed: &Followed, form: Form) -> Result<TimelinePicture, AllocError>
-    ensures { IfOk result (λ picture. IsPictureOf form followed.now.timeline (string_bytes picture.line) picture.bytes.items) }
+fn picture_of(
+    alloc: Global,
+    followed: &Followed,
+    wanted: Wanted<'_>,
+) -> Result<TimelinePicture, AllocError>
+    ensures { IfOk result (λ picture. IsPictureOf wanted.entry.form followed.now.timeline (string_bytes picture.line) picture.bytes.items) }
 {
     let line = followed.timeline.line(alloc)?;
-    let bytes = bytes_of(alloc, followed, form)?;
+    let bytes = bytes_of(alloc, followed, wanted)?;
     Ok(TimelinePicture { line, bytes })
 }
 
 /// Makes a drawing or a page of a schedule.
-fn bytes_of(alloc: Global, followed: &Followed, form: Form) -> Result<Vec<u8>, AllocError>
-    ensures { IfOk result (λ bytes. form ≡ Form.Page → Has (schedule_text followed.now.timeline.schedule) bytes.items) }
+fn bytes_of(alloc: Global, followed: &Followed, wanted: Wanted<'_>) -> Result<Vec<u8>, AllocError>
+    ensures { IfOk result (λ bytes. wanted.entry.form ≡ Form.Page → Has (schedule_text followed.now.timeline.schedule) bytes.items) }
 {
-    match form {
-        Form::Drawing => Ok(followed.timeline.svg(alloc)?.into_bytes()),
-        Form::Page => followed.timeline.page(alloc, followed.survey.plan()),
+    match wanted.form {
+        Form::Drawing => Ok(followed.timeline.svg(alloc, wanted.names)?.into_bytes()),
+        Form::Page => followed
+            .timeline
+            .page(alloc, followed.survey.plan(), wanted.names),
     }
 }
 

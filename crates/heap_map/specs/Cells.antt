@@ -1,24 +1,28 @@
 -- The cells of a map: their words, their live words and their areas.
-use Rattle.std.specs.Prelude.{ℕ, ◌+◌, ◌-◌, ◌*◌, ◌/◌, min, ◌&&◌, nat_le, ◌==◌, if◌then◌else◌, List, map}
+use Rattle.std.specs.Prelude.{ℕ, ◌+◌, ◌-◌, ◌*◌, ◌/◌, min, max, ◌&&◌, nat_le, ◌==◌, if◌then◌else◌, List, map}
 use Rattle.std.specs.List.{range_with_len}
 use Rattle.heap_image.specs.HeapImage.{HeapImage, heap_words, last_end, live_words}
 use Rattle.summary.specs.NewAddresses.{prefix_end, new_top}
 use Rattle.summary.specs.Compaction.{compact}
 use Rattle.heap_map.specs.declared.area.Area.{Area}
-use Rattle.heap_map.specs.declared.area.Area.TheVariants.{Prefix, Fillers, Moving, Free, Mixed}
+use Rattle.heap_map.specs.declared.area.Area.TheVariants.{Prefix, Fillers, Moving, Free}
 use Rattle.heap_map.specs.declared.cell.Cell.{Cell}
 
 -- the first word of cell i of n, in a heap of this size; the cell ends where the next one begins
 abbrev pub cell_start : ℕ → ℕ → ℕ → ℕ
 cell_start words n i = i * words / n
 
+-- The area of a cell, by the numbers of its words below the prefix end, below the top, of all its words and of its live ones:
+-- the part that has most of its words, and of parts of the same size the lower one.
+abbrev pub largest_of : ℕ → ℕ → ℕ → ℕ → Area
+largest_of low high all live =
+    if nat_le (high - low) low && nat_le (all - high) low then (if live == all then Prefix else Fillers)
+    else (if nat_le (all - high) (high - low) then Moving else Free)
+
 -- the area of the words from one address up to another, of which some are live, where the dense prefix ends at prefix and
 -- the last live object at top
 abbrev pub area_of : ℕ → ℕ → ℕ → ℕ → ℕ → Area
-area_of prefix top from to live =
-    if nat_le to prefix then (if live == to - from then Prefix else Fillers)
-    else (if nat_le top from then Free
-    else (if nat_le prefix from && nat_le to top then Moving else Mixed))
+area_of prefix top from to live = largest_of (min prefix to - from) (min (max prefix top) to - from) (to - from) live
 
 -- the cell of the words from one address up to another
 abbrev pub cell_between : HeapImage → ℕ → ℕ → ℕ → ℕ → Cell

@@ -9,6 +9,6 @@ pub struct Cell {
     pub to: u64,
     /// The number of its live words.
     pub live: u64,
-    /// The part of the heap in which it lies.
+    /// The part of the heap in which most of its words lie.
     pub area: Area,
 }

@@ -1,56 +1,135 @@
-//! Draws a picture as SVG.
-ghost use Rattle.std.specs.Prelude.{◌≤◌, length};
+//! Draws a picture as SVG: rows of cells with their addresses, marks at the prefix end and the new top, and a legend.
+ghost use Rattle.std.specs.Prelude.{◌≤◌, ◌<◌, ◌^◌, length};
 
 use crate::area::Area;
+use crate::areas::occurs;
 use crate::cell::Cell;
 use crate::figures::MapFigures;
 use crate::map::Map;
+use crate::names::write_name;
 use crate::patterns::{
-    AREAS, SHADES, cover_of, digit_of, hatching_colour, hatching_of, key_of, name_of, share_of,
-    tint_of,
+    AREAS, SHADES, STYLES, cover_of, digit_of, hatching_of, key_of, line_of, name_of, share_of,
 };
 use crate::picture::Picture;
 use crate::shade::Shade;
+use crate::style::Shape;
 use std::alloc::{AllocError, Global};
 
-/// The largest width of a strip whose cells are wider than 1.
-const STRIP_WIDTH: u64 = 960;
+/// The width of the drawing. Its text is legible in a page that is 375 points wide.
+const WIDTH: u64 = 560;
 
-/// The y coordinate of the strip of the heap as it is.
-const BEFORE_AT: u64 = 60;
+/// The x coordinate at which rows begin. The address in words is left of it.
+const LEFT: u64 = 78;
 
-/// The y coordinate of the strip of the heap after its collection.
-const AFTER_AT: u64 = 150;
+/// The largest width of a row. The address in MiB is right of it.
+const ROW_WIDTH: u64 = 400;
 
-pub(crate) fn draw(alloc: Global, picture: &Picture) -> Result<String, AllocError> {
+const ROW_HEIGHT: u64 = 22;
+
+/// The height of a row with the space below it.
+const ROW_STEP: u64 = 34;
+
+/// The y coordinate at which the strips begin.
+const TOP: u64 = 76;
+
+/// A mark above a row, with a line through it.
+const PREFIX_MARK: &str = "M0 0L-5 -7H5ZV22";
+
+/// A mark below a row, with a line through it.
+const TOP_MARK: &str = "M0 22L-5 29H5ZV0";
+
+/// The number of words of one MiB.
+const MIB: u64 = 131_072;
+
+/// What all strips of a picture share.
+#[derive(Clone, Copy)]
+struct Frame {
+    figures: MapFigures,
+    /// The number of cells of a full row.
+    width: u32,
+}
+
+/// A row of a strip.
+#[derive(Clone, Copy)]
+struct Row<'a> {
+    cells: &'a [Cell],
+    /// The number of cells of a full row.
+    width: u64,
+    /// The y coordinate.
+    y: u64,
+    /// The address after the last word of the heap.
+    end: u64,
+}
+
+pub(crate) fn draw(
+    alloc: Global,
+    picture: &Picture,
+    shape: Shape,
+    name: &str,
+) -> Result<String, AllocError> {
     let mut svg = String::new(alloc);
-    let legend = match &picture.after {
-        Some(_) => AFTER_AT + 75,
-        None => BEFORE_AT + 75,
+    let frame = Frame {
+        figures: picture.figures,
+        width: shape.width.min(picture.before.cells.len() as u32).max(1),
     };
-    begin(&mut svg, picture.figures, legend + 80)?;
+    let strip = strip_height(&picture.before, frame);
+    let after_at = TOP.saturating_add(strip);
+    let legend = match &picture.after {
+        Some(_) => after_at.saturating_add(strip),
+        None => after_at,
+    };
+    begin(&mut svg, picture.figures, legend.saturating_add(124), name)?;
     draw_patterns(&mut svg)?;
-    draw_strip(&mut svg, "before", BEFORE_AT, &picture.before)?;
+    draw_strip(
+        &mut svg,
+        "before the collection",
+        TOP,
+        &picture.before,
+        frame,
+    )?;
     if let Some(after) = &picture.after {
-        draw_strip(&mut svg, "after", AFTER_AT, after)?;
+        draw_strip(&mut svg, "after it", after_at, after, frame)?;
     }
-    draw_areas(&mut svg, legend)?;
-    draw_shades(&mut svg, legend + 36)?;
+    draw_legend(&mut svg, picture, legend)?;
     svg.push_str("</svg>\n")?;
     Ok(svg)
 }
 
-/// Writes the head of the document and the figures.
-fn begin(svg: &mut String, figures: MapFigures, height: u64) -> Result<(), AllocError> {
-    let words = figures.words;
+/// The height of a strip with its name.
+fn strip_height(map: &Map, frame: Frame) -> u64 {
+    let rows = map.cells.len().div_ceil(frame.width.max(1) as usize) as u64;
+    rows.saturating_mul(ROW_STEP).saturating_add(34)
+}
+
+/// Writes the head of the document, the name of the heap and the figures.
+fn begin(svg: &mut String, figures: MapFigures, height: u64, name: &str) -> Result<(), AllocError> {
+    let MapFigures {
+        words,
+        live,
+        dead,
+        prefix_end,
+        new_top,
+        filled,
+    } = figures;
     writeln!(
         svg,
-        r##"<?xml version="1.0" encoding="UTF-8"?>
-<svg xmlns="http://www.w3.org/2000/svg" font-family="sans-serif" font-size="14" width="1020" height="{height}" viewBox="0 0 1020 {height}">
+        r#"<?xml version="1.0" encoding="UTF-8"?>
+<svg xmlns="http://www.w3.org/2000/svg" font-family="sans-serif" font-size="14" width="100%" viewBox="0 0 {WIDTH} {height}" style="max-width:1120px">
 <title>A heap of {words} words</title>
-<desc>{figures}</desc>
-<rect width="1020" height="{height}" fill="#fff"/>
-<text x="10" y="24">{figures}</text>"##
+<desc>{figures}</desc>"#
+    )?;
+    svg.push_str(STYLES)?;
+    writeln!(
+        svg,
+        r#"<rect class="page" width="{WIDTH}" height="{height}"/>"#
+    )?;
+    svg.push_str("<text x=\"8\" y=\"20\" font-weight=\"bold\">")?;
+    write_name(svg, name)?;
+    writeln!(
+        svg,
+        r#"</text>
+<text x="8" y="40">{words} words: {live} live, {dead} dead; {filled} regions to fill</text>
+<text x="8" y="60">dense prefix ends at {prefix_end}, new top is {new_top}</text>"#
     )
 }
 
@@ -73,69 +152,93 @@ fn draw_patterns_of(svg: &mut String, area: Area) -> Result<(), AllocError> {
 
 /// Writes the pattern of an area at a shade. Its id is the area's letter and the shade's digit.
 fn draw_pattern(svg: &mut String, area: Area, shade: Shade) -> Result<(), AllocError> {
-    let (key, tint, path) = (key_of(area), tint_of(area), hatching_of(area));
-    let (digit, cover, colour) = (digit_of(shade), cover_of(shade), hatching_colour(shade));
+    let (key, path) = (key_of(area), hatching_of(area));
+    let (digit, cover, line) = (digit_of(shade), cover_of(shade), line_of(shade));
     writeln!(
         svg,
-        r##"<pattern id="{key}{digit}" width="8" height="8" patternUnits="userSpaceOnUse"><rect width="8" height="8" fill="{tint}" fill-opacity="{cover}"/><path d="{path}" stroke="{colour}"/></pattern>"##
+        r#"<pattern id="{key}{digit}" width="8" height="8" patternUnits="userSpaceOnUse"><rect class="{key}" width="8" height="8" fill-opacity="{cover}"/><path class="{line}" d="{path}"/></pattern>"#
     )
 }
 
 /// Writes a strip at height `y`, with its name above it.
-fn draw_strip(svg: &mut String, name: &str, y: u64, map: &Map) -> Result<(), AllocError>
-    requires { 6 ≤ y }
-{
-    let above = y - 6;
+fn draw_strip(
+    svg: &mut String,
+    name: &str,
+    y: u64,
+    map: &Map,
+    frame: Frame,
+) -> Result<(), AllocError> {
+    let base = y.saturating_add(16);
     writeln!(
         svg,
-        r#"<text x="10" y="{above}">{name}</text>
-<g transform="translate(10,{y})">"#
+        r#"<text x="{LEFT}" y="{base}">{name}</text>
+<text x="8" y="{base}">word</text>"#
     )?;
-    draw_cells(svg, map.cells.as_slice())?;
-    let cells = map.cells.len();
-    let width = left_of(cells as u64, width_of(cells));
-    writeln!(
-        svg,
-        r##"<rect width="{width}" height="48" fill="none" stroke="#000"/>
-</g>"##
-    )
+    draw_rows(svg, y.saturating_add(28), map, frame)
 }
 
-/// The width of a cell in a strip of this number of cells: at least 1.
-fn width_of(cells: usize) -> u64
-    ensures { result ≤ 960 }
-{
-    if cells == 0 {
-        return STRIP_WIDTH;
-    }
-    (STRIP_WIDTH / cells as u64).max(1)
-}
-
-/// Writes the cells of a strip.
-fn draw_cells(svg: &mut String, cells: &[Cell]) -> Result<(), AllocError>
-    requires { length cells.now ≤ 1000 }
-{
-    let width = width_of(cells.len());
-    for (i, cell) in cells.iter().enumerate() {
-        draw_cell(svg, cell, left_of(i as u64, width), width)?;
+/// Writes the rows of a strip, from height `y` on.
+fn draw_rows(svg: &mut String, y: u64, map: &Map, frame: Frame) -> Result<(), AllocError> {
+    let width = frame.width.max(1);
+    for (i, cells) in map.cells.as_slice().chunks(width as usize).enumerate() {
+        let row = Row {
+            cells,
+            width: u64::from(width),
+            y: (i as u64).saturating_mul(ROW_STEP).saturating_add(y),
+            end: frame.figures.words,
+        };
+        draw_row(svg, row, frame.figures)?;
     }
     Ok(())
 }
 
-/// The x coordinate of cell `i`, within its strip.
-fn left_of(i: u64, width: u64) -> u64
-    requires i { i ≤ 1000 }
-    requires width { width ≤ 960 }
-{
-    i * width
+/// Writes a row between its addresses.
+fn draw_row(svg: &mut String, row: Row<'_>, figures: MapFigures) -> Result<(), AllocError> {
+    let from = match row.cells.first() {
+        Some(cell) => cell.from,
+        None => 0,
+    };
+    let base = row.y.saturating_add(16);
+    let right = LEFT + ROW_WIDTH + 6;
+    let (whole, tenths) = (from / MIB, from % MIB * 10 / MIB);
+    writeln!(
+        svg,
+        r#"<text x="8" y="{base}">{from}</text>
+<text x="{right}" y="{base}">{whole}.{tenths} MiB</text>
+<g transform="translate({LEFT},{})">"#,
+        row.y
+    )?;
+    draw_cells(svg, row)?;
+    draw_mark(svg, row, figures.prefix_end, "prefix end", PREFIX_MARK)?;
+    draw_mark(svg, row, figures.new_top, "new top", TOP_MARK)?;
+    svg.push_str("</g>\n")
 }
 
-/// Writes a cell, with its words and its area as a title.
-fn draw_cell(svg: &mut String, cell: &Cell, x: u64, width: u64) -> Result<(), AllocError> {
+/// Writes the cells of a row.
+fn draw_cells(svg: &mut String, row: Row<'_>) -> Result<(), AllocError> {
+    for (i, cell) in row.cells.iter().enumerate() {
+        draw_cell(svg, cell, i as u64, row.width)?;
+    }
+    Ok(())
+}
+
+/// The x coordinate of cell `i` of a row of `width` cells, in tenths.
+fn left_of(i: u64, width: u64) -> u64 {
+    (ROW_WIDTH * 10).saturating_mul(i) / width.max(1)
+}
+
+/// Writes cell `i` of a row of `width` cells, with its words and its area as a title.
+fn draw_cell(svg: &mut String, cell: &Cell, i: u64, width: u64) -> Result<(), AllocError> {
     let (key, digit) = (key_of(cell.area), digit_of(Shade::of(cell)));
+    let x = left_of(i, width);
+    let wide = left_of(i.saturating_add(1), width).saturating_sub(x);
     write!(
         svg,
-        r#"<rect x="{x}" width="{width}" height="48" fill="url(#{key}{digit})">"#
+        r#"<rect x="{}.{}" width="{}.{}" height="{ROW_HEIGHT}" fill="url(#{key}{digit})">"#,
+        x / 10,
+        x % 10,
+        wide / 10,
+        wide % 10
     )?;
     let (from, last) = (cell.from, cell.to.saturating_sub(1));
     let (live, name) = (cell.live, name_of(cell.area));
@@ -145,38 +248,81 @@ fn draw_cell(svg: &mut String, cell: &Cell, x: u64, width: u64) -> Result<(), Al
     )
 }
 
-/// Writes the legend of the hatchings at height `y`.
-fn draw_areas(svg: &mut String, y: u64) -> Result<(), AllocError>
-    requires { y ≤ 1000 }
-{
-    for (i, area) in AREAS.iter().enumerate() {
-        draw_sample(svg, *area, Shade::Middle, 10 + 180 * i as u64, y)?;
-        writeln!(svg, "{}</text>", name_of(*area))?;
+/// Writes a mark at an address, if it is in this row or ends the heap with it: `path` begins at the mark.
+fn draw_mark(
+    svg: &mut String,
+    row: Row<'_>,
+    address: u64,
+    name: &str,
+    path: &str,
+) -> Result<(), AllocError> {
+    let (from, to) = match (row.cells.first(), row.cells.last()) {
+        (Some(first), Some(last)) => (first.from, last.to),
+        _ => (0, 0),
+    };
+    let is_end = address == to && to == row.end;
+    if address < from || (to <= address && !is_end) {
+        return Ok(());
+    }
+    let full = left_of(row.cells.len() as u64, row.width);
+    let x = full.saturating_mul(address - from) / to.saturating_sub(from).max(1);
+    writeln!(
+        svg,
+        r#"<path class="mark" transform="translate({}.{},0)" d="{path}"><title>{name}: word {address}</title></path>"#,
+        x / 10,
+        x % 10
+    )
+}
+
+/// Writes the legends of areas, shades and marks from height `y` on.
+fn draw_legend(svg: &mut String, picture: &Picture, y: u64) -> Result<(), AllocError> {
+    draw_areas(svg, picture, y)?;
+    draw_shades(svg, y.saturating_add(34))?;
+    let marks = y.saturating_add(76);
+    writeln!(
+        svg,
+        r#"<g transform="translate(20,{marks})"><path class="mark" d="{PREFIX_MARK}"/><text x="14" y="10">end of the dense prefix</text>
+<path class="mark" transform="translate(220,0)" d="{TOP_MARK}"/><text x="234" y="10">top after the collection</text></g>"#
+    )
+}
+
+/// Writes the legend of the areas that occur, at height `y`.
+fn draw_areas(svg: &mut String, picture: &Picture, y: u64) -> Result<(), AllocError> {
+    let mut x: u64 = 8;
+    for area in AREAS {
+        if occurs(picture, area) {
+            let (key, name) = (key_of(area), name_of(area));
+            draw_sample(svg, x, y)?;
+            writeln!(svg, "fill=\"url(#{key}2)\"/></g>")?;
+            write_at(svg, x.saturating_add(30), y.saturating_add(16), name)?;
+            let width = (name.len() as u64).saturating_mul(8);
+            x = x.saturating_add(width).saturating_add(54);
+        }
     }
     Ok(())
 }
 
-/// Writes the legend of the shades at height `y`.
-fn draw_shades(svg: &mut String, y: u64) -> Result<(), AllocError>
-    requires { y ≤ 1000 }
-{
+/// Writes the legend of the shades at height `y`, without a colour of an area.
+fn draw_shades(svg: &mut String, y: u64) -> Result<(), AllocError> {
     for (i, shade) in SHADES.iter().enumerate() {
-        draw_sample(svg, Area::Moving, *shade, 10 + 180 * i as u64, y)?;
-        writeln!(svg, "{}</text>", share_of(*shade))?;
+        let x = [8, 128, 228, 328, 428][i.min(4)];
+        let (cover, name) = (cover_of(*shade), share_of(*shade));
+        draw_sample(svg, x, y)?;
+        writeln!(svg, "class=\"shade\" fill-opacity=\"{cover}\"/></g>")?;
+        write_at(svg, x.saturating_add(30), y.saturating_add(16), name)?;
     }
     Ok(())
 }
 
-/// Writes a sample of an area at a shade, and opens the text beside it.
-fn draw_sample(svg: &mut String, area: Area, shade: Shade, x: u64, y: u64) -> Result<(), AllocError>
-    requires x { x ≤ 1000 }
-    requires y { y ≤ 1000 }
-{
-    let (key, digit) = (key_of(area), digit_of(shade));
-    let (right, base) = (x + 32, y + 17);
+/// Writes a text at a point.
+fn write_at(svg: &mut String, x: u64, y: u64, text: &str) -> Result<(), AllocError> {
+    writeln!(svg, r#"<text x="{x}" y="{y}">{text}</text>"#)
+}
+
+/// Writes the frame of a sample, and opens its inside.
+fn draw_sample(svg: &mut String, x: u64, y: u64) -> Result<(), AllocError> {
     write!(
         svg,
-        r##"<rect x="{x}" y="{y}" width="24" height="24" stroke="#000" fill="url(#{key}{digit})"/>
-<text x="{right}" y="{base}">"##
+        r#"<g transform="translate({x},{y})"><rect class="frame" width="24" height="{ROW_HEIGHT}"/><rect width="24" height="{ROW_HEIGHT}" "#
     )
 }

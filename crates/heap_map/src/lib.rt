@@ -14,11 +14,13 @@
 #![tactic(auto)]
 
 mod area;
+mod areas;
 mod cell;
 mod drawing;
 mod figures;
 pub mod laws;
 mod map;
+mod names;
 mod patterns;
 mod picture;
 mod shade;
@@ -29,6 +31,7 @@ pub use area::Area;
 pub use cell::Cell;
 pub use figures::MapFigures;
 pub use map::{MAX_CELLS, Map};
+pub use names::write_name;
 pub use picture::Picture;
 pub use shade::Shade;
-pub use style::{Glyphs, Style};
+pub use style::{Glyphs, Shape, Style};

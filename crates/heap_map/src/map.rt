@@ -13,13 +13,13 @@ use summary::Survey;
 use summary::laws::live_words::live_words_by_blocks;
 
 /// The largest number of cells of a map.
-pub const MAX_CELLS: u32 = 1000;
+pub const MAX_CELLS: u32 = 100_000;
 
 /// A heap as a strip of cells in address order. Each word is in exactly one cell.
 #[derive(Drop)]
 pub struct Map {
     pub cells: Vec<Cell>,
-    ghost few: { vec_len cells ≤ 1000 },
+    ghost few: { vec_len cells ≤ 100000 },
 }
 
 impl Map {
@@ -32,7 +32,7 @@ impl Map {
     ) -> Result<Map, AllocError>
         requires same { survey.now ≡ image.now }
         requires some { 1 ≤ most }
-        requires few { most ≤ 1000 }
+        requires few { most ≤ 100000 }
         ensures { IfOk result (λ map. map.cells.items ≡ cells_before image.now most) }
     {
         let sketch = Sketch::before(image, survey);
@@ -55,7 +55,7 @@ impl Map {
     ) -> Result<Map, AllocError>
         requires same { survey.now ≡ image.now }
         requires some { 1 ≤ most }
-        requires few { most ≤ 1000 }
+        requires few { most ≤ 100000 }
         ensures { IfOk result (λ map. map.cells.items ≡ cells_after image.now most) }
     {
         let sketch = Sketch::after(survey);
@@ -116,23 +116,25 @@ impl Sketch {
         }
     }
 
-    /// The area in which the words from `from` up to `to` lie, of which `live` are live.
+    /// The area in which most words from `from` up to `to` lie, of which `live` are live.
     fn area(self, from: u64, to: u64, live: u64) -> Area
         requires { from ≤ to }
         ensures { result ≡ area_of self.prefix self.top from to live }
     {
-        if to <= self.prefix {
-            if live == to - from {
+        let all = to - from;
+        let low = self.prefix.min(to).saturating_sub(from);
+        let high = self.prefix.max(self.top).min(to).saturating_sub(from);
+        let (moving, free) = (high.saturating_sub(low), all.saturating_sub(high));
+        if moving <= low && free <= low {
+            if live == all {
                 Area::Prefix
             } else {
                 Area::Fillers
             }
-        } else if self.top <= from {
-            Area::Free
-        } else if self.prefix <= from && to <= self.top {
+        } else if free <= moving {
             Area::Moving
         } else {
-            Area::Mixed
+            Area::Free
         }
     }
 }
@@ -140,7 +142,7 @@ impl Sketch {
 /// The first word of cell `i` of `count` cells.
 fn start_of(image: &Image, count: u64, i: u64) -> u64
     requires some { 1 ≤ count }
-    requires few { count ≤ 1000 }
+    requires few { count ≤ 100000 }
     requires within { i ≤ count }
     ensures value { result ≡ cell_start (heap_words image.now) count i }
     ensures inside { result ≤ heap_words image.now }

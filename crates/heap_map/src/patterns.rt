@@ -1,15 +1,8 @@
-//! How areas and shades are drawn: hatching shows the area and darkness the shade, so a drawing can be read without
-//! colours.
+//! How areas and shades are drawn: hatching shows the area and cover the shade, so a drawing can be read without colours.
 use crate::area::Area;
 use crate::shade::Shade;
 
-pub(crate) const AREAS: [Area; 5] = [
-    Area::Prefix,
-    Area::Fillers,
-    Area::Moving,
-    Area::Free,
-    Area::Mixed,
-];
+pub(crate) const AREAS: [Area; 4] = [Area::Prefix, Area::Fillers, Area::Moving, Area::Free];
 
 /// All shades, from the lightest.
 pub(crate) const SHADES: [Shade; 5] = [
@@ -27,7 +20,6 @@ pub(crate) fn name_of(area: Area) -> &'static str {
         Area::Fillers => "prefix with fillers",
         Area::Moving => "moving",
         Area::Free => "free",
-        Area::Mixed => "several",
     }
 }
 
@@ -38,7 +30,6 @@ pub(crate) fn key_of(area: Area) -> &'static str {
         Area::Fillers => "f",
         Area::Moving => "m",
         Area::Free => "e",
-        Area::Mixed => "x",
     }
 }
 
@@ -47,20 +38,8 @@ pub(crate) fn hatching_of(area: Area) -> &'static str {
     match area {
         Area::Prefix => "M-2 2L2 -2M0 8L8 0M6 10L10 6",
         Area::Fillers => "M0 8L8 0M0 0L8 8",
-        Area::Moving => "",
+        Area::Moving => "M0 4h8",
         Area::Free => "M3 4h2",
-        Area::Mixed => "M0 4h8",
-    }
-}
-
-/// The colour of an area, dark enough for white lines on it.
-pub(crate) fn tint_of(area: Area) -> &'static str {
-    match area {
-        Area::Prefix => "#003f7f",
-        Area::Fillers => "#7f3f00",
-        Area::Moving => "#005f2f",
-        Area::Free => "#444444",
-        Area::Mixed => "#5f007f",
     }
 }
 
@@ -97,10 +76,41 @@ pub(crate) fn cover_of(shade: Shade) -> &'static str {
     }
 }
 
-/// The colour of hatching that stands out on a shade.
-pub(crate) fn hatching_colour(shade: Shade) -> &'static str {
+/// The class of hatching that stands out on a shade.
+pub(crate) fn line_of(shade: Shade) -> &'static str {
     match shade {
-        Shade::Empty | Shade::Low | Shade::Middle => "#000",
-        Shade::High | Shade::Full => "#fff",
+        Shade::Empty | Shade::Low | Shade::Middle => "onlight",
+        Shade::High | Shade::Full => "ondark",
     }
 }
+
+/// The colours, for light and dark pages. The class of an area is the letter of its patterns.
+pub(crate) const STYLES: &str = r##"<style>
+rect { shape-rendering: crispEdges }
+.page, .frame { fill: #fff }
+.frame { stroke: #555 }
+text { fill: #111 }
+.p { fill: #00508f }
+.f { fill: #8a4b00 }
+.m { fill: #00693a }
+.e { fill: #555 }
+.shade { fill: #111 }
+.onlight { stroke: #111 }
+.ondark { stroke: #fff }
+.onlight, .ondark { stroke-width: .7; stroke-opacity: .6 }
+.mark { fill: #c00000; stroke: #c00000; stroke-width: 1.4; stroke-linejoin: round }
+@media (prefers-color-scheme: dark) {
+.page, .frame { fill: #16181c }
+.frame { stroke: #aaa }
+text { fill: #eee }
+.p { fill: #8cc2ff }
+.f { fill: #ffc27a }
+.m { fill: #6fdc9f }
+.e { fill: #bbb }
+.shade { fill: #eee }
+.onlight { stroke: #eee }
+.ondark { stroke: #111 }
+.mark { fill: #ff8a7a; stroke: #ff8a7a }
+}
+</style>
+"##;

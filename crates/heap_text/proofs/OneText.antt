@@ -1,23 +1,24 @@
 -- No two valid images have the same text: the lines of one text determine the fields, words and objects of its image.
-use Rattle.std.proofs.Common.{◌≡◌, ◌≢◌, ℕ, zero, suc, ◌+◌, ◌-◌, ◌*◌, ◌/◌, ◌%◌, ◌^◌, ◌<◌, ◌≤◌, ◌⊎◌, inl, inr, Bool, true, false, List, [], ◌∷◌, ◌++◌, codes, decimal, get_or, drop, length, refl, sym, ap, ◌∙◌, subst, arith, append_assoc, add-one, All, Option, None, Some, ext_get_or, IfSome, is_some, append-nil}
-use Rattle.std.specs.Prelude.{◌==◌, if◌then◌else◌, flat_map, ⊤, nat_le}
+use Rattle.std.proofs.Common.{◌≡◌, ◌≢◌, ℕ, zero, suc, ◌+◌, ◌-◌, ◌^◌, ◌<◌, ◌≤◌, ◌⊎◌, inl, inr, Bool, true, false, List, [], ◌∷◌, ◌++◌, codes, decimal, get_or, drop, length, refl, sym, ap, ◌∙◌, subst, arith, append_assoc, add-one, All, Option, None, Some, ext_get_or, IfSome, is_some, append-nil}
+use Rattle.std.specs.Prelude.{◌==◌, if◌then◌else◌, flat_map}
 use Rattle.std.specs.List.{range_with_len, list_all, AllAdjacentBelow, AllByRecursion}
 use Rattle.std.proofs.lemmas.Bool.{cases_lt, cases_Bool, and_parts, le-leb, lt-leb, eqb-true}
 use Rattle.std.proofs.lemmas.List.Elements.{recursion_from_All, All-head, All-tail}
 use Rattle.std.proofs.lemmas.Fmt.{decimal_injective}
 use Rattle.heap_image.specs.Header.{size_of, references_of, kind_of}
-use Rattle.heap_image.specs.HeapImage.{HeapImage, IsValid, AreRoots, roots_or, HasSoundHeader, HasLiveList, heap_words, word_at, size_at, references_at, kind_at, end_of, version_of, roots_of}
-use Rattle.heap_text.specs.Text.{addresses_between, reference_text, number_text, number_line, roots_text, front_text, roots_line, references_text, numbers_text, object_text, are_equal, dead_words_text, dead_text, lines_from, text_of}
-use Rattle.heap_text.proofs.WordTexts.{some_reference, IsToken, EndsToken, AreAlike, decimal_unique, decimal_is_word, reference_word, reference_is, reference_is_word, reference_injective, run_unique, list_unique}
+use Rattle.heap_image.specs.HeapImage.{HeapImage, IsValid, AreRoots, roots_or, HasSoundHeader, heap_words, word_at, size_at, references_at, end_of, version_of}
+use Rattle.heap_text.specs.Text.{addresses_between, reference_text, number_text, number_line, roots_text, roots_line, references_text, numbers_text, object_text, are_equal, dead_words_text, dead_text, lines_from, text_of}
+use Rattle.heap_text.specs.Parsing.{LiesAhead}
+use Rattle.heap_text.proofs.WordTexts.{some_reference, EndsToken, AreAlike, decimal_unique, decimal_is_word, reference_word, reference_is, reference_is_word, reference_injective, run_unique, list_unique}
 
 -- a text in front of another, with the parts associated to the right
 five : (a b c d e X : List ℕ) → (a ++ (b ++ (c ++ (d ++ e)))) ++ X ≡ a ++ (b ++ (c ++ (d ++ (e ++ X))))
 five a b c d e X = simp append_assoc
 
-six : (a b c d e f X : List ℕ) → (a ++ (b ++ (c ++ (d ++ (e ++ f))))) ++ X ≡ a ++ (b ++ (c ++ (d ++ (e ++ (f ++ X)))))
+pub six : (a b c d e f X : List ℕ) → (a ++ (b ++ (c ++ (d ++ (e ++ f))))) ++ X ≡ a ++ (b ++ (c ++ (d ++ (e ++ (f ++ X)))))
 six a b c d e f X = simp append_assoc
 
-seven : (a b c d e f g X : List ℕ) → (a ++ (b ++ (c ++ (d ++ (e ++ (f ++ g)))))) ++ X ≡ a ++ (b ++ (c ++ (d ++ (e ++ (f ++ (g ++ X))))))
+pub seven : (a b c d e f g X : List ℕ) → (a ++ (b ++ (c ++ (d ++ (e ++ (f ++ g)))))) ++ X ≡ a ++ (b ++ (c ++ (d ++ (e ++ (f ++ (g ++ X))))))
 seven a b c d e f g X = simp append_assoc
 
 -- the text begins with a newline
@@ -74,22 +75,22 @@ references_unique = run_unique reference_text reference_word reference_is refere
 
 -- the optional parts of a line
 module _ (image : HeapImage) (from to : ℕ) where
-  no_references : to ≤ from → references_text image from to ≡ []
+  pub no_references : to ≤ from → references_text image from to ≡ []
   no_references h = rw (le-leb to from h) refl
 
-  some_references : from < to → references_text image from to ≡ codes " refs" ++ flat_map (λ a. reference_text (word_at image a)) (addresses_between from to)
+  pub some_references : from < to → references_text image from to ≡ codes " refs" ++ flat_map (λ a. reference_text (word_at image a)) (addresses_between from to)
   some_references h = rw (lt-leb to from h) refl
 
-  no_numbers : (name : List ℕ) → to ≤ from → numbers_text image name from to ≡ []
+  pub no_numbers : (name : List ℕ) → to ≤ from → numbers_text image name from to ≡ []
   no_numbers name h = rw (le-leb to from h) refl
 
-  some_numbers : (name : List ℕ) → from < to → numbers_text image name from to ≡ name ++ flat_map (λ a. number_text (word_at image a)) (addresses_between from to)
+  pub some_numbers : (name : List ℕ) → from < to → numbers_text image name from to ≡ name ++ flat_map (λ a. number_text (word_at image a)) (addresses_between from to)
   some_numbers name h = rw (lt-leb to from h) refl
 
-  no_dead : to ≤ from → dead_text image from to ≡ []
+  pub no_dead : to ≤ from → dead_text image from to ≡ []
   no_dead h = rw (le-leb to from h) refl
 
-  some_dead : from < to → dead_text image from to ≡ codes "@" ++ (decimal from ++ (codes " dead " ++ (decimal (to - from)
+  pub some_dead : from < to → dead_text image from to ≡ codes "@" ++ (decimal from ++ (codes " dead " ++ (decimal (to - from)
       ++ (dead_words_text image from to ++ codes "\n"))))
   some_dead h = rw (lt-leb to from h) refl
 
@@ -179,7 +180,7 @@ fields_unique A B va vb a (suc r) (suc q) s X Y e =
     let others = data_unique A B va vb (a + 1 + suc r) (a + s) X Y (all.rest ∙ ap (λ (k : ℕ). data_of B a k s Y) (sym same)) in
     (same, others.0, agree_join A B (a + 1) (a + 1 + suc r) (a + s) (λ i low high. all.words i low (omega arith)) others.1)
 
-header_unique : (h k : ℕ) → kind_of h ≡ 1 → kind_of k ≡ 1 → references_of h ≡ references_of k → size_of h ≡ size_of k → h ≡ k
+pub header_unique : (h k : ℕ) → kind_of h ≡ 1 → kind_of k ≡ 1 → references_of h ≡ references_of k → size_of h ≡ size_of k → h ≡ k
 header_unique h k p q r s = omega arith
 
 -- two objects at the same address
@@ -224,10 +225,10 @@ all_equal image from to h q low high =
     eqb-true (word_at image q) (word_at image from) (in_range (λ a. word_at image a == word_at image from) from (to - from) h q low (omega arith))
 
 module _ (image : HeapImage) (from to : ℕ) where
-  equal_words : are_equal image from to ≡ true → dead_words_text image from to ≡ codes " of" ++ number_text (word_at image from)
+  pub equal_words : are_equal image from to ≡ true → dead_words_text image from to ≡ codes " of" ++ number_text (word_at image from)
   equal_words h = rw h refl
 
-  unequal_words : from < to → are_equal image from to ≡ false → dead_words_text image from to ≡ codes " words" ++ flat_map (λ a. number_text (word_at image a)) (addresses_between from to)
+  pub unequal_words : from < to → are_equal image from to ≡ false → dead_words_text image from to ≡ codes " words" ++ flat_map (λ a. number_text (word_at image a)) (addresses_between from to)
   unequal_words some h = rw h (some_numbers image from to (codes " words") some)
 
 dead_words_end : (image : HeapImage) (from to : ℕ) → from < to → (X : List ℕ) → EndsToken (dead_words_text image from to ++ X)
@@ -267,7 +268,7 @@ dead_words_unique A B va vb from to some X Y e = go (cases_Bool (are_equal A fro
         (ap (drop 1) all.rest, λ i low high. all.words i low (omega arith))
 
 -- two dead runs from the same address
-dead_is : (image : HeapImage) (from to : ℕ) → from < to → (X : List ℕ)
+pub dead_is : (image : HeapImage) (from to : ℕ) → from < to → (X : List ℕ)
     → dead_text image from to ++ X ≡ codes "@" ++ (decimal from ++ (codes " dead " ++ (decimal (to - from) ++ (dead_words_text image from to ++ (codes "\n" ++ X)))))
 dead_is image from to some X = ap (λ (t : List ℕ). t ++ X) (some_dead image from to some) ∙ six (codes "@") (decimal from) (codes " dead ") (decimal (to - from)) (dead_words_text image from to) (codes "\n") X
 
@@ -312,11 +313,6 @@ front_unique A B va vb from to end low low' few few' X Y p q e = go (cases_lt fr
         absurd (no_dead_line B from end some few' Y X (subst (λ (k : ℕ). FollowsDead k X) at p) (sym e ∙ ap (λ (t : List ℕ). t ++ X) (no_dead A from to none)))
     go (inr none) (inr none') =
         (omega arith, sym (ap (λ (t : List ℕ). t ++ X) (no_dead A from to none)) ∙ (e ∙ ap (λ (t : List ℕ). t ++ Y) (no_dead B from end none')), λ i l h. absurd (omega arith))
-
--- these objects are sound and in order, from an address on
-abbrev LiesAhead : HeapImage → List ℕ → ℕ → Type 0
-LiesAhead image [] from = from ≤ heap_words image
-LiesAhead image (a ∷ live) from = (from ≤ a) × HasSoundHeader image a × LiesAhead image live (end_of image a)
 
 lies_ahead : (image : HeapImage) (from : ℕ) (live : List ℕ) → (0 < length live → from ≤ get_or live 0 0) → from ≤ heap_words image
     → All (λ a. HasSoundHeader image a) live → AllAdjacentBelow (λ a b. end_of image a ≤ b) live (length live) → LiesAhead image live from
@@ -374,7 +370,7 @@ lines_unique A B va vb len (a ∷ live) (b ∷ others) from p q e =
     (cc, agree_join A B from a (heap_words A) all.2 (agree_join A B a (end_of A a) (heap_words A) object.2 rest.1))
 
 -- the head
-four : (a b c d X : List ℕ) → (a ++ (b ++ (c ++ d))) ++ X ≡ a ++ (b ++ (c ++ (d ++ X)))
+pub four : (a b c d X : List ℕ) → (a ++ (b ++ (c ++ d))) ++ X ≡ a ++ (b ++ (c ++ (d ++ X)))
 four a b c d X = simp append_assoc
 
 cancel : (p X Y : List ℕ) → p ++ X ≡ p ++ Y → X ≡ Y
@@ -387,10 +383,10 @@ number_line_unique name m n X Y few few' e =
     let both = decimal_unique m n (codes "\n" ++ X) (codes "\n" ++ Y) few few' (omega arith) (omega arith) (ap (drop 1) f) in
     (both.0, ap (drop 1) both.1)
 
-abbrev version_for : Option (List ℕ) → ℕ
+abbrev pub version_for : Option (List ℕ) → ℕ
 version_for roots = if is_some roots then 2 else 1
 
-abbrev line_of_roots : Option (List ℕ) → List ℕ
+abbrev pub line_of_roots : Option (List ℕ) → List ℕ
 line_of_roots roots = if version_for roots == 2 then roots_text (roots_or [] roots) else []
 
 roots_unique : (p q : Option (List ℕ)) → IfSome p (AllByRecursion (λ w. w < 2 ^ 64)) → IfSome q (AllByRecursion (λ w. w < 2 ^ 64))
@@ -411,10 +407,10 @@ roots_fit image valid = go image.roots valid.rooted
     go None r = tt
     go (Some roots) r = recursion_from_All (λ w. w < 2 ^ 64) roots (λ k d l. let low = r.inside k d l in omega (arith, low, valid.limits.few_words))
 
-ahead_of : (image : HeapImage) → IsValid image → LiesAhead image image.live 0
+pub ahead_of : (image : HeapImage) → IsValid image → LiesAhead image image.live 0
 ahead_of image valid = lies_ahead image 0 image.live (λ _. omega arith) (omega arith) valid.live_list.sound valid.live_list.apart
 
-version_few : (image : HeapImage) → version_of image < 2 ^ 64
+pub version_few : (image : HeapImage) → version_of image < 2 ^ 64
 version_few image = go image.roots
   where
     go : (roots : Option (List ℕ)) → version_for roots < 2 ^ 64

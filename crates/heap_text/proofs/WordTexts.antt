@@ -1,15 +1,11 @@
 -- Tokens of a line end at a space or a newline, so equal texts have equal tokens.
-use Rattle.std.proofs.Common.{◌≡◌, ◌≢◌, ℕ, zero, suc, false, ◌+◌, ◌-◌, ◌^◌, ◌%◌, ◌<◌, ◌≤◌, ◌⊎◌, inl, inr, List, [], ◌∷◌, ◌++◌, codes, decimal, get_or, refl, sym, ap, ◌∙◌, arith, append_assoc}
-use Rattle.std.specs.Prelude.{◌==◌, if◌then◌else◌, flat_map, ⊤}
+use Rattle.std.proofs.Common.{◌≡◌, ◌≢◌, ℕ, zero, suc, false, ◌+◌, ◌-◌, ◌^◌, ◌%◌, ◌<◌, ◌≤◌, inl, inr, List, [], ◌∷◌, ◌++◌, decimal, get_or, refl, sym, ap, ◌∙◌, arith, append_assoc}
+use Rattle.std.specs.Prelude.{◌==◌, flat_map}
 use Rattle.std.specs.List.{range_with_len, AllByRecursion}
 use Rattle.std.proofs.lemmas.Bool.{cases_lt, ne_eqb}
 use Rattle.std.proofs.lemmas.Fmt.{decimal_by_steps, decimal_injective}
 use Rattle.heap_text.specs.Text.{reference_text}
-
--- a token: no byte is a space, a newline or another one below the digits
-abbrev pub IsToken : List ℕ → Type 0
-IsToken [] = ⊤
-IsToken (b ∷ bs) = (48 ≤ b) × IsToken bs
+pub use Rattle.heap_text.specs.Tokens.{IsToken, reference_word}
 
 -- the text ends a token before it: its first byte is a space, a newline or another one below the digits
 abbrev pub EndsToken : List ℕ → Type 0
@@ -54,10 +50,6 @@ pub decimal_unique : (m n : ℕ) (r s : List ℕ) → m < 2 ^ 64 → n < 2 ^ 64 
 decimal_unique m n r s few few' p q e =
     let both = word_unique (decimal m) (decimal n) r s (decimal_is_word m few) (decimal_is_word n few') p q e in
     (decimal_injective m n few few' both.0, both.1)
-
--- a reference or a root without the space before it
-abbrev pub reference_word : ℕ → List ℕ
-reference_word w = if w == 0 then codes "null" else 64 ∷ decimal (w - 1)
 
 not_zero : (n : ℕ) → (suc n == 0) ≡ false
 not_zero n = ne_eqb (suc n) 0 (λ e. let no : ⊥ = omega (arith, e) in no)

@@ -1,7 +1,9 @@
 //! Makes the image of a text.
-ghost use Rattle.std.specs.Prelude.{◌≡◌, ◌≤◌, IfOk, IfErr, IfSome, IsTrue, OnOk, length};
+ghost use Rattle.std.specs.Prelude.{◌≡◌, ◌⊎◌, ◌≤◌, IfOk, IfErr, IfSome, IsTrue, OnOk, Ok, Err, Some, length};
 ghost use Rattle.std.specs.Io.KnownBytes.{IsAtEnd};
-ghost use Rattle.heap_image.specs.HeapImage.{IsValid};
+ghost use Rattle.heap_image.specs.HeapImage.{HeapImage, IsValid};
+ghost use Rattle.heap_text.specs.ImageBytes.{Gives};
+ghost use Rattle.heap_text.specs.Parsing.{AcceptsText, HasContents};
 ghost use Rattle.heap_text.specs.Text.{text_of};
 ghost use Rattle.heap_text.specs.TextLines.{IsAbout, IsLineOf, IsWithin};
 
@@ -9,7 +11,7 @@ use crate::error::{AssembleError, TextError};
 use crate::expected::Expected;
 use crate::image_bytes::ImageBytes;
 use crate::lines::{line_of_address, line_of_place};
-use crate::parsed_heap::ParsedHeap;
+use crate::parsed_heap::{ParsedHeap, numbers_after_words};
 use crate::reading::{parse_from, parse_text};
 use crate::writing::write_text_with_capacity;
 use heap_image::{Fault, Image, Intake, read_image};
@@ -20,6 +22,9 @@ use std::alloc::Global;
 /// The image is written as a text again and compared with the input, so only the exact text of an image is accepted.
 pub fn assemble(alloc: Global, text: &[u8]) -> Result<Image, TextError>
     ensures text { IfOk result (λ image. text.now ≡ text_of image) }
+    // The text of a valid image is rejected only if memory runs out.
+    ensures only { (image : HeapImage) → IsValid image → text.now ≡ text_of image
+        → (result ≡ Ok image) ⊎ (result ≡ Err TextError.Memory) }
     ensures valid { IfOk result (λ image. IsValid image) }
     ensures line { IfErr result (λ error. IsWithin text.now error) }
 {
@@ -38,6 +43,9 @@ pub fn assemble_from<R: Intake>(alloc: Global, device: &mut R) -> Result<Image, 
     ensures valid { IfOk result (λ image. IsValid image) }
     ensures line { IfErr result (λ error. IfSome (R.left device.old) (λ bytes. IsAbout bytes error)) }
     ensures device { result ≡ Err AssembleError.Device → IsTrue (R.has_failed device.new) }
+    // The text of a valid image is rejected only if memory runs out or the device fails.
+    ensures only { (image : HeapImage) → IsValid image → R.left device.old ≡ Some (text_of image) → (result ≡ Ok image)
+        ⊎ ((result ≡ Err (AssembleError.Text TextError.Memory)) ⊎ (result ≡ Err AssembleError.Device)) }
 {
     let mut text = Vec::new(alloc);
     let heap = parse_from(alloc, device, &mut text)?;
@@ -49,6 +57,8 @@ fn build_image(alloc: Global, heap: ParsedHeap, text: &[u8]) -> Result<Image, Te
     ensures text { IfOk result (λ image. text.now ≡ text_of image) }
     ensures valid { IfOk result (λ image. IsValid image) }
     ensures line { IfErr result (λ error. IsWithin text.now error) }
+    ensures accepts { (image : HeapImage) → IsValid image → text.now ≡ text_of image → HasContents image heap
+        → AcceptsText result (λ found. found ≡ image) }
 {
     let front = heap.front();
     let ParsedHeap {
@@ -58,8 +68,8 @@ fn build_image(alloc: Global, heap: ParsedHeap, text: &[u8]) -> Result<Image, Te
         roots,
         ..
     } = heap;
-    let tail = if is_rooted { &roots } else { &live };
-    let bytes = ImageBytes::new(alloc, front, words, tail.as_slice())?;
+    let tail = numbers_after_words(is_rooted, roots.as_slice(), live.as_slice());
+    let bytes = ImageBytes::new(alloc, front, words, tail)?;
     let image = decode_heap(alloc, bytes, text)?;
     check_live_objects(text, live.as_slice(), image.live())?;
     let written = write_text_with_capacity(alloc, &image, text.len())?;
@@ -74,14 +84,23 @@ fn build_image(alloc: Global, heap: ParsedHeap, text: &[u8]) -> Result<Image, Te
 fn decode_heap(alloc: Global, mut bytes: ImageBytes<'_>, text: &[u8]) -> Result<Image, TextError>
     ensures valid { IfOk result (λ image. IsValid image) }
     ensures line { IfErr result (λ error. IsWithin text.now error) }
+    ensures accepts { (image : HeapImage) → IsValid image → Gives image bytes.entry
+        → AcceptsText result (λ found. found ≡ image) }
 {
     match read_image(alloc, &mut bytes) {
         Ok(image) => Ok(image),
-        Err(Fault::Memory) => Err(TextError::Memory),
-        Err(fault) => {
-            let line = line_of_fault(text, fault);
-            Err(TextError::Line(line, Expected::Valid(fault)))
-        }
+        Err(fault) => Err(error_of_fault(text, fault)),
+    }
+}
+
+/// The error for a fault of the image of a text.
+fn error_of_fault(text: &[u8], fault: Fault) -> TextError
+    ensures line { IsWithin text.now result }
+    ensures memory { fault ≡ Fault.Memory → result ≡ TextError.Memory }
+{
+    match fault {
+        Fault::Memory => TextError::Memory,
+        _ => TextError::Line(line_of_fault(text, fault), Expected::Valid(fault)),
     }
 }
 
@@ -99,8 +118,12 @@ fn line_of_fault(text: &[u8], fault: Fault) -> u64
 
 /// Rejects a text whose objects are not exactly the live ones.
 fn check_live_objects(text: &[u8], listed: &[u64], live: &[u64]) -> Result<(), TextError>
-    ensures { IfErr result (λ error. IsWithin text.now error) }
+    ensures line { IfErr result (λ error. IsWithin text.now error) }
+    ensures accepts { listed.now ≡ live.now → result ≡ Ok tt }
 {
+    if listed == live {
+        return Ok(());
+    }
     let index = common_prefix(listed, live);
     let (address, expected) = match (listed.get(index), live.get(index)) {
         (Some(listed), None) => (*listed, Expected::Unreached(*listed)),

@@ -1,62 +1,89 @@
 //! Gives the bytes of the image of a parsed heap.
-ghost use Rattle.std.specs.Prelude.{◌≡◌, length};
+ghost use Rattle.std.specs.Prelude.{◌≡◌, ◌<◌, ◌≤◌, ◌++◌, ◌∷◌, [], true, false, None, IfOk, IfSome, length};
+ghost use Rattle.heap_image.specs.ImageText.{numbers};
+ghost use Rattle.heap_text.specs.ImageBytes.{bytes_left, numbers_left};
+ghost use Rattle.heap_text.specs.Words.{words_of};
 
 use crate::word_list::WordList;
-use heap_image::{Failed, Intake};
+use heap_image::{FRONT_BYTES, Failed, Intake};
 use std::alloc::{AllocError, Global};
+
+/// Where the bytes of a number begin, as they end at the end of the array.
+const NUMBER: usize = FRONT_BYTES - 8;
 
 /// A device that gives the bytes of an image, and frees each chunk of its words once that is given. So an image takes little
 /// more memory while it is made than it has words.
 #[derive(Drop)]
 pub(crate) struct ImageBytes<'a> {
-    /// The chunks that come after the current one, in reverse order.
-    chunks: Vec<Vec<u64>>,
-    /// The current chunk, and the index of its next number.
+    /// The next bytes, from index `byte` on: at first those of the front, then those of one number.
+    bytes: [u8; FRONT_BYTES],
+    byte: usize,
+    /// The current chunk of words, and the index of its next word.
     chunk: Vec<u64>,
     index: usize,
+    /// The chunks that come after it, in reverse order.
+    chunks: Vec<Vec<u64>>,
     /// The live addresses or the roots, which come after the words.
     tail: &'a [u64],
-    /// The bytes of the current number, and the index of the next one.
-    bytes: [u8; 8],
-    byte: usize,
 }
 
 impl<'a> ImageBytes<'a> {
     pub(crate) fn new(
         alloc: Global,
-        front: [u64; 4],
+        front: [u8; FRONT_BYTES],
         words: WordList,
         tail: &'a [u64],
-    ) -> Result<ImageBytes<'a>, AllocError> {
+    ) -> Result<ImageBytes<'a>, AllocError>
+        ensures { IfOk result (λ image. bytes_left image ≡ front ++ numbers (words_of words ++ tail.now)) }
+    {
         Ok(ImageBytes {
-            chunks: words.into_reversed_chunks(),
-            chunk: Vec::from_slice(alloc, &front)?,
+            bytes: front,
+            byte: 0,
+            chunk: Vec::new(alloc),
             index: 0,
+            chunks: words.into_reversed_chunks()?,
             tail,
-            bytes: [0; 8],
-            byte: 8,
         })
     }
 
-    fn next_byte(&mut self) -> Option<u8> {
-        if self.byte >= 8 {
-            self.bytes = self.next_number()?.to_le_bytes();
-            self.byte = 0;
+    fn next_byte(&mut self) -> Option<u8>
+        ensures some { IfSome result (λ byte. bytes_left self.old ≡ byte ∷ bytes_left self.new) }
+        ensures none { result ≡ None → bytes_left self.new ≡ bytes_left self.old }
+        ensures end { result ≡ None → bytes_left self.new ≡ [] }
+    {
+        if !self.has_byte() {
+            return None;
         }
         let byte = self.bytes[self.byte];
         self.byte += 1;
         Some(byte)
     }
 
-    fn next_number(&mut self) -> Option<u64>
-        ensures { self.new.byte ≡ self.old.byte }
+    /// Fetches the bytes of the next number if no other byte is next. Returns whether there is a next byte.
+    fn has_byte(&mut self) -> bool
+        ensures same { bytes_left self.new ≡ bytes_left self.old }
+        ensures some { result ≡ true → self.new.byte < 32 }
+        ensures none { result ≡ false → bytes_left self.new ≡ [] }
     {
-        if self.index >= self.chunk.len() {
-            if let Some(chunk) = self.chunks.pop() {
-                self.chunk = chunk;
-                self.index = 0;
-            }
+        if self.byte < FRONT_BYTES {
+            return true;
         }
+        let Some(number) = self.next_number() else {
+            return false;
+        };
+        self.bytes[NUMBER..].copy_from_slice(&number.to_le_bytes());
+        self.byte = NUMBER;
+        true
+    }
+
+    fn next_number(&mut self) -> Option<u64>
+        ensures some { IfSome result (λ number. numbers_left self.old ≡ number ∷ numbers_left self.new) }
+        ensures none { result ≡ None → numbers_left self.new ≡ numbers_left self.old }
+        ensures end { result ≡ None → numbers_left self.new ≡ [] }
+        ensures bytes { self.new.bytes ≡ self.old.bytes }
+        ensures byte { self.new.byte ≡ self.old.byte }
+    {
+        self.next_chunk();
         if self.index < self.chunk.len() {
             let number = self.chunk[self.index];
             self.index += 1;
@@ -66,12 +93,30 @@ impl<'a> ImageBytes<'a> {
         self.tail = rest;
         Some(*number)
     }
+
+    /// Goes on to the next chunk that has a word left, if there is one.
+    fn next_chunk(&mut self)
+        ensures same { numbers_left self.new ≡ numbers_left self.old }
+        ensures last { length self.new.chunk.items ≤ self.new.index → self.new.chunks.items ≡ [] }
+        ensures tail { self.new.tail ≡ self.old.tail }
+        ensures bytes { self.new.bytes ≡ self.old.bytes }
+        ensures byte { self.new.byte ≡ self.old.byte }
+    {
+        while self.index >= self.chunk.len() {
+            let Some(chunk) = self.chunks.pop() else {
+                return;
+            };
+            self.chunk = chunk;
+            self.index = 0;
+        }
+    }
 }
 
 impl Intake for ImageBytes<'_> {
-    ghost use Rattle.std.specs.Prelude.{None, false};
+    ghost use Rattle.std.specs.Prelude.{Some, false};
+    ghost use Rattle.heap_text.specs.ImageBytes.{bytes_left};
 
-    ghost left = { λ _. None };
+    ghost left = { λ image. Some (bytes_left image) };
 
     ghost has_failed = { λ _. false };
 

@@ -6,10 +6,10 @@
 //! rejected text should be different, and how. `docs/FORMATS.md`, "Heap text", has the grammar.
 //!
 //! **Proved**, for all inputs: `write_text` returns the text of the image, and no two valid images have the same text
-//! ([`one_text`]); the text of an image that `assemble` or `assemble_from` returns is exactly the input, up to its end, so the
-//! image is the only one with this text; an error names a line of the text, or the line after its last; an error of the device
-//! comes only where the device has failed; no call indexes out of range, overflows or runs forever. **Only tested**: that the
-//! text of each image is accepted; which errors come, and what they say. See the README.
+//! ([`one_text`]); `assemble` and `assemble_from` reject the text of a valid image only if memory or the device fails; the text
+//! of an image that they return is exactly the input, up to its end, so the image is the only one with this text; an error names
+//! a line of the text, or the line after its last; an error of the device comes only where the device has failed; no call
+//! indexes out of range, overflows or runs forever. **Only tested**: which errors come, and what they say. See the README.
 #![tactic(auto)]
 
 mod assembling;
@@ -25,6 +25,7 @@ mod next_line;
 mod object_line;
 mod parsed_heap;
 mod reading;
+mod roots_line;
 mod text_parser;
 mod tokens;
 mod word_list;

@@ -1,4 +1,7 @@
 //! Why a single line is rejected.
+ghost use Rattle.std.specs.Prelude.{◌≡◌};
+ghost use Rattle.heap_text.specs.declared.line_error.LineError.TheVariants.{Memory};
+
 use crate::expected::Expected;
 use std::alloc::{AllocError, AllocFailed};
 
@@ -12,12 +15,16 @@ pub(crate) enum LineError {
 }
 
 impl From<AllocError> for LineError {
+    ghost from_gives = { λ _ error. error ≡ Memory };
+
     fn from(_refused: AllocError) -> LineError {
         LineError::Memory
     }
 }
 
 impl<T: Drop> From<AllocFailed<T>> for LineError {
+    ghost from_gives = { λ _ error. error ≡ Memory };
+
     fn from(_refused: AllocFailed<T>) -> LineError {
         LineError::Memory
     }

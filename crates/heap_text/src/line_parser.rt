@@ -1,13 +1,16 @@
 //! Parses a text line by line.
-ghost use Rattle.std.specs.Prelude.{◌≡◌, ◌<◌, ◌≤◌, IsTrue};
+ghost use Rattle.std.specs.Prelude.{◌≡◌, ◌<◌, ◌≤◌, ◌++◌, ◌∷◌, ℕ, Bool, true, false, Some, IsTrue, if◌then◌else◌, codes, decimal};
+ghost use Rattle.heap_image.specs.HeapImage.{IsWithinLimits};
+ghost use Rattle.heap_text.specs.declared.next_line.NextLine.TheVariants.{Roots, Heap};
 
 use crate::expected::Expected;
 use crate::line_error::LineError;
 use crate::next_line::NextLine;
 use crate::parsed_heap::ParsedHeap;
-use crate::tokens::{Tokens, parse_address, parse_labelled, parse_reference};
+use crate::roots_line::parse_roots;
+use crate::tokens::{Tokens, parse_address, parse_labelled};
 use heap_image::limits::{MAX_HEAP_WORDS, MAX_REGION_LOG, MAX_REGIONS, MIN_REGION_LOG};
-use std::alloc::{AllocError, Global};
+use std::alloc::Global;
 
 /// Parses one line after the other, each without its newline.
 #[derive(Drop)]
@@ -23,8 +26,20 @@ pub(crate) struct LineParser {
 }
 
 impl LineParser {
+    ghost use Rattle.std.specs.Prelude.{◌+◌, ◌^◌, [], List, OnOk, length};
+    ghost use Rattle.std.specs.List.{AllByRecursion};
+    ghost use Rattle.heap_image.specs.Header.{object_header};
+    ghost use Rattle.heap_image.specs.HeapImage.{HeapImage, IsValid};
+    ghost use Rattle.heap_text.specs.Text.{number_text, text_of};
+    ghost use Rattle.heap_text.specs.TextBytes.{longest};
+    ghost use Rattle.heap_text.specs.TextLines.{ended_lines};
+    ghost use Rattle.heap_text.specs.Words.{Accepts, HasParsed, data_part, dead_part, references_part};
+    ghost use Rattle.heap_text.specs.Parsing.{AcceptsEnd, Expects, HasContents, IsAtAllowance, IsAtRegionLog, IsAtRoots, IsAtVersion, IsAtWords, IsInHeap};
+
     /// Expects the first line.
-    pub(crate) fn new(alloc: Global) -> LineParser {
+    pub(crate) fn new(alloc: Global) -> LineParser
+        ensures { (image : HeapImage) (text : List ℕ) → text ≡ text_of image → Expects image result text }
+    {
         LineParser {
             next: NextLine::Version,
             heap: ParsedHeap::new(alloc),
@@ -34,7 +49,10 @@ impl LineParser {
     }
 
     /// Parses the next line.
-    pub(crate) fn parse_line(&mut self, line: &[u8]) -> Result<(), LineError> {
+    pub(crate) fn parse_line(&mut self, line: &[u8]) -> Result<(), LineError>
+        ensures { (image : HeapImage) (rest : List ℕ) → IsValid image → Expects image self.old (line.now ++ (10 ∷ rest))
+            → ended_lines line.now ≡ 0 → Accepts result (λ _. Expects image self.new rest) }
+    {
         match self.next {
             NextLine::Version => self.parse_version(line),
             NextLine::RegionLog => self.parse_region_log(line),
@@ -46,7 +64,9 @@ impl LineParser {
     }
 
     /// The most bytes that the next line can have: each word takes at most a space and 20 digits.
-    pub(crate) fn longest_line(&self) -> u64 {
+    pub(crate) fn longest_line(&self) -> u64
+        ensures { result ≡ longest self.now.next self.now.len }
+    {
         match self.next {
             NextLine::Roots | NextLine::Heap => 64 + 21 * self.len,
             _ => 64,
@@ -54,7 +74,9 @@ impl LineParser {
     }
 
     /// Returns the contents of all lines, or what the next line should be if some are missing.
-    pub(crate) fn finish(self) -> Result<ParsedHeap, Expected> {
+    pub(crate) fn finish(self) -> Result<ParsedHeap, Expected>
+        ensures { (image : HeapImage) → IsValid image → Expects image self [] → AcceptsEnd result (HasContents image) }
+    {
         match self.next {
             NextLine::Version => Err(Expected::Version),
             NextLine::RegionLog => Err(Expected::RegionLog),
@@ -65,7 +87,9 @@ impl LineParser {
         }
     }
 
-    fn finish_heap(self) -> Result<ParsedHeap, Expected> {
+    fn finish_heap(self) -> Result<ParsedHeap, Expected>
+        ensures { (image : HeapImage) → IsValid image → IsInHeap image self [] → AcceptsEnd result (HasContents image) }
+    {
         let here = self.heap.words.len();
         if here == self.len {
             Ok(self.heap)
@@ -74,105 +98,109 @@ impl LineParser {
         }
     }
 
-    fn parse_version(&mut self, line: &[u8]) -> Result<(), LineError> {
-        self.heap.is_rooted = match parse_labelled(line, b"heap version ".as_slice()) {
-            Some(1) => false,
-            Some(2) => true,
-            _ => return Err(LineError::Expected(Expected::Version)),
+    fn parse_version(&mut self, line: &[u8]) -> Result<(), LineError>
+        ensures { (image : HeapImage) (rest : List ℕ) → IsAtVersion image self.old (line.now ++ (10 ∷ rest)) → ended_lines line.now ≡ 0
+            → Accepts result (λ _. Expects image self.new rest) }
+    {
+        let Some(is_rooted) = parse_version_line(line) else {
+            return Err(LineError::Expected(Expected::Version));
         };
+        self.heap.is_rooted = is_rooted;
         self.next = NextLine::RegionLog;
         Ok(())
     }
 
-    fn parse_region_log(&mut self, line: &[u8]) -> Result<(), LineError> {
-        match parse_labelled(line, b"region-log ".as_slice()) {
-            Some(log) if is_region_log(log) => self.heap.region_log = log as u32,
-            _ => return Err(LineError::Expected(Expected::RegionLog)),
+    fn parse_region_log(&mut self, line: &[u8]) -> Result<(), LineError>
+        ensures { (image : HeapImage) (rest : List ℕ) → IsValid image → IsAtRegionLog image self.old (line.now ++ (10 ∷ rest))
+            → ended_lines line.now ≡ 0 → Accepts result (λ _. Expects image self.new rest) }
+    {
+        let Some(log) = parse_labelled(line, b"region-log ".as_slice()) else {
+            return Err(LineError::Expected(Expected::RegionLog));
+        };
+        if !is_region_log(log) {
+            return Err(LineError::Expected(Expected::RegionLog));
         }
+        self.heap.region_log = log as u32;
         self.next = NextLine::Words;
         Ok(())
     }
 
-    fn parse_words(&mut self, line: &[u8]) -> Result<(), LineError> {
-        match parse_labelled(line, b"words ".as_slice()) {
-            Some(len) if self.is_heap_size(len) => self.len = len,
-            _ => return Err(LineError::Expected(Expected::Words)),
+    fn parse_words(&mut self, line: &[u8]) -> Result<(), LineError>
+        ensures { (image : HeapImage) (rest : List ℕ) → IsValid image → IsAtWords image self.old (line.now ++ (10 ∷ rest))
+            → ended_lines line.now ≡ 0 → Accepts result (λ _. Expects image self.new rest) }
+    {
+        let Some(len) = parse_labelled(line, b"words ".as_slice()) else {
+            return Err(LineError::Expected(Expected::Words));
+        };
+        if !is_heap_size(len, self.heap.region_log) {
+            return Err(LineError::Expected(Expected::Words));
         }
+        self.len = len;
         self.next = NextLine::Allowance;
         Ok(())
     }
 
-    /// Whether `len` words are whole regions, and their number is allowed.
-    fn is_heap_size(&self, len: u64) -> bool
-        ensures { IsTrue result → len ≤ 4194304 }
+    fn parse_allowance(&mut self, line: &[u8]) -> Result<(), LineError>
+        ensures { (image : HeapImage) (rest : List ℕ) → IsValid image → IsAtAllowance image self.old (line.now ++ (10 ∷ rest))
+            → ended_lines line.now ≡ 0 → Accepts result (λ _. Expects image self.new rest) }
     {
-        let region_words = 1u64 << self.heap.region_log.min(MAX_REGION_LOG);
-        1 <= len
-            && len <= MAX_HEAP_WORDS
-            && len % region_words == 0
-            && len / region_words <= MAX_REGIONS
-    }
-
-    fn parse_allowance(&mut self, line: &[u8]) -> Result<(), LineError> {
-        match parse_labelled(line, b"allowance ".as_slice()) {
-            Some(allowance) => self.heap.allowance = allowance,
-            None => return Err(LineError::Expected(Expected::Allowance)),
-        }
-        self.next = if self.heap.is_rooted {
-            NextLine::Roots
-        } else {
-            NextLine::Heap
+        let Some(allowance) = parse_labelled(line, b"allowance ".as_slice()) else {
+            return Err(LineError::Expected(Expected::Allowance));
         };
+        self.heap.allowance = allowance;
+        self.next = line_after_allowance(self.heap.is_rooted);
         Ok(())
     }
 
-    fn parse_roots(&mut self, line: &[u8]) -> Result<(), LineError> {
+    fn parse_roots(&mut self, line: &[u8]) -> Result<(), LineError>
+        ensures { (image : HeapImage) (rest : List ℕ) → IsValid image → IsAtRoots image self.old (line.now ++ (10 ∷ rest))
+            → ended_lines line.now ≡ 0 → Accepts result (λ _. Expects image self.new rest) }
+    {
         let (name, tokens) = Tokens::of(line);
         if name != b"roots".as_slice() {
             return Err(LineError::Expected(Expected::Roots));
         }
-        for token in tokens {
-            match parse_reference(token, self.len) {
-                Some(root) => self.push_root(root)?,
-                None => return Err(LineError::Expected(Expected::Reference(self.len))),
-            }
-        }
-        if self.heap.roots.len() as u64 > self.len {
-            return Err(LineError::Expected(Expected::FewRoots(self.len)));
-        }
+        parse_roots(&mut self.heap.roots, self.len, tokens)?;
         self.next = NextLine::Heap;
         Ok(())
     }
 
-    /// Pushes a root, but keeps at most one root more than the heap has words. That one shows that there are too many,
-    /// and a line of any length takes no more memory.
-    fn push_root(&mut self, root: u64) -> Result<(), AllocError> {
-        if self.heap.roots.len() as u64 <= self.len {
-            self.heap.roots.push(root)?;
-        }
-        Ok(())
-    }
-
     /// Parses the line of an object or of a dead run.
-    fn parse_heap_line(&mut self, line: &[u8]) -> Result<(), LineError> {
+    fn parse_heap_line(&mut self, line: &[u8]) -> Result<(), LineError>
+        ensures { (image : HeapImage) (rest : List ℕ) → IsValid image → IsInHeap image self.old (line.now ++ (10 ∷ rest))
+            → ended_lines line.now ≡ 0 → Accepts result (λ _. (self.new.next ≡ self.old.next) × IsInHeap image self.new rest) }
+    {
         let here = self.heap.words.len();
         if here >= self.len {
             return Err(LineError::Expected(Expected::End));
         }
         let (place, mut tokens) = Tokens::of(line);
-        if parse_address(place) != Some(here) {
+        if !is_address(place, here) {
             return Err(LineError::Expected(Expected::Place(here)));
         }
-        match tokens.next() {
-            Some(kind) if kind == b"object".as_slice() => self.parse_object(here, tokens),
-            Some(kind) if kind == b"dead".as_slice() => self.parse_dead(here, tokens),
-            _ => Err(LineError::Expected(Expected::Kind)),
+        let Some(kind) = tokens.next_token() else {
+            return Err(LineError::Expected(Expected::Kind));
+        };
+        if kind == b"object".as_slice() {
+            return self.parse_object(here, tokens);
         }
+        if kind == b"dead".as_slice() {
+            return self.parse_dead(here, tokens);
+        }
+        Err(LineError::Expected(Expected::Kind))
     }
 
     fn parse_object(&mut self, here: u64, tokens: Tokens<'_>) -> Result<(), LineError>
         requires here { here ≡ self.old.heap.words.len }
         requires left { here < self.old.len }
+        ensures accepts { (refs others : List ℕ) → AllByRecursion (λ w. w ≤ self.old.len) refs → AllByRecursion (λ w. w < 2 ^ 64) others
+            → tokens.entry.rest.now ≡ number_text (1 + (length refs + length others)) ++ (references_part refs ++ data_part others)
+            → self.old.heap.words.len + (1 + (length refs + length others)) ≤ self.old.len
+            → Accepts result (λ _. HasParsed self.old.heap self.new.heap
+            (object_header (1 + (length refs + length others)) (length refs) ∷ (refs ++ others)) (self.old.heap.words.len ∷ [])) }
+        ensures next { self.new.next ≡ self.old.next }
+        ensures len { self.new.len ≡ self.old.len }
+        ensures follows { OnOk result (self.new.follows_dead_run ≡ false) }
     {
         self.heap.parse_object(self.len, tokens)?;
         self.follows_dead_run = false;
@@ -182,6 +210,12 @@ impl LineParser {
     fn parse_dead(&mut self, here: u64, tokens: Tokens<'_>) -> Result<(), LineError>
         requires here { here ≡ self.old.heap.words.len }
         requires left { here < self.old.len }
+        ensures accepts { (ws : List ℕ) → AllByRecursion (λ w. w < 2 ^ 64) ws → 0 < length ws
+            → tokens.entry.rest.now ≡ number_text (length ws) ++ dead_part ws → self.old.heap.words.len + length ws ≤ self.old.len
+            → self.old.follows_dead_run ≡ false → Accepts result (λ _. HasParsed self.old.heap self.new.heap ws []) }
+        ensures next { self.new.next ≡ self.old.next }
+        ensures len { self.new.len ≡ self.old.len }
+        ensures follows { OnOk result (self.new.follows_dead_run ≡ true) }
     {
         if self.follows_dead_run {
             return Err(LineError::Expected(Expected::Object(here)));
@@ -192,9 +226,52 @@ impl LineParser {
     }
 }
 
+/// Whether the text has roots, by its first line.
+fn parse_version_line(line: &[u8]) -> Option<bool>
+    ensures { (rooted : Bool) → line.now ≡ codes "heap version " ++ decimal (if rooted then 2 else 1) → result ≡ Some rooted }
+{
+    match parse_labelled(line, b"heap version ".as_slice()) {
+        Some(1) => Some(false),
+        Some(2) => Some(true),
+        _ => None,
+    }
+}
+
+/// Whether a token is `@` and this address.
+fn is_address(token: &[u8], address: u64) -> bool
+    ensures { token.now ≡ 64 ∷ decimal address → result ≡ true }
+{
+    parse_address(token) == Some(address)
+}
+
+/// The line after that of the allowance.
+fn line_after_allowance(is_rooted: bool) -> NextLine
+    ensures rooted { is_rooted ≡ true → result ≡ Roots }
+    ensures plain { is_rooted ≡ false → result ≡ Heap }
+{
+    if is_rooted {
+        NextLine::Roots
+    } else {
+        NextLine::Heap
+    }
+}
+
 /// Whether regions may have 2 to the power of `log` words.
 fn is_region_log(log: u64) -> bool
-    ensures { IsTrue result → log ≤ 16 }
+    ensures within { IsTrue result → log ≤ 16 }
+    ensures all { 3 ≤ log → log ≤ 16 → result ≡ true }
 {
     u64::from(MIN_REGION_LOG) <= log && log <= u64::from(MAX_REGION_LOG)
+}
+
+/// Whether `len` words are whole regions, and their number is allowed.
+fn is_heap_size(len: u64, region_log: u32) -> bool
+    ensures within { IsTrue result → len ≤ 4194304 }
+    ensures all { (count : ℕ) → IsWithinLimits region_log len count → result ≡ true }
+{
+    let region_words = 1u64 << region_log.min(MAX_REGION_LOG);
+    1 <= len
+        && len <= MAX_HEAP_WORDS
+        && len % region_words == 0
+        && len / region_words <= MAX_REGIONS
 }

@@ -1,10 +1,15 @@
 //! Parses the line of an object, after its address and kind.
-ghost use Rattle.std.specs.Prelude.{◌≡◌, ◌<◌, ◌≤◌, ◌+◌, OnOk, IfOk};
+ghost use Rattle.std.specs.Prelude.{◌≡◌, ◌<◌, ◌≤◌, ◌+◌, ◌^◌, ◌++◌, ◌∷◌, [], ℕ, List, OnOk, length, flat_map};
+ghost use Rattle.std.specs.List.{AllByRecursion};
+ghost use Rattle.heap_text.specs.Text.{number_text, reference_text};
+ghost use Rattle.heap_image.specs.Header.{object_header};
+ghost use Rattle.heap_text.specs.Words.{Accepts, HasParsed, all_equal, HasPushed, references_part, data_part, has_some};
 
 use crate::expected::Expected;
 use crate::line_error::LineError;
 use crate::parsed_heap::ParsedHeap;
 use crate::tokens::{Tokens, parse_number, parse_reference};
+use crate::word_list::WordList;
 use std::alloc::AllocError;
 
 impl ParsedHeap {
@@ -12,95 +17,138 @@ impl ParsedHeap {
     pub(crate) fn parse_object(&mut self, len: u64, mut tokens: Tokens<'_>) -> Result<(), LineError>
         requires left { self.old.words.len < len }
         requires few { len ≤ 4194304 }
+        ensures accepts { (refs others : List ℕ) → AllByRecursion (λ w. w ≤ len) refs → AllByRecursion (λ w. w < 2 ^ 64) others
+            → tokens.entry.rest.now ≡ number_text (1 + (length refs + length others)) ++ (references_part refs ++ data_part others)
+            → self.old.words.len + (1 + (length refs + length others)) ≤ len
+            → Accepts result (λ _. HasParsed self.old self.new
+            (object_header (1 + (length refs + length others)) (length refs) ∷ (refs ++ others)) (self.old.words.len ∷ [])) }
     {
         let place = self.words.len();
         let left = len - place;
-        let size = match tokens.next().and_then(parse_number) {
-            Some(size) if 1 <= size && size <= left => size,
-            _ => return Err(LineError::Expected(Expected::Size(left))),
+        let Some(size) = tokens.next_count(left) else {
+            return Err(LineError::Expected(Expected::Size(left)));
         };
+        let references = tokens.count_references().min(size);
         self.live.push(place)?;
-        self.words.push(0)?;
-        let references_end = self.parse_fields(len, tokens)?;
+        self.words.push((1 << 56) + (references << 32) + size)?;
+        self.words.parse_fields(len, tokens)?;
         if self.words.len() != place + size {
             return Err(LineError::Expected(Expected::FieldCount(size - 1)));
         }
-        let references = references_end - place - 1;
-        self.words.set(place, 1 << 56 | references << 32 | size);
         Ok(())
     }
+}
 
-    /// Parses `refs` and references, then `data` and numbers. Returns the number of words up to the last reference.
-    fn parse_fields(&mut self, len: u64, mut tokens: Tokens<'_>) -> Result<u64, LineError>
-        requires { len ≤ 4194304 }
-        ensures grown { OnOk result (self.old.words.len ≤ self.new.words.len) }
-        ensures low { IfOk result (λ end. self.old.words.len ≤ end) }
-        ensures high { IfOk result (λ end. end ≤ self.new.words.len) }
+impl WordList {
+    /// Parses `refs` and references, then `data` and numbers.
+    fn parse_fields(&mut self, len: u64, mut tokens: Tokens<'_>) -> Result<(), LineError>
+        requires few { len ≤ 4194304 }
+        ensures accepts { (refs others : List ℕ) → AllByRecursion (λ w. w ≤ len) refs → AllByRecursion (λ w. w < 2 ^ 64) others
+            → tokens.entry.rest.now ≡ references_part refs ++ data_part others → self.old.len + (length refs + length others) ≤ len
+            → Accepts result (λ _. HasPushed self.old self.new (refs ++ others)) }
     {
-        let Some(name) = tokens.next() else {
-            return Ok(self.words.len());
+        let Some(name) = tokens.next_token() else {
+            return Ok(());
         };
-        let has_data = if name == b"refs".as_slice() {
-            self.parse_references(len, &mut tokens)?
-        } else if name == b"data".as_slice() {
-            true
-        } else {
-            return Err(LineError::Expected(Expected::Fields));
-        };
-        let references_end = self.words.len();
-        if has_data {
-            self.parse_numbers(len, tokens)?;
+        if name == b"refs".as_slice() {
+            return self.parse_references_and_data(len, tokens);
         }
-        Ok(references_end)
+        if name == b"data".as_slice() {
+            return self.parse_data(len, tokens);
+        }
+        Err(LineError::Expected(Expected::Fields))
     }
 
-    /// Parses one reference or more, up to `data` or the end of the line. Returns whether `data` comes.
-    fn parse_references(&mut self, len: u64, tokens: &mut Tokens<'_>) -> Result<bool, LineError>
-        requires { len ≤ 4194304 }
-        ensures { OnOk result (self.old.words.len ≤ self.new.words.len) }
+    /// Parses references, then `data` and numbers if they come.
+    fn parse_references_and_data(
+        &mut self,
+        len: u64,
+        mut tokens: Tokens<'_>,
+    ) -> Result<(), LineError>
+        requires few { len ≤ 4194304 }
+        ensures accepts { (refs others : List ℕ) → AllByRecursion (λ w. w ≤ len) refs → AllByRecursion (λ w. w < 2 ^ 64) others
+            → 0 < length refs → tokens.entry.rest.now ≡ flat_map reference_text refs ++ data_part others
+            → self.old.len + (length refs + length others) ≤ len
+            → Accepts result (λ _. HasPushed self.old self.new (refs ++ others)) }
     {
-        let start = self.words.len();
-        while let Some(token) = tokens.next() {
-            match parse_reference(token, len) {
-                Some(reference) => self.push_word(len, reference)?,
-                None if token == b"data".as_slice() && self.words.len() > start => return Ok(true),
-                None => return Err(LineError::Expected(Expected::Reference(len))),
-            }
-        }
-        if self.words.len() > start {
-            Ok(false)
+        if self.parse_references(len, &mut tokens)? {
+            self.parse_data(len, tokens)
         } else {
-            Err(LineError::Expected(Expected::Reference(len)))
+            Ok(())
         }
     }
 
     /// Parses one number or more, up to the end of the line.
-    pub(crate) fn parse_numbers(&mut self, len: u64, tokens: Tokens<'_>) -> Result<(), LineError>
-        requires { len ≤ 4194304 }
-        ensures { OnOk result (self.old.words.len ≤ self.new.words.len) }
+    fn parse_data(&mut self, len: u64, tokens: Tokens<'_>) -> Result<(), LineError>
+        requires few { len ≤ 4194304 }
+        ensures accepts { (ws : List ℕ) → AllByRecursion (λ w. w < 2 ^ 64) ws → 0 < length ws
+            → tokens.entry.rest.now ≡ flat_map number_text ws → self.old.len + length ws ≤ len
+            → Accepts result (λ _. HasPushed self.old self.new ws) }
     {
-        let start = self.words.len();
-        for token in tokens {
-            match parse_number(token) {
-                Some(word) => self.push_word(len, word)?,
-                None => return Err(LineError::Expected(Expected::Number)),
+        match self.parse_numbers(len, tokens) {
+            Ok(_are_equal) => Ok(()),
+            Err(error) => Err(error),
+        }
+    }
+
+    /// Parses one reference or more, up to `data` or the end of the line. Returns whether `data` comes.
+    fn parse_references(&mut self, len: u64, tokens: &mut Tokens<'_>) -> Result<bool, LineError>
+        requires few { len ≤ 4194304 }
+        ensures accepts { (refs others : List ℕ) → AllByRecursion (λ w. w ≤ len) refs → 0 < length refs
+            → tokens.old.rest.now ≡ flat_map reference_text refs ++ data_part others → self.old.len + length refs ≤ len
+            → Accepts result (λ has_data. (has_data ≡ has_some others) × HasPushed self.old self.new refs
+            × (tokens.new.rest.now ≡ flat_map number_text others)) }
+    {
+        let Some(first) = tokens.next_reference(len) else {
+            return Err(LineError::Expected(Expected::Reference(len)));
+        };
+        self.push_word(len, first)?;
+        while let Some(token) = tokens.next_token() {
+            match parse_reference(token, len) {
+                Some(reference) => self.push_word(len, reference)?,
+                None if token == b"data".as_slice() => return Ok(true),
+                None => return Err(LineError::Expected(Expected::Reference(len))),
             }
         }
-        if self.words.len() > start {
-            Ok(())
-        } else {
-            Err(LineError::Expected(Expected::Number))
+        Ok(false)
+    }
+
+    /// Parses one number or more, up to the end of the line. Returns whether all are equal.
+    pub(crate) fn parse_numbers(
+        &mut self,
+        len: u64,
+        mut tokens: Tokens<'_>,
+    ) -> Result<bool, LineError>
+        requires few { len ≤ 4194304 }
+        ensures grown { OnOk result (self.old.len ≤ self.new.len) }
+        ensures accepts { (ws : List ℕ) → AllByRecursion (λ w. w < 2 ^ 64) ws → 0 < length ws
+            → tokens.entry.rest.now ≡ flat_map number_text ws → self.old.len + length ws ≤ len
+            → Accepts result (λ equal. (equal ≡ all_equal ws) × HasPushed self.old self.new ws) }
+    {
+        let Some(first) = tokens.next_number() else {
+            return Err(LineError::Expected(Expected::Number));
+        };
+        self.push_word(len, first)?;
+        let mut are_equal = true;
+        while let Some(token) = tokens.next_token() {
+            let Some(word) = parse_number(token) else {
+                return Err(LineError::Expected(Expected::Number));
+            };
+            are_equal &= word == first;
+            self.push_word(len, word)?;
         }
+        Ok(are_equal)
     }
 
     /// Pushes a word, but keeps at most one word more than the heap has. That one shows that the line is too long, and a
     /// line of any length takes no more memory.
     pub(crate) fn push_word(&mut self, len: u64, word: u64) -> Result<(), AllocError>
         requires { len ≤ 4194304 }
-        ensures { OnOk result (self.old.words.len ≤ self.new.words.len) }
+        ensures grown { OnOk result (self.old.len ≤ self.new.len) }
+        ensures pushed { self.old.len < len → OnOk result (HasPushed self.old self.new (word ∷ [])) }
     {
-        if self.words.len() <= len {
-            self.words.push(word)?;
+        if self.len() <= len {
+            self.push(word)?;
         }
         Ok(())
     }

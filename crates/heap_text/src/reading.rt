@@ -1,6 +1,9 @@
 //! Parses a text in memory or from a device.
-ghost use Rattle.std.specs.Prelude.{◌≡◌, ◌<◌, ◌++◌, ◌≢◌, [], true, false, List, ℕ, IfErr, IfSome, IsTrue, OnOk, length, vec_len};
+ghost use Rattle.std.specs.Prelude.{◌≡◌, ◌<◌, ◌++◌, ◌≢◌, [], true, false, List, ℕ, IfErr, IfSome, Some, IsTrue, OnOk, length, vec_len};
 ghost use Rattle.std.specs.Io.KnownBytes.{Consumes, IsAtEnd};
+ghost use Rattle.heap_image.specs.HeapImage.{HeapImage, IsValid};
+ghost use Rattle.heap_text.specs.Parsing.{AcceptsFrom, AcceptsText, HasContents};
+ghost use Rattle.heap_text.specs.Text.{text_of};
 ghost use Rattle.heap_text.specs.TextLines.{IsAbout, IsOfNoLine, IsWithin};
 
 use crate::error::{AssembleError, TextError};
@@ -14,7 +17,8 @@ const PIECE: usize = 65_536;
 
 /// Parses a text, which may still describe an invalid heap.
 pub(crate) fn parse_text(alloc: Global, text: &[u8]) -> Result<ParsedHeap, TextError>
-    ensures { IfErr result (λ error. IsWithin text.now error) }
+    ensures line { IfErr result (λ error. IsWithin text.now error) }
+    ensures accepts { (image : HeapImage) → IsValid image → text.now ≡ text_of image → AcceptsText result (HasContents image) }
 {
     let mut parser = TextParser::new(alloc);
     parser.parse_lines(text, 0)?;
@@ -33,6 +37,8 @@ pub(crate) fn parse_from<R: Intake>(
     ensures end { OnOk result (IsAtEnd (R.left device.new)) }
     ensures line { IfErr result (λ error. IfSome (R.left device.old) (λ bytes. IsAbout bytes error)) }
     ensures device { result ≡ Err AssembleError.Device → IsTrue (R.has_failed device.new) }
+    ensures accepts { (image : HeapImage) → IsValid image → R.left device.old ≡ Some (text_of image)
+        → AcceptsFrom result (HasContents image) }
 {
     let mut piece = vec![in alloc; 0u8; PIECE]?;
     let mut parser = TextParser::new(alloc);

@@ -1,6 +1,11 @@
 //! Splits a text that arrives in pieces into lines, and parses them.
-ghost use Rattle.std.specs.Prelude.{◌≡◌, ◌+◌, ◌-◌, ◌^◌, ◌<◌, ◌≤◌, [], IfErr, OnOk, length};
-ghost use Rattle.heap_text.specs.TextLines.{EndsInLine, IsOfLine, IsWithin};
+ghost use Rattle.std.specs.Prelude.{◌≡◌, ◌+◌, ◌-◌, ◌^◌, ◌<◌, ◌≤◌, ◌++◌, ◌∷◌, [], ℕ, List, IfErr, OnOk, Ok, true, length};
+ghost use Rattle.heap_image.specs.HeapImage.{HeapImage, IsValid};
+ghost use Rattle.heap_text.specs.Parsing.{AcceptsText, Expects, HasContents, IsWaiting};
+ghost use Rattle.heap_text.specs.Text.{text_of};
+ghost use Rattle.std.specs.List.{list_all};
+ghost use Rattle.heap_text.specs.TextBytes.{is_text_byte};
+ghost use Rattle.heap_text.specs.TextLines.{EndsInLine, IsOfLine, IsWithin, ended_lines};
 
 use crate::error::TextError;
 use crate::expected::Expected;
@@ -25,7 +30,9 @@ pub(crate) struct TextParser {
 impl TextParser {
     /// Before the first byte of a text.
     pub(crate) fn new(alloc: Global) -> TextParser
-        ensures { EndsInLine [] 0 result.line result.begin }
+        ensures stands { EndsInLine [] 0 result.line result.begin }
+        ensures waits { (image : HeapImage) (bytes more : List ℕ) → bytes ++ more ≡ text_of image
+            → IsWaiting image result bytes 0 more }
     {
         TextParser {
             parser: LineParser::new(alloc),
@@ -39,6 +46,8 @@ impl TextParser {
         requires { EndsInLine text.now seen self.old.line self.old.begin }
         ensures stands { OnOk result (EndsInLine text.now (length text.now) self.new.line self.new.begin) }
         ensures line { IfErr result (λ error. IsWithin text.now error) }
+        ensures accepts { (image : HeapImage) (more : List ℕ) → IsValid image → IsWaiting image self.old text.now seen more
+            → AcceptsText result (λ _. IsWaiting image self.new text.now (length text.now) more) }
     {
         for place in seen..text.len() {
             if text[place] == b'\n' {
@@ -55,6 +64,8 @@ impl TextParser {
         ensures line { OnOk result (self.new.line ≡ self.old.line + 1) }
         ensures begin { self.new.begin ≡ self.old.begin }
         ensures error { IfErr result (λ error. IsOfLine self.old.line error) }
+        ensures accepts { (image : HeapImage) (rest : List ℕ) → IsValid image → Expects image self.old.parser (bytes.now ++ (10 ∷ rest))
+            → ended_lines bytes.now ≡ 0 → AcceptsText result (λ _. Expects image self.new.parser rest) }
     {
         match self.parser.parse_line(bytes) {
             Ok(()) => {
@@ -71,21 +82,37 @@ impl TextParser {
     pub(crate) fn check_unfinished_line(&self, text: &[u8], seen: usize) -> Result<(), TextError>
         requires stands { EndsInLine text.now (length text.now) self.now.line self.now.begin }
         requires seen { seen ≤ length text.now }
-        ensures { IfErr result (λ error. IsWithin text.now error) }
+        ensures line { IfErr result (λ error. IsWithin text.now error) }
+        ensures accepts { (image : HeapImage) (more : List ℕ) → IsValid image → IsWaiting image self.now text.now (length text.now) more
+            → result ≡ Ok tt }
     {
-        let len = text.len() - self.begin;
-        if len as u64 > self.parser.longest_line()
-            || len > LONG_LINE && !is_of_line(&text[seen..])
-        {
+        if !self.can_be_completed(text, seen) {
             return Err(TextError::Line(self.line, Expected::Newline));
         }
         Ok(())
     }
 
+    /// Whether more bytes can complete the unfinished line at the end of `text`. If it is long, its bytes at `seen` or later
+    /// are tested.
+    fn can_be_completed(&self, text: &[u8], seen: usize) -> bool
+        requires stands { EndsInLine text.now (length text.now) self.now.line self.now.begin }
+        requires seen { seen ≤ length text.now }
+        ensures { (image : HeapImage) (more : List ℕ) → IsValid image → IsWaiting image self.now text.now (length text.now) more
+            → result ≡ true }
+    {
+        let len = text.len() - self.begin;
+        if len as u64 > self.parser.longest_line() {
+            return false;
+        }
+        len <= LONG_LINE || is_of_line(&text[seen.max(self.begin)..])
+    }
+
     /// Returns the contents of a text that ends here.
     pub(crate) fn finish(self, text: &[u8]) -> Result<ParsedHeap, TextError>
         requires { EndsInLine text.now (length text.now) self.line self.begin }
-        ensures { IfErr result (λ error. IsWithin text.now error) }
+        ensures line { IfErr result (λ error. IsWithin text.now error) }
+        ensures accepts { (image : HeapImage) → IsValid image → IsWaiting image self text.now (length text.now) []
+            → AcceptsText result (HasContents image) }
     {
         let TextParser {
             parser,
@@ -103,6 +130,20 @@ impl TextParser {
 }
 
 /// Whether a line of a text may have all of these bytes.
-fn is_of_line(bytes: &[u8]) -> bool {
-    bytes.iter().all(|byte| matches!(*byte, b' ' | b'-' | b'@' | b'0'..=b'9' | b'a'..=b'z'))
+fn is_of_line(bytes: &[u8]) -> bool
+    ensures { list_all is_text_byte bytes.now ≡ true → result ≡ true }
+{
+    for byte in bytes {
+        if !is_text_byte(*byte) {
+            return false;
+        }
+    }
+    true
+}
+
+/// Whether a line of a text may have this byte.
+fn is_text_byte(byte: u8) -> bool
+    ensures { result ≡ is_text_byte byte }
+{
+    matches!(byte, b' ' | b'-' | b'@' | b'0'..=b'9' | b'a'..=b'z')
 }

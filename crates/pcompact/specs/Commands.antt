@@ -19,20 +19,20 @@ use Rattle.heap_commands.specs.Upgrade.{upgrade_command}
 -- the commands, in the order in which help lists them
 abbrev pub all_commands : List Command
 all_commands =
-    board_command
-    ∷ summary_command
-    ∷ Collect.collect_command
+    Collect.collect_command
     ∷ Verify.verify_command
+    ∷ summary_command
+    ∷ order_command
+    ∷ map_command
+    ∷ text_command
+    ∷ assemble_command
     ∷ Record.record_command
     ∷ replay_command
+    ∷ timeline_command
     ∷ upgrade_command
     ∷ import_command
     ∷ generate_command
-    ∷ order_command
-    ∷ text_command
-    ∷ assemble_command
-    ∷ map_command
-    ∷ timeline_command
+    ∷ board_command
     ∷ []
 
 -- the first of these commands with this name prints such a text

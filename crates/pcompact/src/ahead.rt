@@ -52,10 +52,14 @@ fn extent_of(front: &[u8; FRONT_BYTES]) -> Option<Extent>
     ensures log { IfSome result (λ extent. extent.size.region_log ≤ 16) }
     ensures few { IfSome result (λ extent. body_words extent.size ≤ 8388608) }
 {
-    let extent = Extent::after_front(front)?;
-    let words = (extent.size.regions as u64) << extent.size.region_log;
-    if words < LEAST_WORDS {
+    if heap_words(front)? < LEAST_WORDS {
         return None;
     }
-    Some(extent)
+    Extent::after_front(front)
+}
+
+/// The number of words of the heap of an image with this front, if an image has such a front.
+pub fn heap_words(front: &[u8; FRONT_BYTES]) -> Option<u64> {
+    let extent = Extent::after_front(front)?;
+    Some((extent.size.regions as u64) << extent.size.region_log)
 }

@@ -44,10 +44,14 @@ impl CollectionTimes {
             .then(Phase::Write, self.written)
     }
 
-    /// What a collection with these figures moved: the live words after the dense prefix.
-    pub fn moved(&self, figures: Figures) -> Moved {
-        let words = figures.new_top.saturating_sub(figures.prefix_end);
-        Moved::new(words, self.in_memory())
+    /// What a collection with these figures kept and moved, of a heap of this number of words.
+    pub fn moved(&self, figures: Figures, heap: Option<u64>) -> Moved {
+        Moved {
+            heap,
+            kept: figures.new_top,
+            words: figures.new_top.saturating_sub(figures.prefix_end),
+            took: self.in_memory(),
+        }
     }
 
     /// How long the collection took in memory, from the end of the check to the beginning of the writing.

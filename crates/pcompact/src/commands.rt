@@ -6,6 +6,7 @@ ghost use Rattle.pcompact.specs.Commands.{IsPrintedBy};
 ghost use Rattle.command_support.specs.Failure.{out_of_memory};
 
 mod collect;
+mod explanation;
 mod record;
 mod verify;
 
@@ -21,7 +22,7 @@ use std::sync::Wait;
 use std::thread::Threads;
 use std::time::Clock;
 
-/// Runs the requested command, and returns what it prints. A picture is made for this screen.
+/// Runs the requested command, and returns what it prints on this screen.
 pub fn answer<'a, R: Files + AllocGlobal + Threads + Wait + Clock + Sync>(
     rt: &R,
     screen: Screen,
@@ -36,9 +37,9 @@ where
 {
     match request {
         Request::Board => board::answer(rt),
-        Request::Summary(request) => summarize::answer(rt, request),
+        Request::Summary(request) => summarize::answer(rt, screen, request),
         Request::Collect(request) => collect::answer(rt, request),
-        Request::Verify(request) => verify::answer(rt, request),
+        Request::Verify(request) => verify::answer(rt, screen, request),
         Request::Record(request) => record::answer(rt, request),
         Request::Replay(request) => replay::answer(rt, request),
         Request::Upgrade(request) => upgrade::answer(rt, request),

@@ -3,7 +3,7 @@ use command_support::{FileId, FileLock, SystemFile};
 use std::alloc::Allocator;
 use std::fs::{FileTimes, Metadata, OpenFile, OpenOptions, Permissions};
 use std::io;
-use std::io::{Read, Seek, SeekFrom, Stderr, Stdout, Write};
+use std::io::{ErrorKind, Read, Seek, SeekFrom, Stderr, Stdout, Write};
 use std::os::unix::fs::FileExt;
 use std::path::PathBuf;
 use std::rt::Files;
@@ -26,6 +26,8 @@ pub struct Host<R> {
     stdout: Stdout,
     /// Whether standard output was opened as a file to write.
     is_taken: AtomicBool,
+    /// Whether what a command printed found no reader.
+    has_no_reader: AtomicBool,
 }
 
 impl<R> Host<R> {
@@ -35,7 +37,13 @@ impl<R> Host<R> {
             rt,
             stdout,
             is_taken: AtomicBool::new(false),
+            has_no_reader: AtomicBool::new(false),
         }
+    }
+
+    /// Whether the reader of standard output was gone when a command printed.
+    pub fn has_no_reader(&self) -> bool {
+        self.has_no_reader.load(Ordering::SeqCst)
     }
 }
 
@@ -213,6 +221,15 @@ impl<F: SystemFile + Drop> SystemFile for HostFile<F> {
         self.file.acquire_lock()
     }
 
+    fn close(self) -> io::Result<()> {
+        let HostFile { file, stdout } = self;
+        if stdout.is_some() {
+            Ok(())
+        } else {
+            file.close()
+        }
+    }
+
     fn is_standard_output(&self) -> bool {
         self.stdout.is_some()
     }
@@ -244,9 +261,14 @@ impl<'h, R> Printer<'h, R> {
 impl<R> Write for Printer<'_, R> {
     fn write(&mut self, buf: &[u8]) -> io::Result<usize> {
         if self.is_elsewhere() {
-            self.stderr.write(buf)
-        } else {
-            self.stdout.write(buf)
+            return self.stderr.write(buf);
+        }
+        match self.stdout.write(buf) {
+            Err(error) if error.kind() == ErrorKind::BrokenPipe => {
+                self.host.has_no_reader.store(true, Ordering::SeqCst);
+                Err(error)
+            }
+            other => other,
         }
     }
 
@@ -256,5 +278,33 @@ impl<R> Write for Printer<'_, R> {
         } else {
             self.stdout.flush()
         }
+    }
+}
+
+/// Where errors are printed: to standard error, but nowhere once what a command printed found no reader.
+#[derive(Drop)]
+pub struct Errors<'h, R> {
+    host: &'h Host<R>,
+    stderr: Stderr,
+}
+
+impl<'h, R> Errors<'h, R> {
+    /// The errors of this system's commands, for this standard error.
+    pub fn new(host: &'h Host<R>, stderr: Stderr) -> Errors<'h, R> {
+        Errors { host, stderr }
+    }
+}
+
+impl<R> Write for Errors<'_, R> {
+    fn write(&mut self, buf: &[u8]) -> io::Result<usize> {
+        if self.host.has_no_reader() {
+            Ok(buf.len())
+        } else {
+            self.stderr.write(buf)
+        }
+    }
+
+    fn flush(&mut self) -> io::Result<()> {
+        self.stderr.flush()
     }
 }

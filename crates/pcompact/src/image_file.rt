@@ -1,4 +1,4 @@
-use crate::ahead::Ahead;
+use crate::ahead::{Ahead, heap_words};
 use command_support::Watched;
 use heap_image::{Body, BodySize, Failed, Intake};
 use std::alloc::Global;
@@ -36,6 +36,11 @@ impl<'a, F: Drop> ImageFile<'a, F> {
             failed: false,
             ahead,
         }
+    }
+
+    /// The number of words of the heap, if the image that was read so far has a sound front.
+    pub fn heap_words(&self) -> Option<u64> {
+        heap_words(self.watched.front())
     }
 
     /// The file.

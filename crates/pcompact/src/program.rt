@@ -1,15 +1,18 @@
 //! The whole program, over any two writers.
-ghost use Rattle.std.specs.Prelude.{◌≡◌, ◌≤◌, ◌∷◌, ◌⊎◌, [], codes, ℕ, List, IfOk, OnOk, IfErr, IsTrue};
+ghost use Rattle.std.specs.Prelude.{◌≡◌, ◌≤◌, ◌∷◌, ◌⊎◌, [], codes, ℕ, Bool, List, None, IfOk, OnOk, IfErr, IfSome, IsTrue};
+ghost use Rattle.command_line.specs.Request.{IsFor, IsNoUsage};
 ghost use Rattle.std.specs.Io.KnownBytes.{Appends};
 ghost use Rattle.command_line.specs.CommandLine.{AreWords, AreCallOf, HaveWord};
 ghost use Rattle.pcompact.specs.Commands.{IsPrintedBy};
 ghost use Rattle.command_line.specs.declared.unread.Unread.{Unread};
 ghost use Rattle.command_support.specs.Failure.{failed_device, out_of_memory, status_of};
+ghost use Rattle.command_support.specs.Json.{as_shown};
 
 use crate::commands;
-use command_line::Unread;
+use command_line::{Request, Respelled, Unread};
 use command_support::{
     FailedCall, Failure, Printable, Reason, Stats, SystemCall, SystemFile, Trouble, WorkDone,
+    push_json,
 };
 use heap_commands::screen::Screen;
 use heap_image::Fault;
@@ -22,12 +25,16 @@ use std::sync::Wait;
 use std::thread::Threads;
 use std::time::Clock;
 
+/// Room for the object of a line, in bytes.
+const OBJECT_ROOM: usize = 512;
+
 /// Runs the program on its arguments, without the program's name, and returns the exit status.
 ///
 /// `out` and `err` are standard output and standard error, and `screen` says what the first can show. What a command
 /// prints is written to `out` whole, once its work is done, and flushed; if that fails, the command fails with fault
-/// 13. Files written with `--atomic` are renamed into place after that. A failed write to `err` changes nothing. With
-/// `--verbose`, details follow the error line on `err`; with `--stats`, timings are printed there at the end.
+/// 13. Files written with `--atomic` are renamed into place after that. A failed write to `err` changes nothing. On a
+/// terminal or with `--verbose`, details follow the error line on `err`; with `--stats`, timings are printed there at
+/// the end.
 ///
 /// `rt` opens files, allocates, starts threads, waits for them and reads the clock.
 pub fn run<R: Files + AllocGlobal + Threads + Wait + Clock + Sync, A: Write, B: Write>(
@@ -44,33 +51,174 @@ where
     ensures usage { result ≡ 2 → out.new ≡ out.old }
     ensures board_is_known { AreWords words.now (codes "board" ∷ []) → result ≤ 1 }
 
-    // What a good call of a command prints, by the command's name.
+    // What a good call of a command prints, by the command's name; with `--json`, perhaps as an object.
     ensures prints { (name : List ℕ) → AreCallOf name words.now → result ≡ 0
         → (text : List ℕ) × IsPrintedBy name text
-        × Appends (A.contents out.old) (A.contents out.new) text }
+        × (json : Bool) × (IsTrue json → HaveWord (codes "--json") words.now)
+        × Appends (A.contents out.old) (A.contents out.new) (as_shown json text) }
 {
-    let request = match command_line::read(rt.alloc(), words) {
-        Ok(request) => request,
-        Err(unread) => {
-            let failure = unread_failure(rt.alloc(), words, unread);
-            return report(&Trouble::new(failure), false, err);
+    match command_line::read(rt.alloc(), words) {
+        Ok(request) => {
+            let manner = Manner::of(words, &request, screen);
+            carry_out(rt, request, manner, out, err)
         }
-    };
-    let verbose = request.is_verbose();
-    // `asks_stats` implies that the option is an argument; the second test lets the contract speak of arguments.
-    let measured = request.asks_stats() && have_word(words, "--stats");
-    let done = match commands::answer(rt, screen, request) {
+        Err(unread) => match respelled(rt.alloc(), words, &unread) {
+            Some(spelled) => run_respelled(rt, &spelled, screen, out, err),
+            None => {
+                let failure = unread_failure(rt.alloc(), words, unread);
+                report(&Trouble::new(failure), false, err)
+            }
+        },
+    }
+}
+
+/// How a command is carried out.
+#[derive(Clone, Copy)]
+struct Manner {
+    /// What standard output can show.
+    screen: Screen,
+    /// Whether details follow the line of an error.
+    details: bool,
+    /// Whether timings are printed.
+    measured: bool,
+    /// Whether an object is printed in place of the text.
+    json: bool,
+}
+
+impl Manner {
+    /// How the request of these arguments is carried out. What it asks for is an argument; the second tests let the
+    /// contract speak of arguments.
+    fn of(words: &[String], request: &Request<'_>, screen: Screen) -> Manner
+        ensures stats { IsTrue result.measured → HaveWord (codes "--stats") words.now }
+        ensures json { IsTrue result.json → HaveWord (codes "--json") words.now }
+    {
+        Manner {
+            screen,
+            details: request.is_verbose() || screen.shows_errors,
+            measured: have_word(words, "--stats") && request.asks_stats(),
+            json: have_word(words, "--json") && request.asks_json(),
+        }
+    }
+}
+
+/// Carries out a request, and returns the exit status.
+fn carry_out<R: Files + AllocGlobal + Threads + Wait + Clock + Sync, A: Write, B: Write>(
+    rt: &R,
+    request: Request<'_>,
+    manner: Manner,
+    out: &mut A,
+    err: &mut B,
+) -> u8
+where
+    R::File: FileExt + SystemFile + Sync,
+    ensures status { result ≤ 2 }
+    ensures good { result ≡ 0 → (err.new ≡ err.old) ⊎ IsTrue manner.measured }
+    ensures usage { result ≡ 2 → out.new ≡ out.old }
+    ensures board_is_known { IsFor (codes "board") request.entry → result ≤ 1 }
+    ensures prints { (name : List ℕ) → IsFor name request.entry → result ≡ 0
+        → (text : List ℕ) × IsPrintedBy name text
+        × Appends (A.contents out.old) (A.contents out.new) (as_shown manner.json text) }
+{
+    let done = match answer(rt, manner, request) {
         Ok(done) => done,
-        Err(trouble) => return report(&trouble, verbose, err),
+        Err(trouble) => return report(&trouble, manner.details, err),
     };
     let stats = done.stats;
     if let Err(trouble) = finish(rt, done, out) {
-        return report(&trouble, verbose, err);
+        return report(&trouble, manner.details, err);
     }
-    if measured {
+    if manner.measured {
         report_stats(rt, stats, err);
     }
     0
+}
+
+/// Carries out a request but for printing. What it prints is an object if the manner says so. Room for that of a line is
+/// allocated before the command writes a file.
+fn answer<'a, R: Files + AllocGlobal + Threads + Wait + Clock + Sync>(
+    rt: &R,
+    manner: Manner,
+    request: Request<'a>,
+) -> Result<WorkDone<'a>, Trouble<'a>>
+where
+    R::File: FileExt + SystemFile + Sync,
+    ensures prints { (name : List ℕ) → IsFor name request.entry → IfOk result (λ done.
+        (text : List ℕ) × IsPrintedBy name text × (done.text.items ≡ as_shown manner.json text)) }
+    ensures board { IsFor (codes "board") request.entry
+        → IfErr result (λ trouble. trouble.failure ≡ out_of_memory) }
+{
+    if !manner.json {
+        return commands::answer(rt, manner.screen, request);
+    }
+    let mut object = Vec::with_capacity(rt.alloc(), OBJECT_ROOM)?;
+    let done = commands::answer(rt, manner.screen, request)?;
+    match push_json(done.text.as_slice(), &mut object) {
+        Ok(()) => Ok(WorkDone {
+            text: object,
+            ..done
+        }),
+        Err(refused) => {
+            done.remove(rt);
+            Err(Trouble::from(refused))
+        }
+    }
+}
+
+/// A line that isn't a request, with the plain `--verbose` in place of the option with a value.
+#[derive(Drop)]
+struct Spelled {
+    line: Respelled,
+    /// Whether `--stats` is among the words as they were.
+    has_stats: bool,
+}
+
+/// Spells these words anew, if they are wrong usage and `--verbose` has a value in them. If memory runs out they stay wrong usage.
+fn respelled(alloc: Global, words: &[String], unread: &Unread) -> Option<Spelled>
+    ensures usage_alone { IsNoUsage unread.now → result ≡ None }
+    ensures stats { IfSome result (λ spelled. IsTrue spelled.has_stats → HaveWord (codes "--stats") words.now) }
+{
+    match unread {
+        Unread::Usage(_) => match command_line::respell(alloc, words) {
+            Ok(Some(line)) => Some(Spelled {
+                line,
+                has_stats: have_word(words, "--stats"),
+            }),
+            _ => None,
+        },
+        Unread::NoCommand | Unread::Memory => None,
+    }
+}
+
+/// Runs the program on arguments that were spelled anew, and returns the exit status.
+fn run_respelled<R: Files + AllocGlobal + Threads + Wait + Clock + Sync, A: Write, B: Write>(
+    rt: &R,
+    spelled: &Spelled,
+    screen: Screen,
+    out: &mut A,
+    err: &mut B,
+) -> u8
+where
+    R::File: FileExt + SystemFile + Sync,
+    ensures status { result ≤ 2 }
+    ensures good { result ≡ 0 → (err.new ≡ err.old) ⊎ IsTrue spelled.now.has_stats }
+    ensures usage { result ≡ 2 → out.new ≡ out.old }
+{
+    let words = spelled.line.words.as_slice();
+    match command_line::read(rt.alloc(), words) {
+        Ok(request) => {
+            let manner = Manner {
+                screen,
+                details: spelled.line.when.is_now(screen.shows_errors),
+                measured: request.asks_stats() && spelled.has_stats,
+                json: request.asks_json(),
+            };
+            carry_out(rt, request, manner, out, err)
+        }
+        Err(unread) => {
+            let failure = unread_failure(rt.alloc(), words, unread);
+            report(&Trouble::new(failure), false, err)
+        }
+    }
 }
 
 /// The failure of arguments that aren't a request.

@@ -1,55 +1,85 @@
-//! Draws a timeline as SVG.
+//! Draws a timeline as SVG: a bar for each region, or above [`MAX_BARS`] regions shares of lines by colour.
 ghost use Rattle.std.specs.Prelude.{◌≤◌, ◌^◌};
 
 use crate::bar::Bar;
+use crate::density::draw_density;
 use crate::figures::TimelineFigures;
 use crate::freeing::Freeing;
-use crate::group::Group;
+use crate::names::{Names, write_names};
 use crate::scale::Scale;
 use crate::strips::write_freeing;
 use crate::timeline::Timeline;
 use std::alloc::{AllocError, Global};
 
-/// The x coordinate at which lanes begin.
-const LEFT: u64 = 90;
+/// The width of the drawing. Its text is legible in a page that is 375 points wide.
+const WIDTH: u64 = 640;
 
-const LANE_WIDTH: u64 = 900;
+/// The x coordinate at which lanes begin.
+pub(crate) const LEFT: u64 = 82;
+
+pub(crate) const LANE_WIDTH: u64 = 550;
 
 /// The y coordinate of the first lane.
-const TOP: u64 = 60;
+const TOP: u64 = 104;
 
 /// The height of a lane with the space below it.
 const LANE_HEIGHT: u64 = 34;
 
-const BAR_HEIGHT: u64 = 18;
+pub(crate) const BAR_HEIGHT: u64 = 20;
 
-/// The largest number of bars, apart from one more for each worker. If there are more regions, a bar is for several.
-const MAX_BARS: usize = 600;
+/// The largest number of regions that have a bar each.
+const MAX_BARS: usize = 200;
 
 /// The largest number of drains. If more drains free a region, some are left out.
 const MAX_FREEINGS: usize = 300;
 
-pub(crate) fn draw(alloc: Global, timeline: &Timeline) -> Result<String, AllocError> {
+/// The largest number of drains for which a line leads to the claim of the region that they free.
+const MAX_LINKS: usize = 40;
+
+pub(crate) fn draw(
+    alloc: Global,
+    timeline: &Timeline,
+    names: Names<'_>,
+) -> Result<String, AllocError> {
     let mut svg = String::new(alloc);
     let scale = Scale {
         lines: timeline.schedule.len() as u64,
         cells: LANE_WIDTH,
     };
-    let workers = timeline.schedule.workers();
-    let several = timeline.bars.len().div_ceil(MAX_BARS);
-    begin(&mut svg, timeline)?;
-    for worker in 0..workers {
-        draw_lane(&mut svg, timeline, worker, scale, several)?;
+    begin(&mut svg, timeline, names)?;
+    if timeline.bars.len() > MAX_BARS {
+        draw_shares(alloc, &mut svg, timeline)?;
+    } else {
+        draw_bars(&mut svg, timeline, scale)?;
     }
-    draw_freeings(&mut svg, &timeline.freeings, scale)?;
-    draw_legend(&mut svg, timeline, several)?;
     svg.push_str("</svg>\n")?;
     Ok(svg)
 }
 
+/// Writes the lanes with a bar for each region, the drains that free a region, and the legend.
+fn draw_bars(svg: &mut String, timeline: &Timeline, scale: Scale) -> Result<(), AllocError> {
+    let workers = timeline.schedule.workers();
+    for worker in 0..workers {
+        draw_lane(svg, timeline, worker, scale)?;
+    }
+    draw_freeings(svg, &timeline.freeings, scale)?;
+    draw_legend(svg, timeline, top_of(workers) + 8)
+}
+
+/// Writes the lanes with the shares of lines in which a worker has a region in hand, and the legend.
+fn draw_shares(alloc: Global, svg: &mut String, timeline: &Timeline) -> Result<(), AllocError> {
+    let workers = timeline.schedule.workers();
+    for worker in 0..workers {
+        let y = top_of(worker);
+        begin_lane(svg, worker, y)?;
+        draw_density(alloc, svg, timeline, worker, y)?;
+    }
+    draw_share_legend(svg, timeline, top_of(workers) + 8)
+}
+
 /// The x coordinate of a line.
 fn left_of(scale: Scale, line: u64) -> u64
-    ensures { result ≤ 990 }
+    ensures { result ≤ 632 }
 {
     LEFT + scale.point_of(line).min(LANE_WIDTH)
 }
@@ -61,101 +91,128 @@ fn top_of(worker: u32) -> u64
     u64::from(worker) * LANE_HEIGHT + TOP
 }
 
-/// Writes the head of the document, the styles and the figures.
-fn begin(svg: &mut String, timeline: &Timeline) -> Result<(), AllocError> {
+/// Writes the head of the document, the styles, the names and the figures.
+fn begin(svg: &mut String, timeline: &Timeline, names: Names<'_>) -> Result<(), AllocError> {
     let figures = TimelineFigures::of(timeline);
     let (lines, workers) = (figures.lines, figures.workers);
-    let height = top_of(workers) + 100;
+    let height = top_of(workers) + 112;
     writeln!(
         svg,
         r#"<?xml version="1.0" encoding="UTF-8"?>
-<svg xmlns="http://www.w3.org/2000/svg" font-family="sans-serif" font-size="12" width="1020" height="{height}" viewBox="0 0 1020 {height}">
+<svg xmlns="http://www.w3.org/2000/svg" font-family="sans-serif" font-size="15" width="100%" viewBox="0 0 {WIDTH} {height}" style="max-width:{}px">
 <title>A schedule of {lines} lines by {workers} workers</title>
-<desc>{figures}</desc>"#
+<desc>{figures}</desc>"#,
+        WIDTH * 2
     )?;
     svg.push_str(STYLES)?;
     writeln!(
         svg,
-        r#"<rect class="page" width="1020" height="{height}"/>
-<text x="10" y="22" font-size="14">{figures}</text>"#
+        r#"<rect class="page" width="{WIDTH}" height="{height}"/>"#
     )?;
+    svg.push_str("<text x=\"8\" y=\"22\" font-weight=\"bold\">")?;
+    write_names(svg, names)?;
+    svg.push_str("</text>\n")?;
+    write_figures(svg, figures)?;
     write_axis(svg, lines as u64)
+}
+
+/// Writes the figures in two lines, since one would be too long.
+fn write_figures(svg: &mut String, figures: TimelineFigures) -> Result<(), AllocError> {
+    let TimelineFigures {
+        workers,
+        lines,
+        granted,
+        completed,
+        settled,
+        freed,
+        taken,
+        ending,
+    } = figures;
+    writeln!(
+        svg,
+        r#"<text x="8" y="44">{workers} workers, {lines} lines, {ending}: {granted} regions granted,</text>
+<text x="8" y="66">{completed} completed, {settled} settled, {freed} freed, {taken} of these taken</text>"#
+    )
 }
 
 const STYLES: &str = r##"<style>
 .page { fill: #fff }
-.lane { fill: #f4f4f4; stroke: #999 }
-.e { fill: #a8c8f0; stroke: #000 }
-.o { fill: #f6d28b; stroke: #000 }
-.g { fill: url(#several); stroke: #000 }
-.w { fill: url(#waiting); stroke: #000 }
-.f { fill: #000; stroke: #000 }
-.f path { fill: none; stroke-dasharray: 3 2 }
+text { fill: #111 }
+.lane { fill: #eee; stroke: #767676 }
+.e { fill: #5a94d8 }
+.o { fill: #f3c77f }
+.e, .o, .w { stroke: #555; stroke-width: .6 }
+.w { fill: url(#waiting) }
+.hatch { fill: #fff; stroke: #111 }
+.f { fill: #111 }
+.f path { fill: none; stroke: #111; stroke-dasharray: 3 2 }
 .n { pointer-events: none; text-anchor: middle }
+.s1, .s2, .s3, .s4 { shape-rendering: crispEdges }
+.s1 { fill: #b9d3f0 }
+.s2 { fill: #7fadde }
+.s3 { fill: #3f78bd }
+.s4 { fill: #163c70 }
+@media (prefers-color-scheme: dark) {
+.page { fill: #16181c }
+text { fill: #eee }
+.lane { fill: #2a2d33; stroke: #8a8a8a }
+.e { fill: #1d3f6e }
+.o { fill: #8c5a16 }
+.e, .o, .w { stroke: #bbb }
+.hatch { fill: #16181c; stroke: #eee }
+.f { fill: #eee }
+.f path { stroke: #eee }
+.s1 { fill: #2c4d78 }
+.s2 { fill: #3c72b4 }
+.s3 { fill: #79a9e4 }
+.s4 { fill: #cfe3ff }
+}
 </style>
 <defs>
-<pattern id="waiting" width="6" height="6" patternUnits="userSpaceOnUse"><rect width="6" height="6" fill="#fff"/><path d="M0 6L6 0" stroke="#000"/></pattern>
-<pattern id="several" width="4" height="4" patternUnits="userSpaceOnUse"><rect width="4" height="4" fill="#ddd"/><path d="M1 0V4M3 0V4" stroke="#555"/></pattern>
+<pattern id="waiting" width="6" height="6" patternUnits="userSpaceOnUse"><rect class="hatch" stroke="none" stroke-width="0" width="6" height="6"/><path class="hatch" d="M0 6L6 0"/></pattern>
 </defs>
 "##;
 
 /// Writes the numbers of the first and the last line above the lanes.
 fn write_axis(svg: &mut String, lines: u64) -> Result<(), AllocError> {
     let y = TOP - 8;
-    let (right, last) = (LEFT + LANE_WIDTH, lines.saturating_add(1));
+    let (middle, right) = (LEFT + LANE_WIDTH / 2, LEFT + LANE_WIDTH);
+    let last = lines.saturating_add(1);
     writeln!(
         svg,
         r#"<text x="{LEFT}" y="{y}">line 2</text>
+<text x="{middle}" y="{y}" text-anchor="middle">lines of the schedule, not time</text>
 <text x="{right}" y="{y}" text-anchor="end">line {last}</text>"#
     )
 }
 
-/// Writes the lane of a worker. Each bar is for `several` regions, the last one for the rest.
+/// Writes the name of a worker and its empty lane.
+fn begin_lane(svg: &mut String, worker: u32, y: u64) -> Result<(), AllocError>
+    requires { y ≤ 2 ^ 38 }
+{
+    let base = y + 15;
+    writeln!(
+        svg,
+        r#"<text x="8" y="{base}">worker {worker}</text>
+<rect class="lane" x="{LEFT}" y="{y}" width="{LANE_WIDTH}" height="{BAR_HEIGHT}"/>"#
+    )
+}
+
+/// Writes the lane of a worker, with a bar for each region.
 fn draw_lane(
     svg: &mut String,
     timeline: &Timeline,
     worker: u32,
     scale: Scale,
-    several: usize,
 ) -> Result<(), AllocError> {
     let y = top_of(worker);
-    let base = y + 13;
-    writeln!(
-        svg,
-        r#"<text x="10" y="{base}">worker {worker}</text>
-<rect class="lane" x="{LEFT}" y="{y}" width="{LANE_WIDTH}" height="{BAR_HEIGHT}"/>"#
-    )?;
-    let mut group = Group::empty();
+    begin_lane(svg, worker, y)?;
     for bar in timeline.bars.iter() {
         if bar.claimed.worker == worker {
-            group = group.with(bar, scale.lines);
-            if group.count >= several {
-                draw_group(svg, group, bar, scale, y)?;
-                group = Group::empty();
-            }
+            draw_bar(svg, bar, scale, y)?;
         }
     }
-    if group.count > 0 {
-        draw_several(svg, group, scale, y)?;
-    }
     Ok(())
-}
-
-/// Writes the bar of a group of regions, of which `last` is the last.
-fn draw_group(
-    svg: &mut String,
-    group: Group,
-    last: &Bar,
-    scale: Scale,
-    y: u64,
-) -> Result<(), AllocError>
-    requires { y ≤ 2 ^ 38 }
-{
-    if group.count == 1 {
-        draw_bar(svg, last, scale, y)
-    } else {
-        draw_several(svg, group, scale, y)
-    }
 }
 
 /// Writes the bar of a region, hatched from its completion on.
@@ -184,12 +241,12 @@ fn draw_bar(svg: &mut String, bar: &Bar, scale: Scale, y: u64) -> Result<(), All
     if bar.completed.is_some() {
         draw_part(svg, "w", middle, right, y)?;
     }
-    if middle.saturating_sub(left) >= 24 {
+    if middle.saturating_sub(left) >= 30 {
         let x = left / 2 + middle / 2;
         write!(
             svg,
             "<text class=\"n\" x=\"{x}\" y=\"{}\">{}</text>",
-            y + 13,
+            y + 15,
             bar.region
         )?;
     }
@@ -217,104 +274,114 @@ fn draw_part(svg: &mut String, class: &str, from: u64, to: u64, y: u64) -> Resul
     )
 }
 
-/// Writes the bar of several regions.
-fn draw_several(svg: &mut String, group: Group, scale: Scale, y: u64) -> Result<(), AllocError>
-    requires { y ≤ 2 ^ 38 }
-{
-    let left = left_of(scale, group.from);
-    let right = left_of(scale, group.to.saturating_add(1));
-    let Group {
-        count,
-        low,
-        high,
-        from,
-        to,
-    } = group;
-    write!(svg, "<g><title>{count} regions, {low} to {high}")?;
-    write!(svg, ": lines {from} to {to}</title>")?;
-    draw_part(svg, "g", left, right, y)?;
-    svg.push_str("</g>\n")
-}
-
 /// Writes the drains that free a region: all, or one of each few if there are too many.
 fn draw_freeings(svg: &mut String, freeings: &[Freeing], scale: Scale) -> Result<(), AllocError> {
     let every = freeings.len().div_ceil(MAX_FREEINGS).max(1);
+    let linked = freeings.len() <= MAX_LINKS;
     for (i, freeing) in freeings.iter().enumerate() {
         if i % every == 0 {
-            draw_freeing(svg, freeing, scale)?;
+            draw_freeing(svg, freeing, scale, linked)?;
         }
     }
     Ok(())
 }
 
-/// Writes a dot for a drain below its lane, and a line to the claim of the region that it frees.
-fn draw_freeing(svg: &mut String, freeing: &Freeing, scale: Scale) -> Result<(), AllocError> {
+/// Writes a tick for a drain below its lane and, if `linked`, a line to the claim of the region that it frees.
+fn draw_freeing(
+    svg: &mut String,
+    freeing: &Freeing,
+    scale: Scale,
+    linked: bool,
+) -> Result<(), AllocError> {
     let x = left_of(scale, freeing.drain.line);
     let y = top_of(freeing.drain.worker) + BAR_HEIGHT;
     svg.push_str("<g class=\"f\"><title>")?;
     write_freeing(svg, freeing)?;
     svg.push_str("</title>")?;
-    write!(svg, "<circle cx=\"{x}\" cy=\"{}\" r=\"3\"/>", y + 5)?;
-    if let Some(taken) = freeing.taken {
-        let to = left_of(scale, taken.line);
-        let down = top_of(taken.worker);
-        let end = if down > y { down } else { down + BAR_HEIGHT };
-        write!(svg, "<path d=\"M{x} {}L{to} {end}\"/>", y + 5)?;
+    write!(svg, r#"<rect x="{x}" y="{}" width="2" height="6"/>"#, y + 1)?;
+    match freeing.taken {
+        Some(taken) if linked => {
+            let to = left_of(scale, taken.line);
+            let down = top_of(taken.worker);
+            let end = if down > y { down } else { down + BAR_HEIGHT };
+            write!(svg, "<path d=\"M{} {}L{to} {end}\"/>", x + 1, y + 6)?;
+        }
+        _ => {}
     }
     svg.push_str("</g>\n")
 }
 
-/// Writes the legend, and what is merged or left out.
-fn draw_legend(svg: &mut String, timeline: &Timeline, several: usize) -> Result<(), AllocError> {
-    let y = top_of(timeline.schedule.workers()) + 16;
-    draw_classes(svg, y)?;
-    let (middle, base) = (y + 9, y + 13);
-    writeln!(
-        svg,
-        r#"<g class="f"><circle cx="767" cy="{middle}" r="3"/></g>
-<text x="776" y="{base}">a drain frees a region, and who takes it</text>"#
-    )?;
-    write_thinned(svg, timeline, several, y + 40)
-}
-
-/// Writes the legend of the bars at height `y`.
-fn draw_classes(svg: &mut String, y: u64) -> Result<(), AllocError>
+/// Writes the legend of bars at height `y`, and what is left out.
+fn draw_legend(svg: &mut String, timeline: &Timeline, y: u64) -> Result<(), AllocError>
     requires { y ≤ 2 ^ 39 }
 {
-    for (x, class, name) in [
-        (10, "e", "being filled, even region"),
-        (210, "o", "being filled, odd region"),
-        (410, "w", "completed, not settled yet"),
-        (620, "g", "several regions"),
-    ] {
-        let (right, base) = (x + 32, y + 13);
+    draw_samples(
+        svg,
+        y,
+        &[
+            (8, "e", "being filled (even region)"),
+            (240, "o", "odd region"),
+            (380, "w", "completed, not settled yet"),
+        ],
+    )?;
+    let (tick, base) = (y + 36, y + 45);
+    writeln!(
+        svg,
+        r#"<g class="f"><rect x="20" y="{tick}" width="2" height="8"/></g>
+<text x="40" y="{base}">a drain frees a region; a dashed line leads to who takes it</text>"#
+    )?;
+    write_thinned(svg, timeline, y + 70)
+}
+
+/// Writes the legend of shares at height `y`.
+fn draw_share_legend(svg: &mut String, timeline: &Timeline, y: u64) -> Result<(), AllocError>
+    requires { y ≤ 2 ^ 39 }
+{
+    let (base, below) = (y + 15, y + 70);
+    let granted = timeline.bars.len();
+    writeln!(
+        svg,
+        r#"<text x="8" y="{base}">Colour: in how many of its lines a worker has a region in hand</text>"#
+    )?;
+    draw_samples(
+        svg,
+        y + 28,
+        &[
+            (8, "lane", "none"),
+            (110, "s1", "under 1/3"),
+            (250, "s2", "under 2/3"),
+            (390, "s3", "most"),
+            (500, "s4", "all"),
+        ],
+    )?;
+    writeln!(
+        svg,
+        r#"<text x="8" y="{below}">{granted} regions are too many for a bar each.</text>"#
+    )
+}
+
+/// Writes samples of classes at height `y`, each with its x coordinate and its name.
+fn draw_samples(svg: &mut String, y: u64, samples: &[(u64, &str, &str)]) -> Result<(), AllocError>
+    requires { y ≤ 2 ^ 40 }
+{
+    for (x, class, name) in samples {
+        let (right, base) = (x.saturating_add(32), y + 15);
         writeln!(
             svg,
-            r#"<rect class="{class}" x="{x}" y="{y}" width="24" height="{BAR_HEIGHT}"/>
+            r#"<rect class="{class}" x="{x}" y="{y}" width="26" height="{BAR_HEIGHT}"/>
 <text x="{right}" y="{base}">{name}</text>"#
         )?;
     }
     Ok(())
 }
 
-/// Writes how many regions a bar is for and how many drains are left out, if any.
-fn write_thinned(
-    svg: &mut String,
-    timeline: &Timeline,
-    several: usize,
-    y: u64,
-) -> Result<(), AllocError> {
+/// Writes how many drains are left out, if any.
+fn write_thinned(svg: &mut String, timeline: &Timeline, y: u64) -> Result<(), AllocError> {
     let every = timeline.freeings.len().div_ceil(MAX_FREEINGS);
-    if several > 1 {
-        writeln!(
-            svg,
-            r#"<text x="10" y="{y}">A bar is of up to {several} regions, as there are too many for one each.</text>"#
-        )?;
-    }
     if every > 1 {
         writeln!(
             svg,
-            r#"<text x="510" y="{y}">Of each {every} drains that freed a region one is shown.</text>"#
+            r#"<text x="8" y="{y}">Of each {every} drains that freed a region one is shown.</text>"#
         )?;
     }
     Ok(())

@@ -3,7 +3,8 @@ ghost use Rattle.std.specs.Prelude.{◌≡◌, ◌<◌, ◌-◌, ◌^◌, ◌++�
 ghost use Rattle.history.specs.ScheduleText.{schedule_text};
 ghost use Rattle.schedule_timeline.specs.Page.{Has};
 
-use crate::page_layout::{AFTER_SCHEDULE, BEFORE_SCHEDULE, HEAD, TAIL};
+use crate::names::{Names, write_names};
+use crate::page_layout::{AFTER_SCHEDULE, BEFORE_MOVES, BEFORE_SCHEDULE, HEAD, TAIL};
 use crate::page_script::SCRIPT;
 use history::{Schedule, append_schedule};
 use std::alloc::{AllocError, Global};
@@ -14,19 +15,22 @@ pub(crate) fn page_of(
     alloc: Global,
     plan: &Plan,
     schedule: &Schedule,
+    names: Names<'_>,
 ) -> Result<Vec<u8>, AllocError>
     ensures { IfOk result (λ page. Has (schedule_text schedule.now) page.items) }
 {
-    let mut page = front_of(alloc, plan)?;
+    let mut page = front_of(alloc, plan, names)?;
     append_schedule(&mut page, schedule)?;
     write_back(&mut page)?;
     Ok(page.into_bytes())
 }
 
-/// The part before the schedule's text: the layout and the moves.
-fn front_of(alloc: Global, plan: &Plan) -> Result<String, AllocError> {
+/// The part before the schedule's text: the layout, the names of the files and the moves.
+fn front_of(alloc: Global, plan: &Plan, names: Names<'_>) -> Result<String, AllocError> {
     let mut front = String::new(alloc);
     front.push_str(HEAD)?;
+    write_names(&mut front, names)?;
+    front.push_str(BEFORE_MOVES)?;
     write_moves(&mut front, plan)?;
     front.push_str(BEFORE_SCHEDULE)?;
     Ok(front)

@@ -1,56 +1,87 @@
 //! The constant parts of a page, except its script.
 
-/// The part before the moves: the styles and the elements.
+/// The part before the names of the files: the styles. Colours are custom properties, with other values in dark mode; `page_script.rt`
+/// reads them for the lanes.
 pub(crate) const HEAD: &str = r##"<!DOCTYPE html>
 <html lang="en">
 <head>
 <meta charset="utf-8">
 <meta name="viewport" content="width=device-width">
+<meta name="color-scheme" content="light dark">
 <title>A schedule of a collection, line by line</title>
 <style>
-body { font: 15px/1.4 sans-serif; margin: 16px; max-width: 1100px; color: #000; background: #fff }
-h1 { font-size: 20px; margin: 0 0 8px }
+:root { color-scheme: light dark; --text: #111; --page: #fff; --quiet: #555; --edge: #767676; --lane: #eee; --frame: #c00000;
+  --outside: #ddd; --start: #fff; --claimed: #b35c00; --stripe: #f0b050; --filled: #6ba3e0; --settled: #1f4e8c; --on-settled: #fff;
+  --on-filled: #111; --even: #5a94d8; --odd: #f3c77f; --waiting: #fff; --on-bar: #111; --mark: #111;
+  --share1: #b9d3f0; --share2: #7fadde; --share3: #3f78bd; --share4: #163c70 }
+@media (prefers-color-scheme: dark) { :root { --text: #eee; --page: #16181c; --quiet: #b4b4b4; --edge: #8a8a8a; --lane: #2a2d33; --frame: #ff7a6b;
+  --outside: #3a3d42; --start: #16181c; --claimed: #f0a040; --stripe: #8a5a10; --filled: #2f62a5; --settled: #b9d6ff; --on-settled: #111;
+  --on-filled: #fff; --even: #1d3f6e; --odd: #8c5a16; --waiting: #16181c; --on-bar: #fff; --mark: #fff;
+  --share1: #2c4d78; --share2: #3c72b4; --share3: #79a9e4; --share4: #cfe3ff } }
+body { font: 15px/1.4 sans-serif; margin: 16px; max-width: 1100px; color: var(--text); background: var(--page) }
+h1 { font-size: 20px; margin: 0 0 4px }
 h2 { font-size: 15px; margin: 14px 0 4px }
+#whose { margin: 0 0 8px; color: var(--quiet); overflow-wrap: anywhere }
 button, select, input { font: inherit }
-button { min-width: 72px }
-:focus-visible { outline: 3px solid #06c; outline-offset: 1px }
-#controls { display: flex; gap: 6px; align-items: center; flex-wrap: wrap }
+button { min-width: 44px; min-height: 28px }
+input[type=number] { width: 7em }
+:focus-visible { outline: 3px solid #2680ff; outline-offset: 1px }
+.controls { display: flex; gap: 6px 10px; align-items: center; flex-wrap: wrap; margin: 4px 0 }
 #slider { width: 100% }
-#line { min-width: 160px; font-weight: bold }
+#line { min-width: 150px; font-weight: bold }
 #what { font-size: 18px; margin: 8px 0 0; min-height: 1.4em }
 #why { margin: 0; min-height: 1.4em }
-#regions { display: flex; flex-wrap: wrap; gap: 2px; max-height: 460px; overflow: auto; padding-bottom: 4px }
-#regions i, .legend i { font-style: normal; border: 1px solid #666; box-sizing: border-box; text-align: center; position: relative; contain: strict }
+#regions { display: flex; flex-wrap: wrap; gap: 2px; max-height: 460px; overflow: auto; padding: 3px }
+#regions i, .legend i { font-style: normal; border: 1px solid var(--edge); box-sizing: border-box; text-align: center; position: relative; contain: strict }
 .large i { width: 46px; height: 34px; line-height: 20px; font-size: 12px; padding-top: 1px }
-.small i { width: 13px; height: 13px; line-height: 11px; font-size: 10px }
-.large i::after { content: attr(data-pending); position: absolute; right: 2px; bottom: -2px; font-weight: bold }
+.middle i { width: 44px; height: 16px; line-height: 14px; font-size: 10px; padding-right: 7px }
+.small i { width: 13px; height: 13px; line-height: 11px; font-size: 0 }
+.large i::after, .middle i::after { content: attr(data-pending); position: absolute; right: 2px; bottom: -2px; font-weight: bold }
+.middle i::after { bottom: 0 }
 .large i:not([data-pending=""])::before { content: "\25CF"; position: absolute; left: 3px; bottom: -2px; font-size: 9px }
-.small i::after { content: attr(data-pending) }
+.small i::after { content: attr(data-pending); font-size: 10px }
+.legend { color: var(--quiet); margin: 4px 0 }
+.legend span { white-space: nowrap }
 .legend i { display: inline-block; width: 18px; height: 14px; vertical-align: -2px; margin: 0 4px 0 10px }
-#regions i[data-now] { outline: 3px solid #c00; z-index: 1 }
-i.outside { background: #ddd; border-style: dotted }
-i.start { background: #fff }
-i.claimed { background: #fff; box-shadow: inset 0 0 0 3px #d08000 }
-i.filling { background: repeating-linear-gradient(45deg, #fff 0 3px, #f6c26b 3px 6px) }
-i.filled { background: #a8c8f0 }
-i.settled { background: #1f4e8c; color: #fff }
-#chart { position: relative; overflow: hidden; border: 1px solid #999 }
+#regions i[data-now] { outline: 3px solid var(--frame); z-index: 1 }
+i.outside { background: var(--outside); border-style: dotted }
+i.start { background: var(--start) }
+i.claimed { background: var(--start); box-shadow: inset 0 0 0 3px var(--claimed) }
+i.filling { background: repeating-linear-gradient(45deg, var(--start) 0 3px, var(--stripe) 3px 6px) }
+i.filled { background: var(--filled); color: var(--on-filled) }
+i.settled { background: var(--settled); color: var(--on-settled) }
+i.share0 { background: var(--lane) }
+i.share1 { background: var(--share1) }
+i.share2 { background: var(--share2) }
+i.share3 { background: var(--share3) }
+i.share4 { background: var(--share4) }
+#band { display: flex }
+#names { flex: none; margin: 1px 6px 0 0; padding: 0; text-align: right; font-size: 12px; line-height: 20px; white-space: nowrap }
+#names li { list-style: none }
+#names li.acts { font-weight: bold }
+#chart { flex: auto; min-width: 0; position: relative; overflow: hidden; border: 1px solid var(--edge) }
 #lanes { display: block; width: 100% }
-#cursor { position: absolute; top: 0; bottom: 0; width: 2px; margin-left: -1px; background: #c00 }
+#cursor { position: absolute; top: 0; bottom: 0; width: 2px; margin-left: -1px; background: var(--frame) }
+#axis { display: flex; justify-content: space-between; gap: 8px; font-size: 12px; color: var(--quiet) }
 #near, #workers { margin: 0; font-family: monospace }
 #near { padding-left: 70px }
 #near li { cursor: pointer }
-#near li[aria-current] { background: #000; color: #fff }
-#near li[aria-current]::marker { color: #000; font-weight: bold }
+#near li[aria-current] { background: var(--text); color: var(--page) }
+#near li[aria-current]::marker { color: var(--text); font-weight: bold }
 #workers { padding-left: 16px; max-height: 190px; overflow: auto }
 #workers li.acts { font-weight: bold }
 #both { display: flex; gap: 24px; flex-wrap: wrap }
-#both > div { flex: 1 1 320px }
+#both > div { flex: 1 1 320px; min-width: 0 }
+@media (max-width: 480px) { body { margin: 8px } #what { font-size: 16px } #near { padding-left: 56px } }
 </style>
 </head>
 <body>
 <h1>A schedule of a collection, line by line</h1>
-<div id="controls">
+<p id="whose">"##;
+
+/// The part between the names of the files and the moves.
+pub(crate) const BEFORE_MOVES: &str = r##"</p>
+<div class="controls">
 <button id="begin" type="button">Start</button>
 <button id="back" type="button">Back</button>
 <button id="play" type="button">Play</button>
@@ -63,22 +94,35 @@ i.settled { background: #1f4e8c; color: #fff }
 <option value="250">250 lines</option>
 <option value="2500">2500 lines</option>
 </select> a second</label>
+<label>Go to line <input id="wanted" type="number" min="1" value="1" step="1"></label>
 <span id="line"></span>
 </div>
-<label>Line <input id="slider" type="range" min="1" value="1" step="1"></label>
+<input id="slider" type="range" min="1" value="1" step="1" aria-label="line">
 <div aria-live="polite"><p id="what"></p><p id="why"></p></div>
-<h2>Workers and what they have in hand, from the first line to the last</h2>
-<div id="chart"><canvas id="lanes" role="img" aria-label="a lane for each worker, and in it a bar for each region from its claim to its settling"></canvas><div id="cursor"></div></div>
-<p class="legend">A coloured bar is a region from its claim to its completion, a white one from there to its settling. A black mark below a bar: a drain freed a region.</p>
+<h2>Workers and what they have in hand</h2>
+<div id="band"><ul id="names" aria-hidden="true"></ul><div id="chart"><canvas id="lanes" role="img" aria-label="a lane for each worker, along the lines of the schedule"></canvas><div id="cursor"></div></div></div>
+<div id="axis"><span>line 2</span><span>lines of the schedule, not time</span><span id="last"></span></div>
+<p class="legend" id="bars">A coloured bar is a region from its claim to its completion, a hollow one from there to its settling. A mark below a bar: a drain freed a region.</p>
+<p class="legend" id="shares" hidden>Too many regions for a bar each: colour shows in how many of its lines a worker has a region in hand: <span><i class="share0"></i>none</span> <span><i class="share1"></i>less than a third</span> <span><i class="share2"></i>less than two thirds</span> <span><i class="share3"></i>most</span> <span><i class="share4"></i>all</span></p>
 <h2>Regions of the heap</h2>
 <div id="regions"></div>
-<p class="legend"><i class="start"></i>as at the start<i class="claimed"></i>claimed<i class="filling"></i>being filled<i class="filled"></i>filled<i class="settled"></i>settled<i class="outside"></i>not to be filled. A number beside a dot, or alone in a small cell: so many regions have still to read it.</p>
-<p><label>Look at region <input id="region" type="number" min="0" value="0" step="1"></label> <span id="told" aria-live="polite"></span></p>
+<p class="legend"><span><i class="start"></i>as at the start</span> <span><i class="claimed"></i>claimed</span> <span><i class="filling"></i>being filled</span> <span><i class="filled"></i>filled</span> <span><i class="settled"></i>settled</span> <span><i class="outside"></i>not to be filled.</span> The small number in a cell is the number of regions that have still to read it. <label id="numbered" hidden><input id="numbers" type="checkbox"> Numbers in all cells</label></p>
+<div class="controls">
+<label>Region <input id="region" type="number" min="0" value="0" step="1"></label>
+<button id="region-back" type="button">Line before</button>
+<button id="region-on" type="button">Next line</button>
+<span id="about" aria-live="polite"></span>
+</div>
+<div class="controls">
+<label>Worker <select id="worker"></select></label>
+<button id="worker-back" type="button">Line before</button>
+<button id="worker-on" type="button">Next line</button>
+</div>
 <div id="both">
 <div><h2>Lines around this one</h2><ol id="near"></ol></div>
 <div><h2>Workers</h2><ul id="workers"></ul></div>
 </div>
-<p>Keys: space plays and pauses, left and right go a line back and on, page up and page down a hundred, Home and End to the first line and the last.</p>
+<p class="legend">Keys: space plays and pauses; left and right go back and on by a line, page up and page down by a hundred; Home and End go to the first and the last line; r and w go to the next line of the region and of the worker, R and W to the one before.</p>
 <script type="text/plain" id="moves">
 "##;
 

@@ -1,14 +1,15 @@
 /// The JavaScript of a page. It reads the moves and the schedule from the page, and shows the state after each line.
 pub(crate) const SCRIPT: &str = r##"'use strict';
 (() => {
-  const FIRST = 2; // the line of the first call: line 1 tells the workers
+  const FIRST = 2; // the line of the first call: line 1 is the header
+  const MANY = 200; // with more granted regions the lanes show shares in place of bars
   const CHECKPOINT = 1000;
   const STAGES = ['start', 'claimed', 'filling', 'filled', 'settled'];
   const NAMES = ['as at the start', 'claimed', 'being filled', 'filled', 'settled'];
   const [START, CLAIMED, FILLING, FILLED, SETTLED] = STAGES.keys();
   const element = (id) => document.getElementById(id);
 
-  // What there is to move: how many regions, how many of them are to be filled, and the pairs.
+  // The numbers of regions and of regions to fill, and the pairs of destination and source.
   const readMoves = (text) => {
     const rows = text.trim().split('\n').map((row) => row.split(' '));
     const [, regions, , filled] = rows[0];
@@ -42,7 +43,7 @@ pub(crate) const SCRIPT: &str = r##"'use strict';
     }
   });
 
-  // How far each region has come, who claimed it, how many have still to read it, and how many of its words are written.
+  // For each region its stage, its owner, the number of regions that have still to read it, and its written words.
   class State {
     constructor(other) {
       const copy = (list, fresh) => (other ? list.slice() : fresh());
@@ -101,7 +102,7 @@ pub(crate) const SCRIPT: &str = r##"'use strict';
     });
   }
 
-  // The state once the calls up to this line were answered. After line 1 nothing has happened.
+  // The state after the calls up to this line. After line 1 nothing has happened.
   const stateAfter = (line) => {
     const done = line - 1;
     const state = new State(checkpoints[Math.floor(done / between)]);
@@ -137,7 +138,7 @@ pub(crate) const SCRIPT: &str = r##"'use strict';
     return taken ? 'Worker ' + taken.worker + ' claims it in line ' + taken.line + '.' : 'Nobody claims it in this schedule.';
   };
 
-  // Of each event what happened, and why it was allowed or answered so, from the state before it.
+  // For each event what happened, and why it was allowed or why it had this reply, from the state before it.
   const words = {
     claim: (who, state, { region, reply }) => (reply === 'yes'
       ? [who + ' claims region ' + region + ': granted.',
@@ -170,14 +171,19 @@ pub(crate) const SCRIPT: &str = r##"'use strict';
   };
 
   const grid = element('regions');
-  const isSmall = moves.regions > 600;
-  grid.className = isSmall ? 'small' : 'large';
-  grid.innerHTML = Array.from({ length: moves.regions }, (_, r) => '<i>' + (isSmall ? '' : r) + '</i>').join('');
+  const hasSmall = moves.regions > 600;
+  const sizeCells = () => { grid.className = !hasSmall ? 'large' : element('numbers').checked ? 'middle' : 'small'; };
+  element('numbered').hidden = !hasSmall;
+  sizeCells();
+  grid.innerHTML = Array.from({ length: moves.regions }, (_, r) => '<i>' + r + '</i>').join('');
   const cells = Array.from(grid.children);
   const looks = new Int16Array(moves.regions).fill(-1);
   const lanes = element('workers');
   lanes.innerHTML = Array.from({ length: workers }, (_, w) => '<li><b>worker ' + w + '</b> <span></span></li>').join('');
   const doing = Array.from(lanes.querySelectorAll('span'));
+  element('names').innerHTML = Array.from({ length: workers }, (_, w) => '<li>worker ' + w + '</li>').join('');
+  const names = Array.from(element('names').children);
+  element('worker').innerHTML = Array.from({ length: workers }, (_, w) => '<option value="' + w + '">' + w + '</option>').join('');
 
   const showRegions = (state) => {
     for (let r = 0; r < moves.regions; r += 1) {
@@ -206,7 +212,7 @@ pub(crate) const SCRIPT: &str = r##"'use strict';
     window.requestAnimationFrame(bring);
   };
 
-  const told = (region, state) => {
+  const about = (region, state) => {
     const readers = state.readersOf(region);
     const owner = state.owner[region];
     return 'Region ' + region + ': ' + (isToFill(region) ? NAMES[state.stage[region]] : 'not to be filled')
@@ -222,6 +228,7 @@ pub(crate) const SCRIPT: &str = r##"'use strict';
     held.forEach((regions, w) => {
       doing[w].textContent = regions.length ? regions.map((r) => NAMES[state.stage[r]] + ': region ' + r).join(', ') : 'no region in hand';
       doing[w].parentNode.className = w === acts ? 'acts' : '';
+      names[w].className = w === acts ? 'acts' : '';
     });
   };
 
@@ -252,7 +259,8 @@ pub(crate) const SCRIPT: &str = r##"'use strict';
     element('why').textContent = why;
     element('line').textContent = 'line ' + current + ' of ' + last;
     element('slider').value = current;
-    element('told').textContent = told(looked, now);
+    element('wanted').value = current;
+    element('about').textContent = about(looked, now);
     element('cursor').style.left = (last > 1 ? ((current - 1) / (last - 1)) * 100 : 0) + '%';
     if (current === last) pause();
   };
@@ -263,13 +271,18 @@ pub(crate) const SCRIPT: &str = r##"'use strict';
     element('play').textContent = 'Play';
   };
 
-  // Lines a second; more than 50 go by several a turn.
+  // The line that plays is computed from the clock, so that slow drawing skips lines and doesn't slow the play down.
+  let origin = { line: 1, time: 0, speed: 1 };
+  const begin = () => { origin = { line: current, time: performance.now(), speed: Number(element('speed').value) }; };
+  const tick = () => {
+    const line = origin.line + Math.floor(((performance.now() - origin.time) * origin.speed) / 1000);
+    if (line !== current) show(line);
+  };
   const play = () => {
-    const speed = Number(element('speed').value);
-    const turns = Math.min(speed, 50);
     if (current === last) show(1);
+    begin();
     element('play').textContent = 'Pause';
-    timer = setInterval(() => show(current + Math.max(1, Math.round(speed / turns))), 1000 / turns);
+    timer = setInterval(tick, Math.max(16, Math.min(100, 500 / origin.speed)));
   };
 
   const toggle = () => (timer === null ? play() : pause());
@@ -278,48 +291,105 @@ pub(crate) const SCRIPT: &str = r##"'use strict';
     show(line);
   };
 
+  // The next line of which something holds, or with step -1 the one before; the current one where there is none.
+  const follow = (holds, step) => {
+    for (let k = current + step; k >= FIRST && k <= last; k += step) if (holds(calls[k - FIRST])) return jump(k);
+    return jump(current);
+  };
+  const isOfRegion = (call) => call.verb !== 'poll' && (call.region === looked || (call.verb === 'drain' && call.other === looked));
+  const isOfWorker = (call) => call.worker === Number(element('worker').value);
+
+  // A bar for each granted region: its worker, the lines of its claim, completion and settling (or the last line).
+  const bars = [];
+  {
+    const open = new Map();
+    calls.forEach(({ worker, verb, region, reply }, i) => {
+      const line = i + FIRST;
+      if (verb === 'claim' && reply === 'yes') {
+        open.set(region, { region, worker, claimed: line, completed: last + 1, settled: last });
+        bars.push(open.get(region));
+      } else if (verb === 'complete') open.get(region).completed = line;
+      else if (verb === 'settle') open.get(region).settled = line;
+    });
+  }
+  const hasMany = bars.length > MANY;
+  element('bars').hidden = hasMany;
+  element('shares').hidden = !hasMany;
+
+  const HIGH = 20;
+  const colour = (name) => window.getComputedStyle(document.documentElement).getPropertyValue('--' + name).trim();
+
+  // For each column of a lane, the number of its lines in which the worker has a region in hand, added up over the regions.
+  const heldIn = (worker, columns) => {
+    const held = new Float64Array(columns);
+    const wide = columns / Math.max(1, last - 1);
+    bars.filter((bar) => bar.worker === worker).forEach(({ claimed, settled }) => {
+      const [from, to] = [(claimed - FIRST) * wide, (settled - FIRST + 1) * wide];
+      for (let x = Math.floor(from); x < Math.min(columns, to); x += 1) held[x] += (Math.min(to, x + 1) - Math.max(from, x));
+    });
+    return held;
+  };
+  const shareOf = (held) => (held <= 0 ? 0 : held >= 0.999 ? 4 : held < 1 / 3 ? 1 : held < 2 / 3 ? 2 : 3);
+
+  const drawShares = (pen, width) => {
+    const shades = ['lane', 'share1', 'share2', 'share3', 'share4'].map(colour);
+    const wide = 3;
+    for (let w = 0; w < workers; w += 1) {
+      heldIn(w, Math.ceil(width / wide)).forEach((held, x) => {
+        pen.fillStyle = shades[shareOf(held)];
+        pen.fillRect(x * wide, w * HIGH + 3, wide, HIGH - 6);
+      });
+    }
+  };
+
+  const drawBars = (pen, at) => {
+    const fills = [colour('even'), colour('odd')];
+    const [waiting, text, edge, mark] = ['waiting', 'on-bar', 'edge', 'mark'].map(colour);
+    const part = (fill, { worker }, from, to) => {
+      if (to < from) return;
+      const wide = Math.max(1, at(to + 1) - at(from));
+      pen.fillStyle = fill;
+      pen.fillRect(at(from), worker * HIGH + 3, wide, HIGH - 6);
+      pen.strokeStyle = edge;
+      if (wide > 4) pen.strokeRect(at(from) + 0.5, worker * HIGH + 3.5, wide - 1, HIGH - 7);
+    };
+    bars.forEach((bar) => {
+      const filled = Math.min(bar.completed, bar.settled);
+      part(fills[bar.region % 2], bar, bar.claimed, filled);
+      part(waiting, bar, filled + 1, bar.settled);
+      pen.fillStyle = text;
+      if (at(filled + 1) - at(bar.claimed) > 24) pen.fillText(bar.region, at(bar.claimed) + 4, bar.worker * HIGH + 14);
+    });
+    pen.fillStyle = mark;
+    calls.forEach(({ worker, verb, reply }, i) => {
+      if (verb === 'drain' && reply === 'last') pen.fillRect(at(i + FIRST), worker * HIGH + HIGH - 4, 3, 4);
+    });
+  };
+
   const draw = () => {
     const canvas = element('lanes');
     const pen = canvas.getContext && canvas.getContext('2d');
     if (!pen) return;
     const width = canvas.clientWidth || 960;
-    const high = 20;
-    canvas.width = width;
-    canvas.height = workers * high;
-    canvas.style.height = workers * high + 'px';
-    const at = (line) => ((line - 1) / Math.max(1, last - 1)) * width;
-    const thin = calls.length > width ? 0.25 : 1;
-    const open = new Map();
-    const part = (fill, worker, from, to) => {
-      const wide = Math.max(1, at(to) - at(from - 1));
-      pen.fillStyle = fill;
-      pen.fillRect(at(from - 1), worker * high + 3, wide, high - 6);
-      if (wide > 3) pen.strokeRect(at(from - 1) + 0.5, worker * high + 3.5, wide, high - 7);
-    };
+    const dense = window.devicePixelRatio || 1;
+    canvas.width = width * dense;
+    canvas.height = workers * HIGH * dense;
+    canvas.style.height = workers * HIGH + 'px';
+    pen.scale(dense, dense);
     pen.font = '11px sans-serif';
-    pen.fillStyle = '#eee';
-    for (let w = 0; w < workers; w += 1) pen.fillRect(0, w * high + 3, width, high - 6);
-    const fill = (region, from, to, worker) => {
-      part(region % 2 ? '#f6d28b' : '#a8c8f0', worker, from, to);
-      pen.fillStyle = '#000';
-      if (at(to) - at(from) > 22) pen.fillText(region, at(from - 1) + 4, worker * high + 14);
-    };
-    calls.forEach(({ worker, verb, region, reply }, i) => {
-      const line = i + FIRST;
-      if (verb === 'claim' && reply === 'yes') open.set(region, line);
-      if (verb === 'complete') fill(region, open.get(region), line, worker);
-      if (verb === 'complete') open.set(region, line);
-      if (verb === 'settle') part('#fff', worker, open.get(region) + 1, line);
-      if (verb === 'settle') open.delete(region);
-    });
-    open.forEach((from, region) => {
-      if (granted.get(region).line === from) fill(region, from, last, granted.get(region).worker);
-      else part('#fff', granted.get(region).worker, from + 1, last);
-    });
-    pen.fillStyle = '#000';
-    calls.forEach(({ worker, verb, reply }, i) => {
-      if (verb === 'drain' && reply === 'last') pen.fillRect(at(i + FIRST) - thin, worker * high + high - 4, 3 * thin, 4);
-    });
+    pen.fillStyle = colour('lane');
+    for (let w = 0; w < workers; w += 1) pen.fillRect(0, w * HIGH + 3, width, HIGH - 6);
+    if (hasMany) drawShares(pen, width);
+    else drawBars(pen, (line) => ((line - FIRST) / Math.max(1, last - 1)) * width);
+  };
+
+  // The line and the lane at a point of the chart, and what the worker has in hand there.
+  const lineAt = (event) => FIRST + Math.min(last - FIRST, Math.floor((event.offsetX / (element('lanes').clientWidth || 1)) * (last - 1)));
+  const tipOf = (event) => {
+    const [line, worker] = [lineAt(event), Math.min(workers - 1, Math.floor(event.offsetY / HIGH))];
+    const held = bars.filter((bar) => bar.worker === worker && bar.claimed <= line && line <= bar.settled);
+    return 'line ' + line + ', worker ' + worker + ': ' + (held.length
+      ? held.map((bar) => 'region ' + bar.region + (line > bar.completed ? ' (completed)' : '')).join(', ') : 'no region in hand');
   };
 
   const keys = {
@@ -330,10 +400,14 @@ pub(crate) const SCRIPT: &str = r##"'use strict';
     PageUp: () => jump(current - 100),
     Home: () => jump(1),
     End: () => jump(last),
+    r: () => follow(isOfRegion, 1),
+    R: () => follow(isOfRegion, -1),
+    w: () => follow(isOfWorker, 1),
+    W: () => follow(isOfWorker, -1),
   };
   document.addEventListener('keydown', (event) => {
     const { id, tagName } = event.target || {};
-    const isTheirs = id === 'region' || id === 'speed' || (tagName === 'BUTTON' && event.key === ' ');
+    const isTheirs = (tagName === 'INPUT' && id !== 'slider') || tagName === 'SELECT' || (tagName === 'BUTTON' && event.key === ' ');
     if (!keys[event.key] || isTheirs || event.ctrlKey || event.altKey || event.metaKey) return;
     event.preventDefault();
     keys[event.key]();
@@ -348,7 +422,7 @@ pub(crate) const SCRIPT: &str = r##"'use strict';
   const lookAt = (region) => {
     if (!(region >= 0 && region < moves.regions)) return;
     looked = region;
-    element('told').textContent = told(looked, now);
+    element('about').textContent = about(looked, now);
   };
   element('region').addEventListener('input', () => lookAt(Math.floor(Number(element('region').value))));
   grid.addEventListener('click', (event) => {
@@ -357,19 +431,34 @@ pub(crate) const SCRIPT: &str = r##"'use strict';
     element('region').value = region;
     lookAt(region);
   });
-  element('lanes').addEventListener('click', (event) => {
-    const width = element('lanes').clientWidth || 1;
-    jump(1 + Math.round((event.offsetX / width) * (last - 1)));
+  grid.addEventListener('mouseover', (event) => {
+    const region = cells.indexOf(event.target);
+    if (region >= 0) event.target.title = about(region, now);
   });
+  element('lanes').addEventListener('click', (event) => {
+    jump(lineAt(event));
+    element('worker').value = Math.min(workers - 1, Math.floor(event.offsetY / HIGH));
+  });
+  element('lanes').addEventListener('mousemove', (event) => { element('lanes').title = tipOf(event); });
+  element('wanted').addEventListener('change', () => jump(Number(element('wanted').value)));
+  element('region-on').addEventListener('click', keys.r);
+  element('region-back').addEventListener('click', keys.R);
+  element('worker-on').addEventListener('click', keys.w);
+  element('worker-back').addEventListener('click', keys.W);
+  element('numbers').addEventListener('change', sizeCells);
+  element('speed').addEventListener('change', () => timer !== null && begin());
   window.addEventListener('resize', draw);
+  if (window.matchMedia) window.matchMedia('(prefers-color-scheme: dark)').addEventListener('change', draw);
 
   element('slider').max = last;
+  element('wanted').max = last;
+  element('last').textContent = 'line ' + last;
   element('region').max = moves.regions - 1;
   draw();
   const wanted = /^#line=([0-9]+)$/.exec(window.location.hash);
   show(wanted ? Number(wanted[1]) : 1);
 
-  // What a line shows, for whoever wants to read it from a program.
+  // What a line shows, for programs that drive the page.
   window.timeline = {
     last,
     show: jump,

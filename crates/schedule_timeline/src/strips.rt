@@ -11,7 +11,7 @@ use std::alloc::{AllocError, Global};
 /// The largest number of freed regions that are listed.
 const MAX_LISTED: usize = 20;
 
-/// Writes the lanes, the legend, and a list of freed regions. A lane has one cell per line, but no more than `width`.
+/// Writes the lanes, their axis, the legend, and a list of freed regions. A lane has one cell per line, but no more than `width`.
 pub(crate) fn write_lanes(
     alloc: Global,
     text: &mut String,
@@ -28,8 +28,18 @@ pub(crate) fn write_lanes(
         let lane = Lane::of(alloc, timeline, worker, scale)?;
         write_lane(text, style, worker, &lane, scale)?;
     }
+    write_axis(text, lines)?;
     write_legend(text, style.glyphs)?;
     write_freeings(text, &timeline.freeings)
+}
+
+/// Writes which lines the lanes show, below them.
+fn write_axis(text: &mut String, lines: u64) -> Result<(), AllocError> {
+    let last = lines.saturating_add(1);
+    writeln!(
+        text,
+        "          lines 2 to {last} of the schedule, not time"
+    )
 }
 
 /// Writes the two rows of a worker: shares and marks.

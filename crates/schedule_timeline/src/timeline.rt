@@ -17,6 +17,7 @@ use crate::figures::TimelineFigures;
 use crate::first_calls::{call_at, call_of, first_calls};
 use crate::freeing::Freeing;
 use crate::laws::grants_are_inside;
+use crate::names::Names;
 use crate::page::page_of;
 use crate::strips::write_lanes;
 use heap_image::{Fault, Image};
@@ -91,17 +92,17 @@ impl Timeline {
         Ok(text)
     }
 
-    /// The timeline as an SVG document.
-    pub fn svg(&self, alloc: Global) -> Result<String, AllocError> {
-        draw(alloc, self)
+    /// The timeline as an SVG document, with the names of its files.
+    pub fn svg(&self, alloc: Global, names: Names<'_>) -> Result<String, AllocError> {
+        draw(alloc, self, names)
     }
 
-    /// The timeline as an HTML page, for the plan of its image. The page contains the schedule's text and a script that
-    /// steps through its lines.
-    pub fn page(&self, alloc: Global, plan: &Plan) -> Result<Vec<u8>, AllocError>
+    /// The timeline as an HTML page, for the plan of its image, with the names of its files. The page contains the
+    /// schedule's text and a script that steps through its lines.
+    pub fn page(&self, alloc: Global, plan: &Plan, names: Names<'_>) -> Result<Vec<u8>, AllocError>
         ensures { IfOk result (λ page. Has (schedule_text self.now.schedule) page.items) }
     {
-        page_of(alloc, plan, &self.schedule)
+        page_of(alloc, plan, &self.schedule, names)
     }
 }
 

@@ -3,7 +3,10 @@
 use crate::checks::holds;
 use crate::devices::Checked;
 use crate::texts::with_prefix;
-use collector::{OpenGate, Ready, Refusal, Verdict, collect, collect_stream, verify};
+use collector::{
+    Found, OpenGate, Ready, Refusal, Verdict, collect, collect_stream, explain, verify,
+    verify_below_top,
+};
 use heap_image::{Fault, FromRead, Image, ToWrite, decode_by_threads, encode};
 use heap_samples::Base;
 use std::alloc::{AllocError, Global};
@@ -147,8 +150,9 @@ fn are_verified(
     after: &Image,
 ) -> Result<bool, Fault> {
     let same = verify(alloc, before, after, threads)?;
+    let below = verify_below_top(alloc, before, after, threads)?;
     let other = verify(alloc, before, before, threads)?;
-    Ok((same, other) == (Verdict::Same, Verdict::Word(2)))
+    Ok((same, below, other) == (Verdict::Same, Verdict::Same, Verdict::Word(2)))
 }
 
 #[test]
@@ -167,6 +171,30 @@ fn verify_with_roots_where_refused_memory_is_reported(rt: HostRuntime) {
     let answers = [
         verifies(rt.alloc(), &rt, base),
         verifies(rt.alloc(), &rt, base),
+    ];
+    holds(&rt, are_right(&answers));
+}
+
+/// Whether the base heap is explained beside its compaction: 25 words differ, and ten are listed.
+fn explains(alloc: Global, threads: &(impl Threads + Sync), base: Base) -> Result<bool, Fault> {
+    let before = image(alloc, base, threads)?;
+    let heap = before.heap();
+    let found = Found {
+        heap: &heap,
+        live: before.live(),
+        roots: before.roots(),
+    };
+    match explain(alloc, &before, found, false, threads)? {
+        Some(explanation) => Ok((explanation.count, explanation.first.len()) == (25, 10)),
+        None => Ok(false),
+    }
+}
+
+#[test]
+fn explain_where_refused_memory_is_reported(rt: HostRuntime) {
+    let answers = [
+        explains(rt.alloc(), &rt, Base::WithLiveList),
+        explains(rt.alloc(), &rt, Base::WithRoots),
     ];
     holds(&rt, are_right(&answers));
 }

@@ -1,5 +1,5 @@
 -- The bounds that the longest chain sets for many workers, and how they are printed.
-use Rattle.std.specs.Prelude.{◌≡◌, ℕ, ◌+◌, ◌*◌, ◌/◌, ◌%◌, ◌≤◌, ◌==◌, max, if◌then◌else◌, List, ◌++◌, codes, decimal}
+use Rattle.std.specs.Prelude.{◌≡◌, ℕ, ◌+◌, ◌*◌, ◌/◌, ◌%◌, ◌≤◌, ◌==◌, max, min, if◌then◌else◌, List, ◌++◌, codes, decimal}
 use Rattle.std.specs.Int.{div_ceil}
 
 -- the largest speed-up of many workers over one, in hundredths: all words divided by those of the longest chain,
@@ -22,8 +22,8 @@ abbrev pub with_decimals : ℕ → List ℕ
 with_decimals hundredths =
     decimal (hundredths / 100) ++ (codes "." ++ (decimal (hundredths / 10 % 10) ++ decimal (hundredths % 10)))
 
--- the line with the figures, without its line feed
+-- the line with the figures, without its line feed; of the workers as many as a collection may have
 abbrev pub order_text : ℕ → ℕ → List ℕ
 order_text words chain =
     codes "chain " ++ (decimal chain ++ (codes " words " ++ (decimal words ++ (codes " speedup "
-    ++ (with_decimals (speedup_of words chain) ++ (codes " workers " ++ decimal (workers_of words chain)))))))
+    ++ (with_decimals (speedup_of words chain) ++ (codes " workers " ++ decimal (min (workers_of words chain) 64)))))))

@@ -9,6 +9,9 @@ use std::fmt;
 use summary::Plan;
 use summary::laws::region_data::regions_to_fill;
 
+/// The most workers of a collection.
+const MOST_WORKERS: u64 = 64;
+
 /// The parallelism that the order of work of a collection allows.
 ///
 /// Work is counted in the words that a fill leaves in its region. A fill counts as a whole: a region that waits for another
@@ -86,6 +89,6 @@ impl fmt::Display for WorkOrder {
             f,
             "chain {chain} words {words} speedup {whole}.{tenth}{hundredth}"
         )?;
-        write!(f, " workers {}", self.workers())
+        write!(f, " workers {}", self.workers().min(MOST_WORKERS))
     }
 }

@@ -1,21 +1,27 @@
-use Rattle.std.specs.Prelude.{◌≡◌, ℕ, List, Option, IfSome, codes}
+use Rattle.std.specs.Prelude.{◌≡◌, ℕ, Bool, true, false, List, Option, IfSome, codes}
 use Rattle.std.specs.Io.KnownBytes.{Consumes}
 use Rattle.heap_image.specs.HeapImage.{HeapImage, IsValid}
 use Rattle.heap_image.specs.ImageText.{text}
 use Rattle.heap_image.specs.Refusals.{IsReason}
 use Rattle.heap_image.specs.declared.fault.Fault.TheVariants.{Memory}
+use Rattle.summary.specs.NewAddresses.{new_top}
 use Rattle.summary.specs.Compaction.{compact}
-use Rattle.collector.specs.Verdict.{IsVerdict}
+use Rattle.collector.specs.Verdict.{IsVerdict, IsVerdictBelow}
 use Rattle.collector.specs.declared.verdict.Verdict.{Verdict}
 use Rattle.collector.specs.declared.verdict.Verdict.TheVariants.{Shape, Word, Live, Root}
 use Rattle.command_support.specs.declared.difference.Difference.{Difference}
 use Rattle.pcompact.specs.declared.commands.verify.Unverified.{Unverified}
 use Rattle.heap_commands.specs.Command.{Command}
 
+-- the verdict on an image beside the compaction of another, where the words from the new top up are compared or not
+abbrev pub IsVerdictOn : Bool → HeapImage → HeapImage → Verdict → Type 0
+IsVerdictOn true was is verdict = IsVerdictBelow (new_top was) (compact was) is verdict
+IsVerdictOn false was is verdict = IsVerdict (compact was) is verdict
+
 -- each device gave the text of a valid image, and this is the verdict on the second beside the compaction of the first
-abbrev pub IsVerdictOf : Option (List ℕ) → Option (List ℕ) → Option (List ℕ) → Option (List ℕ) → Verdict → Type 0
-IsVerdictOf before before' after after' verdict = (was is : HeapImage) × IsValid was × IsValid is
-    × Consumes before before' (text was) × Consumes after after' (text is) × IsVerdict (compact was) is verdict
+abbrev pub IsVerdictOf : Bool → Option (List ℕ) → Option (List ℕ) → Option (List ℕ) → Option (List ℕ) → Verdict → Type 0
+IsVerdictOf ignores_free before before' after after' verdict = (was is : HeapImage) × IsValid was × IsValid is
+    × Consumes before before' (text was) × Consumes after after' (text is) × IsVerdictOn ignores_free was is verdict
 
 -- the verdict that names a difference
 abbrev pub verdict_of : Difference → Verdict

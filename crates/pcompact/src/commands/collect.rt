@@ -50,7 +50,7 @@ where
     let outcome = written.end(outcome);
     match outcome {
         Ok(FiguresLine { figures, line }) => {
-            let moved = times.moved(figures);
+            let moved = times.moved(figures, image.into_inner().heap_words());
             let stats = Stats::of_collection(watch, times.laps(), moved, request.workers);
             Ok(ended(rt, line, out)?.with_stats(stats))
         }

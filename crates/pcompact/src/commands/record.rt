@@ -15,7 +15,7 @@ use collector::{Gate, record_stream};
 use command_line::Record;
 use command_support::{
     FileId, FileTarget, FileWord, Output, Phase, Role, Stats, Stopwatch, SystemFile, TimedIntake,
-    TimedOutlet, Trouble, Watched, WorkDone, failed, must_differ, same_file,
+    TimedOutlet, Trouble, Watched, WorkDone, failed, must_differ, output_must_differ, same_file,
 };
 use heap_image::{Fault, Intake, Outlet, ToWrite};
 use std::alloc::Global;
@@ -54,7 +54,7 @@ where
     let laps = times.laps().then(Phase::Schedule, lines.ended());
     match outcome {
         Ok(FiguresLine { figures, line }) => {
-            let moved = times.moved(figures);
+            let moved = times.moved(figures, image.into_inner().heap_words());
             let stats = Stats::of_collection(watch, laps, moved, request.workers);
             Ok(both_ended(rt, line, out, schedule)?.with_stats(stats))
         }
@@ -117,9 +117,9 @@ struct Named<'a> {
 /// Rejects two equal names, but for IMAGE and OUT with `--atomic`.
 fn names_must_differ<'a>(alloc: Global, named: Named<'a>, atomic: bool) -> Result<(), Trouble<'a>> {
     if !atomic {
-        must_differ(alloc, named.image, named.out)?;
+        output_must_differ(alloc, named.image, named.out)?;
     }
-    must_differ(alloc, named.image, named.schedule)?;
+    output_must_differ(alloc, named.image, named.schedule)?;
     must_differ(alloc, named.out, named.schedule)
 }
 

@@ -6,6 +6,7 @@ use Rattle.command_line.proofs.commands.with_sources.Goals as goal
 pub returns : goal.returns
 returns c =
     let top_is = λ (sub : App). sub.top in
-    let import = c.in_ok-subcommand.ensures.shape c.in_ok-words.ensures.local ∙ ap (with_subcommand (app_of c.args.command)) (ap top_is c.in_ok-words.ensures.app) in
-    let generate = c.in_ok-subcommand-2.ensures.shape c.in_ok-words-2.ensures.local ∙ ap₂ with_subcommand import (ap top_is c.in_ok-words-2.ensures.app) in
-    IfOk-weaker c.subcommand-3.result _ _ (λ command added. added.shape c.in_ok-words-3.ensures.local ∙ ap₂ with_subcommand generate (ap top_is c.in_ok-words-3.ensures.app)) c.subcommand-3.ensures
+    let upgrade = c.in_ok-subcommand.ensures.shape c.in_ok-words.ensures.local ∙ ap (with_subcommand (app_of c.args.command)) (ap top_is c.in_ok-words.ensures.app) in
+    let import = c.in_ok-subcommand-2.ensures.shape c.in_ok-words-2.ensures.local ∙ ap₂ with_subcommand upgrade (ap top_is c.in_ok-words-2.ensures.app) in
+    let generate = c.in_ok-subcommand-3.ensures.shape c.in_ok-words-3.ensures.local ∙ ap₂ with_subcommand import (ap top_is c.in_ok-words-3.ensures.app) in
+    IfOk-weaker c.subcommand-4.result _ _ (λ command added. added.shape c.words-4.ensures.local ∙ ap₂ with_subcommand generate (ap top_is c.words-4.ensures.app)) c.subcommand-4.ensures

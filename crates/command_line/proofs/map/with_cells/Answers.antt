@@ -8,16 +8,18 @@ use Rattle.command_line.proofs.map.with_cells.Goals as goal
 
 pub returns-clause-app : goal.returns-clause-app
 returns-clause-app c =
-    let start : app_of c.about.result ≡ new_app (codes "map") = ap app_of_fields c.about.ensures ∙ c.new.ensures.app in
+    let start : app_of c.after_help.result ≡ new_app (codes "map") = ap app_of_fields c.after_help.ensures ∙ ap app_of_fields c.about.ensures ∙ c.new.ensures.app in
     let step0 = c.in_ok-arg.ensures.shape c.image.ensures.local ∙ ap₂ with_rule start c.image.ensures.rule in
     let step1 = c.in_ok-arg-2.ensures.shape c.flag.ensures.local ∙ ap₂ with_rule step0 c.flag.ensures.rule in
     let step2 = c.in_ok-arg-3.ensures.shape c.width.ensures.local ∙ ap₂ with_rule step1 c.width.ensures.rule in
-    IfOk-weaker c.arg-4.result _ _ (λ command added. added.shape c.svg.ensures.local ∙ ap₂ with_rule step2 c.svg.ensures.rule) c.arg-4.ensures
+    let step3 = c.in_ok-arg-4.ensures.shape c.height.ensures.local ∙ ap₂ with_rule step2 c.height.ensures.rule in
+    IfOk-weaker c.arg-5.result _ _ (λ command added. added.shape c.svg.ensures.local ∙ ap₂ with_rule step3 c.svg.ensures.rule) c.arg-5.ensures
 
 pub returns-clause-local : goal.returns-clause-local
 returns-clause-local c =
-    let start : (out-Command c.about.result).has_globals ≡ false = ap (λ f. f.has_globals) c.about.ensures ∙ c.new.ensures.local in
+    let start : (out-Command c.after_help.result).has_globals ≡ false = ap (λ f. f.has_globals) c.after_help.ensures ∙ ap (λ f. f.has_globals) c.about.ensures ∙ c.new.ensures.local in
     let step0 = c.in_ok-arg.ensures.globals ∙ ap₂ ◌||◌ start c.image.ensures.local in
     let step1 = c.in_ok-arg-2.ensures.globals ∙ ap₂ ◌||◌ step0 c.flag.ensures.local in
     let step2 = c.in_ok-arg-3.ensures.globals ∙ ap₂ ◌||◌ step1 c.width.ensures.local in
-    IfOk-weaker c.arg-4.result _ _ (λ command added. added.globals ∙ ap₂ ◌||◌ step2 c.svg.ensures.local) c.arg-4.ensures
+    let step3 = c.in_ok-arg-4.ensures.globals ∙ ap₂ ◌||◌ step2 c.height.ensures.local in
+    IfOk-weaker c.arg-5.result _ _ (λ command added. added.globals ∙ ap₂ ◌||◌ step3 c.svg.ensures.local) c.arg-5.ensures

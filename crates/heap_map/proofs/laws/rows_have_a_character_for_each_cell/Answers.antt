@@ -1,7 +1,7 @@
 use Rattle.std.proofs.Common.{◌≡◌, ◌*◌, ℕ, List, [], ◌∷◌, false, length, length-append, refl, arith}
 use Rattle.std.specs.Prelude.{flat_map}
 use Rattle.heap_map.specs.declared.area.Area.{Area}
-use Rattle.heap_map.specs.declared.area.Area.TheVariants.{Prefix, Fillers, Moving, Free, Mixed}
+use Rattle.heap_map.specs.declared.area.Area.TheVariants.{Prefix, Fillers, Moving, Free}
 use Rattle.heap_map.specs.declared.cell.Cell.{Cell}
 use Rattle.heap_map.specs.declared.shade.Shade.{Shade}
 use Rattle.heap_map.specs.declared.shade.Shade.TheVariants.{Empty, Low, Middle, High, Full}
@@ -37,7 +37,6 @@ area Prefix = refl
 area Fillers = refl
 area Moving = refl
 area Free = refl
-area Mixed = refl
 
 pub returns-clause-letters : goal.returns-clause-letters
 returns-clause-letters c cells =

@@ -1,4 +1,7 @@
-use Rattle.std.proofs.Common.{◌≡◌, ◌<◌, ◌-◌, ◌^◌, vec_len}
+use Rattle.std.proofs.Common.{◌≡◌, ◌<◌, ◌-◌, ◌^◌, ℕ, List, Some, vec_len}
+use Rattle.heap_image.specs.HeapImage.{HeapImage, IsValid}
+use Rattle.heap_text.specs.Parsing.{IsWaiting}
+use Rattle.heap_text.specs.Text.{text_of}
 use Rattle.std.specs.Io.KnownBytes.{Consumes}
 use Rattle.heap_text.specs.TextLines.{EndsInLine}
 use Rattle.heap_text.proofs.reading.parse_from.Given as goal
@@ -9,6 +12,8 @@ invariant-loop-parser g l = record {
   seen : l.seen ≡ vec_len l.text;
   came : Consumes (g.R.Intake.left l.initial.device) (g.R.Intake.left l.device) l.text.items;
   stands : EndsInLine l.text.items l.seen l.parser.line l.parser.begin;
+  waits : (image : HeapImage) (left : List ℕ) → IsValid image → g.R.Intake.left l.initial.device ≡ Some (text_of image)
+      → g.R.Intake.left l.device ≡ Some left → IsWaiting image l.parser l.text.items l.seen left;
 }
 
 abbrev pub decreases-loop-parser : goal.decreases-loop-parser

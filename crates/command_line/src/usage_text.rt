@@ -1,0 +1,57 @@
+//! The texts of usage errors: those of `clap`, with what is wanted in place of how a number is refused, and without tips that
+//! don't fit.
+use std::alloc::{AllocError, Global};
+
+/// How `clap` refuses what isn't a whole number, at the end of a line.
+const NO_NUMBER: &str = "invalid digit found in string";
+
+/// The first line about the word `version`, which is like `verify` to `clap`.
+const NO_VERSION: &str = "error: unrecognized subcommand 'version'\n";
+
+/// The text of a usage error, of the one that `clap` makes.
+pub fn usage_text(alloc: Global, text: &str) -> Result<String, AllocError> {
+    let mut mended = String::new(alloc);
+    let wants_version = text.starts_with(NO_VERSION);
+    let mut was_dropped = false;
+    for line in text.lines() {
+        if wants_version && line.starts_with("  tip: ") {
+            mended.push_str("  tip: a similar argument exists: '--version'\n")?;
+        } else if !is_wrong_tip(line) && !(was_dropped && line.is_empty()) {
+            push_line(line, &mut mended)?;
+        }
+        was_dropped = is_wrong_tip(line);
+    }
+    Ok(mended)
+}
+
+/// Whether a line is the tip to pass an option or a negative number after `--`. No file is meant by such a word.
+fn is_wrong_tip(line: &str) -> bool {
+    match line.strip_prefix("  tip: to pass '-") {
+        Some(rest) => rest.starts_with('-')
+            || rest.starts_with(|first: char| first.is_ascii_digit()),
+        None => false,
+    }
+}
+
+/// Appends a line. One that refuses a number says what is wanted.
+fn push_line(line: &str, mended: &mut String) -> Result<(), AllocError> {
+    match line.strip_suffix(NO_NUMBER) {
+        Some(refused) => {
+            mended.push_str(refused)?;
+            mended.push_str(wanted(refused))?;
+        }
+        None => mended.push_str(line)?,
+    }
+    mended.push_str("\n")
+}
+
+/// What the option wants that this beginning of a line is about.
+fn wanted(refused: &str) -> &'static str {
+    if refused.ends_with("'--words <n>': ") || refused.ends_with("'--allowance <m>': ") {
+        "a whole number is wanted, of words of 8 bytes"
+    } else if refused.ends_with("<share>': ") {
+        "a whole number is wanted, of per cent"
+    } else {
+        "a whole number is wanted"
+    }
+}

@@ -1,0 +1,20 @@
+use Rattle.std.proofs.Common.{◌≡◌, ◌++◌, ◌∙◌, ap, ap₂, sym, ℕ, List, true, false}
+use Rattle.std.proofs.lemmas.Bool.{not-false, not-true}
+use Rattle.std.proofs.lemmas.Result.{IfOk-weaker}
+use Rattle.command_support.specs.Json.{as_shown, json_of}
+use Rattle.pcompact.proofs.program.answer.Goals as goal
+
+pub returns-then-not-manner-clause-prints : goal.returns-then-not-manner-clause-prints
+returns-then-not-manner-clause-prints g c = λ name call.
+    let plain : c.args.manner.json ≡ false = not-true c.args.manner.json c.if-not-manner.true in
+    IfOk-weaker c.answer.result _ _
+    (λ done is. (done.text.items, is, ap (λ json. as_shown json done.text.items) (sym plain)))
+    (c.answer.ensures.prints name call)
+
+pub returns-in-Ok-clause-prints : goal.returns-in-Ok-clause-prints
+returns-in-Ok-clause-prints g c = λ name call.
+    let asked : c.args.manner.json ≡ true = not-false c.args.manner.json c.if-not-manner.false in
+    let text : List ℕ = c.in_ok-done.done.text.items in
+    let object : c.push_json.new.json.items ≡ json_of text =
+    c.in-Ok.ensures ∙ ap₂ (λ (begun shown : List ℕ). begun ++ json_of shown) c.in_ok-object.ensures.items c.as_slice.ensures.value in
+    (text, c.in_ok-done.ensures.prints name call, object ∙ ap (λ json. as_shown json text) (sym asked))

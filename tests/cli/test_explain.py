@@ -1,0 +1,84 @@
+#!/usr/bin/env python3
+"""Runs `verify --explain` and `--ignore-free` of the built program on what a collector with seeded bugs makes of images, in
+both versions, and compares all of standard error with a plain model. Without the options the first line alone must come.
+
+usage: tests/cli/test_explain.py [PROGRAM]
+"""
+import pathlib
+import subprocess
+import sys
+
+# Finds the package `tests` from any folder, and writes nothing beside its modules.
+sys.dont_write_bytecode = True
+sys.path.insert(0, str(pathlib.Path(__file__).resolve().parents[2]))
+from tests.models.explanation import verified
+from tests.models.image import decode, encode, upgraded
+from tests.support.cases import BASE, COMPACTED, MOVED, MOVED_LIVE, image, try_groups, with_word
+from tests.support.program import TOP, Answer, Tried
+from tests.support.terminal import on_terminal
+
+COLLECTOR = TOP / "examples" / "collector.py"
+BUGS = ["", "reference", "data", "plan", "null", "filler", "free", "root"]
+HEAPS = [(version, live, allowance) for version in (1, 2) for live, allowance in ((20, 0), (50, 40), (90, 400))]
+
+
+def answer(lines: list[str]) -> Answer:
+    """What the program answers with these lines, the first of which is owed."""
+    if lines == ["same"]:
+        return Answer(0, "same\n")
+    return Answer(1, err="".join(f"pcompact: {line}\n" for line in lines))
+
+
+def try_pair(tried: Tried, before: bytes, after: bytes) -> None:
+    """Each combination of the options on two images."""
+    tried.write("before", before)
+    tried.write("after", after)
+    for ignores_free in (False, True):
+        lines = verified(before, after, ignores_free)
+        words = "verify before after --ignore-free" if ignores_free else "verify before after"
+        tried.run(words, answer(lines[:1]))
+        tried.run(f"{words} --explain", answer(lines))
+        tried.run(f"{words} --explain --verbose", answer(lines))
+
+
+def try_bugs(tried: Tried, before: bytes) -> None:
+    """What a collector makes of an image, right and with each bug."""
+    tried.write("image", before)
+    for bug in BUGS:
+        subprocess.run([sys.executable, COLLECTOR, "image", "out", *bug.split()], cwd=tried.folder, check=True)
+        try_pair(tried, before, tried.read("out"))
+
+
+def try_others(tried: Tried) -> None:
+    """Other sizes, single words, and more than ten words."""
+    others = [COMPACTED, BASE, image(MOVED[:24], MOVED_LIVE), image(MOVED, []), image(MOVED, MOVED_LIVE, allowance=2),
+              image(MOVED, MOVED_LIVE, log=4), encode(upgraded(decode(COMPACTED)))]
+    others += [image(with_word(MOVED, p, word), MOVED_LIVE) for p, word in ((18, 130), (31, 1), (19, 7), (1, 0), (1, 8))]
+    others += [image(MOVED, live) for live in (MOVED_LIVE[:-1], MOVED_LIVE[1:], MOVED_LIVE[::-1])]
+    for after in others:
+        try_pair(tried, BASE, after)
+
+
+def try_heaps(tried: Tried) -> None:
+    try_bugs(tried, BASE)
+    try_bugs(tried, encode(upgraded(decode(BASE))))
+    for version, live, allowance in HEAPS:
+        words = f"generate heap --words 512 --live {live} --region-log 3 --seed 5 --version {version} --allowance {allowance}"
+        tried.run(words, Answer(0, None))
+        try_bugs(tried, tried.read("heap"))
+
+
+def try_terminal(tried: Tried) -> None:
+    """On a terminal a difference is explained by itself."""
+    tried.write("before", BASE)
+    tried.write("after", image(with_word(MOVED, 1, 10), MOVED_LIVE))
+    whole = answer(verified(tried.read("before"), tried.read("after"))).err
+    for option, wanted in (("", whole), ("--explain", whole), ("--verbose=never", whole.splitlines(keepends=True)[0])):
+        if (found := on_terminal(tried, f"verify before after {option}")) != (1, wanted):
+            tried.is_wrong(f"verify before after {option}, on a terminal: {found}")
+
+
+GROUPS = (try_others, try_heaps, try_terminal)
+
+if __name__ == "__main__":
+    sys.exit(try_groups(GROUPS))

@@ -1,0 +1,126 @@
+#!/usr/bin/env python3
+"""`-` as standard input and output, `--json`, what comes on a terminal alone, and a reader that is gone.
+
+usage: tests/cli/test_streams.py [PROGRAM]
+"""
+import json
+import os
+import pathlib
+import subprocess
+import sys
+
+# Finds the package `tests` from any folder, and writes nothing beside its modules.
+sys.dont_write_bytecode = True
+sys.path.insert(0, str(pathlib.Path(__file__).resolve().parents[2]))
+from tests.cli.test_import import DUMP, NAME, imported
+from tests.support.cases import BASE, COLLECTED, COMPACTED, REPORT, try_groups
+from tests.support.program import Answer, Tried
+from tests.support.terminal import on_terminal
+
+SAME = Answer(2, err="pcompact: same file\n")
+IRREGULAR = Answer(2, err="pcompact: not a regular file\n")
+
+
+def piped(tried: Tried, line: str, given: bytes = b"") -> subprocess.CompletedProcess:
+    """What a line of the shell does, in which `pcompact` is the program."""
+    tried.count += 1
+    return subprocess.run(["sh", "-c", line.replace("pcompact", str(tried.program))], cwd=tried.folder, input=given,
+                          capture_output=True, timeout=60)
+
+
+def try_standard(tried: Tried) -> None:
+    """`-` where a file is read or written: a pipe, and a file that the shell has opened."""
+    summary = subprocess.run([tried.program, "summary", "base"], cwd=tried.folder, capture_output=True, text=True).stdout
+    tried.run("summary -", Answer(0, summary), input=BASE)
+    with (tried.folder / "base").open("rb") as base:
+        tried.run("summary -", Answer(0, summary), stdin=base)
+    tried.run("collect - out --workers 2", Answer(0, COLLECTED, made={"out": COMPACTED}), input=BASE)
+    tried.run("verify - out", Answer(0, "same\n"), input=BASE)
+    for line, given, out, err in (
+            ("pcompact collect base - --workers 2", b"", COMPACTED, COLLECTED.encode()),
+            ("pcompact collect - - --workers 2", BASE, COMPACTED, COLLECTED.encode()),
+            ("pcompact text - | pcompact assemble - -", BASE, BASE, b"words 32 roots 0 live 4\n"),
+            ("pcompact map - --svg - >drawing; head -c 4 drawing", BASE, b"<svg", None),
+            ("pcompact summary - | cat", BASE, summary.encode(), b"")):
+        done = piped(tried, line, given)
+        if done.stdout != out or err not in (done.stderr, None):
+            tried.is_wrong(f"{line}: {done.stdout[:80]!r}, {done.stderr!r}")
+    for words in ("verify - -", "replay - -", "record base - - --workers 1", "record - - - --workers 1"):
+        tried.run(words, SAME, input=BASE)
+    tried.run("collect base - --workers 1 --atomic", IRREGULAR)
+    tried.write("-", BASE)
+    tried.run("summary ./-", Answer(0, summary))
+    (tried.folder / "-").unlink()
+
+
+def try_dumps(tried: Tried) -> None:
+    """A dump from a pipe, and a stream that is none and never ends."""
+    tried.run("import - out", imported(DUMP), input=DUMP)
+    tried.run("import /dev/stdin out", imported(DUMP), input=DUMP)
+    for name in ("/dev/null", "/dev/zero"):
+        tried.run(f"import {name} out", Answer(1, err=None if name == "/dev/null" else f"pcompact: {NAME}\n", made={"out": None}))
+    done = piped(tried, "pcompact import - - --region-log 3 | pcompact collect - out --workers 4", DUMP)
+    if done.returncode or not done.stdout.startswith(b"prefix "):
+        tried.is_wrong(f"import to collect: {done}")
+
+
+def try_objects(tried: Tried) -> None:
+    """Each object has the names and numbers of the text."""
+    tried.write("dump", DUMP)
+    for words in ("order base", "collect base out --workers 2", "import dump out"):
+        text = subprocess.run([tried.program, *words.split()], cwd=tried.folder, capture_output=True, text=True).stdout.split()
+        wanted = {name: json.loads(value) for name, value in zip(text[::2], text[1::2], strict=True)}
+        said = subprocess.run([tried.program, *words.split(), "--json"], cwd=tried.folder, capture_output=True, text=True)
+        tried.count += 1
+        if json.loads(said.stdout) != wanted or said.stderr or said.stdout.count("\n") != 1:
+            tried.is_wrong(f"pcompact {words} --json: {said}")
+    tried.run("collect base out --workers 2", Answer(0, COLLECTED))
+    tried.run("verify base out --json", Answer(0, '{"same":true}\n'))
+    tried.run("verify base base --json", Answer(1, err="pcompact: differs word 1\n"))
+    lines = subprocess.run([tried.program, "summary", "base"], cwd=tried.folder, capture_output=True, text=True).stdout.splitlines()
+    names = ["region", "partial", "live", "dest", "count", "source"]
+    regions = [dict(zip(names, [None if word == "-" else int(word) for word in line.split()], strict=True)) for line in lines[1:]]
+    said = subprocess.run([tried.program, "summary", "base", "--json"], cwd=tried.folder, capture_output=True, text=True)
+    tried.count += 1
+    if json.loads(said.stdout) != {"prefix": 0, "top": 19, "regions": regions}:
+        tried.is_wrong(f"pcompact summary base --json: {said}")
+
+
+def try_terminal(tried: Tried) -> None:
+    """Details come by themselves on a terminal alone; the option decides where it has a value."""
+    first = "pcompact: fault 13 input or output\n"
+    more = first + "pcompact: file IMAGE nothing\npcompact: call open\npcompact: reason no such file or folder\n"
+    for option, wanted in (("", more), ("--verbose", more), ("--verbose=auto", more), ("--verbose=never", first)):
+        if (found := on_terminal(tried, f"summary nothing {option}")) != (1, wanted):
+            tried.is_wrong(f"summary nothing {option}, on a terminal: {found}")
+    for option, wanted in (("", first), ("--verbose=auto", first), ("--verbose=never", first), ("--verbose=always", more)):
+        tried.run(f"summary nothing {option}", Answer(1, err=wanted))
+    tried.run("summary -- --verbose=always", Answer(1, err=first))
+
+
+def try_heading(tried: Tried) -> None:
+    """The names of the columns come with the option and on a terminal, and in an object never."""
+    first, rows = REPORT.split("\n", 1)
+    headed = f"{first}\n  region  partial     live     dest    count   source\n{rows}"
+    tried.run("summary base", Answer(0, REPORT))
+    tried.run("summary base --heading", Answer(0, headed))
+    for words, wanted in (("summary base", headed), ("summary base --heading", headed), ("order base", "chain 19 words 19 speedup 1.00 workers 1\n")):
+        if (found := on_terminal(tried, words, "stdout")) != (0, wanted):
+            tried.is_wrong(f"{words}, on a terminal: {found}")
+    for words in ("summary base --json", "summary base --json --heading"):
+        if "partial " in (found := on_terminal(tried, words, "stdout"))[1] or found != on_terminal(tried, "summary base --json", "stdout"):
+            tried.is_wrong(f"{words}, on a terminal: {found}")
+
+
+def try_gone(tried: Tried) -> None:
+    """A reader of standard output that is gone: the status of SIGPIPE, and nothing on standard error."""
+    reading, writing = os.pipe()
+    os.close(reading)
+    with os.fdopen(writing, "wb") as gone:
+        tried.run("summary base", Answer(141), stdout=gone)
+
+
+GROUPS = (try_standard, try_dumps, try_objects, try_terminal, try_heading, try_gone)
+
+if __name__ == "__main__":
+    sys.exit(try_groups(GROUPS))
