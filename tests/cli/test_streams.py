@@ -40,7 +40,7 @@ def try_standard(tried: Tried) -> None:
             ("pcompact collect base - --workers 2", b"", COMPACTED, COLLECTED.encode()),
             ("pcompact collect - - --workers 2", BASE, COMPACTED, COLLECTED.encode()),
             ("pcompact text - | pcompact assemble - -", BASE, BASE, b"words 32 roots 0 live 4\n"),
-            ("pcompact map - --svg - >drawing; head -c 4 drawing", BASE, b"<svg", None),
+            ("pcompact map - --svg - >drawing; head -c 4 drawing", BASE, b"<?xm", None),
             ("pcompact summary - | cat", BASE, summary.encode(), b"")):
         done = piped(tried, line, given)
         if done.stdout != out or err not in (done.stderr, None):
@@ -57,8 +57,8 @@ def try_dumps(tried: Tried) -> None:
     """A dump from a pipe, and a stream that is none and never ends."""
     tried.run("import - out", imported(DUMP), input=DUMP)
     tried.run("import /dev/stdin out", imported(DUMP), input=DUMP)
-    for name in ("/dev/null", "/dev/zero"):
-        tried.run(f"import {name} out", Answer(1, err=None if name == "/dev/null" else f"pcompact: {NAME}\n", made={"out": None}))
+    for name, reason in (("/dev/null", "byte 0: the dump ends here, inside a record"), ("/dev/zero", NAME)):
+        tried.run(f"import {name} out", Answer(1, err=f"pcompact: {reason}\n", made={"out": None}))
     done = piped(tried, "pcompact import - - --region-log 3 | pcompact collect - out --workers 4", DUMP)
     if done.returncode or not done.stdout.startswith(b"prefix "):
         tried.is_wrong(f"import to collect: {done}")

@@ -263,7 +263,7 @@ def try_calls(tried: Tried) -> None:
     there stands then. No new file is left."""
     failed = "other, error 5 of the system"
     calls = {"sync": ("sync", failed), "mode": ("access", failed), "rename": ("rename", failed), "empty": ("empty", failed),
-             "none": ("write", "no byte was taken"), "close": ("close", failed)}
+             "none": ("write", "no byte was taken")}
     commands = {"collect base kept --workers 1": "OUT", "upgrade base kept": "OUT", "record base kept made --workers 1": "OUT",
                 "import dump kept --region-log 3": "IMAGE", "assemble text kept": "IMAGE", "map base --svg kept": "FILE",
                 "generate kept --words 64 --live 50 --region-log 3 --seed 1": "IMAGE"}
@@ -274,7 +274,6 @@ def try_calls(tried: Tried) -> None:
     before = {path.name for path in tried.folder.iterdir()} | {"made", "kept"}
     rows = [(words + (" --atomic" if call != "empty" else ""), call, io(f"{role} kept", *told))
             for words, role in commands.items() for call, told in calls.items()]
-    rows += [(words, "close", io(f"{role} kept", "close", failed)) for words, role in commands.items()]
     rows += [("collect base kept --workers 1", "stat", io("IMAGE base", "stat", failed)),
              ("generate kept --words 64 --live 50 --region-log 3 --seed 1", "stat", io("IMAGE kept", "stat", failed)),
              ("generate kept --words 64 --live 50 --region-log 3 --seed 1 --atomic", "stat", io("IMAGE kept", "stat", failed))]

@@ -17,8 +17,6 @@ pub enum SystemCall {
     Read,
     Write,
     Sync,
-    /// Closes a file that was written: some file systems write only then.
-    Close,
     /// Renames the new file to its place.
     Rename,
 }
@@ -34,7 +32,6 @@ impl fmt::Display for SystemCall {
             SystemCall::Read => "read",
             SystemCall::Write => "write",
             SystemCall::Sync => "sync",
-            SystemCall::Close => "close",
             SystemCall::Rename => "rename",
         })
     }

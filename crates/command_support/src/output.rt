@@ -19,8 +19,8 @@ pub struct Output<'a, F: Drop> {
 }
 
 impl<'a, F: OpenFile + Seek + Drop> Output<'a, F> {
-    /// Cuts a regular file after what was written, whatever another process has written there meanwhile, and closes it. A new
-    /// file gets the owner, the group and the permissions of the one that it replaces, and is synced to the disk.
+    /// Cuts a regular file after what was written, whatever another process has written there meanwhile. A new file gets the
+    /// owner, the group and the permissions of the one that it replaces, and is synced to the disk.
     ///
     /// After fault 13 a new file is removed.
     pub fn finish<H: Files<File = F>>(
@@ -37,12 +37,9 @@ impl<'a, F: OpenFile + Seek + Drop> Output<'a, F> {
         } = self;
         let cut = if may_have_holes { file.cut() } else { Ok(()) };
         match (replacement, cut) {
-            (None, Ok(())) => {
-                file.close()?;
-                Ok(None)
-            }
+            (None, Ok(())) => Ok(None),
             (None, Err(trouble)) => Err(trouble),
-            (Some(replacement), Ok(())) => Ok(Some(replacement.complete(host, file)?)),
+            (Some(replacement), Ok(())) => Ok(Some(replacement.complete(host, file.file())?)),
             (Some(replacement), Err(trouble)) => {
                 replacement.remove(host);
                 Err(trouble)

@@ -8,7 +8,6 @@ use crate::file_word::FileWord;
 use crate::leftovers::{Inputs, has_name, is_guarded, remove_leftover};
 use crate::system_file::{FileLock, SystemFile};
 use crate::trouble::{Trouble, on_file};
-use crate::watched::Watched;
 use heap_image::Fault;
 use std::alloc::{AllocError, Global};
 use std::fs::{OpenFile, OpenOptions};
@@ -90,20 +89,20 @@ impl<'a> Replacement<'a> {
         Ok((file, replacement))
     }
 
-    /// Gives the new file, which is open here, the owner, the group and the permissions of the one that it replaces, syncs
-    /// it to the disk, and closes it.
+    /// Gives the new file, which is open here, the owner, the group and the permissions of the one that it replaces, and syncs
+    /// it to the disk.
     ///
     /// After fault 13 it is removed.
     pub(crate) fn complete<H: Files>(
         self,
         host: &H,
-        file: Watched<'a, H::File>,
+        file: &H::File,
     ) -> Result<Replacement<'a>, Trouble<'a>>
     where
         H::File: SystemFile,
         ensures { IfErr result (λ trouble. trouble.failure ≡ failed_device) }
     {
-        match self.give_access_sync_and_close(file) {
+        match self.give_access_and_sync(file) {
             Ok(()) => Ok(self),
             Err(trouble) => {
                 self.remove(host);
@@ -112,17 +111,13 @@ impl<'a> Replacement<'a> {
         }
     }
 
-    fn give_access_sync_and_close<F: SystemFile + Drop>(
-        &self,
-        file: Watched<'a, F>,
-    ) -> Result<(), Trouble<'a>>
+    fn give_access_and_sync<F: SystemFile>(&self, file: &F) -> Result<(), Trouble<'a>>
         ensures { IfErr result (λ trouble. trouble.failure ≡ failed_device) }
     {
         if let Some(access) = self.access {
-            on_file(self.word, SystemCall::Access, access.give(file.file()))?;
+            on_file(self.word, SystemCall::Access, access.give(file))?;
         }
-        on_file(self.word, SystemCall::Sync, file.file().sync_all())?;
-        file.close()
+        on_file(self.word, SystemCall::Sync, file.sync_all())
     }
 
     /// The name of its place, without the folder.

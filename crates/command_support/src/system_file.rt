@@ -1,9 +1,7 @@
 //! Calls on an open file that [`OpenFile`] lacks.
 use std::fs::{File, OpenFile};
 use std::io;
-use std::os::fd::IntoRawFd;
 use std::os::unix::fs::fchown;
-use std_io::io::last_error;
 
 /// What a command needs of an open file beyond [`OpenFile`]. Each call acts on the open file, whatever has its name by then.
 pub trait SystemFile: OpenFile {
@@ -16,10 +14,6 @@ pub trait SystemFile: OpenFile {
     /// Fails with `WouldBlock` if another opening of the file holds a lock, and with `Unsupported` if the file system has no
     /// locks.
     fn acquire_lock(&self) -> io::Result<FileLock>;
-
-    /// Closes the file, and says how that failed. Some file systems write only then what was written before. Standard output
-    /// stays open.
-    fn close(self) -> io::Result<()>;
 
     /// Whether what is written to it goes to standard output itself.
     fn is_standard_output(&self) -> bool {
@@ -51,13 +45,5 @@ impl SystemFile for File {
         Ok(FileLock {
             handle: Some(self.try_clone()?),
         })
-    }
-
-    fn close(self) -> io::Result<()> {
-        if libc::close(self.into_raw_fd()) == 0 {
-            Ok(())
-        } else {
-            Err(last_error())
-        }
     }
 }

@@ -1,13 +1,9 @@
 //! Open files that note how calls on them fail.
-ghost use Rattle.std.specs.Prelude.{◌≡◌, IfErr};
-ghost use Rattle.command_support.specs.Failure.{failed_device};
-
 use crate::access::is_private;
 use crate::failed_call::{FailedCall, SystemCall};
 use crate::file_id::FileId;
 use crate::file_target::Writing;
 use crate::file_word::FileWord;
-use crate::system_file::SystemFile;
 use crate::trouble::{Trouble, on_file};
 use heap_image::FRONT_BYTES;
 use std::fs::{Metadata, OpenFile};
@@ -141,16 +137,6 @@ impl<'a, F: OpenFile + Seek + Drop> Watched<'a, F> {
             return Ok(());
         }
         self.file.set_len(end)
-    }
-}
-
-impl<'a, F: SystemFile + Drop> Watched<'a, F> {
-    /// Closes the file, which was written. Fault 13 if that fails.
-    pub fn close(self) -> Result<(), Trouble<'a>>
-        ensures { IfErr result (λ trouble. trouble.failure ≡ failed_device) }
-    {
-        let Watched { file, word, .. } = self;
-        on_file(word, SystemCall::Close, file.close())
     }
 }
 

@@ -221,15 +221,6 @@ impl<F: SystemFile + Drop> SystemFile for HostFile<F> {
         self.file.acquire_lock()
     }
 
-    fn close(self) -> io::Result<()> {
-        let HostFile { file, stdout } = self;
-        if stdout.is_some() {
-            Ok(())
-        } else {
-            file.close()
-        }
-    }
-
     fn is_standard_output(&self) -> bool {
         self.stdout.is_some()
     }

@@ -4,9 +4,8 @@
 //
 // The environment has it do more. With SWAPPED a link to that file takes the name of the first such file as soon as that is
 // made: what a stranger may do who can write in the folder. With FAILS the calls that this names fail: `sync`, `rename`,
-// `owner`, `mode`, `empty`, `stat`, and `close` of a file that was opened for writing; with `none` a write to a file takes no
-// byte. With MEANWHILE that command runs before the first write to a file. With HELD so many MiB of memory are asked for,
-// touched and given back before the program begins.
+// `owner`, `mode`, `empty`, `stat`; with `none` a write to a file takes no byte. With MEANWHILE that command runs before the first
+// write to a file. With HELD so many MiB of memory are asked for, touched and given back before the program begins.
 #define _GNU_SOURCE
 #include <dlfcn.h>
 #include <errno.h>
@@ -137,13 +136,6 @@ int fsync(int file) {
 int ftruncate(int file, off_t length) {
     NEXT(ftruncate)
     return fails("empty") ? -1 : next(file, length);
-}
-
-int close(int file) {
-    NEXT(close)
-    int is_written = (fcntl(file, F_GETFL) & O_ACCMODE) != O_RDONLY;
-    int status = next(file);
-    return is_written && fails("close") ? -1 : status;
 }
 
 int statx(int folder, const char *name, int flags, unsigned mask, struct statx *told) {
