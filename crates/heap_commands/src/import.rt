@@ -35,8 +35,12 @@ where
         allowance: request.allowance,
         live_only: request.live_only,
     };
-    let (dump, image) = open(rt, &request)?;
-    if dump.metadata()?.is_file() {
+    let Opened {
+        dump,
+        is_regular,
+        image,
+    } = open(rt, &request)?;
+    if is_regular {
         answer_from_file(rt, dump, image, options)
     } else {
         answer_from_pipe(rt, dump, image, options)
@@ -120,25 +124,38 @@ fn keep<R: Read>(alloc: Global, dump: &mut R) -> Result<Vec<u8>, Fault>
     }
 }
 
-/// A dump that is open, and the file for its image.
-type DumpAndImage<'a, F> = (Watched<'a, F>, FileTarget<'a, F>);
+/// The files of `import`.
+#[derive(Drop)]
+struct Opened<'a, F: Drop> {
+    /// The dump.
+    dump: Watched<'a, F>,
+    /// Whether the dump is a regular file, which can be read twice.
+    is_regular: bool,
+    /// The file for the image.
+    image: FileTarget<'a, F>,
+}
 
 /// Opens the dump, and finds the file for the image. Both may be one file only with `--atomic`. A folder is no dump.
 fn open<'a, H: Files + AllocGlobal>(
     host: &H,
     request: &Import<'a>,
-) -> Result<DumpAndImage<'a, H::File>, Trouble<'a>> {
+) -> Result<Opened<'a, H::File>, Trouble<'a>> {
     let word = FileWord::new(Role::Dump, request.dump);
     let image = FileWord::new(Role::Image, request.image);
     if !request.atomic {
         output_must_differ(host.alloc(), word, image)?;
     }
     let dump = Watched::open(host, word)?;
-    if dump.metadata()?.is_dir() {
+    let found = dump.metadata()?;
+    if found.is_dir() {
         return Err(not_regular(host.alloc(), word)?);
     }
     let image = target_beside(host, &dump, image, request.atomic)?;
-    Ok((dump, image))
+    Ok(Opened {
+        dump,
+        is_regular: found.is_file(),
+        image,
+    })
 }
 
 /// Makes an image of the dump that both devices give, and writes it. Returns the line for standard output, with the
