@@ -1,4 +1,6 @@
 //! What is said of words, live addresses and roots that differ from those of the base heap's compaction.
+ghost use Rattle.std.specs.Prelude.{◌<◌};
+
 use crate::checks::equal_at;
 use collector::{
     ExplainedWord, Found, Lead, Moved, OtherLive, OtherRoot, OtherWord, Part, Verdict, explain,
@@ -15,15 +17,15 @@ use std::thread::Threads;
 
 /// The number of words that differ, the first of them, and the first live address and root that differ.
 #[derive(Debug, Clone, Copy, PartialEq, Eq)]
-struct Told {
+struct Differences {
     count: u64,
     first: Option<ExplainedWord>,
     live: Option<OtherLive>,
     root: Option<OtherRoot>,
 }
 
-/// Of no difference.
-const NOTHING: Told = Told {
+/// What is said where nothing differs.
+const NO_DIFFERENCE: Differences = Differences {
     count: 0,
     first: None,
     live: None,
@@ -37,32 +39,32 @@ struct Row<'a> {
     words: [u64; 32],
     live: &'a [u64],
     listed: &'a [u64],
-    told: Told,
-    below: Told,
+    differences: Differences,
+    below: Differences,
 }
 
 impl<'a> Row<'a> {
-    /// A row with these words, the compaction's live addresses, and nothing told.
+    /// A row with these words, the compaction's live addresses, and no difference.
     fn moved(words: [u64; 32]) -> Row<'a> {
         Row {
             words,
             live: &MOVED_LIVE,
             listed: &MOVED_LIVE,
-            told: NOTHING,
-            below: NOTHING,
+            differences: NO_DIFFERENCE,
+            below: NO_DIFFERENCE,
         }
     }
 }
 
-fn told_of(
+fn differences_of(
     alloc: Global,
     before: &Image,
     found: Found<'_>,
     below_top: bool,
     threads: &(impl Threads + Sync),
-) -> Result<Option<Told>, Fault> {
+) -> Result<Option<Differences>, Fault> {
     match explain(alloc, before, found, below_top, threads)? {
-        Some(explanation) => Ok(Some(Told {
+        Some(explanation) => Ok(Some(Differences {
             count: explanation.count,
             first: explanation.first.as_slice().first().copied(),
             live: explanation.live,
@@ -72,12 +74,12 @@ fn told_of(
     }
 }
 
-fn told_of_row(
+fn differences_of_row(
     alloc: Global,
     row: &Row<'_>,
     below_top: bool,
     threads: &(impl Threads + Sync),
-) -> Result<Option<Told>, Fail> {
+) -> Result<Option<Differences>, Fail> {
     let settings = Settings::of_base(0);
     let before = image_of(alloc, settings, &BASE_WORDS, &BASE_LIVE, threads)?;
     let after = image_of(alloc, settings, &row.words, row.live, threads)?;
@@ -87,7 +89,7 @@ fn told_of_row(
         live: row.listed,
         roots: &[],
     };
-    Ok(told_of(alloc, &before, found, below_top, threads)?)
+    Ok(differences_of(alloc, &before, found, below_top, threads)?)
 }
 
 /// The words of the compaction with another one at this address.
@@ -100,11 +102,11 @@ fn with_word(address: usize, word: u64) -> [u64; 32]
 }
 
 /// What is said of one word.
-fn one(word: OtherWord, part: Part, lead: Option<Lead>) -> Told {
-    Told {
+fn one(word: OtherWord, part: Part, lead: Option<Lead>) -> Differences {
+    Differences {
         count: 1,
         first: Some(ExplainedWord { word, part, lead }),
-        ..NOTHING
+        ..NO_DIFFERENCE
     }
 }
 
@@ -121,7 +123,7 @@ fn unmoved<'a>() -> Row<'a> {
         expected: 3,
         found: 5,
     };
-    let told = Told {
+    let differences = Differences {
         count: 29,
         live: Some(live),
         ..one(word, part, Some(Lead::Unchanged))
@@ -130,8 +132,11 @@ fn unmoved<'a>() -> Row<'a> {
         words: BASE_WORDS,
         live: &BASE_LIVE,
         listed: &BASE_LIVE,
-        told,
-        below: Told { count: 18, ..told },
+        differences,
+        below: Differences {
+            count: 18,
+            ..differences
+        },
     }
 }
 
@@ -144,10 +149,10 @@ fn misled<'a>() -> Row<'a> {
     };
     let part = Part::Field(Moved { old: 0, new: 0 }, 0);
     let lead = Lead::To(Part::Header(Moved { old: 20, new: 9 }));
-    let told = one(word, part, Some(lead));
+    let differences = one(word, part, Some(lead));
     Row {
-        told,
-        below: told,
+        differences,
+        below: differences,
         ..Row::moved(with_word(1, 10))
     }
 }
@@ -160,7 +165,7 @@ fn littered<'a>() -> Row<'a> {
         found: 7,
     };
     Row {
-        told: one(word, Part::Free, None),
+        differences: one(word, Part::Free, None),
         ..Row::moved(with_word(25, 7))
     }
 }
@@ -172,14 +177,14 @@ fn mislisted<'a>() -> Row<'a> {
         expected: 9,
         found: 8,
     };
-    let told = Told {
+    let differences = Differences {
         live: Some(live),
-        ..NOTHING
+        ..NO_DIFFERENCE
     };
     Row {
         listed: &[0, 3, 7, 8],
-        told,
-        below: told,
+        differences,
+        below: differences,
         ..Row::moved(MOVED_WORDS)
     }
 }
@@ -194,20 +199,20 @@ fn words_and_live_addresses_are_explained(rt: HostRuntime) -> Result<(), Fail> {
         mislisted(),
     ];
     for (i, row) in rows.iter().enumerate() {
-        let told = told_of_row(rt.alloc(), row, false, &rt)?;
-        equal_at(&rt, told, Some(row.told), i as u64);
-        let below = told_of_row(rt.alloc(), row, true, &rt)?;
+        let differences = differences_of_row(rt.alloc(), row, false, &rt)?;
+        equal_at(&rt, differences, Some(row.differences), i as u64);
+        let below = differences_of_row(rt.alloc(), row, true, &rt)?;
         equal_at(&rt, below, Some(row.below), i as u64);
     }
     Ok(())
 }
 
 /// What is said of these roots, where the words are right.
-fn told_of_roots(
+fn differences_of_roots(
     alloc: Global,
     roots: &[u64],
     threads: &(impl Threads + Sync),
-) -> Result<Option<Told>, Fail> {
+) -> Result<Option<Differences>, Fail> {
     let settings = Settings::of_base(0);
     let before = rooted_text(alloc, settings, &BASE_WORDS, &BASE_ROOTS)?;
     let before = decode_by_threads(alloc, before.as_slice(), threads)?;
@@ -219,7 +224,7 @@ fn told_of_roots(
         live: after.live(),
         roots,
     };
-    Ok(told_of(alloc, &before, found, false, threads)?)
+    Ok(differences_of(alloc, &before, found, false, threads)?)
 }
 
 #[test]
@@ -242,12 +247,12 @@ fn roots_are_explained(rt: HostRuntime) -> Result<(), Fail> {
         ([10, 33], Some(beyond)),
     ];
     for (i, (roots, root)) in rows.iter().enumerate() {
-        let told = told_of_roots(rt.alloc(), roots, &rt)?;
-        let want = Told {
+        let differences = differences_of_roots(rt.alloc(), roots, &rt)?;
+        let want = Differences {
             root: *root,
-            ..NOTHING
+            ..NO_DIFFERENCE
         };
-        equal_at(&rt, told, Some(want), i as u64);
+        equal_at(&rt, differences, Some(want), i as u64);
     }
     Ok(())
 }
