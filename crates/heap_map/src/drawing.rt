@@ -103,14 +103,7 @@ fn strip_height(map: &Map, frame: Frame) -> u64 {
 
 /// Writes the head of the document, the name of the heap and the figures.
 fn begin(svg: &mut String, figures: MapFigures, height: u64, name: &str) -> Result<(), AllocError> {
-    let MapFigures {
-        words,
-        live,
-        dead,
-        prefix_end,
-        new_top,
-        filled,
-    } = figures;
+    let words = figures.words;
     writeln!(
         svg,
         r#"<?xml version="1.0" encoding="UTF-8"?>
@@ -125,11 +118,27 @@ fn begin(svg: &mut String, figures: MapFigures, height: u64, name: &str) -> Resu
     )?;
     svg.push_str("<text x=\"8\" y=\"20\" font-weight=\"bold\">")?;
     write_name(svg, name)?;
+    svg.push_str("</text>\n")?;
+    write_figures(svg, figures)
+}
+
+/// Writes the figures below the name.
+fn write_figures(svg: &mut String, figures: MapFigures) -> Result<(), AllocError> {
+    let MapFigures {
+        words,
+        live,
+        dead,
+        prefix_end,
+        new_top,
+        filled,
+    } = figures;
+    let (whole, tenths) = (words / MIB, words % MIB * 10 / MIB);
+    let share = live.saturating_mul(1000) / words.max(1);
+    let (per_cent, of_ten) = (share / 10, share % 10);
     writeln!(
         svg,
-        r#"</text>
-<text x="8" y="40">{words} words: {live} live, {dead} dead; {filled} regions to fill</text>
-<text x="8" y="60">dense prefix ends at {prefix_end}, new top is {new_top}</text>"#
+        r#"<text x="8" y="40">{words} words, {whole}.{tenths} MiB: {live} live, {per_cent}.{of_ten} per cent; {dead} dead</text>
+<text x="8" y="60">dense prefix ends at {prefix_end}, new top is {new_top}; {filled} regions to fill</text>"#
     )
 }
 
