@@ -28,6 +28,7 @@ abbrev pub asks_stats : Request → Bool
 asks_stats (Collect call) = call.stats
 asks_stats (Verify call) = call.stats
 asks_stats (Record call) = call.stats
+asks_stats (Import call) = call.stats
 asks_stats request = false
 
 -- the request has `--json`

@@ -46,6 +46,7 @@ impl Request<'_> {
             Request::Collect(call) => call.stats,
             Request::Verify(call) => call.stats,
             Request::Record(call) => call.stats,
+            Request::Import(call) => call.stats,
             _ => false,
         }
     }

@@ -1,0 +1,59 @@
+//! The list of the objects of an imported image.
+ghost use Rattle.std.specs.Prelude.{◌≡◌, ◌++◌, OnOk, string_bytes};
+ghost use Rattle.std.specs.Io.KnownBytes.{Appends};
+ghost use Rattle.heap_commands.specs.ObjectList.{list_text, object_line, state_of};
+
+use crate::histogram::bytes_of;
+use heap_dump::{ClassNames, ListedImport, ListedObject};
+use heap_image::{Fault, Outlet, give_all};
+use std::alloc::{AllocError, Global};
+
+/// How many bytes are collected before they are written.
+const PIECE: usize = 65_536;
+
+/// Writes a line for each object of an image, in the order of addresses: its address, its class, its bytes in the image,
+/// and `live` or `dead`.
+///
+/// Fault 13 if the device fails, and 11 if memory runs out.
+pub fn give_list<O: Outlet>(
+    alloc: Global,
+    import: &ListedImport,
+    output: &mut O,
+) -> Result<(), Fault>
+    ensures { OnOk result (Appends (O.took output.old) (O.took output.new)
+        (list_text import.now.names import.now.objects.items)) }
+{
+    let mut lines = String::with_capacity(alloc, PIECE)?;
+    for object in import.objects.as_slice() {
+        push_object(&mut lines, object, &import.names)?;
+        if lines.len() >= PIECE {
+            give_all(output, lines.as_bytes())?;
+            lines.clear();
+        }
+    }
+    give_all(output, lines.as_bytes())?;
+    Ok(())
+}
+
+/// Appends the line of an object.
+fn push_object(
+    lines: &mut String,
+    object: &ListedObject,
+    names: &ClassNames,
+) -> Result<(), AllocError>
+    ensures { OnOk result (string_bytes lines.new ≡ string_bytes lines.old ++ object_line names.now object.now) }
+{
+    let address = object.address;
+    write!(lines, "{address} ")?;
+    names.push_name(object.class, lines)?;
+    let (bytes, state) = (bytes_of(object.words), state_of(object.is_live));
+    writeln!(lines, " {bytes} {state}")?;
+    Ok(())
+}
+
+/// How the list says whether an object is live.
+fn state_of(is_live: bool) -> &'static str
+    ensures { result.now ≡ state_of is_live }
+{
+    if is_live { "live" } else { "dead" }
+}
