@@ -3,7 +3,7 @@ ghost use Rattle.std.specs.Prelude.{◌≡◌, codes, false, IfErr, IfOk, ◌∷
 ghost use Rattle.clap.specs.Words.{app_of, rule_of};
 ghost use Rattle.clap.specs.declared.builder.command.Command.TheViews.{out-Command as fields_of};
 ghost use Rattle.command_line.specs.CommandLine.{IsCallOf};
-ghost use Rattle.command_line.specs.Request.{IsNoUsage};
+ghost use Rattle.command_line.specs.Request.{IsNoUsage, rows_in};
 ghost use Rattle.command_line.specs.Commands.{classes_rule, histogram_rule, import_words};
 
 use crate::arguments;
@@ -107,6 +107,13 @@ impl<'a> Import<'a> {
             atomic: arguments::is_atomic(matches),
             verbose: arguments::is_verbose(matches),
         })
+    }
+
+    /// The most classes of the histogram that is printed, if one is. A JSON object has none.
+    pub fn rows(&self) -> Option<u32>
+        ensures { result ≡ rows_in self.now }
+    {
+        if self.json { None } else { self.histogram }
     }
 }
 

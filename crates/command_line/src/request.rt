@@ -1,5 +1,6 @@
 //! The commands with their arguments.
 use crate::assemble::Assemble;
+use crate::beginning::have_beginning;
 use crate::collect::Collect;
 use crate::generate::Generate;
 use crate::import::Import;
@@ -34,9 +35,27 @@ pub enum Request<'a> {
     Show(String),
 }
 
-impl Request<'_> {
-    ghost use Rattle.std.specs.Prelude.{◌≡◌};
-    ghost use Rattle.command_line.specs.Request.{asks_json, asks_stats};
+impl<'a> Request<'a> {
+    ghost use Rattle.std.specs.Prelude.{◌≡◌, ◌≢◌, codes, None, ℕ, List};
+    ghost use Rattle.command_line.specs.CommandLine.{HaveBeginning};
+    ghost use Rattle.command_line.specs.Request.{IsFor, asks_json, asks_stats, rows_of};
+
+    /// The request of these arguments, without a histogram if none of them begins with the name of that option. Then it asks for
+    /// none; the test lets contracts speak of arguments.
+    pub fn as_asked(self, words: &[String]) -> Request<'a>
+        ensures name { (name : List ℕ) → IsFor name self.entry → IsFor name result }
+        ensures histogram { rows_of result ≢ None → HaveBeginning (codes "--histogram") words.now }
+    {
+        match self {
+            Request::Import(call) if !have_beginning(words, "--histogram") => {
+                Request::Import(Import {
+                    histogram: None,
+                    ..call
+                })
+            }
+            request => request,
+        }
+    }
 
     /// Whether to print timings and peak memory. A command without `--stats` prints none.
     pub fn asks_stats(&self) -> bool

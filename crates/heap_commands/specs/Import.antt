@@ -1,10 +1,9 @@
-use Rattle.std.specs.Prelude.{◌≡◌, ℕ, if◌then◌else◌, List, [], ◌++◌, Option, None, Some, codes}
+use Rattle.std.specs.Prelude.{◌≡◌, ℕ, List, [], ◌++◌, Option, None, Some, codes}
 use Rattle.std.specs.Io.KnownBytes.{Appends}
 use Rattle.heap_image.specs.HeapImage.{HeapImage, IsValid, version_of}
 use Rattle.heap_image.specs.ImageText.{text}
 use Rattle.heap_dump.specs.ImportFigures.{AreFiguresOf, figures_text}
 use Rattle.heap_dump.specs.declared.figures.ImportFigures.{ImportFigures}
-use Rattle.command_line.specs.declared.import.Import.{Import}
 use Rattle.heap_commands.specs.Command.{Command}
 use Rattle.heap_commands.specs.Histogram.{IsHistogram}
 
@@ -47,10 +46,6 @@ IsListedImport allowance most took took' shown = (image : HeapImage) × IsTextOf
 abbrev pub IsImportText : Option ℕ → List ℕ → Type 0
 IsImportText None shown = IsImportLine shown
 IsImportText (Some most) shown = (image : HeapImage) × IsTextOf image (Some most) shown
-
--- the most classes of the histogram that a call prints: a JSON object has no histogram
-abbrev pub rows_of : Import → Option ℕ
-rows_of call = if call.json then None else call.histogram
 
 -- such a text
 abbrev pub IsImported : List ℕ → Type 0

@@ -1,9 +1,10 @@
 ghost use Rattle.std.specs.Prelude.{◌≡◌, ◌≢◌, ◌⊎◌, ◌++◌, codes, None, ℕ, List, IfOk, IfErr, OnOk, OnErr, IsTrue, string_bytes};
 ghost use Rattle.std.specs.Io.KnownBytes.{IsAtEnd};
+ghost use Rattle.command_line.specs.Request.{rows_in};
 ghost use Rattle.heap_image.specs.HeapImage.{IsValid, version_of};
 ghost use Rattle.heap_dump.specs.ImportFigures.{AreFiguresOf, figures_text};
 ghost use Rattle.heap_dump.specs.Listing.{AreObjectsOf};
-ghost use Rattle.heap_commands.specs.Import.{IsImport, IsImportText, IsListedImport, IsTextOf, rows_of};
+ghost use Rattle.heap_commands.specs.Import.{IsImport, IsImportText, IsListedImport, IsTextOf};
 ghost use Rattle.command_support.specs.Failure.{failed_device};
 
 use crate::histogram::push_histogram;
@@ -31,7 +32,7 @@ pub fn answer<'a, R: Files + AllocGlobal + Clock>(
 ) -> Result<WorkDone<'a>, Trouble<'a>>
 where
     R::File: SystemFile,
-    ensures { IfOk result (λ done. IsImportText (rows_of request.entry) done.text.items) }
+    ensures { IfOk result (λ done. IsImportText (rows_in request.entry) done.text.items) }
 {
     let watch = Stopwatch::start(rt, request.stats);
     let wish = ImportWish::of(&request);
@@ -143,9 +144,8 @@ pub struct ImportWish {
 }
 
 impl ImportWish {
-    /// What this request wants. A JSON object has no histogram.
     fn of(request: &Import<'_>) -> ImportWish
-        ensures { result.rows ≡ rows_of request.now }
+        ensures { result.rows ≡ rows_in request.now }
     {
         ImportWish {
             options: Options {
@@ -154,11 +154,7 @@ impl ImportWish {
                 live_only: request.live_only,
             },
             lists_objects: request.classes.is_some(),
-            rows: if request.json {
-                None
-            } else {
-                request.histogram
-            },
+            rows: request.rows(),
         }
     }
 }
@@ -297,8 +293,9 @@ fn text_of(alloc: Global, import: &ListedImport, rows: Option<u32>) -> Result<St
 {
     let mut text = String::with_capacity(alloc, LINE_ROOM)?;
     push_import_line(import.imported.figures, &mut text)?;
-    if let Some(most) = rows {
-        push_histogram(alloc, import, most, &mut text)?;
-    }
+    let Some(most) = rows else {
+        return Ok(text);
+    };
+    push_histogram(alloc, import, most, &mut text)?;
     Ok(text)
 }

@@ -1,5 +1,5 @@
 //! The list of the objects of an imported image.
-ghost use Rattle.std.specs.Prelude.{◌≡◌, ◌++◌, OnOk, string_bytes};
+ghost use Rattle.std.specs.Prelude.{◌≡◌, ◌++◌, ℕ, List, OnOk, string_bytes};
 ghost use Rattle.std.specs.Io.KnownBytes.{Appends};
 ghost use Rattle.heap_commands.specs.ObjectList.{list_text, object_line, state_of};
 
@@ -26,12 +26,22 @@ pub fn give_list<O: Outlet>(
     let mut lines = String::with_capacity(alloc, PIECE)?;
     for object in import.objects.as_slice() {
         push_object(&mut lines, object, &import.names)?;
-        if lines.len() >= PIECE {
-            give_all(output, lines.as_bytes())?;
-            lines.clear();
-        }
+        give_piece(&mut lines, output)?;
     }
     give_all(output, lines.as_bytes())?;
+    Ok(())
+}
+
+/// Writes the lines and empties them, if they are long enough.
+fn give_piece<O: Outlet>(lines: &mut String, output: &mut O) -> Result<(), Fault>
+    ensures { OnOk result ((given : List ℕ) × Appends (O.took output.old) (O.took output.new) given
+        × (given ++ string_bytes lines.new ≡ string_bytes lines.old)) }
+{
+    if lines.len() < PIECE {
+        return Ok(());
+    }
+    give_all(output, lines.as_bytes())?;
+    lines.clear();
     Ok(())
 }
 
