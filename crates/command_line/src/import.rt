@@ -1,12 +1,13 @@
 //! The command `import`: its arguments, their help, and how they are parsed.
-ghost use Rattle.std.specs.Prelude.{◌≡◌, codes, false, IfErr, IfOk, ◌∷◌, []};
+ghost use Rattle.std.specs.Prelude.{◌≡◌, ◌≢◌, codes, false, None, IfErr, IfOk, ◌∷◌, []};
 ghost use Rattle.clap.specs.Words.{app_of, rule_of};
 ghost use Rattle.clap.specs.declared.builder.command.Command.TheViews.{out-Command as fields_of};
-ghost use Rattle.command_line.specs.CommandLine.{IsCallOf};
+ghost use Rattle.command_line.specs.CommandLine.{HaveBeginning, IsCallOf};
 ghost use Rattle.command_line.specs.Request.{IsNoUsage, rows_in};
 ghost use Rattle.command_line.specs.Commands.{classes_rule, histogram_rule, import_words};
 
 use crate::arguments;
+use crate::beginning::have_beginning;
 use crate::unread::Unread;
 use clap::{Arg, ArgMatches, Command, value_parser};
 use std::alloc::{AllocError, Global};
@@ -107,6 +108,20 @@ impl<'a> Import<'a> {
             atomic: arguments::is_atomic(matches),
             verbose: arguments::is_verbose(matches),
         })
+    }
+
+    /// The call without a histogram, if none of these arguments begins with the name of that option.
+    pub(crate) fn as_asked(self, words: &[String]) -> Import<'a>
+        ensures { rows_in result ≢ None → HaveBeginning (codes "--histogram") words.now }
+    {
+        if have_beginning(words, "--histogram") {
+            self
+        } else {
+            Import {
+                histogram: None,
+                ..self
+            }
+        }
     }
 
     /// The most classes of the histogram that is printed, if one is. A JSON object has none.

@@ -1,6 +1,5 @@
 //! The commands with their arguments.
 use crate::assemble::Assemble;
-use crate::beginning::have_beginning;
 use crate::collect::Collect;
 use crate::generate::Generate;
 use crate::import::Import;
@@ -47,12 +46,7 @@ impl<'a> Request<'a> {
         ensures histogram { rows_of result ≢ None → HaveBeginning (codes "--histogram") words.now }
     {
         match self {
-            Request::Import(call) if !have_beginning(words, "--histogram") => {
-                Request::Import(Import {
-                    histogram: None,
-                    ..call
-                })
-            }
+            Request::Import(call) => Request::Import(call.as_asked(words)),
             request => request,
         }
     }

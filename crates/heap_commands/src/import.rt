@@ -4,13 +4,14 @@ ghost use Rattle.command_line.specs.Request.{rows_in};
 ghost use Rattle.heap_image.specs.HeapImage.{IsValid, version_of};
 ghost use Rattle.heap_dump.specs.ImportFigures.{AreFiguresOf, figures_text};
 ghost use Rattle.heap_dump.specs.Listing.{AreObjectsOf};
-ghost use Rattle.heap_commands.specs.Import.{IsImport, IsImportText, IsListedImport, IsTextOf};
+ghost use Rattle.heap_commands.specs.Import.{IsImport, IsImportText, IsImported, IsListedImport, IsTextOf};
 ghost use Rattle.command_support.specs.Failure.{failed_device};
 
 use crate::histogram::push_histogram;
 use crate::import_ending::{finished, unfinished};
 use crate::import_files::{ImportFiles, keep, late_beside};
 use crate::live_share::live_share;
+use crate::object_list::list_room;
 use command_line::Import;
 use command_support::{
     Failure, Laps, LiveShare, Phase, Stats, Stopwatch, SystemFile, TimedIntake, TimedOutlet,
@@ -32,7 +33,8 @@ pub fn answer<'a, R: Files + AllocGlobal + Clock>(
 ) -> Result<WorkDone<'a>, Trouble<'a>>
 where
     R::File: SystemFile,
-    ensures { IfOk result (λ done. IsImportText (rows_in request.entry) done.text.items) }
+    ensures text { IfOk result (λ done. IsImportText (rows_in request.entry) done.text.items) }
+    ensures printed { IfOk result (λ done. IsImported done.text.items) }
 {
     let watch = Stopwatch::start(rt, request.stats);
     let wish = ImportWish::of(&request);
@@ -164,8 +166,8 @@ impl ImportWish {
 pub(crate) struct ImportMade {
     /// The text for standard output.
     pub(crate) text: String,
-    /// The objects of the image, if they are wanted.
-    pub(crate) listed: Option<ListedImport>,
+    /// The objects of the image, if they are wanted, and room for their lines.
+    pub(crate) listed: Option<(ListedImport, String)>,
     pub(crate) share: LiveShare,
 }
 
@@ -189,13 +191,13 @@ fn import_as_wished<R: Intake, O: Outlet>(
             })
         }
         _ => {
-            let ListedText { text, import } = import_listed_into(
+            let ListedText { text, import, room } = import_listed_into(
                 alloc, first, second, output, wish,
             )?;
             let share = live_share(&import.imported.image);
             Ok(ImportMade {
                 text,
-                listed: Some(import),
+                listed: Some((import, room)),
                 share,
             })
         }
@@ -255,6 +257,8 @@ fn push_import_line(figures: ImportFigures, line: &mut String) -> Result<(), All
 pub struct ListedText {
     pub text: String,
     pub import: ListedImport,
+    /// Room for a list of its objects.
+    pub room: String,
 }
 
 /// Makes an image of the dump that both devices give, and writes it, as [`import_into`] does. Returns the text for
@@ -279,8 +283,9 @@ pub fn import_listed_into<R: Intake, O: Outlet>(
 {
     let import = import_listed(alloc, first, second, wish.options)?;
     let text = text_of(alloc, &import, wish.rows)?;
+    let room = list_room(alloc, &import.names)?;
     write_image_buffered(alloc, &import.imported.image, output)?;
-    Ok(ListedText { text, import })
+    Ok(ListedText { text, import, room })
 }
 
 /// The line with the figures of an import, and a histogram with at most so many classes if one is wanted.

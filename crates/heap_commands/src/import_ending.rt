@@ -30,7 +30,7 @@ where
             return Err(trouble);
         }
     };
-    let list = match write_list(host, listed.as_ref(), list, image.place_name()) {
+    let list = match write_list(host, listed, list, image.place_name()) {
         Ok(list) => list,
         Err(trouble) => return Err(failed(host, trouble, image)),
     };
@@ -56,7 +56,7 @@ where
 /// Writes the list of objects to its file. A new file doesn't get the name of the place that the image takes.
 fn write_list<'a, H: Files + AllocGlobal>(
     host: &H,
-    listed: Option<&ListedImport>,
+    listed: Option<(ListedImport, String)>,
     list: FileTarget<'a, H::File>,
     image_place: Option<&str>,
 ) -> Result<Output<'a, H::File>, Trouble<'a>>
@@ -65,7 +65,7 @@ where
 {
     let mut list = list.begin_apart(host, image_place)?;
     let given = match listed {
-        Some(import) => give_list(host.alloc(), import, &mut ToWrite::new(&mut list.file)),
+        Some((import, room)) => give_list(&import, room, &mut ToWrite::new(&mut list.file)),
         None => Ok(()),
     };
     match given {

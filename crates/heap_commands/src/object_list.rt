@@ -11,19 +11,28 @@ use std::alloc::{AllocError, Global};
 /// How many bytes are collected before they are written.
 const PIECE: usize = 65_536;
 
+/// Room for the numbers and words of a line.
+const LINE_ROOM: usize = 64;
+
+/// Room for the lines that are collected before they are written.
+pub fn list_room(alloc: Global, names: &ClassNames) -> Result<String, AllocError> {
+    String::with_capacity(alloc, names.longest().saturating_add(PIECE + LINE_ROOM))
+}
+
 /// Writes a line for each object of an image, in the order of addresses: its address, its class, its bytes in the image,
-/// and `live` or `dead`.
+/// and `live` or `dead`. `room` is that of [`list_room`]: then nothing is allocated.
 ///
 /// Fault 13 if the device fails, and 11 if memory runs out.
 pub fn give_list<O: Outlet>(
-    alloc: Global,
     import: &ListedImport,
+    room: String,
     output: &mut O,
 ) -> Result<(), Fault>
     ensures { OnOk result (Appends (O.took output.old) (O.took output.new)
         (list_text import.now.names import.now.objects.items)) }
 {
-    let mut lines = String::with_capacity(alloc, PIECE)?;
+    let mut lines = room;
+    lines.clear();
     for object in import.objects.as_slice() {
         push_object(&mut lines, object, &import.names)?;
         give_piece(&mut lines, output)?;

@@ -84,11 +84,12 @@ module _ (objects : List ListedObject) (i : ℕ) (o : ListedObject) (l : i < len
     where
       long : length (set totals o.class new) ≡ length totals
       long = length-set totals o.class new
+
       go : ((eqb o.class k ≡ true) × (o.class ≡ k)) ⊎ ((eqb o.class k ≡ false) × (o.class ≢ k)) → get_or (set totals o.class new) k d ≡ sums_in k (take (i + 1) objects)
       go (inl yes) =
           let at : get_or (set totals o.class new) o.class d ≡ new = get_or-set_same totals o.class new d room in
           let here : sums_of (objects_in o.class (take i objects) ++ o ∷ []) ≡ sums_of (objects_in k (take (i + 1) objects)) =
-              ap (λ n. sums_of (objects_in n (take i objects) ++ o ∷ [])) yes.1 ∙ sym (ap sums_of (class_same k yes.0)) in
+          ap (λ n. sums_of (objects_in n (take i objects) ++ o ∷ [])) yes.1 ∙ sym (ap sums_of (class_same k yes.0)) in
           ap (λ n. get_or (set totals o.class new) n d) (sym yes.1) ∙ at ∙ ap₂ (λ n t. class_record n t) (class ∙ yes.1) (sums ∙ here)
       go (inr no) =
           let other : k ≢ o.class = λ e. no.1 (sym e) in

@@ -95,6 +95,15 @@ impl ClassNames {
         kind.most_padding()
     }
 
+    /// No name that [`push_name`](ClassNames::push_name) appends has more bytes.
+    pub fn longest(&self) -> usize {
+        let mut longest = 0;
+        for class in self.classes.as_slice() {
+            longest = longest.max(class.end.saturating_sub(class.start));
+        }
+        longest.saturating_mul(4).max(32)
+    }
+
     /// Appends the name of the class with this number: with dots between packages, and each byte that is no visible
     /// ASCII character, and `\`, as `\xNN`. A class without a name is `class@` and its id in hexadecimal digits.
     pub fn push_name(&self, number: u32, line: &mut String) -> Result<(), AllocError>

@@ -1,6 +1,5 @@
 //! The words of an imported image that belong to no live object.
-ghost use Rattle.std.specs.Prelude.{◌≡◌, ◌+◌, List, length, map, take, slice_index, sum_by};
-ghost use Rattle.std.specs.List.{range_with_len};
+ghost use Rattle.std.specs.Prelude.{◌≡◌, ◌+◌, if◌then◌else◌, nat_le};
 ghost use Rattle.heap_dump.specs.Totals.{AreDeadWords, held};
 
 use crate::class_names::ClassNames;
@@ -39,11 +38,9 @@ impl DeadWords {
         let (mut padding, mut gaps) = (0u64, 0u64);
         for object in objects {
             let gap = object.address.saturating_sub(end);
-            if gap <= most {
-                padding = padding.saturating_add(gap);
-            } else {
-                gaps = gaps.saturating_add(gap);
-            }
+            let (narrow, wide) = parted(gap, most);
+            padding = padding.saturating_add(narrow);
+            gaps = gaps.saturating_add(wide);
             end = object.address.saturating_add(object.words);
             most = names.most_padding(object.class);
         }
@@ -54,4 +51,12 @@ impl DeadWords {
             end: words.saturating_sub(end),
         }
     }
+}
+
+/// A gap as padding and as a wider gap, where `most` words may be padding. One of the two is 0.
+fn parted(gap: u64, most: u64) -> (u64, u64)
+    ensures padding { result.0 ≡ if nat_le gap most then gap else 0 }
+    ensures wider { result.1 ≡ if nat_le gap most then 0 else gap }
+{
+    if gap <= most { (gap, 0) } else { (0, gap) }
 }

@@ -12,10 +12,13 @@ loop-object-preserved g c =
     let names = c.args.import.now.names in
     let objects = c.args.import.now.objects.items in
     let so_far = c.loop-object.invariant in
-    let next = c.in_ok-give_piece.ensures in
-    (so_far.0 ++ next.0,
-    (appends_more _ _ _ so_far.0 next.0 so_far.1 next.1,
-    listed_more names objects c.loop-object.object-index _ so_far.0 next.0 _ _ _ ? so_far.2 c.in_ok-push_object.ensures next.2 ?))
+    let next = c.in_ok-give_piece.ensures in (
+      so_far.0 ++ next.0,
+      (
+        appends_more _ _ _ so_far.0 next.0 so_far.1 next.1,
+        listed_more names objects c.loop-object.object-index _ so_far.0 next.0 _ _ _ ? so_far.2 c.in_ok-push_object.ensures next.2 ?,
+      ),
+    )
 
 pub returns : goal.returns
 returns g c = ?
