@@ -1,6 +1,6 @@
 -- Sums with one object more.
 use Rattle.std.proofs.Common.{◌≡◌, ◌≢◌, ◌⊎◌, inl, inr, ℕ, ◌+◌, ◌<◌, true, false, not, cond, eqb, List, [], ◌∷◌, ◌++◌, length, length-set, get_or, get_or-set_other, get_or-set_same, set, take, sym, ◌∙◌, ap, ap₂, arith}
-use Rattle.std.specs.Prelude.{min, filter, sum_by}
+use Rattle.std.specs.Prelude.{min, sum_by}
 use Rattle.std.proofs.lemmas.Bool.Decides.{eqb_tells}
 use Rattle.std.proofs.lemmas.List.{append-nil, take_more}
 use Rattle.std.proofs.lemmas.List.Elements.{filter_more}
@@ -69,11 +69,11 @@ module _ (objects : List ListedObject) (i : ℕ) (o : ListedObject) (l : i < len
       ∙ ap (λ x. objects_in k (take i objects) ++ cond (eqb x.class k) (x ∷ []) []) (sym is)
 
   pub class_same : (k : ℕ) → eqb o.class k ≡ true → objects_in k (take (i + 1) objects) ≡ objects_in k (take i objects) ++ o ∷ []
-  class_same k yes = objects_more k ∙ ap (λ b. objects_in k (take i objects) ++ cond b (o ∷ []) []) yes
+  class_same k eq = objects_more k ∙ ap (λ b. objects_in k (take i objects) ++ cond b (o ∷ []) []) eq
 
   pub class_other : (k : ℕ) → eqb o.class k ≡ false → objects_in k (take (i + 1) objects) ≡ objects_in k (take i objects)
-  class_other k no =
-      objects_more k ∙ ap (λ b. objects_in k (take i objects) ++ cond b (o ∷ []) []) no ∙ append-nil (objects_in k (take i objects))
+  class_other k ne =
+      objects_more k ∙ ap (λ b. objects_in k (take i objects) ++ cond b (o ∷ []) []) ne ∙ append-nil (objects_in k (take i objects))
 
   -- the sums of each class, after the object is added to those of its class
   pub each_more : (totals : List ClassTotals) (new : ClassTotals) → o.class < length totals
@@ -86,13 +86,13 @@ module _ (objects : List ListedObject) (i : ℕ) (o : ListedObject) (l : i < len
       long = length-set totals o.class new
 
       go : ((eqb o.class k ≡ true) × (o.class ≡ k)) ⊎ ((eqb o.class k ≡ false) × (o.class ≢ k)) → get_or (set totals o.class new) k d ≡ sums_in k (take (i + 1) objects)
-      go (inl yes) =
+      go (inl eq) =
           let at : get_or (set totals o.class new) o.class d ≡ new = get_or-set_same totals o.class new d room in
           let here : sums_of (objects_in o.class (take i objects) ++ o ∷ []) ≡ sums_of (objects_in k (take (i + 1) objects)) =
-          ap (λ n. sums_of (objects_in n (take i objects) ++ o ∷ [])) yes.1 ∙ sym (ap sums_of (class_same k yes.0)) in
-          ap (λ n. get_or (set totals o.class new) n d) (sym yes.1) ∙ at ∙ ap₂ (λ n t. class_record n t) (class ∙ yes.1) (sums ∙ here)
-      go (inr no) =
-          let other : k ≢ o.class = λ e. no.1 (sym e) in
+          ap (λ n. sums_of (objects_in n (take i objects) ++ o ∷ [])) eq.1 ∙ sym (ap sums_of (class_same k eq.0)) in
+          ap (λ n. get_or (set totals o.class new) n d) (sym eq.1) ∙ at ∙ ap₂ (λ n t. class_record n t) (class ∙ eq.1) (sums ∙ here)
+      go (inr ne) =
+          let other : k ≢ o.class = λ e. ne.1 (sym e) in
           get_or-set_other totals o.class k new d other
           ∙ each k d (omega (arith, below, long))
-          ∙ ap (λ xs. class_record k (sums_of xs)) (sym (class_other k no.0))
+          ∙ ap (λ xs. class_record k (sums_of xs)) (sym (class_other k ne.0))

@@ -1,5 +1,5 @@
 -- The names of the classes in a list of objects.
-use Rattle.std.specs.Prelude.{ℕ, ◌-◌, ◌/◌, ◌%◌, false, ◌&&◌, ◌||◌, ◌==◌, nat_lt, nat_le, if◌then◌else◌, List, [], ◌∷◌, ◌++◌, flat_map, length, slice_get, slice_range, Option, None, Some, codes}
+use Rattle.std.specs.Prelude.{ℕ, Bool, ◌-◌, ◌/◌, ◌%◌, false, ◌&&◌, ◌||◌, ◌==◌, nat_lt, nat_le, if◌then◌else◌, List, [], ◌∷◌, ◌++◌, flat_map, length, slice_get, slice_range, Option, None, Some, codes}
 use Rattle.std.specs.Fmt.{digit_glyph, digits}
 use Rattle.heap_dump.specs.declared.class_kind.ClassKind.{ClassKind}
 use Rattle.heap_dump.specs.declared.class_kind.ClassKind.TheVariants.{Arrays, Classes, Instances}
@@ -18,11 +18,15 @@ first_name number =
 abbrev pub class_of : ClassNames → ℕ → Option NamedClass
 class_of names number = if nat_lt number 10 then None else slice_get names.classes.items (number - 10)
 
+-- a visible character but `\`
+abbrev pub is_shown : ℕ → Bool
+is_shown byte = (nat_le 33 byte && nat_le byte 91) || (nat_le 93 byte && nat_le byte 126)
+
 -- a byte of a name: a dot for `/`, each other visible character but `\` as it is, and `\xNN` for any other byte
 abbrev pub shown_byte : ℕ → List ℕ
 shown_byte byte =
     if byte == 47 then codes "." else
-    (if (nat_le 33 byte && nat_le byte 91) || (nat_le 93 byte && nat_le byte 126) then byte ∷ [] else
+    (if is_shown byte then byte ∷ [] else
     codes "\\x" ++ digit_glyph false (byte / 16) ∷ digit_glyph false (byte % 16) ∷ [])
 
 -- the bytes of a name in the dump

@@ -1,6 +1,6 @@
 //! The names of the classes in a list of objects.
 ghost use Rattle.std.specs.Prelude.{◌≡◌, ◌++◌, OnOk, string_bytes, option_copied, flat_map};
-ghost use Rattle.heap_dump.specs.ClassNames.{class_of, inner_name, most_padding, name_of, shown_byte};
+ghost use Rattle.heap_dump.specs.ClassNames.{class_of, inner_name, is_shown, most_padding, name_of, shown_byte};
 
 use crate::class_kind::ClassKind;
 use crate::class_number::{CLASS_OBJECTS, FIRST_CLASS, first_name};
@@ -147,9 +147,18 @@ fn push_bytes(name: &[u8], line: &mut String) -> Result<(), AllocError>
 fn push_byte(byte: u8, line: &mut String) -> Result<(), AllocError>
     ensures { OnOk result (string_bytes line.new ≡ string_bytes line.old ++ shown_byte byte) }
 {
-    match byte {
-        b'/' => line.push_str("."),
-        b'!'..=b'[' | b']'..=b'~' => line.push(byte as char),
-        _ => write!(line, "\\x{byte:02x}"),
+    if byte == b'/' {
+        return line.push_str(".");
     }
+    if is_shown(byte) {
+        return line.push(byte as char);
+    }
+    write!(line, "\\x{byte:02x}")
+}
+
+/// Whether a byte is a visible character but `\`.
+fn is_shown(byte: u8) -> bool
+    ensures { result ≡ is_shown byte }
+{
+    b'!' <= byte && byte <= b'[' || b']' <= byte && byte <= b'~'
 }

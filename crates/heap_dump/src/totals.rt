@@ -1,5 +1,5 @@
 //! Sums over the objects of an imported image.
-ghost use Rattle.std.specs.Prelude.{◌≡◌, ◌<◌, ◌≤◌, ◌++◌, ◌∷◌, [], List, All, IfOk, vec_len, slice_index_or, ℕ};
+ghost use Rattle.std.specs.Prelude.{◌≡◌, max, ◌<◌, ◌≤◌, ◌++◌, ◌∷◌, [], List, All, IfOk, vec_len, slice_index_or, ℕ};
 ghost use Rattle.heap_dump.specs.Totals.{AreClassTotals, IsRanking, are_none, sums_in, sums_of, words_in};
 ghost use Rattle.heap_dump.specs.declared.listing.ListedObject.{ListedObject};
 
@@ -131,9 +131,16 @@ fn class_count(objects: &[ListedObject]) -> usize
 {
     let mut count = 0;
     for object in objects {
-        count = count.max(object.class as usize + 1);
+        count = larger(count, object.class as usize + 1);
     }
     count
+}
+
+/// The larger of two numbers.
+fn larger(one: usize, other: usize) -> usize
+    ensures { result ≡ max one other }
+{
+    if one < other { other } else { one }
 }
 
 /// The sums of so many classes without objects.

@@ -1,4 +1,4 @@
-use Rattle.std.proofs.Common.{◌≡◌, ◌≤◌, ◌-◌}
+use Rattle.std.proofs.Common.{◌≤◌, ◌-◌}
 use Rattle.heap_image.specs.HeapImage.{heap_words}
 use Rattle.heap_dump.specs.Listing.{AreObjectsBefore}
 use Rattle.heap_dump.proofs.listing.list_objects.Given as goal
