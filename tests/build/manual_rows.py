@@ -32,6 +32,9 @@ BASH_ROWS = [
     ("pcompact collect -- --st", ""),
     ("pcompact collect -- ", "*"),
     ("pcompact map --svg ", "*"),
+    ("pcompact import --classes ", "*"),
+    ("pcompact import --histogram ", "-"),
+    ("pcompact import dump --st", "--stats"),
     ("pcompact map --width ", "-"),
     ("pcompact generate --version ", "1 2"),
     ("pcompact generate --region-log 1", "10 11 12 13 14 15 16"),
@@ -63,6 +66,8 @@ FISH_ROWS = [
     ("pcompact collect a b --workers 6", ["6", "60", "61", "62", "63", "64"]),
     ("pcompact generate --version ", ["1", "2"]),
     ("pcompact generate --seed ", []),
+    ("pcompact import --classes ", FILES),
+    ("pcompact import --histogram ", []),
 ]
 
 Check = Callable[[bool, str], None]

@@ -26,6 +26,7 @@ CUT = f"byte {len(DUMP) - 1}: the dump ends here, inside a record"
 NAME = "byte 0: this is no heap dump of version 1.0.1 or 1.0.2"
 SAME = Answer(2, err="pcompact: same file\n")
 IRREGULAR = Answer(2, err="pcompact: not a regular file\n")
+PHASES = ("read", "check", "write", "finish", "total")
 
 
 # A dump with an object of each kind, worked by hand: a gap of a word behind the class, one of 513 before the last array, roots
@@ -131,6 +132,59 @@ def try_collected(tried: Tried, data: bytes) -> None:
     tried.run("collect whole out --workers 2", Answer(0, after.figures(), made={"out": model.encode(after.compaction())}))
 
 
+def timings(data: bytes) -> re.Pattern:
+    """What --stats prints of the import of an image with these bytes: its MiB, and the share of live words."""
+    image = model.decode(data)
+    words = len(image.words)
+    live = sum(image.end(address) - address for address in image.live())
+    tenths = (1000 * live + words // 2) // words
+    mib = (80 * words + 2**19) // 2**20
+    return re.compile("".join(rf"pcompact: {phase} \d+\.\d ms\n" for phase in PHASES)
+                      + rf"pcompact: heap {mib // 10}\.{mib % 10} MiB, {tenths // 10}\.{tenths % 10} per cent live\n"
+                      + r"pcompact: threads 1\npcompact: peak memory \d+\.\d MiB\n")
+
+
+def try_lists(tried: Tried) -> None:
+    """The list of objects and the histogram of classes, of each kept dump and of a written one, as the model has them; from a pipe
+    too."""
+    for data in (DUMP, *(kept.read_bytes() for kept in sorted((TOP / "examples" / "dumps").glob("*.hprof")))):
+        tried.write("dump", data)
+        for flag, live_only in (("", False), (" --live-only", True)):
+            lists, made = dump_model.lists(data, live_only=live_only, rows=7), dump_model.make(data, live_only=live_only)
+            line, image, times = f"{made.line}\n", {"out": made.image}, timings(made.image)
+            both = {**image, "list": lists.objects.encode()}
+            for name, given in (("dump", None), ("-", data)):
+                tried.run(f"import {name} out{flag} --classes list", Answer(0, line, made=both), input=given)
+                tried.run(f"import {name} out{flag} --classes list --histogram 7 --atomic",
+                          Answer(0, line + lists.histogram, made=both), input=given)
+                tried.run(f"import {name} out{flag} --histogram 7", Answer(0, line + lists.histogram, made=image), input=given)
+                tried.run(f"import {name} out{flag} --stats", Answer(0, line, times, image), input=given)
+                tried.run(f"import {name} out{flag} --stats --histogram 7", Answer(0, line + lists.histogram, times, image), input=given)
+    try_list_files(tried)
+
+
+def try_list_files(tried: Tried) -> None:
+    """The file of a list that is another of the command or can't be written, and a list of a dump that gives no image."""
+    tried.write("dump", DUMP)
+    for name in ("dump", "out", "./dump", "./out"):
+        tried.run(f"import dump out --classes {name}", SAME)
+    for name in ("nothing/list", "/proc/self/mem/list"):
+        tried.run(f"import dump out --classes {name}", fault(FAULT_13, {"out": None}))
+    tried.run("import dump out --classes /dev/full", fault(FAULT_13, imported(DUMP).made))
+    tried.write("list", OLD)
+    tried.write("cut", DUMP[:-1])
+    for data in ("", " --atomic"):
+        tried.run(f"import cut out --classes list{data}", refused(CUT, {"out": None}))
+        if tried.read("list") != OLD:
+            tried.is_wrong(f"import --classes list{data}: the list is changed where the dump gives no image")
+    # The list doesn't get the name of the image's place, nor the image that of the list's.
+    for image, other in ((".pcompact-0.tmp", "list"), ("out", ".pcompact-0.tmp"), (".pcompact-0.tmp", ".pcompact-1.tmp")):
+        lists = dump_model.lists(DUMP).objects.encode()
+        tried.run(f"import dump {image} --classes {other} --atomic", Answer(0, imported(DUMP).out, made={**imported(DUMP, image).made, other: lists}))
+    text = dataclasses.replace(imported(DUMP), out=None)
+    tried.run("import dump out --classes list --histogram 7 --json", text)
+
+
 def try_sample(tried: Tried) -> None:
     """The dump that was worked by hand, whole and of its live objects alone; and each beginning of it."""
     tried.write("dump", sample())
@@ -208,8 +262,13 @@ def try_import_words(tried: Tried) -> None:
                                 ("--allowance <m>", "1.5", "a whole number is wanted, of words of 8 bytes")):
         answer = usage(f"error: invalid value '{value}' for '{option}': {said}\n")
         tried.run(f"import dump out {option.split()[0]} {value}", dataclasses.replace(answer, made=nothing))
-    for option in ("--region-log 3", "--allowance 3", "--live-only"):
-        name = {"--region-log 3": "--region-log <k>", "--allowance 3": "--allowance <m>"}.get(option, option)
+    for value, said in (("0", "0 is not in 1..=1000000"), ("1000001", "1000001 is not in 1..=1000000"), ("all", "a whole number is wanted")):
+        answer = usage(f"error: invalid value '{value}' for '--histogram <n>': {said}\n")
+        tried.run(f"import dump out --histogram {value}", dataclasses.replace(answer, made=nothing))
+    named = {"--region-log 3": "--region-log <k>", "--allowance 3": "--allowance <m>", "--histogram 3": "--histogram <n>",
+             "--classes list": "--classes <FILE>"}
+    for option in (*named, "--live-only"):
+        name = named.get(option, option)
         tried.run(f"import dump out {option} {option}", usage(f"error: the argument '{name}' cannot be used multiple times\n"))
         tried.run(f"upgrade base out {option}", usage(f"error: unexpected argument '{option.split()[0]}' found\n"))
 
@@ -245,7 +304,8 @@ def try_import_files(tried: Tried) -> None:
         tried.is_wrong("a dump that was named twice is changed")
 
 
-GROUPS = (try_imports, try_sample, try_malformed_dumps, try_most_words, try_refused_dumps, try_import_words, try_import_files)
+GROUPS = (try_imports, try_lists, try_sample, try_malformed_dumps, try_most_words, try_refused_dumps, try_import_words,
+          try_import_files)
 
 if __name__ == "__main__":
     sys.exit(try_groups(GROUPS))

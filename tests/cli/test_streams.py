@@ -67,7 +67,8 @@ def try_dumps(tried: Tried) -> None:
 def try_objects(tried: Tried) -> None:
     """Each object has the names and numbers of the text."""
     tried.write("dump", DUMP)
-    for words in ("order base", "collect base out --workers 2", "import dump out"):
+    tried.run("import dump out --histogram 3 --json", Answer(0, None, made=imported(DUMP).made))
+    for words in ("order base", "collect base out --workers 2", "import dump out", "import dump out --classes list"):
         text = subprocess.run([tried.program, *words.split()], cwd=tried.folder, capture_output=True, text=True).stdout.split()
         wanted = {name: json.loads(value) for name, value in zip(text[::2], text[1::2], strict=True)}
         said = subprocess.run([tried.program, *words.split(), "--json"], cwd=tried.folder, capture_output=True, text=True)

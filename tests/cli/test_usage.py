@@ -285,7 +285,10 @@ Options:
       --region-log <k>  Regions have 2^k words, k from 3 to 16 (default 9)
       --allowance <m>   Number of dead words that the dense prefix may keep (default 0)
       --live-only       Keep only objects that are reachable from the roots
+      --classes <FILE>  List each object's address, class and bytes, and whether it is live
+      --histogram <n>   Print the n classes with the most bytes, live and dead
       --json            Print a JSON object
+      --stats           Print timings and peak memory to stderr
       --atomic          Replace files only once the command has succeeded
       --verbose         Print more details about errors
   -h, --help            Print help

@@ -110,6 +110,7 @@ each upgrade "$room/cut" "$room/made" --atomic
 each record "$base" "$room/made" "$room/made_schedule" --workers 1 --atomic
 each import "$dump" "$room/made" --region-log 3
 each import "$dump" "$room/made" --live-only --atomic
+each import "$dump" "$room/made" --classes "$room/made_schedule" --histogram 5
 each import "$room/cut_dump" "$room/made"
 each generate "$room/made" --words 64 --live 50 --region-log 3 --seed 1
 each generate "$room/made" --words 64 --live 50 --region-log 3 --seed 1 --version 1 --atomic

@@ -17,6 +17,12 @@ DATA_BYTES = {4: 1, 8: 1, 5: 2, 9: 2, 6: 4, 10: 4, 7: 8, 11: 8}
 # What follows the id of a root, in bytes; None is an id.
 ROOTS = {0xFF: 0, 0x01: None, 0x02: 8, 0x03: 8, 0x04: 4, 0x05: 0, 0x06: 4, 0x07: 0, 0x08: 8}
 WIDEST_GAP = 512
+# The records outside the heap that name classes: a text, and a class with the id of the text that is its name.
+TEXT, LOADED = 0x01, 0x02
+PRIMITIVE_NAMES = {4: b"[Z", 5: b"[C", 6: b"[F", 7: b"[D", 8: b"[B", 9: b"[S", 10: b"[I", 11: b"[J"}
+CLASS_OF_CLASSES = b"java/lang/Class"
+# The widest gap that counts as padding, in words.
+PADDING = {"array": 2, "class": 17, "instance": 1}
 
 
 class Malformed(Exception):
@@ -79,6 +85,10 @@ class Dump:
         self.instances: dict[int, tuple[int, bytes, int]] = {}
         self.roots: list[int] = []
         self.order: list[int] = []
+        self.texts: dict[int, bytes] = {}
+        self.text_of_class: dict[int, int] = {}
+        # The name of the class of an array of primitive values, or the id of the class of any other object; None for a class.
+        self.class_of: dict[int, bytes | int | None] = {}
         if dump[:19] not in NAMES:
             raise Malformed(0 if len(dump) >= 19 else len(dump), "name")
         if len(dump) < 31:
@@ -100,6 +110,12 @@ class Dump:
             if tag in (WHOLE, SEGMENT):
                 while body.at < body.end:
                     self.read_heap_record(body)
+            elif tag == TEXT and length >= self.id_size:
+                id_ = body.id()
+                self.texts[id_] = dump[body.at:body.end]
+            elif tag == LOADED and length >= 8 + 2 * self.id_size:
+                _, class_, _ = body.take(4), body.id(), body.take(4)
+                self.text_of_class[class_] = body.id()
             tags.append(tag)
             at = body.end
         if WHOLE not in tags and SEGMENT not in tags:
@@ -127,9 +143,11 @@ class Dump:
             id_, _, class_ = body.id(), body.take(4), body.id()
             self.tell(id_, start)
             self.instances[id_] = (class_, body.take(body.number(4)), start)
+            self.class_of[id_] = class_
         elif tag == 0x22:
-            id_, _, count, _ = body.id(), body.take(4), body.number(4), body.id()
+            id_, _, count, class_ = body.id(), body.take(4), body.number(4), body.id()
             self.tell(id_, start)
+            self.class_of[id_] = class_
             elements = body.take(count * self.id_size)
             self.objects[id_] = Object(self.ids(elements), b"")
         elif tag == 0x23:
@@ -137,6 +155,7 @@ class Dump:
             if code == REFERENCE:
                 raise Malformed(start, "primitive")
             self.tell(id_, start)
+            self.class_of[id_] = PRIMITIVE_NAMES[code]
             self.objects[id_] = Object([], body.take(count * DATA_BYTES[code]))
         else:
             raise Malformed(start, "tag")
@@ -163,6 +182,7 @@ class Dump:
             body.id()
             fields.append(body.type())
         self.classes[id_] = Class(above[0], fields)
+        self.class_of[id_] = None
 
     def put(self, target: Object, code: int, value: bytes) -> None:
         if code == REFERENCE:
@@ -256,3 +276,82 @@ def make(data: bytes, region_log: int = 9, allowance: int = 0, live_only: bool =
     line = (f"words {total} objects {len(ids)} roots {len(roots)} live {len(live)} dead {len(ids) - len(live)} "
             f"dropped-gaps {dropped} unresolved {lost}")
     return Import(head + struct.pack(f"<{total}Q", *words) + struct.pack(f"<{len(roots)}Q", *roots), line)
+
+
+class Names:
+    """The classes of a dump as the lists show them. A key tells a class, and where it comes among those with equal bytes."""
+
+    def __init__(self, dump: Dump):
+        self.dump = dump
+        self.ids = list(dump.classes)
+        self.places = {id_: at for at, id_ in enumerate(self.ids)}
+        self.names = [dump.texts.get(dump.text_of_class.get(id_, 0), b"") for id_ in self.ids]
+        self.of_classes = (3, self.names.index(CLASS_OF_CLASSES)) if CLASS_OF_CLASSES in self.names else (2, 0)
+
+    def key(self, id_: int) -> tuple[int, int]:
+        class_ = self.dump.class_of[id_]
+        if isinstance(class_, bytes):
+            return 1, list(PRIMITIVE_NAMES.values()).index(class_)
+        if class_ is None:
+            return self.of_classes
+        return (3, self.places[class_]) if class_ in self.places else (0, 0)
+
+    def inner(self, key: tuple[int, int]) -> bytes:
+        group, at = key
+        return self.names[at] if group == 3 else {0: b"[?", 1: list(PRIMITIVE_NAMES.values())[at], 2: CLASS_OF_CLASSES}[group]
+
+    def shown(self, key: tuple[int, int]) -> str:
+        name = self.inner(key)
+        if not name:
+            return f"class@{self.ids[key[1]]:x}"
+        return "".join(chr(byte) if 0x20 < byte < 0x7F and byte != 0x5C else f"\\x{byte:02x}" for byte in name.replace(b"/", b"."))
+
+    def kind(self, key: tuple[int, int]) -> str:
+        name = self.inner(key)
+        return "array" if name[:1] == b"[" else "class" if name == CLASS_OF_CLASSES else "instance"
+
+
+@dataclasses.dataclass
+class Lists:
+    """The text of --classes, and the lines that --histogram adds."""
+    objects: str
+    histogram: str
+
+
+def lists(data: bytes, region_log: int = 9, live_only: bool = False, rows: int = 1_000_000) -> Lists:
+    """What is told of the objects of a dump that has an image."""
+    dump = Dump(data)
+    names = Names(dump)
+    live = reached(dump)
+    ids = sorted(live if live_only else dump.objects)
+    addresses, end, dropped = places(dump, ids, not live_only)
+    total = max(1, -(-end >> region_log)) << region_log
+    lines, sums = [], collections.defaultdict(lambda: [0, 0, 0, 0])
+    dead, padding, gaps, last, kind = 0, 0, 0, 0, None
+    for id_ in ids:
+        key, size = names.key(id_), 8 * dump.objects[id_].words()
+        lines.append(f"{addresses[id_]} {names.shown(key)} {size} {'live' if id_ in live else 'dead'}\n")
+        at = 0 if id_ in live else 2
+        sums[key][at] += 1
+        sums[key][at + 1] += size
+        gap = addresses[id_] - last
+        if gap <= PADDING.get(kind, 0):
+            padding += gap
+        else:
+            gaps += gap
+        dead += 0 if id_ in live else size
+        last = addresses[id_] + size // 8
+        kind = names.kind(key)
+    shown = " num  live objects    live bytes  dead objects    dead bytes  class\n"
+    ordered = sorted(sums, key=lambda key: (-sums[key][1] - sums[key][3], key))
+    for number, key in enumerate(ordered[:rows], 1):
+        shown += f"{number:>4}:" + "".join(f" {count:>13}" for count in sums[key]) + f"  {names.shown(key)}\n"
+    shown += "total" + "".join(f" {sum(row[at] for row in sums.values()):>13}" for at in range(4)) + "\n"
+    parts = ((dead, "objects that no root reaches"), (8 * padding, "padding: the machine's larger headers and alignment"),
+             (8 * gaps, "wider gaps: free space, or objects that the dump leaves out"), (8 * (total - last), "after the last object"))
+    shown += f"dead bytes {sum(part for part, _ in parts)}\n" + "".join(f"  {part:>13} {text}\n" for part, text in parts)
+    lost = sum(id_ != 0 and id_ not in dump.objects for made in dump.objects.values() for id_ in made.references)
+    lost += sum(id_ not in dump.objects for id_ in dump.roots)
+    shown += f"dropped-gaps {dropped}: gaps of more than 512 words, which the image leaves out\n"
+    shown += f"unresolved {lost}: references and roots to objects that are not in the dump; they are null in the image\n"
+    return Lists("".join(lines), shown)

@@ -1,4 +1,5 @@
-use Rattle.std.specs.Prelude.{◌≡◌, ℕ, Contains, true, List, [], ◌∷◌, map, String, codes, option_map, Some, string_bytes}
+use Rattle.std.specs.Prelude.{◌≡◌, ℕ, ◌<◌, Contains, IsTrue, nat_eq, true, List, [], ◌∷◌, length, map, slice_index_or, String, codes, option_map, Some, string_bytes}
+use Rattle.std.specs.List.{starts_with}
 use Rattle.clap.specs.Walk.{Text}
 use Rattle.clap.specs.Words.{App, new_app, subcommand_of, takes, with_subcommand}
 use Rattle.command_line.specs.Commands.{listed}
@@ -12,6 +13,11 @@ module _ {A : Type 0} where
   -- one of the words has this text
   abbrev pub HaveWord : List ℕ → List (String A) → Type 0
   HaveWord text words = Contains (map string_bytes words) text
+
+module _ {A : Type 0} where
+  -- one of the words begins with this text
+  abbrev pub HaveBeginning : List ℕ → List (String A) → Type 0
+  HaveBeginning text words = (k : ℕ) × (k < length words) × IsTrue (starts_with nat_eq (slice_index_or (map string_bytes words) k []) text)
 
 -- the program without commands: its first word isn't the program's name, and a command is required
 abbrev pub program_words : App

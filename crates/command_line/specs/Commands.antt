@@ -60,12 +60,24 @@ allowance_rule = record (new_rule (codes "allowance")) {
   parser = Some (Unsigned 0 18446744073709551615);
 }
 
+-- the option `--classes`, with a file name
+abbrev pub classes_rule : Rule
+classes_rule = record (new_rule (codes "classes")) { long = Some (codes "classes"); value_names = 1 }
+
+-- the option `--histogram`, with a number from 1 to 1000000
+abbrev pub histogram_rule : Rule
+histogram_rule = record (new_rule (codes "histogram")) {
+  long = Some (codes "histogram");
+  value_names = 1;
+  parser = Some (Signed (pos 1) (pos 1000000));
+}
+
 -- the definition of `import`
 abbrev pub import_words : App
 import_words =
-    with_rule (with_rule (with_rule (with_rule (with_rule (with_rule (with_rule (with_rule (new_app (codes "import"))
+    with_rule (with_rule (with_rule (with_rule (with_rule (with_rule (with_rule (with_rule (with_rule (with_rule (with_rule (new_app (codes "import"))
     (file_rule (codes "DUMP"))) (file_rule (codes "IMAGE"))) region_log_rule) allowance_rule) (flag_rule (codes "live-only")))
-    json_rule) atomic_rule) verbose_rule
+    classes_rule) histogram_rule) json_rule) stats_rule) atomic_rule) verbose_rule
 
 -- makes an option required
 abbrev pub required : Rule → Rule

@@ -1,5 +1,6 @@
-use Rattle.std.specs.Prelude.{◌≡◌, ⊤, Bool, codes, false}
+use Rattle.std.specs.Prelude.{◌≡◌, ⊤, ℕ, Bool, if◌then◌else◌, Option, None, codes, false}
 use Rattle.clap.specs.Walk.{Text as Name}
+use Rattle.command_line.specs.declared.import.Import.{Import as ImportCall}
 use Rattle.command_line.specs.declared.request.Request.{Request}
 use Rattle.command_line.specs.declared.request.Request.TheVariants.{Board, Summary, Collect, Verify, Record, Replay, Upgrade, Import, Generate, Order, Text, Assemble, Map, Timeline, Show}
 use Rattle.command_line.specs.declared.unread.Unread.{Unread}
@@ -28,6 +29,7 @@ abbrev pub asks_stats : Request → Bool
 asks_stats (Collect call) = call.stats
 asks_stats (Verify call) = call.stats
 asks_stats (Record call) = call.stats
+asks_stats (Import call) = call.stats
 asks_stats request = false
 
 -- the request has `--json`
@@ -38,6 +40,14 @@ asks_json (Verify call) = call.json
 asks_json (Import call) = call.json
 asks_json (Order call) = call.json
 asks_json request = false
+
+-- the most classes of the histogram that a call of `import` prints, if it prints one: a JSON object has none
+abbrev pub rows_in : ImportCall → Option ℕ
+rows_in call = if call.json then None else call.histogram
+
+abbrev pub rows_of : Request → Option ℕ
+rows_of (Import call) = rows_in call
+rows_of request = None
 
 -- the error isn't a usage error
 abbrev pub IsNoUsage : Unread → Type 0

@@ -1,14 +1,15 @@
 //! The command `import`: its arguments, their help, and how they are parsed.
-ghost use Rattle.std.specs.Prelude.{◌≡◌, codes, false, IfErr, IfOk, ◌∷◌, []};
-ghost use Rattle.clap.specs.Words.{app_of};
+ghost use Rattle.std.specs.Prelude.{◌≡◌, ◌≢◌, codes, false, None, IfErr, IfOk, ◌∷◌, []};
+ghost use Rattle.clap.specs.Words.{app_of, rule_of};
 ghost use Rattle.clap.specs.declared.builder.command.Command.TheViews.{out-Command as fields_of};
-ghost use Rattle.command_line.specs.CommandLine.{IsCallOf};
-ghost use Rattle.command_line.specs.Request.{IsNoUsage};
-ghost use Rattle.command_line.specs.Commands.{import_words};
+ghost use Rattle.command_line.specs.CommandLine.{HaveBeginning, IsCallOf};
+ghost use Rattle.command_line.specs.Request.{IsNoUsage, rows_in};
+ghost use Rattle.command_line.specs.Commands.{classes_rule, histogram_rule, import_words};
 
 use crate::arguments;
+use crate::beginning::have_beginning;
 use crate::unread::Unread;
-use clap::{ArgMatches, Command};
+use clap::{Arg, ArgMatches, Command, value_parser};
 use std::alloc::{AllocError, Global};
 
 const EXAMPLE: &str = "\
@@ -33,8 +34,34 @@ pub fn words<'a>(alloc: Global) -> Result<Command<'a>, AllocError>
             "live-only",
             "Keep only objects that are reachable from the roots",
         ))?
-        .arg(arguments::json(alloc))?;
+        .arg(classes(alloc))?
+        .arg(histogram(alloc))?
+        .arg(arguments::json(alloc))?
+        .arg(arguments::stats(alloc))?;
     arguments::with_last(alloc, command)
+}
+
+/// The option `--classes`, the file for a list of objects.
+fn classes<'a>(alloc: Global) -> Arg<'a>
+    ensures rule { rule_of result ≡ classes_rule }
+    ensures local { result.global ≡ false }
+{
+    Arg::new(alloc, "classes")
+        .long("classes")
+        .value_name("FILE")
+        .help("List each object's address, class and bytes, and whether it is live")
+}
+
+/// The option `--histogram`, the number of classes to print.
+fn histogram<'a>(alloc: Global) -> Arg<'a>
+    ensures rule { rule_of result ≡ histogram_rule }
+    ensures local { result.global ≡ false }
+{
+    Arg::new(alloc, "histogram")
+        .long("histogram")
+        .value_name("n")
+        .value_parser(value_parser!(u32).range(1..=1_000_000))
+        .help("Print the n classes with the most bytes, live and dead")
 }
 
 /// The arguments of `import`.
@@ -50,8 +77,14 @@ pub struct Import<'a> {
     pub allowance: u64,
     /// Whether only reachable objects are kept.
     pub live_only: bool,
+    /// The file for a list of objects.
+    pub classes: Option<&'a str>,
+    /// How many classes are printed, if they are.
+    pub histogram: Option<u32>,
     /// Whether to print a JSON object.
     pub json: bool,
+    /// Whether to print timings and peak memory.
+    pub stats: bool,
     /// Whether files are replaced only once all is done.
     pub atomic: bool,
     /// Whether to print more details about errors.
@@ -68,15 +101,40 @@ impl<'a> Import<'a> {
             region_log: matches.get_one("region-log"),
             allowance: matches.get_one("allowance").unwrap_or(0),
             live_only: matches.get_flag("live-only"),
+            classes: matches.get_str("classes"),
+            histogram: matches.get_one("histogram"),
             json: arguments::asks_json(matches),
+            stats: arguments::asks_stats(matches),
             atomic: arguments::is_atomic(matches),
             verbose: arguments::is_verbose(matches),
         })
+    }
+
+    /// The call without a histogram, if none of these arguments begins with the name of that option.
+    pub(crate) fn as_asked(self, words: &[String]) -> Import<'a>
+        ensures { rows_in result ≢ None → HaveBeginning (codes "--histogram") words.now }
+    {
+        if have_beginning(words, "--histogram") {
+            self
+        } else {
+            Import {
+                histogram: None,
+                ..self
+            }
+        }
+    }
+
+    /// The most classes of the histogram that is printed, if one is. A JSON object has none.
+    pub fn rows(&self) -> Option<u32>
+        ensures { result ≡ rows_in self.now }
+    {
+        if self.json { None } else { self.histogram }
     }
 }
 
 /// Lines that call `import`.
 pub fn lines_call_import()
     ensures line { IsCallOf (codes "import") (codes "import" ∷ codes "heap.hprof" ∷ codes "heap.pcheap" ∷ []) }
+    ensures lists { IsCallOf (codes "import") (codes "import" ∷ codes "heap.hprof" ∷ codes "heap.pcheap" ∷ codes "--classes" ∷ codes "objects" ∷ codes "--histogram" ∷ codes "20" ∷ codes "--stats" ∷ []) }
     ensures options { IsCallOf (codes "import") (codes "import" ∷ codes "heap.hprof" ∷ codes "heap.pcheap" ∷ codes "--region-log" ∷ codes "12" ∷ codes "--allowance" ∷ codes "64" ∷ codes "--live-only" ∷ codes "--atomic" ∷ codes "--verbose" ∷ []) }
 {}

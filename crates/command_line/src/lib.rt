@@ -20,6 +20,7 @@
 
 mod arguments;
 mod assemble;
+mod beginning;
 mod board;
 mod collect;
 mod commands;

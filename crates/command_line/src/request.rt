@@ -34,9 +34,22 @@ pub enum Request<'a> {
     Show(String),
 }
 
-impl Request<'_> {
-    ghost use Rattle.std.specs.Prelude.{◌≡◌};
-    ghost use Rattle.command_line.specs.Request.{asks_json, asks_stats};
+impl<'a> Request<'a> {
+    ghost use Rattle.std.specs.Prelude.{◌≡◌, ◌≢◌, codes, None, ℕ, List};
+    ghost use Rattle.command_line.specs.CommandLine.{HaveBeginning};
+    ghost use Rattle.command_line.specs.Request.{IsFor, asks_json, asks_stats, rows_of};
+
+    /// The request of these arguments, without a histogram if none of them begins with the name of that option. Then it asks for
+    /// none; the test lets contracts speak of arguments.
+    pub fn as_asked(self, words: &[String]) -> Request<'a>
+        ensures name { (name : List ℕ) → IsFor name self.entry → IsFor name result }
+        ensures histogram { rows_of result ≢ None → HaveBeginning (codes "--histogram") words.now }
+    {
+        match self {
+            Request::Import(call) => Request::Import(call.as_asked(words)),
+            request => request,
+        }
+    }
 
     /// Whether to print timings and peak memory. A command without `--stats` prints none.
     pub fn asks_stats(&self) -> bool
@@ -46,6 +59,7 @@ impl Request<'_> {
             Request::Collect(call) => call.stats,
             Request::Verify(call) => call.stats,
             Request::Record(call) => call.stats,
+            Request::Import(call) => call.stats,
             _ => false,
         }
     }

@@ -14,6 +14,8 @@ pub struct Late<'a, 'h, H: Files> {
     host: &'h H,
     /// The file before its first byte.
     found: Option<FileTarget<'a, H::File>>,
+    /// The name that a new file doesn't get.
+    apart: Option<String>,
     /// The file from its first byte on, or the error that prevented it.
     begun: Option<Result<Output<'a, H::File>, Trouble<'a>>>,
 }
@@ -27,13 +29,29 @@ where
         Late {
             host,
             found: Some(found),
+            apart: None,
+            begun: None,
+        }
+    }
+
+    /// Wraps a file, which stays unchanged until the first byte. A new file doesn't get this name, which is that of the other file
+    /// that the command writes.
+    pub fn apart(host: &'h H, found: FileTarget<'a, H::File>, name: String) -> Late<'a, 'h, H> {
+        Late {
+            host,
+            found: Some(found),
+            apart: Some(name),
             begun: None,
         }
     }
 
     fn begin(&mut self) {
         if let Some(found) = self.found.take() {
-            self.begun = Some(found.begin(self.host));
+            let apart = match &self.apart {
+                Some(name) => Some(name.as_str()),
+                None => None,
+            };
+            self.begun = Some(found.begin_apart(self.host, apart));
         }
     }
 
@@ -51,7 +69,12 @@ where
 
     /// The error of a command that failed before the file was complete. A file that wasn't begun is unchanged.
     pub fn failed(self, trouble: Trouble<'a>) -> Trouble<'a> {
-        let Late { host, found, begun } = self;
+        let Late {
+            host,
+            found,
+            begun,
+            ..
+        } = self;
         if let Some(found) = found {
             found.leave(host);
         }

@@ -1,5 +1,6 @@
 //! What `--stats` prints.
 use crate::laps::Laps;
+use crate::live_share::LiveShare;
 use crate::moved::Moved;
 use crate::peak_memory::peak_kib;
 use crate::stopwatch::Stopwatch;
@@ -18,7 +19,9 @@ pub struct Stats {
     laps: Laps,
     /// Of a collection only.
     moved: Option<Moved>,
-    /// Of a collection only. A comparison uses a thread for each processor.
+    /// Of an import only.
+    share: Option<LiveShare>,
+    /// Of a collection or an import. A comparison uses a thread for each processor.
     workers: Option<u32>,
 }
 
@@ -29,6 +32,7 @@ impl Stats {
             watch,
             laps,
             moved: Some(moved),
+            share: None,
             workers: Some(workers),
         }
     }
@@ -39,7 +43,19 @@ impl Stats {
             watch,
             laps,
             moved: None,
+            share: None,
             workers: None,
+        }
+    }
+
+    /// The timings of an import, which uses one thread.
+    pub fn of_import(watch: Stopwatch, laps: Laps, share: LiveShare) -> Stats {
+        Stats {
+            watch,
+            laps,
+            moved: None,
+            share: Some(share),
+            workers: Some(1),
         }
     }
 
@@ -52,6 +68,9 @@ impl Stats {
         self.laps.print(self.watch.elapsed(host), err)?;
         if let Some(moved) = &self.moved {
             moved.print(err)?;
+        }
+        if let Some(share) = &self.share {
+            share.print(err)?;
         }
         if let Some(threads) = self.workers.or_else(|| processors(host)) {
             writeln!(err, "pcompact: threads {threads}")?;

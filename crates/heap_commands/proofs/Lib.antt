@@ -1,2 +1,4 @@
 pub mod Timelines
 pub mod Unreplayed
+pub mod Texts
+pub mod Imports

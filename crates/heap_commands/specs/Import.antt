@@ -1,10 +1,11 @@
-use Rattle.std.specs.Prelude.{◌≡◌, ℕ, List, ◌++◌, Option, Some, codes, pos}
+use Rattle.std.specs.Prelude.{◌≡◌, ℕ, List, [], ◌++◌, Option, None, Some, codes}
 use Rattle.std.specs.Io.KnownBytes.{Appends}
 use Rattle.heap_image.specs.HeapImage.{HeapImage, IsValid, version_of}
 use Rattle.heap_image.specs.ImageText.{text}
 use Rattle.heap_dump.specs.ImportFigures.{AreFiguresOf, figures_text}
 use Rattle.heap_dump.specs.declared.figures.ImportFigures.{ImportFigures}
 use Rattle.heap_commands.specs.Command.{Command}
+use Rattle.heap_commands.specs.Histogram.{IsHistogram}
 
 -- the line with the figures of an image of version 2
 pub record IsLineOf (image : HeapImage) (shown : List ℕ) : Type 0 where
@@ -23,5 +24,32 @@ IsImport allowance took took' shown = (image : HeapImage) × IsLineOf image show
 abbrev pub IsImportLine : List ℕ → Type 0
 IsImportLine shown = (image : HeapImage) × IsLineOf image shown
 
+-- what is printed after the line: nothing, or a histogram with at most so many classes
+abbrev pub IsRest : HeapImage → ImportFigures → Option ℕ → List ℕ → Type 0
+IsRest image figures None rest = rest ≡ []
+IsRest image figures (Some most) rest = IsHistogram image figures most rest
+
+-- the line with the figures of an image of version 2, and the histogram of its objects if one is requested
+pub record IsTextOf (image : HeapImage) (most : Option ℕ) (shown : List ℕ) : Type 0 where
+  pub line : List ℕ
+  pub begins : IsLineOf image line
+  pub rest : List ℕ
+  pub ends : IsRest image begins.figures most rest
+  pub printed : shown ≡ line ++ rest
+
+-- the text of a valid image of version 2 with this allowance was written, and this is printed of it
+abbrev pub IsListedImport : ℕ → Option ℕ → Option (List ℕ) → Option (List ℕ) → List ℕ → Type 0
+IsListedImport allowance most took took' shown = (image : HeapImage) × IsTextOf image most shown
+    × (image.allowance ≡ allowance) × Appends took took' (text image)
+
+-- Of some valid image: without a histogram exactly the line with its figures, and with one that line and the histogram.
+abbrev pub IsImportText : Option ℕ → List ℕ → Type 0
+IsImportText None shown = IsImportLine shown
+IsImportText (Some most) shown = (image : HeapImage) × IsTextOf image (Some most) shown
+
+-- such a text
+abbrev pub IsImported : List ℕ → Type 0
+IsImported shown = (most : Option ℕ) × IsImportText most shown
+
 abbrev pub import_command : Command
-import_command = record { name = codes "import"; prints = IsImportLine }
+import_command = record { name = codes "import"; prints = IsImported }

@@ -2,8 +2,10 @@ pub mod Command
 pub mod Assemble
 pub mod Board
 pub mod Generate
+pub mod Histogram
 pub mod Import
 pub mod Map
+pub mod ObjectList
 pub mod Order
 pub mod Replay
 pub mod Summarize

@@ -1,161 +1,221 @@
-ghost use Rattle.std.specs.Prelude.{◌≡◌, ◌≢◌, ◌⊎◌, ◌++◌, codes, ℕ, List, IfOk, IfErr, OnOk, OnErr, IsTrue, string_bytes};
+ghost use Rattle.std.specs.Prelude.{◌≡◌, ◌≢◌, ◌⊎◌, ◌++◌, codes, None, ℕ, List, IfOk, IfErr, OnOk, OnErr, IsTrue, string_bytes};
 ghost use Rattle.std.specs.Io.KnownBytes.{IsAtEnd};
-ghost use Rattle.heap_dump.specs.ImportFigures.{figures_text};
-ghost use Rattle.heap_commands.specs.Import.{IsImport, IsImportLine};
+ghost use Rattle.command_line.specs.Request.{rows_in};
+ghost use Rattle.heap_image.specs.HeapImage.{IsValid, version_of};
+ghost use Rattle.heap_dump.specs.ImportFigures.{AreFiguresOf, figures_text};
+ghost use Rattle.heap_dump.specs.Listing.{AreObjectsOf};
+ghost use Rattle.heap_commands.specs.Import.{IsImport, IsImportText, IsImported, IsListedImport, IsTextOf};
 ghost use Rattle.command_support.specs.Failure.{failed_device};
 
+use crate::histogram::push_histogram;
+use crate::import_ending::{finished, unfinished};
+use crate::import_files::{ImportFiles, keep, late_beside};
+use crate::live_share::live_share;
+use crate::object_list::list_room;
 use command_line::Import;
 use command_support::{
-    Content, Failure, FileTarget, FileWord, Late, Role, SystemFile, Trouble, Watched, WorkDone,
-    ended, not_regular, output_must_differ, target_beside,
+    Failure, Laps, LiveShare, Phase, Stats, Stopwatch, SystemFile, TimedIntake, TimedOutlet,
+    Trouble, Watched, WorkDone,
 };
-use heap_dump::{ImportFigures, Imported, Options, import};
-use heap_image::{Fault, FromRead, Intake, Outlet, ToWrite, write_image_buffered};
+use heap_dump::{ImportFigures, Imported, ListedImport, Options, import, import_listed};
+use heap_image::{FromRead, Intake, Outlet, ToWrite, write_image_buffered};
 use std::alloc::{AllocError, Global};
-use std::io::{ErrorKind, Read};
 use std::rt::Files;
+use std::time::Clock;
 
 /// Room for the line with the figures, with 20 digits for each number.
 const LINE_ROOM: usize = 240;
 
-/// The number of first bytes that tell a dump from anything else.
-const NAME_BYTES: u64 = 19;
-
 /// Imports the dump in one file as the image of another, and returns what `import` prints.
-pub fn answer<'a, R: Files + AllocGlobal>(
+pub fn answer<'a, R: Files + AllocGlobal + Clock>(
     rt: &R,
     request: Import<'a>,
 ) -> Result<WorkDone<'a>, Trouble<'a>>
 where
     R::File: SystemFile,
-    ensures { IfOk result (λ done. IsImportLine done.text.items) }
+    ensures text { IfOk result (λ done. IsImportText (rows_in request.entry) done.text.items) }
+    ensures printed { IfOk result (λ done. IsImported done.text.items) }
 {
-    let options = Options {
-        region_log: request.region_log,
-        allowance: request.allowance,
-        live_only: request.live_only,
-    };
-    let Opened {
-        dump,
-        is_regular,
-        image,
-    } = open(rt, &request)?;
-    if is_regular {
-        answer_from_file(rt, dump, image, options)
+    let watch = Stopwatch::start(rt, request.stats);
+    let wish = ImportWish::of(&request);
+    let files = ImportFiles::open(rt, &request)?;
+    if files.is_regular {
+        answer_from_file(rt, files, wish, watch)
     } else {
-        answer_from_pipe(rt, dump, image, options)
+        answer_from_pipe(rt, files, wish, watch)
     }
 }
 
 /// Imports the dump in a regular file, which is opened again for its second reading.
-fn answer_from_file<'a, R: Files + AllocGlobal>(
+fn answer_from_file<'a, R: Files + AllocGlobal + Clock>(
     rt: &R,
-    dump: Watched<'a, R::File>,
-    image: FileTarget<'a, R::File>,
-    options: Options,
+    files: ImportFiles<'a, R::File>,
+    wish: ImportWish,
+    watch: Stopwatch,
 ) -> Result<WorkDone<'a>, Trouble<'a>>
 where
     R::File: SystemFile,
-    ensures { IfOk result (λ done. IsImportLine done.text.items) }
+    ensures { IfOk result (λ done. IsImportText wish.rows done.text.items) }
 {
-    let late = Late::new(rt, image);
+    let ImportFiles {
+        dump,
+        image,
+        list,
+        ..
+    } = files;
+    let late = late_beside(rt, image, list.as_ref())?;
     let again = match Watched::open(rt, dump.word()) {
         Ok(again) => again,
-        Err(trouble) => return Err(late.failed(trouble)),
+        Err(trouble) => return Err(unfinished(rt, trouble, late, list)),
     };
-    let mut dump = FromRead::new(dump);
-    let mut again = FromRead::new(again);
-    let mut output = ToWrite::new(late);
-    let line = import_into(rt.alloc(), &mut dump, &mut again, &mut output, options);
-    let late = output.into_inner();
-    match line {
-        Ok(line) => ended(rt, line, late.into_output()?),
+    let mut dump = TimedIntake::new(rt, watch, FromRead::new(dump));
+    let mut again = TimedIntake::new(rt, watch, FromRead::new(again));
+    let mut output = TimedOutlet::new(rt, watch, ToWrite::new(late));
+    let made = import_as_wished(rt.alloc(), &mut dump, &mut again, &mut output, wish);
+    let laps = laps_of(&again, &output);
+    let late = output.into_inner().into_inner();
+    match made {
+        Ok(made) => {
+            let stats = Stats::of_import(watch, laps, made.share);
+            Ok(finished(rt, made, late, list)?.with_stats(stats))
+        }
         Err(failure) => {
+            let (dump, again) = (dump.into_inner(), again.into_inner());
             let trouble = Trouble::new(failure).if_dump(&dump.into_inner(), &again.into_inner());
-            Err(late.failed(trouble))
+            Err(unfinished(rt, trouble, late, list))
         }
     }
 }
 
 /// Imports the dump that a pipe or a device gives. It gives its bytes once, and they are kept for both readings.
-fn answer_from_pipe<'a, R: Files + AllocGlobal>(
+fn answer_from_pipe<'a, R: Files + AllocGlobal + Clock>(
     rt: &R,
-    mut dump: Watched<'a, R::File>,
-    image: FileTarget<'a, R::File>,
-    options: Options,
+    files: ImportFiles<'a, R::File>,
+    wish: ImportWish,
+    watch: Stopwatch,
 ) -> Result<WorkDone<'a>, Trouble<'a>>
 where
     R::File: SystemFile,
-    ensures { IfOk result (λ done. IsImportLine done.text.items) }
+    ensures { IfOk result (λ done. IsImportText wish.rows done.text.items) }
 {
-    let late = Late::new(rt, image);
+    let ImportFiles {
+        mut dump,
+        image,
+        list,
+        ..
+    } = files;
+    let late = late_beside(rt, image, list.as_ref())?;
     let bytes = match keep(rt.alloc(), &mut dump) {
         Ok(bytes) => bytes,
-        Err(fault) => return Err(late.failed(Trouble::from(fault).if_failed(&dump))),
+        Err(fault) => {
+            let trouble = Trouble::from(fault).if_failed(&dump);
+            return Err(unfinished(rt, trouble, late, list));
+        }
     };
-    let mut output = ToWrite::new(late);
-    let mut first = FromRead::new(bytes.as_slice());
-    let mut second = FromRead::new(bytes.as_slice());
-    let figures = import_into(rt.alloc(), &mut first, &mut second, &mut output, options);
-    let late = output.into_inner();
-    match figures {
-        Ok(figures) => ended(rt, figures, late.into_output()?),
-        Err(failure) => Err(late.failed(Trouble::new(failure).if_dump(&dump, &dump))),
+    let mut first = TimedIntake::new(rt, watch, FromRead::new(bytes.as_slice()));
+    let mut second = TimedIntake::new(rt, watch, FromRead::new(bytes.as_slice()));
+    let mut output = TimedOutlet::new(rt, watch, ToWrite::new(late));
+    let made = import_as_wished(rt.alloc(), &mut first, &mut second, &mut output, wish);
+    let laps = laps_of(&second, &output);
+    let late = output.into_inner().into_inner();
+    match made {
+        Ok(made) => {
+            let stats = Stats::of_import(watch, laps, made.share);
+            Ok(finished(rt, made, late, list)?.with_stats(stats))
+        }
+        Err(failure) => {
+            let trouble = Trouble::new(failure).if_dump(&dump, &dump);
+            Err(unfinished(rt, trouble, late, list))
+        }
     }
 }
 
-/// The bytes that a pipe or a device gives, or the first of them if no dump begins so: a device may never end.
-///
-/// Fault 13 if a call for them fails, and 11 if memory runs out.
-fn keep<R: Read>(alloc: Global, dump: &mut R) -> Result<Vec<u8>, Fault>
-    ensures { IfErr result (λ fault. (fault ≡ Fault.Io) ⊎ (fault ≡ Fault.Memory)) }
-{
-    let mut bytes = Vec::new(alloc);
-    let begun = dump.by_ref().take(NAME_BYTES).read_to_end(&mut bytes);
-    let kept = if begun.is_ok() && Content::of(bytes.as_slice()) == Some(Content::Dump) {
-        dump.read_to_end(&mut bytes)
-    } else {
-        begun
-    };
-    match kept {
-        Ok(_) => Ok(bytes),
-        Err(error) if error.kind() == ErrorKind::OutOfMemory => Err(Fault::Memory),
-        Err(_) => Err(Fault::Io),
+/// The phases of an import: both readings, making the image, and writing it.
+fn laps_of<H: Clock, I: Drop, O: Drop>(
+    again: &TimedIntake<'_, H, I>,
+    output: &TimedOutlet<'_, H, O>,
+) -> Laps {
+    Laps::new()
+        .then(Phase::Read, again.ended())
+        .then(Phase::Check, output.begun())
+        .then(Phase::Write, output.ended())
+}
+
+/// What is wanted of an import.
+#[derive(Clone, Copy)]
+pub struct ImportWish {
+    pub options: Options,
+    /// Whether its objects are listed.
+    pub lists_objects: bool,
+    /// The most classes of the histogram, if one is printed.
+    pub rows: Option<u32>,
+}
+
+impl ImportWish {
+    fn of(request: &Import<'_>) -> ImportWish
+        ensures { result.rows ≡ rows_in request.now }
+    {
+        ImportWish {
+            options: Options {
+                region_log: request.region_log,
+                allowance: request.allowance,
+                live_only: request.live_only,
+            },
+            lists_objects: request.classes.is_some(),
+            rows: request.rows(),
+        }
     }
 }
 
-/// The files of `import`.
+/// What was made of a dump whose image is written.
 #[derive(Drop)]
-struct Opened<'a, F: Drop> {
-    /// The dump.
-    dump: Watched<'a, F>,
-    /// Whether the dump is a regular file, which can be read twice.
-    is_regular: bool,
-    /// The file for the image.
-    image: FileTarget<'a, F>,
+pub(crate) struct ImportMade {
+    /// The text for standard output.
+    pub(crate) text: String,
+    /// The objects of the image, if they are wanted, and room for their lines.
+    pub(crate) listed: Option<(ListedImport, String)>,
+    pub(crate) share: LiveShare,
 }
 
-/// Opens the dump, and finds the file for the image. Both may be one file only with `--atomic`. A folder is no dump.
-fn open<'a, H: Files + AllocGlobal>(
-    host: &H,
-    request: &Import<'a>,
-) -> Result<Opened<'a, H::File>, Trouble<'a>> {
-    let word = FileWord::new(Role::Dump, request.dump);
-    let image = FileWord::new(Role::Image, request.image);
-    if !request.atomic {
-        output_must_differ(host.alloc(), word, image)?;
+/// Makes an image of the dump that both devices give, and writes it.
+fn import_as_wished<R: Intake, O: Outlet>(
+    alloc: Global,
+    first: &mut R,
+    second: &mut R,
+    output: &mut O,
+    wish: ImportWish,
+) -> Result<ImportMade, Failure>
+    ensures { IfOk result (λ made. IsImportText wish.rows (string_bytes made.text)) }
+{
+    match wish.rows {
+        None if !wish.lists_objects => {
+            let line = import_into(alloc, first, second, output, wish.options)?;
+            Ok(ImportMade {
+                text: line.text,
+                listed: None,
+                share: line.share,
+            })
+        }
+        _ => {
+            let ListedText { text, import, room } = import_listed_into(
+                alloc, first, second, output, wish,
+            )?;
+            let share = live_share(&import.imported.image);
+            Ok(ImportMade {
+                text,
+                listed: Some((import, room)),
+                share,
+            })
+        }
     }
-    let dump = Watched::open(host, word)?;
-    let found = dump.metadata()?;
-    if found.is_dir() {
-        return Err(not_regular(host.alloc(), word)?);
-    }
-    let image = target_beside(host, &dump, image, request.atomic)?;
-    Ok(Opened {
-        dump,
-        is_regular: found.is_file(),
-        image,
-    })
+}
+
+/// The line with the figures of an import, and how much of its image is live.
+#[derive(Drop)]
+pub struct ImportLine {
+    /// The line for standard output.
+    pub text: String,
+    pub share: LiveShare,
 }
 
 /// Makes an image of the dump that both devices give, and writes it. Returns the line for standard output, with the
@@ -169,9 +229,9 @@ pub fn import_into<R: Intake, O: Outlet>(
     second: &mut R,
     output: &mut O,
     options: Options,
-) -> Result<String, Failure>
-    ensures image { IfOk result (λ shown. IsImport options.allowance
-        (O.took output.old) (O.took output.new) (string_bytes shown)) }
+) -> Result<ImportLine, Failure>
+    ensures image { IfOk result (λ line. IsImport options.allowance
+        (O.took output.old) (O.took output.new) (string_bytes line.text)) }
     ensures first_end { OnOk result (IsAtEnd (R.left first.new)) }
     ensures second_end { OnOk result (IsAtEnd (R.left second.new)) }
     // Only the device for the image stops it once it writes.
@@ -184,7 +244,10 @@ pub fn import_into<R: Intake, O: Outlet>(
     let Imported { image, figures } = import(alloc, first, second, options)?;
     push_import_line(figures, &mut line)?;
     write_image_buffered(alloc, &image, output)?;
-    Ok(line)
+    Ok(ImportLine {
+        text: line,
+        share: live_share(&image),
+    })
 }
 
 /// Appends the figures of an imported image to a line.
@@ -193,4 +256,57 @@ fn push_import_line(figures: ImportFigures, line: &mut String) -> Result<(), All
         ≡ string_bytes line.old ++ (figures_text figures ++ codes "\n")) }
 {
     writeln!(line, "{figures}")
+}
+
+/// An imported heap, and the text for standard output.
+#[derive(Drop)]
+pub struct ListedText {
+    pub text: String,
+    pub import: ListedImport,
+    /// Room for a list of its objects.
+    pub room: String,
+}
+
+/// Makes an image of the dump that both devices give, and writes it, as [`import_into`] does. Returns the text for
+/// standard output, with a histogram if it is wanted, and the objects of the image.
+pub fn import_listed_into<R: Intake, O: Outlet>(
+    alloc: Global,
+    first: &mut R,
+    second: &mut R,
+    output: &mut O,
+    wish: ImportWish,
+) -> Result<ListedText, Failure>
+    ensures image { IfOk result (λ made. IsListedImport wish.options.allowance wish.rows
+        (O.took output.old) (O.took output.new) (string_bytes made.text)) }
+    ensures objects { IfOk result (λ made. AreObjectsOf made.import.imported.image made.import.objects.items) }
+    ensures first_end { OnOk result (IsAtEnd (R.left first.new)) }
+    ensures second_end { OnOk result (IsAtEnd (R.left second.new)) }
+    // Only the device for the image stops it once it writes.
+    ensures nothing_yet { IfErr result (λ failure. failure ≢ failed_device → output.new ≡ output.old) }
+    ensures written { OnErr result ((output.new ≡ output.old) ⊎ IsTrue (O.has_failed output.new)) }
+    ensures device { result ≡ Err failed_device → IsTrue (R.has_failed first.new)
+        ⊎ IsTrue (R.has_failed second.new) ⊎ IsTrue (O.has_failed output.new) }
+{
+    let import = import_listed(alloc, first, second, wish.options)?;
+    let text = text_of(alloc, &import, wish.rows)?;
+    let room = list_room(alloc, &import.names)?;
+    write_image_buffered(alloc, &import.imported.image, output)?;
+    Ok(ListedText { text, import, room })
+}
+
+/// The line with the figures of an import, and a histogram with at most so many classes if one is wanted.
+fn text_of(alloc: Global, import: &ListedImport, rows: Option<u32>) -> Result<String, AllocError>
+    requires valid { IsValid import.now.imported.image }
+    requires rooted { version_of import.now.imported.image ≡ 2 }
+    requires objects { AreObjectsOf import.now.imported.image import.now.objects.items }
+    requires figures { AreFiguresOf import.now.imported.image import.now.imported.figures }
+    ensures { IfOk result (λ text. IsTextOf import.now.imported.image rows (string_bytes text)) }
+{
+    let mut text = String::with_capacity(alloc, LINE_ROOM)?;
+    push_import_line(import.imported.figures, &mut text)?;
+    let Some(most) = rows else {
+        return Ok(text);
+    };
+    push_histogram(alloc, import, most, &mut text)?;
+    Ok(text)
 }

@@ -1,3 +1,6 @@
 pub mod Window
 pub mod ImportFigures
 pub mod Requested
+pub mod Listing
+pub mod ClassNames
+pub mod Totals

@@ -85,6 +85,11 @@ impl Classes {
         self.list.get((number as usize).checked_sub(1)?)
     }
 
+    /// The id of the class with this number.
+    pub(crate) fn id(&self, number: u32) -> Option<u64> {
+        Some(self.get(number)?.id)
+    }
+
     /// Whether the class with this number has this id.
     pub(crate) fn has_id(&self, number: u32, id: u64) -> bool {
         match self.get(number) {

@@ -6,7 +6,7 @@ use crate::class_head::ClassHead;
 use crate::contents::Contents;
 use crate::error::{ImportError, Problem};
 use crate::field_type::{FieldType, IdSize};
-use crate::record::{Instance, Record};
+use crate::record::{Array, Elements, Instance, Record};
 use crate::record_visitor::RecordVisitor;
 use crate::window::Window;
 use heap_image::Intake;
@@ -132,7 +132,9 @@ impl Dump {
             if self.is_at_end(source)? {
                 return Ok(None);
             }
-            self.enter(source)?;
+            if let Some(record) = self.enter(source)? {
+                return Ok(Some(record));
+            }
         }
         Err(self.window.problem(Problem::NoEnd))
     }
@@ -160,8 +162,8 @@ impl Dump {
         }
     }
 
-    /// Enters the next heap or segment, or skips a record of any other kind.
-    fn enter<R: Intake>(&mut self, source: &mut R) -> Result<(), ImportError>
+    /// Enters the next heap or segment, or reads a record outside the heap. Returns that record if it has a name.
+    fn enter<R: Intake>(&mut self, source: &mut R) -> Result<Option<Record>, ImportError>
         ensures input { result ≡ Err ImportError.Input → IsTrue (R.has_failed source.new) }
     {
         self.window.begin(RECORD_HEAD_BYTES);
@@ -171,10 +173,31 @@ impl Dump {
         self.window.begin(length);
         self.in_heap = tag == 0x0C || tag == 0x1C;
         self.stage = self.stage.after(tag);
-        if !self.in_heap {
-            self.window.skip(source, length)?;
+        if self.in_heap {
+            return Ok(None);
         }
-        Ok(())
+        match tag {
+            0x01 if length >= self.ids.bytes() as u64 => Ok(Some(Record::Text {
+                id: self.id(source)?,
+            })),
+            0x02 if length >= 8 + 2 * self.ids.bytes() as u64 => self.class_name(source),
+            _ => {
+                self.window.skip(source, length)?;
+                Ok(None)
+            }
+        }
+    }
+
+    /// Reads a record that says which text is the name of a class.
+    fn class_name<R: Intake>(&mut self, source: &mut R) -> Result<Option<Record>, ImportError>
+        ensures input { result ≡ Err ImportError.Input → IsTrue (R.has_failed source.new) }
+    {
+        self.window.skip(source, 4)?;
+        let class = self.id(source)?;
+        self.window.skip(source, 4)?;
+        let text = self.id(source)?;
+        self.skip_rest(source)?;
+        Ok(Some(Record::ClassName { class, text }))
     }
 
     /// Reads a record of the heap up to its body.
@@ -210,9 +233,12 @@ impl Dump {
         let id = self.id(source)?;
         self.window.skip(source, 4)?;
         let count = self.window.u32(source)?;
-        self.id(source)?;
-        let contents = Contents::of_references(count);
-        Ok(Record::Array { id, contents })
+        let class = self.id(source)?;
+        Ok(Record::Array(Array {
+            id,
+            elements: Elements::References { class },
+            contents: Contents::of_references(count),
+        }))
     }
 
     fn primitives<R: Intake>(&mut self, source: &mut R) -> Result<Record, ImportError>
@@ -221,12 +247,15 @@ impl Dump {
         let id = self.id(source)?;
         self.window.skip(source, 4)?;
         let count = self.window.u32(source)?;
-        let element = self.field_type(source)?;
+        let (code, element) = self.typed(source)?;
         if element.data_bytes() == 0 {
             return Err(self.problem(Problem::NotPrimitive));
         }
-        let contents = Contents::of_data(count, element);
-        Ok(Record::Array { id, contents })
+        Ok(Record::Array(Array {
+            id,
+            elements: Elements::Primitive { code },
+            contents: Contents::of_data(count, element),
+        }))
     }
 
     /// Reads a root of the kind that the tag names.
@@ -299,12 +328,23 @@ impl Dump {
     fn field_type<R: Intake>(&mut self, source: &mut R) -> Result<FieldType, ImportError>
         ensures input { result ≡ Err ImportError.Input → IsTrue (R.has_failed source.new) }
     {
+        let (_, field) = self.typed(source)?;
+        Ok(field)
+    }
+
+    /// Reads a type, and returns it with its code.
+    fn typed<R: Intake>(&mut self, source: &mut R) -> Result<(u8, FieldType), ImportError>
+        ensures input { result ≡ Err ImportError.Input → IsTrue (R.has_failed source.new) }
+    {
         let offset = self.window.offset();
         let code = self.window.u8(source)?;
-        FieldType::of_code(code).ok_or(ImportError::Malformed {
-            offset,
-            problem: Problem::Type(code),
-        })
+        match FieldType::of_code(code) {
+            Some(field) => Ok((code, field)),
+            None => Err(ImportError::Malformed {
+                offset,
+                problem: Problem::Type(code),
+            }),
+        }
     }
 
     /// Skips the name of a field, and reads its type.
@@ -339,5 +379,13 @@ impl Dump {
         ensures input { result ≡ Err ImportError.Input → IsTrue (R.has_failed source.new) }
     {
         self.window.skip(source, count)
+    }
+
+    /// Skips what is unread of the record.
+    pub(crate) fn skip_rest<R: Intake>(&mut self, source: &mut R) -> Result<(), ImportError>
+        ensures input { result ≡ Err ImportError.Input → IsTrue (R.has_failed source.new) }
+    {
+        let rest = self.window.left();
+        self.window.skip(source, rest)
     }
 }

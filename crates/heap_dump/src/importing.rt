@@ -5,16 +5,23 @@ ghost use Rattle.std.specs.List.Sorted.{IsStrictlyIncreasing};
 ghost use Rattle.heap_image.specs.HeapImage.{IsValid, roots_of, version_of};
 ghost use Rattle.heap_dump.specs.Requested.{requested_log};
 ghost use Rattle.heap_dump.specs.ImportFigures.{AreFiguresOf};
+ghost use Rattle.heap_dump.specs.Listing.{AreObjectsOf};
+ghost use Rattle.heap_dump.specs.Totals.{AreDeadWords, IsRanking, sums_of};
 
+use crate::class_names::ClassNames;
+use crate::dead_words::DeadWords;
 use crate::draft::{Draft, Imported};
 use crate::error::ImportError;
 use crate::inventory::Inventory;
+use crate::listing::{ListedObject, list_objects};
+use crate::object_classes::ObjectClasses;
 use crate::options::{Options, Regions};
 use crate::packed::Packed;
 use crate::survivor_heap::SurvivorHeap;
+use crate::totals::{ClassTotals, Totals, ranking};
 use crate::transcribed::Transcribed;
 use heap_image::Intake;
-use std::alloc::Global;
+use std::alloc::{AllocError, Global};
 
 /// Makes an image of a heap dump. The dump is read twice: `first` and `second` both give it from its beginning.
 ///
@@ -37,16 +44,105 @@ pub fn import<R: Intake>(
     ensures input { result ≡ Err ImportError.Input
         → IsTrue (R.has_failed first.new) ⊎ IsTrue (R.has_failed second.new) }
 {
+    let (imported, _) = import_classed(alloc, first, second, options, false)?;
+    Ok(imported)
+}
+
+/// An image of a heap dump, with its objects and their classes.
+#[derive(Drop)]
+pub struct ListedImport {
+    pub imported: Imported,
+    /// The objects of the image, in the order of their addresses.
+    pub objects: Vec<ListedObject>,
+    /// The names of their classes.
+    pub names: ClassNames,
+}
+
+/// Makes an image of a heap dump as [`import`] does, and lists its objects and their classes.
+pub fn import_listed<R: Intake>(
+    alloc: Global,
+    first: &mut R,
+    second: &mut R,
+    options: Options,
+) -> Result<ListedImport, ImportError>
+    ensures valid { IfOk result (λ listed. IsValid listed.imported.image) }
+    ensures rooted { IfOk result (λ listed. version_of listed.imported.image ≡ 2) }
+    ensures region_log { IfOk result (λ listed. listed.imported.image.region_log ≡ requested_log options) }
+    ensures roots { IfOk result (λ listed. IsStrictlyIncreasing (roots_of listed.imported.image)) }
+    ensures allowance { IfOk result (λ listed. listed.imported.image.allowance ≡ options.allowance) }
+    ensures figures { IfOk result (λ listed. AreFiguresOf listed.imported.image listed.imported.figures) }
+    // Each object of the image once, by ascending addresses.
+    ensures objects { IfOk result (λ listed. AreObjectsOf listed.imported.image listed.objects.items) }
+    ensures first_end { OnOk result (IsAtEnd (R.left first.new)) }
+    ensures second_end { OnOk result (IsAtEnd (R.left second.new)) }
+    ensures input { result ≡ Err ImportError.Input
+        → IsTrue (R.has_failed first.new) ⊎ IsTrue (R.has_failed second.new) }
+{
+    let (imported, classes) = import_classed(alloc, first, second, options, true)?;
+    let ObjectClasses { numbers, names } = classes;
+    let objects = list_objects(alloc, &imported.image, numbers.as_slice())?;
+    Ok(ListedImport {
+        imported,
+        objects,
+        names,
+    })
+}
+
+impl ListedImport {
+    /// Sums all objects.
+    pub fn totals(&self) -> Totals
+        ensures { result ≡ sums_of self.now.objects.items }
+    {
+        Totals::of(self.objects.as_slice())
+    }
+
+    /// Ranks the classes that have objects by their words, the most first. Of two with as many words the lower number is
+    /// first.
+    pub fn ranking(&self, alloc: Global) -> Result<Vec<ClassTotals>, AllocError>
+        ensures { IfOk result (λ ranked. IsRanking self.now.objects.items ranked.items) }
+    {
+        ranking(alloc, self.objects.as_slice())
+    }
+
+    /// Sums the words of the image that belong to no live object.
+    pub fn dead_words(&self) -> DeadWords
+        ensures { AreDeadWords self.now.names self.now.objects.items self.now.imported.figures.words result }
+    {
+        let words = self.imported.figures.words;
+        DeadWords::of(self.objects.as_slice(), &self.names, words)
+    }
+}
+
+/// Makes an image of a heap dump, and returns the classes of its objects if they are wanted.
+fn import_classed<R: Intake>(
+    alloc: Global,
+    first: &mut R,
+    second: &mut R,
+    options: Options,
+    wants_classes: bool,
+) -> Result<(Imported, ObjectClasses), ImportError>
+    ensures valid { IfOk result (λ made. IsValid made.0.image) }
+    ensures rooted { IfOk result (λ made. version_of made.0.image ≡ 2) }
+    ensures region_log { IfOk result (λ made. made.0.image.region_log ≡ requested_log options) }
+    ensures roots { IfOk result (λ made. IsStrictlyIncreasing (roots_of made.0.image)) }
+    ensures allowance { IfOk result (λ made. made.0.image.allowance ≡ options.allowance) }
+    ensures figures { IfOk result (λ made. AreFiguresOf made.0.image made.0.figures) }
+    ensures first_end { OnOk result (IsAtEnd (R.left first.new)) }
+    ensures second_end { OnOk result (IsAtEnd (R.left second.new)) }
+    ensures input { result ≡ Err ImportError.Input
+        → IsTrue (R.has_failed first.new) ⊎ IsTrue (R.has_failed second.new) }
+{
     let regions = options.regions()?;
-    let inventory = Inventory::of(alloc, first, second)?;
-    let draft = if options.live_only {
+    let inventory = Inventory::of(alloc, first, second, wants_classes)?;
+    let (draft, classes) = if options.live_only {
         live_heap(alloc, inventory, second, regions)?
     } else if inventory.measure(true).words() <= regions.most_words() {
         whole_heap(alloc, inventory, second, regions)?
     } else {
         return Err(too_many_words(alloc, inventory, second, regions));
     };
-    draft.into_image(alloc, regions, options.allowance)
+    let imported = draft.into_image(alloc, regions, options.allowance)?;
+    Ok((imported, classes))
 }
 
 /// Builds the heap with all objects of a dump, and the gaps between them.
@@ -55,7 +151,7 @@ fn whole_heap<R: Intake>(
     mut inventory: Inventory,
     source: &mut R,
     regions: Regions,
-) -> Result<Draft, ImportError>
+) -> Result<(Draft, ObjectClasses), ImportError>
     ensures end { OnOk result (IsAtEnd (R.left source.new)) }
     ensures input { result ≡ Err ImportError.Input → IsTrue (R.has_failed source.new) }
 {
@@ -63,16 +159,18 @@ fn whole_heap<R: Intake>(
         mut heap,
         arrangement,
         unresolved,
+        classes,
     } = Transcribed::of(alloc, &mut inventory, source, regions.log, true)?;
     let Inventory { objects, roots, .. } = inventory;
     objects.seal(&mut heap);
-    Ok(Draft {
+    let draft = Draft {
         heap,
         roots,
         objects: objects.len() as u64,
         dropped_gaps: arrangement.dropped_gaps(),
         unresolved,
-    })
+    };
+    Ok((draft, classes))
 }
 
 /// Builds the heap with the reachable objects of a dump, without gaps.
@@ -81,7 +179,7 @@ fn live_heap<R: Intake>(
     inventory: Inventory,
     source: &mut R,
     regions: Regions,
-) -> Result<Draft, ImportError>
+) -> Result<(Draft, ObjectClasses), ImportError>
     ensures end { OnOk result (IsAtEnd (R.left source.new)) }
     ensures input { result ≡ Err ImportError.Input → IsTrue (R.has_failed source.new) }
 {
@@ -90,6 +188,7 @@ fn live_heap<R: Intake>(
         survivors,
         roots,
         unresolved,
+        classes,
     } = Packed::of(alloc, inventory, source)?;
     let (words, most) = (survivors.words, regions.most_words());
     if words > most {
@@ -97,13 +196,14 @@ fn live_heap<R: Intake>(
     }
     let objects = survivors.addresses.len() as u64;
     let alone = SurvivorHeap::of(alloc, &heap, &survivors, regions, roots)?;
-    Ok(Draft {
+    let draft = Draft {
         heap: alone.heap,
         roots: alone.roots,
         objects,
         dropped_gaps: 0,
         unresolved,
-    })
+    };
+    Ok((draft, classes))
 }
 
 /// Returns the error for a dump with too many words. It names the words of the reachable objects, so the dump is read

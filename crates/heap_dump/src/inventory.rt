@@ -8,8 +8,9 @@ use crate::contents::Contents;
 use crate::dump::Dump;
 use crate::error::ImportError;
 use crate::heap::UnsealedHeap;
+use crate::name_ids::NameIds;
 use crate::objects::{Object, Objects};
-use crate::record::{Instance, Record};
+use crate::record::{Array, Instance, Record};
 use crate::record_visitor::RecordVisitor;
 use crate::repeats::second_object;
 use heap_image::Intake;
@@ -23,14 +24,17 @@ pub(crate) struct Inventory {
     /// The ids of the roots, in the order of the dump; once objects have addresses, the addresses to which the roots
     /// lead.
     pub(crate) roots: Vec<u64>,
+    /// Which text is the name of which class, if classes are wanted.
+    pub(crate) names: NameIds,
 }
 
 impl Inventory {
-    /// Reads a dump to its end. If two objects have one id, `again` is read up to the second of them.
+    /// Reads a dump to its end. Names of classes are kept only if they are wanted. If two objects have one id, `again` is read up to the second of them.
     pub(crate) fn of<R: Intake>(
         alloc: Global,
         source: &mut R,
         again: &mut R,
+        wants_classes: bool,
     ) -> Result<Inventory, ImportError>
         ensures end { OnOk result (IsAtEnd (R.left source.new)) }
         ensures input { result ≡ Err ImportError.Input
@@ -41,6 +45,7 @@ impl Inventory {
             classes: Classes::new(alloc, dump.ids()),
             objects: Objects::new(alloc),
             roots: Vec::new(alloc),
+            names: NameIds::new(alloc, wants_classes),
         };
         let read = dump.visit_records(source, &mut inventory);
         if inventory.objects.sort() {
@@ -56,6 +61,7 @@ impl Inventory {
         self.objects.divide()?;
         self.classes.resolve(&self.objects)?;
         self.objects.size_instances(&self.classes);
+        self.names.sort_by_text();
         Ok(())
     }
 
@@ -152,11 +158,11 @@ impl Inventory {
         &mut self,
         dump: &mut Dump,
         source: &mut R,
-        id: u64,
-        contents: Contents,
+        array: Array,
     ) -> Result<(), ImportError>
         ensures input { result ≡ Err ImportError.Input → IsTrue (R.has_failed source.new) }
     {
+        let Array { id, contents, .. } = array;
         let words = contents.words();
         self.objects
             .add(dump, id, Object::Sized { class: 0, words })?;
@@ -175,7 +181,9 @@ impl RecordVisitor for Inventory {
             Record::Root { id } => Ok(self.add_root(id)?),
             Record::Class { id } => self.add_class(dump, source, id),
             Record::Instance(instance) => self.add_instance(dump, source, instance),
-            Record::Array { id, contents } => self.add_array(dump, source, id, contents),
+            Record::Array(array) => self.add_array(dump, source, array),
+            Record::Text { .. } => dump.skip_rest(source),
+            Record::ClassName { class, text } => Ok(self.names.add(class, text)?),
         }
     }
 }

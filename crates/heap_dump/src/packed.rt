@@ -5,6 +5,7 @@ ghost use Rattle.std.specs.Io.KnownBytes.{IsAtEnd};
 use crate::error::ImportError;
 use crate::heap::UnsealedHeap;
 use crate::inventory::Inventory;
+use crate::object_classes::ObjectClasses;
 use crate::survivors::Survivors;
 use crate::transcribed::Transcribed;
 use heap_image::Intake;
@@ -20,6 +21,8 @@ pub(crate) struct Packed {
     pub(crate) roots: Vec<u64>,
     /// How many references and roots lead to objects that are missing from the dump.
     pub(crate) unresolved: u64,
+    /// The classes of the survivors.
+    pub(crate) classes: ObjectClasses,
 }
 
 impl Packed {
@@ -36,21 +39,25 @@ impl Packed {
             heap,
             arrangement,
             unresolved,
+            classes: mut object_classes,
         } = Transcribed::of(alloc, &mut inventory, source, MAX_REGION_LOG, false)?;
         let Inventory {
             classes,
             objects,
             roots,
+            ..
         } = inventory;
         // Freed before more memory is allocated.
         drop(classes);
         drop(objects);
         let survivors = Survivors::of(alloc, &heap, arrangement.words(), roots.as_slice())?;
+        object_classes.keep(&heap, survivors.addresses.as_slice());
         Ok(Packed {
             heap,
             survivors,
             roots,
             unresolved,
+            classes: object_classes,
         })
     }
 }

@@ -1,6 +1,6 @@
 use crate::contents::Contents;
 
-/// A record of the heap whose head has been read, and whose body, if it has one, comes next.
+/// A record of the heap, or one with names of classes, whose head has been read, and whose body, if it has one, comes next.
 #[derive(Clone, Copy)]
 pub(crate) enum Record {
     /// A root. The other fields of its record have been skipped.
@@ -8,7 +8,11 @@ pub(crate) enum Record {
     Class { id: u64 },
     Instance(Instance),
     /// An array of references or of primitive values.
-    Array { id: u64, contents: Contents },
+    Array(Array),
+    /// A text outside the heap, whose bytes are the rest of its record.
+    Text { id: u64 },
+    /// A record outside the heap that says which text is the name of a class.
+    ClassName { class: u64, text: u64 },
 }
 
 /// The head of an instance.
@@ -18,4 +22,21 @@ pub(crate) struct Instance {
     pub(crate) class: u64,
     /// The number of bytes of its fields.
     pub(crate) bytes: u32,
+}
+
+/// The head of an array.
+#[derive(Clone, Copy)]
+pub(crate) struct Array {
+    pub(crate) id: u64,
+    pub(crate) elements: Elements,
+    pub(crate) contents: Contents,
+}
+
+/// What the elements of an array are.
+#[derive(Clone, Copy)]
+pub(crate) enum Elements {
+    /// References. This is the id of the array's class.
+    References { class: u64 },
+    /// Primitive values of the type with this code.
+    Primitive { code: u8 },
 }

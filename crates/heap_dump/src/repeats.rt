@@ -88,10 +88,11 @@ impl RecordVisitor for Repeats<'_> {
                 self.see(dump, instance.id)?;
                 dump.skip(source, u64::from(instance.bytes))
             }
-            Record::Array { id, contents } => {
-                self.see(dump, id)?;
-                dump.skip(source, contents.bytes(dump.ids()))
+            Record::Array(array) => {
+                self.see(dump, array.id)?;
+                dump.skip(source, array.contents.bytes(dump.ids()))
             }
+            Record::Text { .. } | Record::ClassName { .. } => dump.skip_rest(source),
         }
     }
 }

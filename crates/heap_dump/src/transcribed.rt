@@ -6,7 +6,8 @@ use crate::arrangement::Arrangement;
 use crate::error::ImportError;
 use crate::heap::UnsealedHeap;
 use crate::inventory::Inventory;
-use crate::transcription::Transcription;
+use crate::object_classes::ObjectClasses;
+use crate::transcription::{Transcript, Transcription};
 use heap_image::Intake;
 use std::alloc::Global;
 
@@ -17,6 +18,7 @@ pub(crate) struct Transcribed {
     pub(crate) arrangement: Arrangement,
     /// How many references and roots lead to objects that are missing from the dump.
     pub(crate) unresolved: u64,
+    pub(crate) classes: ObjectClasses,
 }
 
 impl Transcribed {
@@ -35,12 +37,18 @@ impl Transcribed {
         ensures input { result ≡ Err ImportError.Input → IsTrue (R.has_failed source.new) }
     {
         let (heap, arrangement) = inventory.place(alloc, region_log, keeps_gaps)?;
-        let (heap, unresolved) = Transcription::of(inventory, heap, source)?;
+        let Transcript {
+            heap,
+            unresolved,
+            classes,
+            texts,
+        } = Transcription::of(alloc, inventory, heap, source)?;
         let missing = inventory.place_roots();
         Ok(Transcribed {
             heap,
             arrangement,
             unresolved: unresolved.saturating_add(missing),
+            classes: ObjectClasses::of(alloc, inventory, classes, texts)?,
         })
     }
 }

@@ -3,6 +3,7 @@ ghost use Rattle.std.specs.Prelude.{◌<◌, ◌≤◌, OnOk, ◌≡◌, IsTrue,
 ghost use Rattle.std.specs.Io.KnownBytes.{IsAtEnd};
 
 use crate::class_head::ClassHead;
+use crate::class_number::{CLASS_OBJECTS, UNKNOWN_ARRAYS, number_of_class, number_of_code};
 use crate::contents::Contents;
 use crate::dump::Dump;
 use crate::error::{ImportError, Problem};
@@ -10,10 +11,12 @@ use crate::field_type::FieldType;
 use crate::heap::{UnsealedHeap, first_word};
 use crate::inventory::Inventory;
 use crate::objects::Place;
-use crate::record::{Instance, Record};
+use crate::record::{Array, Elements, Instance, Record};
 use crate::record_visitor::RecordVisitor;
 use crate::slots::Slots;
+use crate::texts::Texts;
 use heap_image::Intake;
+use std::alloc::{AllocError, Global};
 
 /// A heap into which the values of the objects are copied.
 #[derive(Drop)]
@@ -25,16 +28,31 @@ pub(crate) struct Transcription<'a> {
     done: usize,
     /// How many references lead to objects that are missing from the dump.
     unresolved: u64,
+    /// The class number of each object in the order of ids, if classes are wanted, else empty.
+    classes: Vec<u32>,
+    texts: Texts,
+}
+
+/// What the second reading of a dump gives.
+#[derive(Drop)]
+pub(crate) struct Transcript {
+    pub(crate) heap: UnsealedHeap,
+    /// How many references lead to objects that are missing from the dump.
+    pub(crate) unresolved: u64,
+    /// The class number of each object in the order of ids, if classes are wanted, else empty.
+    pub(crate) classes: Vec<u32>,
+    /// The names of classes, if classes are wanted.
+    pub(crate) texts: Texts,
 }
 
 impl Transcription<'_> {
-    /// Reads a dump to its end and copies the values of its objects to their addresses in this heap. Returns the heap,
-    /// and how many references lead to objects that are missing from the dump.
+    /// Reads a dump to its end and copies the values of its objects to their addresses in this heap.
     pub(crate) fn of<R: Intake>(
+        alloc: Global,
         inventory: &Inventory,
         heap: UnsealedHeap,
         source: &mut R,
-    ) -> Result<(UnsealedHeap, u64), ImportError>
+    ) -> Result<Transcript, ImportError>
         ensures end { OnOk result (IsAtEnd (R.left source.new)) }
         ensures input { result ≡ Err ImportError.Input → IsTrue (R.has_failed source.new) }
     {
@@ -44,14 +62,16 @@ impl Transcription<'_> {
             next: 0,
             done: 0,
             unresolved: 0,
+            classes: room_for_classes(alloc, inventory)?,
+            texts: Texts::new(alloc),
         };
         let mut dump = Dump::open(source)?;
         dump.visit_records(source, &mut transcription)?;
         transcription.finish(&dump)
     }
 
-    /// Returns the heap. It is an error if objects of the first reading are missing.
-    fn finish(self, dump: &Dump) -> Result<(UnsealedHeap, u64), ImportError>
+    /// Returns what was read. It is an error if objects of the first reading are missing.
+    fn finish(self, dump: &Dump) -> Result<Transcript, ImportError>
         ensures { result ≢ Err ImportError.Input }
     {
         let Transcription {
@@ -59,12 +79,42 @@ impl Transcription<'_> {
             heap,
             done,
             unresolved,
+            classes,
+            texts,
             ..
         } = self;
         if done != inventory.objects.len() {
             return Err(dump.problem(Problem::Changed));
         }
-        Ok((heap, unresolved))
+        Ok(Transcript {
+            heap,
+            unresolved,
+            classes,
+            texts,
+        })
+    }
+
+    /// Keeps the class number of the object at a place, if classes are wanted.
+    fn keep_class(&mut self, place: Place, number: u32) {
+        if let Some(kept) = self.classes.get_mut(place.index) {
+            *kept = number;
+        }
+    }
+
+    /// Keeps a text if it is the name of a class and classes are wanted.
+    fn keep_text<R: Intake>(
+        &mut self,
+        dump: &mut Dump,
+        source: &mut R,
+        id: u64,
+    ) -> Result<(), ImportError>
+        ensures input { result ≡ Err ImportError.Input → IsTrue (R.has_failed source.new) }
+    {
+        if self.inventory.names.has_text(id) {
+            self.texts.read(dump, source, id)
+        } else {
+            dump.skip_rest(source)
+        }
     }
 
     /// Finds the object with this id.
@@ -188,6 +238,7 @@ impl Transcription<'_> {
         let Some(contents) = self.inventory.classes.own_contents(place.class, id) else {
             return Err(dump.problem(Problem::Changed));
         };
+        self.keep_class(place, CLASS_OBJECTS);
         let mut slots = self.begin(dump, place.address, contents)?;
         let head = dump.class_head(source)?;
         self.put_head(dump, head, &mut slots)?;
@@ -240,6 +291,7 @@ impl Transcription<'_> {
     {
         let place = self.find(dump, instance.id)?;
         let contents = self.contents_of(dump, place.class, instance)?;
+        self.keep_class(place, number_of_class(place.class));
         let mut slots = self.begin(dump, place.address, contents)?;
         self.copy_fields(dump, source, place.class, &mut slots)?;
         self.end(dump, slots)
@@ -313,17 +365,42 @@ impl Transcription<'_> {
         Ok(())
     }
 
+    /// The class number of an array with these elements.
+    fn number_of_array(&self, elements: Elements) -> u32 {
+        let class = match elements {
+            Elements::Primitive { code } => return number_of_code(code),
+            Elements::References { class } => class,
+        };
+        if self.classes.is_empty() {
+            return UNKNOWN_ARRAYS;
+        }
+        let Inventory {
+            classes,
+            objects,
+            ..
+        } = self.inventory;
+        match objects.class_number(classes, class) {
+            0 => UNKNOWN_ARRAYS,
+            number => number_of_class(number),
+        }
+    }
+
     /// Reads and copies the elements of an array.
     fn copy_array<R: Intake>(
         &mut self,
         dump: &mut Dump,
         source: &mut R,
-        id: u64,
-        contents: Contents,
+        array: Array,
     ) -> Result<(), ImportError>
         ensures input { result ≡ Err ImportError.Input → IsTrue (R.has_failed source.new) }
     {
+        let Array {
+            id,
+            elements,
+            contents,
+        } = array;
         let place = self.find(dump, id)?;
+        self.keep_class(place, self.number_of_array(elements));
         let mut slots = self.begin(dump, place.address, contents)?;
         for _ in 0..contents.references {
             self.copy_reference(dump, source, &mut slots)?;
@@ -344,7 +421,9 @@ impl RecordVisitor for Transcription<'_> {
             Record::Root { .. } => Ok(()),
             Record::Class { id } => self.copy_class(dump, source, id),
             Record::Instance(instance) => self.copy_instance(dump, source, instance),
-            Record::Array { id, contents } => self.copy_array(dump, source, id, contents),
+            Record::Array(array) => self.copy_array(dump, source, array),
+            Record::Text { id } => self.keep_text(dump, source, id),
+            Record::ClassName { .. } => Ok(()),
         }
     }
 }
@@ -357,4 +436,13 @@ fn unit_of(rest: u64) -> usize
     ensures within { result ≤ rest }
 {
     if rest >= 8 { 8 } else { 1 }
+}
+
+/// Room for the class number of each object, if classes are wanted.
+fn room_for_classes(alloc: Global, inventory: &Inventory) -> Result<Vec<u32>, AllocError> {
+    if inventory.names.wants_classes() {
+        vec![in alloc; UNKNOWN_ARRAYS; inventory.objects.len()]
+    } else {
+        Ok(Vec::new(alloc))
+    }
 }

@@ -1,7 +1,8 @@
 //! The commands of the program. Each is a module, here or in `heap_commands`, and has an arm below. The crate
 //! `command_line` parses its arguments.
 ghost use Rattle.std.specs.Prelude.{◌≡◌, codes, ℕ, List, IfOk, IfErr};
-ghost use Rattle.command_line.specs.Request.{IsFor};
+ghost use Rattle.command_line.specs.Request.{IsFor, rows_of};
+ghost use Rattle.heap_commands.specs.Import.{IsImportText};
 ghost use Rattle.pcompact.specs.Commands.{IsPrintedBy};
 ghost use Rattle.command_support.specs.Failure.{out_of_memory};
 
@@ -32,6 +33,9 @@ where
     R::File: FileExt + SystemFile + Sync,
     ensures prints { (name : List ℕ) → IsFor name request.entry
         → IfOk result (λ done. IsPrintedBy name done.text.items) }
+    // Without `--histogram`, or with `--json`, that is the line with the figures alone.
+    ensures import { IsFor (codes "import") request.entry
+        → IfOk result (λ done. IsImportText (rows_of request.entry) done.text.items) }
     ensures board { IsFor (codes "board") request.entry
         → IfErr result (λ trouble. trouble.failure ≡ out_of_memory) }
 {

@@ -4,7 +4,7 @@ ghost use Rattle.std.specs.Prelude.{◌≡◌, codes, ℕ, List};
 ghost use Rattle.board_sweep.specs.Report.{IsBoardText};
 ghost use Rattle.heap_commands.specs.Assemble.{IsCountLine};
 ghost use Rattle.heap_commands.specs.Generate.{IsGenerationLine};
-ghost use Rattle.heap_commands.specs.Import.{IsImportLine};
+ghost use Rattle.heap_commands.specs.Import.{IsImported};
 ghost use Rattle.heap_commands.specs.Map.{IsMap};
 ghost use Rattle.heap_commands.specs.Order.{IsOrder};
 ghost use Rattle.heap_commands.specs.Replay.{IsReplayText};
@@ -50,9 +50,9 @@ pub fn upgrade_prints_a_root_count()
     ensures prints { (text : List ℕ) → IsPrintedBy (codes "upgrade") text → IsRootCount text }
 {}
 
-/// `import` prints the figures of some valid image with roots.
+/// `import` prints the figures of some valid image with roots, alone or with the histogram of its classes.
 pub fn import_prints_figures()
-    ensures prints { (text : List ℕ) → IsPrintedBy (codes "import") text → IsImportLine text }
+    ensures prints { (text : List ℕ) → IsPrintedBy (codes "import") text → IsImported text }
 {}
 
 /// `generate` prints the figures of some valid image.

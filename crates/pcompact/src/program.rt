@@ -1,8 +1,9 @@
 //! The whole program, over any two writers.
-ghost use Rattle.std.specs.Prelude.{◌≡◌, ◌≤◌, ◌∷◌, ◌⊎◌, [], codes, ℕ, Bool, List, None, IfOk, OnOk, IfErr, IfSome, IsTrue};
-ghost use Rattle.command_line.specs.Request.{IsFor, IsNoUsage};
+ghost use Rattle.std.specs.Prelude.{◌≡◌, ◌≢◌, ◌≤◌, ◌∷◌, ◌⊎◌, [], codes, ℕ, Bool, List, Option, None, IfOk, OnOk, IfErr, IfSome, IsTrue};
+ghost use Rattle.command_line.specs.Request.{IsFor, IsNoUsage, rows_of};
+ghost use Rattle.heap_commands.specs.Import.{IsImportText};
 ghost use Rattle.std.specs.Io.KnownBytes.{Appends};
-ghost use Rattle.command_line.specs.CommandLine.{AreWords, AreCallOf, HaveWord};
+ghost use Rattle.command_line.specs.CommandLine.{AreWords, AreCallOf, HaveBeginning, HaveWord};
 ghost use Rattle.pcompact.specs.Commands.{IsPrintedBy};
 ghost use Rattle.command_line.specs.declared.unread.Unread.{Unread};
 ghost use Rattle.command_support.specs.Failure.{failed_device, out_of_memory, status_of};
@@ -56,9 +57,16 @@ where
         → (text : List ℕ) × IsPrintedBy name text
         × (json : Bool) × (IsTrue json → HaveWord (codes "--json") words.now)
         × Appends (A.contents out.old) (A.contents out.new) (as_shown json text) }
+    // Without `--histogram`, `import` prints the line with the figures alone.
+    ensures import { AreCallOf (codes "import") words.now → result ≡ 0
+        → (text : List ℕ) × (rows : Option ℕ) × IsImportText rows text
+        × (rows ≢ None → HaveBeginning (codes "--histogram") words.now)
+        × (json : Bool) × (IsTrue json → HaveWord (codes "--json") words.now)
+        × Appends (A.contents out.old) (A.contents out.new) (as_shown json text) }
 {
     match command_line::read(rt.alloc(), words) {
         Ok(request) => {
+            let request = request.as_asked(words);
             let manner = Manner::of(words, &request, screen);
             carry_out(rt, request, manner, out, err)
         }
@@ -118,6 +126,9 @@ where
     ensures prints { (name : List ℕ) → IsFor name request.entry → result ≡ 0
         → (text : List ℕ) × IsPrintedBy name text
         × Appends (A.contents out.old) (A.contents out.new) (as_shown manner.json text) }
+    ensures import { IsFor (codes "import") request.entry → result ≡ 0
+        → (text : List ℕ) × IsImportText (rows_of request.entry) text
+        × Appends (A.contents out.old) (A.contents out.new) (as_shown manner.json text) }
 {
     let done = match answer(rt, manner, request) {
         Ok(done) => done,
@@ -144,6 +155,8 @@ where
     R::File: FileExt + SystemFile + Sync,
     ensures prints { (name : List ℕ) → IsFor name request.entry → IfOk result (λ done.
         (text : List ℕ) × IsPrintedBy name text × (done.text.items ≡ as_shown manner.json text)) }
+    ensures import { IsFor (codes "import") request.entry → IfOk result (λ done.
+        (text : List ℕ) × IsImportText (rows_of request.entry) text × (done.text.items ≡ as_shown manner.json text)) }
     ensures board { IsFor (codes "board") request.entry
         → IfErr result (λ trouble. trouble.failure ≡ out_of_memory) }
 {

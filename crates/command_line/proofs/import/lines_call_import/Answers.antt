@@ -9,3 +9,7 @@ returns-clause-line c = (refl, refl)
 pub returns-clause-options : goal.returns-clause-options
 unfolding clap_on_literals
 returns-clause-options c = (refl, refl)
+
+pub returns-clause-lists : goal.returns-clause-lists
+unfolding clap_on_literals
+returns-clause-lists c = (refl, refl)

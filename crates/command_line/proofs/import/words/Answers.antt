@@ -15,8 +15,11 @@ returns-clause-app c =
     let step2 = c.in_ok-arg-3.ensures.shape c.region_log.ensures.local ∙ ap₂ with_rule step1 c.region_log.ensures.rule in
     let step3 = c.in_ok-arg-4.ensures.shape c.allowance.ensures.local ∙ ap₂ with_rule step2 c.allowance.ensures.rule in
     let step4 = c.in_ok-arg-5.ensures.shape c.flag.ensures.local ∙ ap₂ with_rule step3 c.flag.ensures.rule in
-    let step5 = c.in_ok-command.ensures.shape c.json.ensures.local ∙ ap₂ with_rule step4 c.json.ensures.rule in
-    IfOk-weaker c.with_last.result _ _ (λ command is. is ∙ ap with_replacement step5) c.with_last.ensures.app
+    let step5 = c.in_ok-arg-6.ensures.shape c.classes.ensures.local ∙ ap₂ with_rule step4 c.classes.ensures.rule in
+    let step6 = c.in_ok-arg-7.ensures.shape c.histogram.ensures.local ∙ ap₂ with_rule step5 c.histogram.ensures.rule in
+    let step7 = c.in_ok-arg-8.ensures.shape c.json.ensures.local ∙ ap₂ with_rule step6 c.json.ensures.rule in
+    let step8 = c.in_ok-command.ensures.shape c.stats.ensures.local ∙ ap₂ with_rule step7 c.stats.ensures.rule in
+    IfOk-weaker c.with_last.result _ _ (λ command is. is ∙ ap with_replacement step8) c.with_last.ensures.app
 
 pub returns-clause-local : goal.returns-clause-local
 returns-clause-local c =
@@ -26,5 +29,8 @@ returns-clause-local c =
     let step2 = c.in_ok-arg-3.ensures.globals ∙ ap₂ ◌||◌ step1 c.region_log.ensures.local in
     let step3 = c.in_ok-arg-4.ensures.globals ∙ ap₂ ◌||◌ step2 c.allowance.ensures.local in
     let step4 = c.in_ok-arg-5.ensures.globals ∙ ap₂ ◌||◌ step3 c.flag.ensures.local in
-    let step5 = c.in_ok-command.ensures.globals ∙ ap₂ ◌||◌ step4 c.json.ensures.local in
-    c.with_last.ensures.local step5
+    let step5 = c.in_ok-arg-6.ensures.globals ∙ ap₂ ◌||◌ step4 c.classes.ensures.local in
+    let step6 = c.in_ok-arg-7.ensures.globals ∙ ap₂ ◌||◌ step5 c.histogram.ensures.local in
+    let step7 = c.in_ok-arg-8.ensures.globals ∙ ap₂ ◌||◌ step6 c.json.ensures.local in
+    let step8 = c.in_ok-command.ensures.globals ∙ ap₂ ◌||◌ step7 c.stats.ensures.local in
+    c.with_last.ensures.local step8

@@ -1,4 +1,4 @@
-use Rattle.std.proofs.Common.{◌<◌, ◌≤◌, length, All}
+use Rattle.std.proofs.Common.{◌≤◌, length, All}
 use Rattle.std.specs.List.Sorted.{IsStrictlyIncreasing}
 use Rattle.heap_dump.proofs.roots.roots_to.Given as goal
 

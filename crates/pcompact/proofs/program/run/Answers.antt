@@ -1,4 +1,5 @@
-use Rattle.std.proofs.Common.{◌≡◌, None, Some}
+use Rattle.std.proofs.Common.{◌≡◌, None, Some, codes}
+use Rattle.command_line.specs.Request.{rows_of}
 use Rattle.pcompact.proofs.program.run.Goals as goal
 
 some_none : {A : Type 0} {x : A} → Some x ≡ None → ⊥
@@ -6,10 +7,22 @@ some_none h = cc
 
 pub returns-in-Ok-clause-prints : goal.returns-in-Ok-clause-prints
 returns-in-Ok-clause-prints g c = λ name call good.
-    let printed = c.carry_out.ensures.prints name (c.in-Ok.ensures.calls name call) good in
+    let asked = c.as_asked-request.ensures.name name (c.in-Ok.ensures.calls name call) in
+    let printed = c.carry_out.ensures.prints name asked good in
     (printed.0, printed.1, c.of-manner.result.json, c.of-manner.ensures.json, printed.2)
+
+pub returns-in-Ok-clause-import : goal.returns-in-Ok-clause-import
+returns-in-Ok-clause-import g c = λ call good.
+    let name = codes "import" in
+    let asked = c.as_asked-request.ensures.name name (c.in-Ok.ensures.calls name call) in
+    let printed = c.carry_out.ensures.import asked good in
+    (printed.0, rows_of c.as_asked-request.result, printed.1, c.as_asked-request.ensures.histogram, c.of-manner.result.json, c.of-manner.ensures.json, printed.2)
 
 -- a call of a command isn't wrong usage, and only that is spelled anew
 pub returns-in-Some-clause-prints : goal.returns-in-Some-clause-prints
 returns-in-Some-clause-prints g c = λ name call good.
     absurd (some_none (c.in-Some.ensures.usage_alone (c.in-Err.ensures.calls name call)))
+
+pub returns-in-Some-clause-import : goal.returns-in-Some-clause-import
+returns-in-Some-clause-import g c = λ call good.
+    absurd (some_none (c.in-Some.ensures.usage_alone (c.in-Err.ensures.calls (codes "import") call)))

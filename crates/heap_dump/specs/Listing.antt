@@ -1,0 +1,41 @@
+-- The objects of an imported image, one by one.
+use Rattle.std.specs.Prelude.{◌≡◌, ◌⊎◌, ℕ, ◌+◌, ◌<◌, ◌≤◌, List, All, map, filter, take, length, slice_index}
+use Rattle.std.specs.List.{AllPairs}
+use Rattle.heap_image.specs.HeapImage.{HeapImage, heap_words, size_at, word_at}
+use Rattle.heap_dump.specs.declared.listing.ListedObject.{ListedObject}
+
+-- the address after the last word of an object
+abbrev pub end_of_listed : ListedObject → ℕ
+end_of_listed object = object.address + object.words
+
+-- the addresses of the live ones
+abbrev pub live_addresses : List ListedObject → List ℕ
+live_addresses objects = map (λ object. object.address) (filter (λ object. object.is_live) objects)
+
+-- the live address with this index is a
+pub record IsNextLive (image : HeapImage) (index a : ℕ) : Type 0 where
+  pub there : index < length image.live
+  pub is : slice_index image.live index ≡ a
+
+-- the address a is that of no word of these objects
+abbrev pub IsOutside : ℕ → List ListedObject → Type 0
+IsOutside a objects = All (λ object. (a < object.address) ⊎ (end_of_listed object ≤ a)) objects
+
+-- These objects have the sizes in their headers, ascend without overlap, and end at this address or before. Each word before
+-- it that is outside them is 0. Those of them that are live are the first of the live list, in its order.
+pub record AreObjectsBefore (image : HeapImage) (count end : ℕ) (objects : List ListedObject) : Type 0 where
+  pub sizes : All (λ object. object.words ≡ size_at image object.address) objects
+  pub apart : AllPairs (λ a b. end_of_listed a ≤ b.address) objects
+  pub inside : All (λ object. end_of_listed object ≤ end) objects
+  pub rest : (a : ℕ) → a < end → IsOutside a objects → word_at image a ≡ 0
+  pub live : live_addresses objects ≡ take count image.live
+
+-- These are the objects of an image, by ascending addresses without overlap, each with the size in its header. No other
+-- object is there: each word outside them is 0. An object is live exactly if it is in the live list, and each of that list
+-- is there once.
+pub record AreObjectsOf (image : HeapImage) (objects : List ListedObject) : Type 0 where
+  pub sizes : All (λ object. object.words ≡ size_at image object.address) objects
+  pub apart : AllPairs (λ a b. end_of_listed a ≤ b.address) objects
+  pub inside : All (λ object. end_of_listed object ≤ heap_words image) objects
+  pub rest : (a : ℕ) → a < heap_words image → IsOutside a objects → word_at image a ≡ 0
+  pub live : live_addresses objects ≡ image.live

@@ -1,0 +1,37 @@
+//! What the objects of a class are.
+
+/// What the objects of a class are, as far as it tells how much larger they may be in the machine than in an image.
+#[derive(Debug, Clone, Copy, PartialEq, Eq)]
+pub(crate) enum ClassKind {
+    Arrays,
+    Classes,
+    Instances,
+}
+
+impl ClassKind {
+    ghost use Rattle.std.specs.Prelude.{◌≡◌};
+    ghost use Rattle.heap_dump.specs.ClassNames.{padding_of};
+
+    /// The kind of a class with this name in the dump.
+    pub(crate) fn of_name(name: &[u8]) -> ClassKind {
+        match name {
+            [b'[', ..] => ClassKind::Arrays,
+            b"java/lang/Class" => ClassKind::Classes,
+            _ => ClassKind::Instances,
+        }
+    }
+
+    /// The most words by which an object of this kind may be larger in the machine than in an image.
+    ///
+    /// The header of an instance has at most 2 words there, that of an array 3, and a class has up to 17 words of fields
+    /// that a dump leaves out. An image has a header of one word.
+    pub(crate) fn most_padding(self) -> u64
+        ensures { result ≡ padding_of self }
+    {
+        match self {
+            ClassKind::Arrays => 2,
+            ClassKind::Classes => 17,
+            ClassKind::Instances => 1,
+        }
+    }
+}
