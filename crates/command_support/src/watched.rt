@@ -1,7 +1,5 @@
 //! Open files that note how calls on them fail.
-ghost use Rattle.std.specs.Prelude.{◌≡◌, ◌+◌, None, length, min, option_map};
-ghost use Rattle.command_support.specs.Heads.{bytes_read};
-ghost use Rattle.command_support.specs.Watching.{bytes_left};
+ghost use Rattle.std.specs.Prelude.{◌≡◌, ◌+◌, None, length, min};
 
 use crate::access::is_private;
 use crate::failed_call::{FailedCall, SystemCall};
@@ -120,6 +118,10 @@ impl<'a, F: Drop> Watched<'a, F> {
 }
 
 impl<'a, F: Read + Drop> Watched<'a, F> {
+    ghost use Rattle.std.specs.Prelude.{◌≡◌, option_map};
+    ghost use Rattle.command_support.specs.Heads.{bytes_read};
+    ghost use Rattle.command_support.specs.Watching.{bytes_left};
+
     /// Reads the image in the file with this shape. Nothing of it has been read yet.
     pub fn with_shape(self, shape: Shape) -> Watched<'a, F>
         ensures shape { result.shape ≡ shape }
@@ -186,6 +188,8 @@ impl<F: Seek + Drop> Watched<'_, F> {
 }
 
 impl<F: Read + Drop> Read for Watched<'_, F> {
+    ghost use Rattle.command_support.specs.Watching.{bytes_left};
+
     ghost remaining = { bytes_left F.remaining };
 
     fn read(&mut self, buf: &mut [u8]) -> io::Result<usize> {
