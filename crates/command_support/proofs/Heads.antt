@@ -1,8 +1,9 @@
 -- What is read of a file in place of the bytes of its head.
-use Rattle.std.proofs.Common.{◌≡◌, ◌∙◌, ℕ, ◌+◌, ◌<◌, ◌≤◌, Bool, true, false, List, [], ◌∷◌, ◌++◌, length, min, Option, Some, None, refl, sym, ap, ap₂, arith, inl, inr, suc}
+use Rattle.std.proofs.Common.{◌≡◌, ◌∙◌, ℕ, ◌+◌, ◌<◌, ◌≤◌, Bool, true, false, List, [], ◌∷◌, ◌++◌, length, get_or, min, Option, Some, None, refl, sym, ap, ap₂, arith, inl, inr, zero, suc}
 use Rattle.std.specs.Prelude.{◌&&◌, if◌then◌else◌, nat_le, nat_lt, unwrap_or, option_map}
 use Rattle.std.specs.Io.KnownBytes.{Consumes, IsAtEnd, Keeps}
 use Rattle.std.proofs.lemmas.Bool.{and_right, cases_lt, le-ltb}
+use Rattle.std.proofs.lemmas.List.{ext_get_or}
 use Rattle.heap_image.specs.ImageText.{front}
 use Rattle.command_line.specs.declared.shape.Shape.{Shape}
 use Rattle.command_support.specs.Heads.{byte_at, byte_read, bytes_read}
@@ -41,6 +42,27 @@ bytes_read-append shape at [] ys = let here : at ≡ at + 0 = omega arith in ap 
 bytes_read-append shape at (x ∷ xs) ys =
     let next : at + 1 + length xs ≡ at + suc (length xs) = omega arith in
     ap (λ zs. byte_read shape at x ∷ zs) (bytes_read-append shape (at + 1) xs ys ∙ ap (λ n. bytes_read shape (at + 1) xs ++ bytes_read shape n ys) next)
+
+pub length-bytes_read : (shape : Shape) (at : ℕ) (bytes : List ℕ) → length (bytes_read shape at bytes) ≡ length bytes
+length-bytes_read shape at [] = refl
+length-bytes_read shape at (byte ∷ bytes) = ap suc (length-bytes_read shape (at + 1) bytes)
+
+pub get_or-bytes_read : (shape : Shape) (at : ℕ) (bytes : List ℕ) (k : ℕ) → k < length bytes → get_or (bytes_read shape at bytes) k 0 ≡ byte_read shape (at + k) (get_or bytes k 0)
+get_or-bytes_read shape at [] k inside = absurd (omega arith)
+get_or-bytes_read shape at (byte ∷ bytes) zero inside = let here : at ≡ at + 0 = omega arith in ap (λ n. byte_read shape n byte) here
+get_or-bytes_read shape at (byte ∷ bytes) (suc k) inside =
+    let next : at + 1 + k ≡ at + suc k = omega arith in
+    get_or-bytes_read shape (at + 1) bytes k (omega arith) ∙ ap (λ n. byte_read shape n (get_or bytes k 0)) next
+
+-- the bytes of a piece are read so, if the first ones are and the others are past the head
+pub whole-read : (shape : Shape) (at many : ℕ) (old new : List ℕ) → length new ≡ length old
+    → ((k : ℕ) → k < many → get_or new k 0 ≡ byte_read shape (at + k) (get_or old k 0))
+    → ((k : ℕ) → many ≤ k → get_or new k 0 ≡ get_or old k 0)
+    → ((k : ℕ) → many ≤ k → k < length old → 32 ≤ at + k) → new ≡ bytes_read shape at old
+whole-read shape at many old new long done rest past = ext_get_or 0 new (bytes_read shape at old) (long ∙ sym (length-bytes_read shape at old)) (λ k inside. elim (cases_lt k many) [
+  | inl first ↦ done k first ∙ sym (get_or-bytes_read shape at old k (omega (arith, long)))
+  | inr other ↦ rest k other ∙ sym (get_or-bytes_read shape at old k (omega (arith, long)) ∙ ap (λ o. unwrap_or o (get_or old k 0)) (byte_at-past shape (at + k) (past k other (omega (arith, long)))))
+])
 
 -- the head that is read has the values of the shape
 head-read : (new_log new_allowance : Option ℕ) (rooted : Bool) (log count words allowance : ℕ)
