@@ -13,7 +13,7 @@ returns-clause-app c =
     let step0 = c.in_ok-arg.ensures.shape c.image.ensures.local ∙ ap₂ with_rule start c.image.ensures.rule in
     let step1 = c.in_ok-command.ensures.shape c.file.ensures.local ∙ ap₂ with_rule step0 c.file.ensures.rule in
     let shaped = c.in_ok-with_shape.ensures.app ∙ ap with_shape_rules step1 in
-    IfOk-weaker c.arg-2.result _ _ (λ command added. added.shape c.verbose.ensures.local ∙ ap₂ with_rule shaped c.verbose.ensures.rule) c.arg-2.ensures
+    IfOk-weaker c.arg-3.result _ _ (λ command added. added.shape c.verbose.ensures.local ∙ ap₂ with_rule shaped c.verbose.ensures.rule) c.arg-3.ensures
 
 pub returns-clause-local : goal.returns-clause-local
 returns-clause-local c =
@@ -21,4 +21,4 @@ returns-clause-local c =
     let step0 = c.in_ok-arg.ensures.globals ∙ ap₂ ◌||◌ start c.image.ensures.local in
     let step1 = c.in_ok-command.ensures.globals ∙ ap₂ ◌||◌ step0 c.file.ensures.local in
     let shaped = c.in_ok-with_shape.ensures.local step1 in
-    IfOk-weaker c.arg-2.result _ _ (λ command added. added.globals ∙ ap₂ ◌||◌ shaped c.verbose.ensures.local) c.arg-2.ensures
+    IfOk-weaker c.arg-3.result _ _ (λ command added. added.globals ∙ ap₂ ◌||◌ shaped c.verbose.ensures.local) c.arg-3.ensures

@@ -14,7 +14,7 @@ returns-clause-app c =
     let step1 = c.in_ok-command.ensures.shape c.flag.ensures.local ∙ ap₂ with_rule step0 c.flag.ensures.rule in
     let shaped = c.in_ok-with_shape.ensures.app ∙ ap with_shape_rules step1 in
     let step2 = c.in_ok-arg-2.ensures.shape c.json.ensures.local ∙ ap₂ with_rule shaped c.json.ensures.rule in
-    IfOk-weaker c.arg-3.result _ _ (λ command added. added.shape c.verbose.ensures.local ∙ ap₂ with_rule step2 c.verbose.ensures.rule) c.arg-3.ensures
+    IfOk-weaker c.arg-4.result _ _ (λ command added. added.shape c.verbose.ensures.local ∙ ap₂ with_rule step2 c.verbose.ensures.rule) c.arg-4.ensures
 
 pub returns-clause-local : goal.returns-clause-local
 returns-clause-local c =
@@ -23,4 +23,4 @@ returns-clause-local c =
     let step1 = c.in_ok-command.ensures.globals ∙ ap₂ ◌||◌ step0 c.flag.ensures.local in
     let shaped = c.in_ok-with_shape.ensures.local step1 in
     let step2 = c.in_ok-arg-2.ensures.globals ∙ ap₂ ◌||◌ shaped c.json.ensures.local in
-    IfOk-weaker c.arg-3.result _ _ (λ command added. added.globals ∙ ap₂ ◌||◌ step2 c.verbose.ensures.local) c.arg-3.ensures
+    IfOk-weaker c.arg-4.result _ _ (λ command added. added.globals ∙ ap₂ ◌||◌ step2 c.verbose.ensures.local) c.arg-4.ensures
