@@ -1,4 +1,4 @@
-use Rattle.std.proofs.Common.{◌≡◌, ℕ, ◌+◌, ◌≤◌, arith}
+use Rattle.std.proofs.Common.{arith}
 use Rattle.command_support.proofs.Heads.{whole-read}
 use Rattle.command_support.proofs.head.reshape.Goals as goal
 
