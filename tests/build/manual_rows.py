@@ -28,7 +28,7 @@ BASH_ROWS = [
     ("pcompact collect a b --workers 6", "6 60 61 62 63 64"),
     ("pcompact collect a b --workers = 6", "6 60 61 62 63 64"),
     ("pcompact collect a b --workers =", " ".join(map(str, range(1, 65)))),
-    ("pcompact collect a b ", "--workers --atomic --json --stats --verbose -h --help"),
+    ("pcompact collect a b ", "--workers --region-log --allowance --atomic --json --stats --verbose -h --help"),
     ("pcompact collect -- --st", ""),
     ("pcompact collect -- ", "*"),
     ("pcompact map --svg ", "*"),

@@ -65,10 +65,12 @@ Arguments:
   <IMAGE>  A heap image
 
 Options:
-      --heading  Print the names of the columns even if standard output is no terminal
-      --json     Print a JSON object
-      --verbose  Print more details about errors
-  -h, --help     Print help
+      --heading         Print the names of the columns even if standard output is no terminal
+      --region-log <k>  Read IMAGE as if its regions had 2^k words, k from 3 to 16
+      --allowance <m>   Read IMAGE as if its dense prefix might keep m dead words
+      --json            Print a JSON object
+      --verbose         Print more details about errors
+  -h, --help            Print help
 
 Example:
   pcompact summary heap.pcheap
@@ -84,12 +86,14 @@ Arguments:
   <OUT>    Where to write the compacted image
 
 Options:
-      --workers <n>  Number of worker threads, from 1 to 64
-      --atomic       Replace files only once the command has succeeded
-      --json         Print a JSON object
-      --stats        Print timings and peak memory to stderr
-      --verbose      Print more details about errors
-  -h, --help         Print help
+      --workers <n>     Number of worker threads, from 1 to 64
+      --region-log <k>  Read IMAGE as if its regions had 2^k words, k from 3 to 16
+      --allowance <m>   Read IMAGE as if its dense prefix might keep m dead words
+      --atomic          Replace files only once the command has succeeded
+      --json            Print a JSON object
+      --stats           Print timings and peak memory to stderr
+      --verbose         Print more details about errors
+  -h, --help            Print help
 
 Example:
   pcompact collect heap.pcheap out.pcheap --workers 4
@@ -106,11 +110,13 @@ Arguments:
   <SCHEDULE>  Where to write the schedule of the workers
 
 Options:
-      --workers <n>  Number of worker threads, from 1 to 64
-      --atomic       Replace files only once the command has succeeded
-      --stats        Print timings and peak memory to stderr
-      --verbose      Print more details about errors
-  -h, --help         Print help
+      --workers <n>     Number of worker threads, from 1 to 64
+      --region-log <k>  Read IMAGE as if its regions had 2^k words, k from 3 to 16
+      --allowance <m>   Read IMAGE as if its dense prefix might keep m dead words
+      --atomic          Replace files only once the command has succeeded
+      --stats           Print timings and peak memory to stderr
+      --verbose         Print more details about errors
+  -h, --help            Print help
 
 Example:
   pcompact record heap.pcheap out.pcheap schedule --workers 4
@@ -126,8 +132,10 @@ Arguments:
   <SCHEDULE>  A schedule for the image
 
 Options:
-      --verbose  Print more details about errors
-  -h, --help     Print help
+      --region-log <k>  Read IMAGE as if its regions had 2^k words, k from 3 to 16
+      --allowance <m>   Read IMAGE as if its dense prefix might keep m dead words
+      --verbose         Print more details about errors
+  -h, --help            Print help
 
 Example:
   pcompact replay heap.pcheap schedule
@@ -142,9 +150,11 @@ Arguments:
   <IMAGE>  A heap image
 
 Options:
-      --json     Print a JSON object
-      --verbose  Print more details about errors
-  -h, --help     Print help
+      --region-log <k>  Read IMAGE as if its regions had 2^k words, k from 3 to 16
+      --allowance <m>   Read IMAGE as if its dense prefix might keep m dead words
+      --json            Print a JSON object
+      --verbose         Print more details about errors
+  -h, --help            Print help
 
 Example:
   pcompact order heap.pcheap
@@ -193,16 +203,18 @@ Arguments:
   <IMAGE>  A heap image
 
 Options:
-      --after       Also draw the heap after its collection
-      --width <n>   Number of cells of a row, from 1 to 1000 (default: what a terminal has room for, or 64)
-      --height <n>  Number of rows, from 1 to 100 (default: 1, or what a terminal has room for, or 8 of a drawing)
-      --svg <FILE>  Write the picture to this file as SVG, and print only the figures
-      --letters     Draw with letters even if the locale has block characters
-      --color       Use colours even if standard output is no terminal
-      --no-color    Never use colours
-      --atomic      Replace files only once the command has succeeded
-      --verbose     Print more details about errors
-  -h, --help        Print help
+      --after           Also draw the heap after its collection
+      --width <n>       Number of cells of a row, from 1 to 1000 (default: what a terminal has room for, or 64)
+      --height <n>      Number of rows, from 1 to 100 (default: 1, or what a terminal has room for, or 8 of a drawing)
+      --svg <FILE>      Write the picture to this file as SVG, and print only the figures
+      --region-log <k>  Read IMAGE as if its regions had 2^k words, k from 3 to 16
+      --allowance <m>   Read IMAGE as if its dense prefix might keep m dead words
+      --letters         Draw with letters even if the locale has block characters
+      --color           Use colours even if standard output is no terminal
+      --no-color        Never use colours
+      --atomic          Replace files only once the command has succeeded
+      --verbose         Print more details about errors
+  -h, --help            Print help
 
 Example:
   pcompact map heap.pcheap --after
@@ -218,15 +230,17 @@ Arguments:
   <SCHEDULE>  A schedule for the image
 
 Options:
-      --width <n>    Number of cells of a lane, from 1 to 1000 (default: what a terminal has room for, or 64)
-      --svg <FILE>   Write the lanes to this file as SVG, and print only the figures
-      --html <FILE>  Write a page to this file that steps through the schedule, and print only the figures
-      --letters      Draw with letters even if the locale has block characters
-      --color        Use colours even if standard output is no terminal
-      --no-color     Never use colours
-      --atomic       Replace files only once the command has succeeded
-      --verbose      Print more details about errors
-  -h, --help         Print help
+      --width <n>       Number of cells of a lane, from 1 to 1000 (default: what a terminal has room for, or 64)
+      --svg <FILE>      Write the lanes to this file as SVG, and print only the figures
+      --html <FILE>     Write a page to this file that steps through the schedule, and print only the figures
+      --region-log <k>  Read IMAGE as if its regions had 2^k words, k from 3 to 16
+      --allowance <m>   Read IMAGE as if its dense prefix might keep m dead words
+      --letters         Draw with letters even if the locale has block characters
+      --color           Use colours even if standard output is no terminal
+      --no-color        Never use colours
+      --atomic          Replace files only once the command has succeeded
+      --verbose         Print more details about errors
+  -h, --help            Print help
 
 Example:
   pcompact record heap.pcheap out.pcheap schedule --workers 4
@@ -243,12 +257,14 @@ Arguments:
   <AFTER>   The image to compare with its compaction
 
 Options:
-      --explain      Say which words differ, in which objects, and where wrong references lead
-      --ignore-free  Don't compare the words above the top
-      --json         Print a JSON object
-      --stats        Print timings and peak memory to stderr
-      --verbose      Print more details about errors
-  -h, --help         Print help
+      --explain         Say which words differ, in which objects, and where wrong references lead
+      --ignore-free     Don't compare the words above the top
+      --region-log <k>  Read BEFORE as if its regions had 2^k words, k from 3 to 16
+      --allowance <m>   Read BEFORE as if its dense prefix might keep m dead words
+      --json            Print a JSON object
+      --stats           Print timings and peak memory to stderr
+      --verbose         Print more details about errors
+  -h, --help            Print help
 
 Example:
   pcompact verify heap.pcheap out.pcheap
@@ -418,7 +434,7 @@ For more information, try '--help'.
 """
 
 OPTION_AS_VALUE = """\
-error: unexpected argument '--allowance' found
+error: unexpected argument '--live-only' found
 
 Usage: pcompact collect --workers <n> <IMAGE> <OUT>
 
@@ -491,7 +507,11 @@ REFUSED = [
     ("collect in out --workers two", NO_NUMBER),
     ("collect in out --workers 4294967296", TOO_LARGE),
     ("collect in out --workers -1", BELOW_ZERO),
-    ("collect in out --workers --allowance", OPTION_AS_VALUE),
+    ("collect in out --workers --allowance", NO_VALUE),
+    ("collect in out --workers --live-only", OPTION_AS_VALUE),
+    ("collect in out --workers 1 --region-log 2", REGION_LOG_OUTSIDE),
+    ("verify in out --region-log 17", REGION_LOG_ABOVE),
+    ("summary in --allowance 18446744073709551616", NO_ALLOWANCE),
     ("generate out --words 32MiB --live 50 --region-log 3 --seed 1", NO_UNIT),
     ("generate out --words 64 --live 50.5 --region-log 3 --seed 1", NO_POINT),
     ("version", VERSION),

@@ -109,6 +109,7 @@ over() {
     each summary "$room/cut"
     each collect "$1" "$room/made/out" --workers 1
     each collect "$1" "$room/made/out" --workers 2
+    each collect "$1" "$room/made/out" --workers 2 --region-log 4 --allowance 3
     each collect "$1" "$room/made/out" --workers 65
     each record "$1" "$room/made/out" "$room/made/schedule" --workers 1
     each upgrade "$1" "$room/made/out"

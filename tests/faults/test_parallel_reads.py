@@ -25,7 +25,7 @@ from tests.support.program import PRELOAD, built
 WORKERS = [1, 2, 3, 4, 8, 64]
 # What each command writes and how it is called over a large image, beside `made`, which it makes.
 COMMANDS = ["collect image made --workers 1", "collect image made --workers 4", "record image made schedule --workers 4",
-            "summary image", "verify image compacted", "upgrade image made", "map image --svg made"]
+            "collect image made --workers 4 --region-log 12 --allowance 900", "summary image", "verify image compacted", "upgrade image made", "map image --svg made"]
 FAULT_13 = b"pcompact: fault 13 input or output\n"
 CUT_SHORT = (b"pcompact: fault 1 truncated header\n", b"pcompact: fault 5 truncated body\n")
 passed = 0

@@ -152,6 +152,8 @@ class Counted:
         for workers in WORKERS:
             for words in (f"collect {heap.name} out", f"record {heap.name} out schedule"):
                 self.run(heap, f"{words} --workers {workers}", owed(heap, workers, False))
+        if heap.phase.name == READING:
+            self.run(heap, f"collect {heap.name} out --workers 3 --region-log 12 --allowance 9", owed(heap, 3, False))
         with (self.room / heap.name).open("rb") as file:
             pipe = subprocess.Popen(["cat"], stdin=file, stdout=subprocess.PIPE)
             self.run(heap, "collect /dev/stdin out --workers 3", owed(heap, 3, True), stdin=pipe.stdout)

@@ -139,6 +139,24 @@ def try_verdict(tried: Tried, image: Image, chance: random.Random) -> str:
     return found.split()[0] if found else "same"
 
 
+def try_shaped(tried: Tried, image: Image, chance: random.Random) -> str:
+    """A valid image that is read with another region log and allowance."""
+    shaped = dataclasses.replace(image, region_log=chance.choice([3, 4, image.region_log, chance.randint(3, 16)]),
+                                 allowance=chance.choice([0, 1, chance.randint(0, len(image.words)), 2 ** 64 - 1]))
+    options = f"--region-log {shaped.region_log} --allowance {shaped.allowance}"
+    try:
+        collection = Collection(decode(encode(shaped)))
+    except Fault as first:
+        tried.run(f"summary image {options}", fault(str(first)))
+        return "refused"
+    tried.run(f"summary image {options}", Answer(0, collection.report()))
+    made = {"out": encode(collection.compaction())}
+    tried.run(f"collect image out --workers {chance.randint(1, 8)} {options}", Answer(0, collection.figures(), made=made))
+    tried.run(f"verify image out {options}", Answer(0, "same
+"))
+    return "taken"
+
+
 def try_replay(tried: Tried, collection: Collection, name: str, text: bytes) -> str:
     tried.write(name, text)
     try:
@@ -200,4 +218,5 @@ def try_case(tried: Tried, chance: random.Random) -> list[str]:
     kinds = [f"version {image.version}", f"verdict {try_verdict(tried, image, chance)}"]
     if len(image.words) <= MANY_WORDS:
         kinds.append(f"text {try_text(tried, image, chance)}")
+        kinds.append(f"shape {try_shaped(tried, image, chance)}")
     return kinds + [f"replay {kind}" for kind in replays] + (["at a limit"] if len(image.words) > MANY_WORDS else [])

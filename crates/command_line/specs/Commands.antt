@@ -9,41 +9,6 @@ use Rattle.command_line.specs.Arguments.{atomic_rule, file_rule, flag_rule, json
 abbrev pub board_words : App
 board_words = new_app (codes "board")
 
--- the definition of `summary`
-abbrev pub summary_words : App
-summary_words =
-    with_rule (with_rule (with_rule (with_rule (new_app (codes "summary")) (file_rule (codes "IMAGE"))) (flag_rule (codes "heading")))
-    json_rule) verbose_rule
-
--- the definition of `collect`
-abbrev pub collect_words : App
-collect_words =
-    with_rule (with_rule (with_rule (with_rule (with_rule (with_rule (with_rule (new_app (codes "collect")) (file_rule (codes "IMAGE")))
-    (file_rule (codes "OUT"))) workers_rule) atomic_rule) json_rule) stats_rule) verbose_rule
-
--- the definition of `verify`
-abbrev pub verify_words : App
-verify_words =
-    with_rule (with_rule (with_rule (with_rule (with_rule (with_rule (with_rule (new_app (codes "verify")) (file_rule (codes "BEFORE"))) (file_rule (codes "AFTER")))
-    (flag_rule (codes "explain"))) (flag_rule (codes "ignore-free"))) json_rule) stats_rule) verbose_rule
-
--- the definition of `record`
-abbrev pub record_words : App
-record_words =
-    with_rule (with_rule (with_rule (with_rule (with_rule (with_rule (with_rule (new_app (codes "record")) (file_rule (codes "IMAGE")))
-    (file_rule (codes "OUT"))) (file_rule (codes "SCHEDULE"))) workers_rule) atomic_rule) stats_rule) verbose_rule
-
--- the definition of `replay`
-abbrev pub replay_words : App
-replay_words =
-    with_rule (with_rule (with_rule (new_app (codes "replay")) (file_rule (codes "IMAGE"))) (file_rule (codes "SCHEDULE"))) verbose_rule
-
--- the definition of `upgrade`
-abbrev pub upgrade_words : App
-upgrade_words =
-    with_rule (with_rule (with_rule (with_rule (new_app (codes "upgrade")) (file_rule (codes "IMAGE"))) (file_rule (codes "OUT"))) atomic_rule)
-    verbose_rule
-
 -- the option `--region-log`, with a number from 3 to 16
 abbrev pub region_log_rule : Rule
 region_log_rule = record (new_rule (codes "region-log")) {
@@ -71,6 +36,48 @@ histogram_rule = record (new_rule (codes "histogram")) {
   value_names = 1;
   parser = Some (Signed (pos 1) (pos 1000000));
 }
+
+-- adds the options for how an image is read
+abbrev pub with_shape_rules : App → App
+with_shape_rules app = with_rule (with_rule app region_log_rule) allowance_rule
+
+-- the definition of `summary`
+abbrev pub summary_words : App
+summary_words =
+    with_rule (with_rule (with_shape_rules (with_rule (with_rule (new_app (codes "summary")) (file_rule (codes "IMAGE")))
+    (flag_rule (codes "heading")))) json_rule) verbose_rule
+
+-- the definition of `collect`
+abbrev pub collect_words : App
+collect_words =
+    with_rule (with_rule (with_rule (with_rule (with_shape_rules (with_rule (with_rule (with_rule (new_app (codes "collect"))
+    (file_rule (codes "IMAGE"))) (file_rule (codes "OUT"))) workers_rule)) atomic_rule) json_rule) stats_rule) verbose_rule
+
+-- the definition of `verify`
+abbrev pub verify_words : App
+verify_words =
+    with_rule (with_rule (with_rule (with_shape_rules (with_rule (with_rule (with_rule (with_rule (new_app (codes "verify"))
+    (file_rule (codes "BEFORE"))) (file_rule (codes "AFTER"))) (flag_rule (codes "explain"))) (flag_rule (codes "ignore-free"))))
+    json_rule) stats_rule) verbose_rule
+
+-- the definition of `record`
+abbrev pub record_words : App
+record_words =
+    with_rule (with_rule (with_rule (with_shape_rules (with_rule (with_rule (with_rule (with_rule (new_app (codes "record"))
+    (file_rule (codes "IMAGE"))) (file_rule (codes "OUT"))) (file_rule (codes "SCHEDULE"))) workers_rule)) atomic_rule) stats_rule)
+    verbose_rule
+
+-- the definition of `replay`
+abbrev pub replay_words : App
+replay_words =
+    with_rule (with_shape_rules (with_rule (with_rule (new_app (codes "replay")) (file_rule (codes "IMAGE"))) (file_rule (codes "SCHEDULE"))))
+    verbose_rule
+
+-- the definition of `upgrade`
+abbrev pub upgrade_words : App
+upgrade_words =
+    with_rule (with_rule (with_rule (with_rule (new_app (codes "upgrade")) (file_rule (codes "IMAGE"))) (file_rule (codes "OUT"))) atomic_rule)
+    verbose_rule
 
 -- the definition of `import`
 abbrev pub import_words : App
@@ -132,7 +139,7 @@ generate_words =
 -- the definition of `order`
 abbrev pub order_words : App
 order_words =
-    with_rule (with_rule (with_rule (new_app (codes "order")) (file_rule (codes "IMAGE"))) json_rule) verbose_rule
+    with_rule (with_rule (with_shape_rules (with_rule (new_app (codes "order")) (file_rule (codes "IMAGE")))) json_rule) verbose_rule
 
 -- the definition of `text`
 abbrev pub text_words : App
@@ -166,9 +173,9 @@ map_cells =
 -- the definition of `map`
 abbrev pub map_words : App
 map_words =
-    with_rule (with_rule (with_rule (with_rule (with_rule (with_rule (with_rule (with_rule (with_rule (with_rule (new_app (codes "map"))
-    (file_rule (codes "IMAGE"))) (flag_rule (codes "after"))) width_rule) height_rule) svg_rule) (flag_rule (codes "letters")))
-    (flag_rule (codes "color"))) (flag_rule (codes "no-color"))) atomic_rule) verbose_rule
+    with_rule (with_rule (with_rule (with_rule (with_rule (with_shape_rules (with_rule (with_rule (with_rule (with_rule (with_rule
+    (new_app (codes "map")) (file_rule (codes "IMAGE"))) (flag_rule (codes "after"))) width_rule) height_rule) svg_rule))
+    (flag_rule (codes "letters"))) (flag_rule (codes "color"))) (flag_rule (codes "no-color"))) atomic_rule) verbose_rule
 
 -- the option `--html`, with a file name
 abbrev pub html_rule : Rule
@@ -185,9 +192,9 @@ with_picture_rules app = with_rule (with_rule (with_rule app width_rule) svg_rul
 -- the definition of `timeline`
 abbrev pub timeline_words : App
 timeline_words =
-    with_rule (with_rule (with_rule (with_rule (with_rule (with_rule (with_rule (with_rule (with_rule (with_rule (new_app (codes "timeline"))
-    (file_rule (codes "IMAGE"))) (file_rule (codes "SCHEDULE"))) width_rule) svg_rule) html_rule) (flag_rule (codes "letters")))
-    (flag_rule (codes "color"))) (flag_rule (codes "no-color"))) atomic_rule) verbose_rule
+    with_rule (with_rule (with_rule (with_rule (with_rule (with_shape_rules (with_rule (with_rule (with_rule (with_rule (with_rule
+    (new_app (codes "timeline")) (file_rule (codes "IMAGE"))) (file_rule (codes "SCHEDULE"))) width_rule) svg_rule) html_rule))
+    (flag_rule (codes "letters"))) (flag_rule (codes "color"))) (flag_rule (codes "no-color"))) atomic_rule) verbose_rule
 
 -- the definitions of the commands, in the order of help
 abbrev pub listed : List App

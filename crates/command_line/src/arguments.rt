@@ -3,7 +3,7 @@ ghost use Rattle.std.specs.Prelude.{◌≡◌, codes, false, IfErr, IfOk};
 ghost use Rattle.clap.specs.Words.{app_of, rule_of};
 ghost use Rattle.clap.specs.declared.builder.command.Command.TheViews.{out-Command as fields_of};
 ghost use Rattle.command_line.specs.Arguments.{file_rule, flag_rule, with_look, with_replacement, workers_rule};
-ghost use Rattle.command_line.specs.Commands.{allowance_rule, region_log_rule, svg_rule, width_rule};
+ghost use Rattle.command_line.specs.Commands.{allowance_rule, region_log_rule, svg_rule, width_rule, with_shape_rules};
 ghost use Rattle.command_line.specs.Request.{IsNoUsage};
 
 use crate::unread::Unread;
@@ -128,6 +128,23 @@ pub fn with_last<'a>(alloc: Global, command: Command<'a>) -> Result<Command<'a>,
     command.arg(atomic(alloc))?.arg(verbose(alloc))
 }
 
+/// Adds `--region-log` and `--allowance`, for how the file IMAGE is read.
+pub fn with_shape<'a>(alloc: Global, command: Command<'a>) -> Result<Command<'a>, AllocError>
+    ensures app { IfOk result (λ made. app_of made ≡ with_shape_rules (app_of command.entry)) }
+    ensures local { (fields_of command.entry).has_globals ≡ false
+        → IfOk result (λ made. (fields_of made).has_globals ≡ false) }
+{
+    command
+        .arg(region_log(
+            alloc,
+            "Read IMAGE as if its regions had 2^k words, k from 3 to 16",
+        ))?
+        .arg(allowance_with(
+            alloc,
+            "Read IMAGE as if its dense prefix might keep m dead words",
+        ))
+}
+
 /// Adds `--letters`, `--color` and `--no-color`, of a command that prints a picture.
 pub fn with_looks<'a>(alloc: Global, command: Command<'a>) -> Result<Command<'a>, AllocError>
     ensures app { IfOk result (λ made. app_of made ≡ with_look (app_of command.entry)) }
@@ -188,11 +205,22 @@ pub fn allowance<'a>(alloc: Global) -> Arg<'a>
     ensures rule { rule_of result ≡ allowance_rule }
     ensures local { result.global ≡ false }
 {
+    allowance_with(
+        alloc,
+        "Number of dead words that the dense prefix may keep (default 0)",
+    )
+}
+
+/// The option `--allowance` with this help.
+pub fn allowance_with<'a>(alloc: Global, help: &'a str) -> Arg<'a>
+    ensures rule { rule_of result ≡ allowance_rule }
+    ensures local { result.global ≡ false }
+{
     Arg::new(alloc, "allowance")
         .long("allowance")
         .value_name("m")
         .value_parser(value_parser!(u64))
-        .help("Number of dead words that the dense prefix may keep (default 0)")
+        .help(help)
 }
 
 /// An optional option without a value.

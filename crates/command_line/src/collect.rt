@@ -7,6 +7,7 @@ ghost use Rattle.command_line.specs.Request.{IsNoUsage};
 ghost use Rattle.command_line.specs.Commands.{collect_words};
 
 use crate::arguments;
+use crate::shape::Shape;
 use crate::unread::Unread;
 use clap::{ArgMatches, Command};
 use std::alloc::{AllocError, Global};
@@ -20,12 +21,13 @@ pub fn words<'a>(alloc: Global) -> Result<Command<'a>, AllocError>
     ensures app { IfOk result (λ command. app_of command ≡ collect_words) }
     ensures local { IfOk result (λ command. (fields_of command).has_globals ≡ false) }
 {
-    Command::new(alloc, "collect")
+    let command = Command::new(alloc, "collect")
         .about("Collect a heap image and write the compacted one")
         .after_help(EXAMPLE)
         .arg(arguments::image(alloc))?
         .arg(arguments::file(alloc, "OUT", "Where to write the compacted image"))?
-        .arg(arguments::workers(alloc))?
+        .arg(arguments::workers(alloc))?;
+    arguments::with_shape(alloc, command)?
         .arg(arguments::atomic(alloc))?
         .arg(arguments::json(alloc))?
         .arg(arguments::stats(alloc))?
@@ -41,6 +43,8 @@ pub struct Collect<'a> {
     pub out: &'a str,
     /// The number of workers.
     pub workers: u32,
+    /// What the image is read with in place of what is in its head.
+    pub shape: Shape,
     /// Whether files are replaced only once all is done.
     pub atomic: bool,
     /// Whether to print a JSON object.
@@ -59,6 +63,7 @@ impl<'a> Collect<'a> {
             image: arguments::file_in(matches, "IMAGE")?,
             out: arguments::file_in(matches, "OUT")?,
             workers: arguments::workers_in(matches)?,
+            shape: Shape::of(matches),
             atomic: arguments::is_atomic(matches),
             json: arguments::asks_json(matches),
             stats: arguments::asks_stats(matches),
@@ -70,5 +75,5 @@ impl<'a> Collect<'a> {
 /// Lines that call `collect`.
 pub fn lines_call_collect()
     ensures line { IsCallOf (codes "collect") (codes "collect" ∷ codes "heap.pcheap" ∷ codes "out.pcheap" ∷ codes "--workers" ∷ codes "2" ∷ []) }
-    ensures options { IsCallOf (codes "collect") (codes "collect" ∷ codes "heap.pcheap" ∷ codes "heap.pcheap" ∷ codes "--workers" ∷ codes "2" ∷ codes "--atomic" ∷ codes "--stats" ∷ codes "--json" ∷ codes "--verbose" ∷ []) }
+    ensures options { IsCallOf (codes "collect") (codes "collect" ∷ codes "heap.pcheap" ∷ codes "heap.pcheap" ∷ codes "--workers" ∷ codes "2" ∷ codes "--atomic" ∷ codes "--stats" ∷ codes "--json" ∷ codes "--verbose" ∷ codes "--region-log" ∷ codes "12" ∷ codes "--allowance" ∷ codes "64" ∷ []) }
 {}

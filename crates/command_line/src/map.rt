@@ -7,6 +7,7 @@ ghost use Rattle.command_line.specs.Request.{IsNoUsage};
 ghost use Rattle.command_line.specs.Commands.{height_rule, map_cells, map_words};
 
 use crate::arguments;
+use crate::shape::Shape;
 use crate::unread::Unread;
 use clap::{Arg, ArgMatches, Command, value_parser};
 use std::alloc::{AllocError, Global};
@@ -20,7 +21,8 @@ pub fn words<'a>(alloc: Global) -> Result<Command<'a>, AllocError>
     ensures app { IfOk result (λ command. app_of command ≡ map_words) }
     ensures local { IfOk result (λ command. (fields_of command).has_globals ≡ false) }
 {
-    let looking = arguments::with_looks(alloc, with_cells(alloc)?)?;
+    let shaped = arguments::with_shape(alloc, with_cells(alloc)?)?;
+    let looking = arguments::with_looks(alloc, shaped)?;
     arguments::with_last(alloc, looking)
 }
 
@@ -64,6 +66,8 @@ fn height<'a>(alloc: Global) -> Arg<'a>
 pub struct Map<'a> {
     /// The file with the image.
     pub image: &'a str,
+    /// What the image is read with in place of what is in its head.
+    pub shape: Shape,
     /// Whether to draw the heap after its collection, too.
     pub after: bool,
     /// The number of cells of a row, if requested.
@@ -107,6 +111,7 @@ impl<'a> Map<'a> {
     {
         Ok(Map {
             image: arguments::file_in(matches, "IMAGE")?,
+            shape: Shape::of(matches),
             after: matches.get_flag("after"),
             width: matches.get_one("width"),
             height: matches.get_one("height"),
@@ -121,6 +126,6 @@ impl<'a> Map<'a> {
 /// Lines that call `map`.
 pub fn lines_call_map()
     ensures line { IsCallOf (codes "map") (codes "map" ∷ codes "heap.pcheap" ∷ []) }
-    ensures options { IsCallOf (codes "map") (codes "map" ∷ codes "heap.pcheap" ∷ codes "--after" ∷ codes "--width" ∷ codes "100" ∷ codes "--height" ∷ codes "4" ∷ codes "--svg" ∷ codes "heap.svg" ∷ codes "--atomic" ∷ codes "--verbose" ∷ []) }
+    ensures options { IsCallOf (codes "map") (codes "map" ∷ codes "heap.pcheap" ∷ codes "--after" ∷ codes "--width" ∷ codes "100" ∷ codes "--height" ∷ codes "4" ∷ codes "--svg" ∷ codes "heap.svg" ∷ codes "--atomic" ∷ codes "--verbose" ∷ codes "--region-log" ∷ codes "12" ∷ codes "--allowance" ∷ codes "64" ∷ []) }
     ensures looks { IsCallOf (codes "map") (codes "map" ∷ codes "--letters" ∷ codes "--color" ∷ codes "--no-color" ∷ codes "heap.pcheap" ∷ []) }
 {}

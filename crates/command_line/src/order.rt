@@ -7,6 +7,7 @@ ghost use Rattle.command_line.specs.Request.{IsNoUsage};
 ghost use Rattle.command_line.specs.Commands.{order_words};
 
 use crate::arguments;
+use crate::shape::Shape;
 use crate::unread::Unread;
 use clap::{ArgMatches, Command};
 use std::alloc::{AllocError, Global};
@@ -20,10 +21,11 @@ pub fn words<'a>(alloc: Global) -> Result<Command<'a>, AllocError>
     ensures app { IfOk result (λ command. app_of command ≡ order_words) }
     ensures local { IfOk result (λ command. (fields_of command).has_globals ≡ false) }
 {
-    Command::new(alloc, "order")
+    let command = Command::new(alloc, "order")
         .about("Print how many workers a collection can keep busy")
         .after_help(EXAMPLE)
-        .arg(arguments::image(alloc))?
+        .arg(arguments::image(alloc))?;
+    arguments::with_shape(alloc, command)?
         .arg(arguments::json(alloc))?
         .arg(arguments::verbose(alloc))
 }
@@ -33,6 +35,8 @@ pub fn words<'a>(alloc: Global) -> Result<Command<'a>, AllocError>
 pub struct Order<'a> {
     /// The file with the image.
     pub image: &'a str,
+    /// What the image is read with in place of what is in its head.
+    pub shape: Shape,
     /// Whether to print a JSON object.
     pub json: bool,
     /// Whether to print more details about errors.
@@ -45,6 +49,7 @@ impl<'a> Order<'a> {
     {
         Ok(Order {
             image: arguments::file_in(matches, "IMAGE")?,
+            shape: Shape::of(matches),
             json: arguments::asks_json(matches),
             verbose: arguments::is_verbose(matches),
         })
@@ -54,5 +59,5 @@ impl<'a> Order<'a> {
 /// Lines that call `order`.
 pub fn lines_call_order()
     ensures line { IsCallOf (codes "order") (codes "order" ∷ codes "heap.pcheap" ∷ []) }
-    ensures options { IsCallOf (codes "order") (codes "order" ∷ codes "--verbose" ∷ codes "heap.pcheap" ∷ []) }
+    ensures options { IsCallOf (codes "order") (codes "order" ∷ codes "--verbose" ∷ codes "heap.pcheap" ∷ codes "--region-log" ∷ codes "12" ∷ codes "--allowance" ∷ codes "64" ∷ []) }
 {}

@@ -7,6 +7,7 @@ ghost use Rattle.command_line.specs.Request.{IsNoUsage};
 ghost use Rattle.command_line.specs.Commands.{record_words};
 
 use crate::arguments;
+use crate::shape::Shape;
 use crate::unread::Unread;
 use clap::{ArgMatches, Command};
 use std::alloc::{AllocError, Global};
@@ -20,7 +21,7 @@ pub fn words<'a>(alloc: Global) -> Result<Command<'a>, AllocError>
     ensures app { IfOk result (λ command. app_of command ≡ record_words) }
     ensures local { IfOk result (λ command. (fields_of command).has_globals ≡ false) }
 {
-    Command::new(alloc, "record")
+    let command = Command::new(alloc, "record")
         .about("Collect a heap image and record what each worker does")
         .after_help(EXAMPLE)
         .arg(arguments::image(alloc))?
@@ -30,7 +31,8 @@ pub fn words<'a>(alloc: Global) -> Result<Command<'a>, AllocError>
             "SCHEDULE",
             "Where to write the schedule of the workers",
         ))?
-        .arg(arguments::workers(alloc))?
+        .arg(arguments::workers(alloc))?;
+    arguments::with_shape(alloc, command)?
         .arg(arguments::atomic(alloc))?
         .arg(arguments::stats(alloc))?
         .arg(arguments::verbose(alloc))
@@ -47,6 +49,8 @@ pub struct Record<'a> {
     pub schedule: &'a str,
     /// The number of workers.
     pub workers: u32,
+    /// What the image is read with in place of what is in its head.
+    pub shape: Shape,
     /// Whether files are replaced only once all is done.
     pub atomic: bool,
     /// Whether to print timings and peak memory.
@@ -64,6 +68,7 @@ impl<'a> Record<'a> {
             out: arguments::file_in(matches, "OUT")?,
             schedule: arguments::file_in(matches, "SCHEDULE")?,
             workers: arguments::workers_in(matches)?,
+            shape: Shape::of(matches),
             atomic: arguments::is_atomic(matches),
             stats: arguments::asks_stats(matches),
             verbose: arguments::is_verbose(matches),
@@ -74,5 +79,5 @@ impl<'a> Record<'a> {
 /// Lines that call `record`.
 pub fn line_calls_record()
     ensures line { IsCallOf (codes "record") (codes "record" ∷ codes "heap.pcheap" ∷ codes "out.pcheap" ∷ codes "schedule" ∷ codes "--workers=2" ∷ []) }
-    ensures options { IsCallOf (codes "record") (codes "record" ∷ codes "heap.pcheap" ∷ codes "out.pcheap" ∷ codes "schedule" ∷ codes "--workers=2" ∷ codes "--stats" ∷ []) }
+    ensures options { IsCallOf (codes "record") (codes "record" ∷ codes "heap.pcheap" ∷ codes "out.pcheap" ∷ codes "schedule" ∷ codes "--workers=2" ∷ codes "--stats" ∷ codes "--region-log" ∷ codes "12" ∷ codes "--allowance" ∷ codes "64" ∷ []) }
 {}

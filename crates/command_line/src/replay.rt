@@ -7,6 +7,7 @@ ghost use Rattle.command_line.specs.Request.{IsNoUsage};
 ghost use Rattle.command_line.specs.Commands.{replay_words};
 
 use crate::arguments;
+use crate::shape::Shape;
 use crate::unread::Unread;
 use clap::{ArgMatches, Command};
 use std::alloc::{AllocError, Global};
@@ -20,12 +21,12 @@ pub fn words<'a>(alloc: Global) -> Result<Command<'a>, AllocError>
     ensures app { IfOk result (λ command. app_of command ≡ replay_words) }
     ensures local { IfOk result (λ command. (fields_of command).has_globals ≡ false) }
 {
-    Command::new(alloc, "replay")
+    let command = Command::new(alloc, "replay")
         .about("Replay a schedule word by word and print it with all replies")
         .after_help(EXAMPLE)
         .arg(arguments::image(alloc))?
-        .arg(arguments::file(alloc, "SCHEDULE", "A schedule for the image"))?
-        .arg(arguments::verbose(alloc))
+        .arg(arguments::file(alloc, "SCHEDULE", "A schedule for the image"))?;
+    arguments::with_shape(alloc, command)?.arg(arguments::verbose(alloc))
 }
 
 /// The arguments of `replay`.
@@ -35,6 +36,8 @@ pub struct Replay<'a> {
     pub image: &'a str,
     /// The file with the schedule.
     pub schedule: &'a str,
+    /// What the image is read with in place of what is in its head.
+    pub shape: Shape,
     /// Whether to print more details about errors.
     pub verbose: bool,
 }
@@ -46,12 +49,14 @@ impl<'a> Replay<'a> {
         Ok(Replay {
             image: arguments::file_in(matches, "IMAGE")?,
             schedule: arguments::file_in(matches, "SCHEDULE")?,
+            shape: Shape::of(matches),
             verbose: arguments::is_verbose(matches),
         })
     }
 }
 
-/// A line that calls `replay`.
+/// Lines that call `replay`.
 pub fn line_calls_replay()
-    ensures { IsCallOf (codes "replay") (codes "replay" ∷ codes "heap.pcheap" ∷ codes "schedule" ∷ []) }
+    ensures line { IsCallOf (codes "replay") (codes "replay" ∷ codes "heap.pcheap" ∷ codes "schedule" ∷ []) }
+    ensures options { IsCallOf (codes "replay") (codes "replay" ∷ codes "heap.pcheap" ∷ codes "schedule" ∷ codes "--region-log" ∷ codes "12" ∷ codes "--allowance" ∷ codes "64" ∷ codes "--verbose" ∷ []) }
 {}

@@ -7,6 +7,7 @@ ghost use Rattle.command_line.specs.Request.{IsNoUsage};
 ghost use Rattle.command_line.specs.Commands.{summary_words};
 
 use crate::arguments;
+use crate::shape::Shape;
 use crate::unread::Unread;
 use clap::{ArgMatches, Command};
 use std::alloc::{AllocError, Global};
@@ -20,7 +21,7 @@ pub fn words<'a>(alloc: Global) -> Result<Command<'a>, AllocError>
     ensures app { IfOk result (λ command. app_of command ≡ summary_words) }
     ensures local { IfOk result (λ command. (fields_of command).has_globals ≡ false) }
 {
-    Command::new(alloc, "summary")
+    let command = Command::new(alloc, "summary")
         .about("Print the plan of a collection, region by region")
         .after_help(EXAMPLE)
         .arg(arguments::image(alloc))?
@@ -28,7 +29,8 @@ pub fn words<'a>(alloc: Global) -> Result<Command<'a>, AllocError>
             alloc,
             "heading",
             "Print the names of the columns even if standard output is no terminal",
-        ))?
+        ))?;
+    arguments::with_shape(alloc, command)?
         .arg(arguments::json(alloc))?
         .arg(arguments::verbose(alloc))
 }
@@ -40,6 +42,8 @@ pub struct Summary<'a> {
     pub image: &'a str,
     /// Whether to print the names of the columns.
     pub heading: bool,
+    /// What the image is read with in place of what is in its head.
+    pub shape: Shape,
     /// Whether to print a JSON object.
     pub json: bool,
     /// Whether to print more details about errors.
@@ -53,6 +57,7 @@ impl<'a> Summary<'a> {
         Ok(Summary {
             image: arguments::file_in(matches, "IMAGE")?,
             heading: matches.get_flag("heading"),
+            shape: Shape::of(matches),
             json: arguments::asks_json(matches),
             verbose: arguments::is_verbose(matches),
         })
@@ -62,5 +67,5 @@ impl<'a> Summary<'a> {
 /// Lines that call `summary`.
 pub fn lines_call_summary()
     ensures line { IsCallOf (codes "summary") (codes "summary" ∷ codes "heap.pcheap" ∷ []) }
-    ensures options { IsCallOf (codes "summary") (codes "summary" ∷ codes "--verbose" ∷ codes "heap.pcheap" ∷ codes "--heading" ∷ codes "--json" ∷ []) }
+    ensures options { IsCallOf (codes "summary") (codes "summary" ∷ codes "--verbose" ∷ codes "heap.pcheap" ∷ codes "--heading" ∷ codes "--json" ∷ codes "--region-log" ∷ codes "12" ∷ codes "--allowance=64" ∷ []) }
 {}

@@ -8,6 +8,7 @@ ghost use Rattle.command_line.specs.Commands.{html_rule, timeline_inputs, timeli
 
 use crate::arguments;
 use crate::map::Look;
+use crate::shape::Shape;
 use crate::unread::Unread;
 use clap::{Arg, ArgMatches, Command};
 use std::alloc::{AllocError, Global};
@@ -23,7 +24,8 @@ pub fn words<'a>(alloc: Global) -> Result<Command<'a>, AllocError>
     ensures local { IfOk result (λ command. (fields_of command).has_globals ≡ false) }
 {
     let pictured = with_pictures(alloc, with_inputs(alloc)?)?;
-    let looking = arguments::with_looks(alloc, pictured)?;
+    let shaped = arguments::with_shape(alloc, pictured)?;
+    let looking = arguments::with_looks(alloc, shaped)?;
     arguments::with_last(alloc, looking)
 }
 
@@ -74,6 +76,8 @@ pub struct Timeline<'a> {
     pub image: &'a str,
     /// The file with the schedule.
     pub schedule: &'a str,
+    /// What the image is read with in place of what is in its head.
+    pub shape: Shape,
     /// The most cells of a lane, if requested.
     pub width: Option<u32>,
     /// The file for a drawing.
@@ -95,6 +99,7 @@ impl<'a> Timeline<'a> {
         Ok(Timeline {
             image: arguments::file_in(matches, "IMAGE")?,
             schedule: arguments::file_in(matches, "SCHEDULE")?,
+            shape: Shape::of(matches),
             width: matches.get_one("width"),
             svg: matches.get_str("svg"),
             html: matches.get_str("html"),
@@ -108,7 +113,7 @@ impl<'a> Timeline<'a> {
 /// Lines that call `timeline`.
 pub fn lines_call_timeline()
     ensures line { IsCallOf (codes "timeline") (codes "timeline" ∷ codes "heap.pcheap" ∷ codes "schedule" ∷ []) }
-    ensures drawing { IsCallOf (codes "timeline") (codes "timeline" ∷ codes "heap.pcheap" ∷ codes "schedule" ∷ codes "--svg" ∷ codes "timeline.svg" ∷ codes "--atomic" ∷ codes "--verbose" ∷ []) }
+    ensures drawing { IsCallOf (codes "timeline") (codes "timeline" ∷ codes "heap.pcheap" ∷ codes "schedule" ∷ codes "--svg" ∷ codes "timeline.svg" ∷ codes "--atomic" ∷ codes "--verbose" ∷ codes "--region-log" ∷ codes "12" ∷ codes "--allowance" ∷ codes "64" ∷ []) }
     ensures page { IsCallOf (codes "timeline") (codes "timeline" ∷ codes "--html" ∷ codes "timeline.html" ∷ codes "heap.pcheap" ∷ codes "schedule" ∷ []) }
     ensures looks { IsCallOf (codes "timeline") (codes "timeline" ∷ codes "--letters" ∷ codes "--color" ∷ codes "--no-color" ∷ codes "--width" ∷ codes "100" ∷ codes "heap.pcheap" ∷ codes "schedule" ∷ []) }
 {}

@@ -7,6 +7,7 @@ ghost use Rattle.command_line.specs.Request.{IsNoUsage};
 ghost use Rattle.command_line.specs.Commands.{verify_words};
 
 use crate::arguments;
+use crate::shape::Shape;
 use crate::unread::Unread;
 use clap::{ArgMatches, Command};
 use std::alloc::{AllocError, Global};
@@ -35,6 +36,14 @@ pub fn words<'a>(alloc: Global) -> Result<Command<'a>, AllocError>
             "ignore-free",
             "Don't compare the words above the top",
         ))?
+        .arg(arguments::region_log(
+            alloc,
+            "Read BEFORE as if its regions had 2^k words, k from 3 to 16",
+        ))?
+        .arg(arguments::allowance_with(
+            alloc,
+            "Read BEFORE as if its dense prefix might keep m dead words",
+        ))?
         .arg(arguments::json(alloc))?
         .arg(arguments::stats(alloc))?
         .arg(arguments::verbose(alloc))
@@ -51,6 +60,8 @@ pub struct Verify<'a> {
     pub explain: bool,
     /// Whether words at or above the new top count as equal.
     pub ignore_free: bool,
+    /// What BEFORE is read with in place of what is in its head.
+    pub shape: Shape,
     /// Whether to print a JSON object.
     pub json: bool,
     /// Whether to print timings and peak memory.
@@ -69,6 +80,7 @@ impl<'a> Verify<'a> {
             after: arguments::file_in(matches, "AFTER")?,
             explain,
             ignore_free: matches.get_flag("ignore-free"),
+            shape: Shape::of(matches),
             json: arguments::asks_json(matches),
             stats: arguments::asks_stats(matches),
             verbose: explain || arguments::is_verbose(matches),
@@ -79,5 +91,5 @@ impl<'a> Verify<'a> {
 /// Lines that call `verify`.
 pub fn line_calls_verify()
     ensures line { IsCallOf (codes "verify") (codes "verify" ∷ codes "heap.pcheap" ∷ codes "out.pcheap" ∷ []) }
-    ensures options { IsCallOf (codes "verify") (codes "verify" ∷ codes "heap.pcheap" ∷ codes "out.pcheap" ∷ codes "--stats" ∷ []) }
+    ensures options { IsCallOf (codes "verify") (codes "verify" ∷ codes "heap.pcheap" ∷ codes "out.pcheap" ∷ codes "--stats" ∷ codes "--region-log" ∷ codes "12" ∷ codes "--allowance" ∷ codes "64" ∷ []) }
 {}

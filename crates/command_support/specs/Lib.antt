@@ -1,3 +1,5 @@
 pub mod Failure
+pub mod Heads
 pub mod Hints
 pub mod Json
+pub mod Watching

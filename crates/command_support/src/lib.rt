@@ -1,7 +1,7 @@
 //! What all commands of the program use: files, failures and timings.
 //!
 //! **Files.** A [`FileWord`] is a file name from the command line, with its role. [`Watched`] is an open file that keeps its
-//! first bytes and the last call on it that failed. [`FileTarget::find`] looks at a file to write and changes nothing;
+//! first bytes and the last call on it that failed; it can read an image with another head ([`reshape`]). [`FileTarget::find`] looks at a file to write and changes nothing;
 //! [`FileTarget::begin`] makes an [`Output`] of it: the emptied file, or a new file that takes its place in the end
 //! ([`Replacement`]). [`Late`] begins with the first byte. [`WorkDone`] is the outcome of a command before it prints.
 //!
@@ -17,6 +17,7 @@
 //! - Adding a file, a reason or a hint leaves a failure the same.
 //! - Which hint comes of which first bytes (`hint_of` of `specs/Hints.antt`).
 //! - A system call that fails on a file is fault 13.
+//! - An image that is read with a shape has the head with its values, and the same body (`bytes_read` of `specs/Heads.antt`).
 //! - A timed device has the contract of the device that it wraps.
 //! - Nothing here reads out of bounds, overflows or stops the process, and every loop ends.
 //!
@@ -35,6 +36,7 @@ mod file_id;
 mod file_target;
 mod file_word;
 mod files;
+mod head;
 mod hint;
 mod json;
 mod laps;
@@ -69,6 +71,7 @@ pub use files::{
     ended, failed, failed_between, image_and_out, must_differ, not_regular, output_must_differ,
     reject_same_file, same_file, target_beside, two_different_inputs, two_inputs,
 };
+pub use head::{heads_have_shapes, reshape, unchanged_heads_stay};
 pub use hint::Hint;
 pub use json::push_json;
 pub use laps::Laps;

@@ -209,7 +209,7 @@ impl<'a> Trouble<'a> {
     fn because_of_length<F: Drop>(self, image: &Watched<'a, F>) -> Trouble<'a>
         ensures { result.failure ≡ self.entry.failure }
     {
-        match LengthCause::of(image.front()) {
+        match LengthCause::of(&image.front()) {
             Some(cause) => self.because(Reason::Length(cause)),
             None => self,
         }

@@ -1,10 +1,14 @@
 //! Open files that note how calls on them fail.
+ghost use Rattle.std.specs.Prelude.{◌≡◌, ◌+◌, None, length, min};
+
 use crate::access::is_private;
 use crate::failed_call::{FailedCall, SystemCall};
 use crate::file_id::FileId;
 use crate::file_target::Writing;
 use crate::file_word::FileWord;
+use crate::head::reshape;
 use crate::trouble::{Trouble, on_file};
+use command_line::Shape;
 use heap_image::FRONT_BYTES;
 use std::fs::{Metadata, OpenFile};
 use std::io::{Read, Seek, SeekFrom, Write};
@@ -12,21 +16,27 @@ use std::rt::Files;
 use std::{fs, io};
 
 /// An open file of the command line. It reads and writes as the file does, and keeps the first bytes that were read and the
-/// last call that failed.
+/// last call that failed. An image is read as if its head had the values of the shape.
 #[derive(Drop)]
 pub struct Watched<'a, F: Drop> {
     file: F,
     word: FileWord<'a>,
+    shape: Shape,
     front: Front,
     failed: Option<FailedCall>,
 }
 
 impl<'a, F: Drop> Watched<'a, F> {
     /// Watches this open file.
-    pub fn new(word: FileWord<'a>, file: F) -> Watched<'a, F> {
+    pub fn new(word: FileWord<'a>, file: F) -> Watched<'a, F>
+        ensures file { result.file ≡ file }
+        ensures region_log { result.shape.region_log ≡ None }
+        ensures allowance { result.shape.allowance ≡ None }
+    {
         Watched {
             file,
             word,
+            shape: Shape::unchanged(),
             front: Front::empty(),
             failed: None,
         }
@@ -82,12 +92,21 @@ impl<'a, F: Drop> Watched<'a, F> {
         self.word
     }
 
-    /// The first 32 bytes that were read, with zeros for those that weren't.
-    pub fn front(&self) -> &[u8; FRONT_BYTES] {
-        &self.front.bytes
+    /// What the image is read with in place of what is in its head.
+    pub fn shape(&self) -> Shape
+        ensures { result ≡ self.now.shape }
+    {
+        self.shape
     }
 
-    /// The first 32 bytes that were read, or fewer if no more were.
+    /// The first 32 bytes of the image, with zeros for those that weren't read.
+    pub fn front(&self) -> [u8; FRONT_BYTES] {
+        let mut front = self.front.bytes;
+        reshape(self.shape, 0, &mut front);
+        front
+    }
+
+    /// The first 32 bytes of the file that were read, or fewer if no more were.
     pub fn first_bytes(&self) -> &[u8] {
         &self.front.bytes[..self.front.count.min(FRONT_BYTES)]
     }
@@ -95,6 +114,24 @@ impl<'a, F: Drop> Watched<'a, F> {
     /// The last call on the file that failed.
     pub fn failed(&self) -> Option<FailedCall> {
         self.failed
+    }
+}
+
+impl<'a, F: Read + Drop> Watched<'a, F> {
+    ghost use Rattle.std.specs.Prelude.{◌≡◌, option_map};
+    ghost use Rattle.command_support.specs.Heads.{bytes_read};
+    ghost use Rattle.command_support.specs.Watching.{bytes_left};
+
+    /// Reads the image in the file with this shape. Nothing of it has been read yet.
+    pub fn with_shape(self, shape: Shape) -> Watched<'a, F>
+        ensures shape { result.shape ≡ shape }
+        ensures bytes { bytes_left F.remaining result ≡ option_map (bytes_read shape 0) (F.remaining self.entry.file) }
+    {
+        Watched {
+            shape,
+            front: Front::empty(),
+            ..self
+        }
     }
 }
 
@@ -151,12 +188,16 @@ impl<F: Seek + Drop> Watched<'_, F> {
 }
 
 impl<F: Read + Drop> Read for Watched<'_, F> {
-    ghost remaining = { λ watched. F.remaining watched.file };
+    ghost use Rattle.command_support.specs.Watching.{bytes_left};
+
+    ghost remaining = { bytes_left F.remaining };
 
     fn read(&mut self, buf: &mut [u8]) -> io::Result<usize> {
         match self.file.read(buf) {
             Ok(n) => {
+                let at = self.front.count;
                 self.front.keep(&buf[..n]);
+                reshape(self.shape, at, &mut buf[..n]);
                 Ok(n)
             }
             Err(error) => {
@@ -199,7 +240,9 @@ struct Front {
 }
 
 impl Front {
-    fn empty() -> Front {
+    fn empty() -> Front
+        ensures { result.count ≡ 0 }
+    {
         Front {
             bytes: [0; FRONT_BYTES],
             count: 0,
@@ -207,7 +250,9 @@ impl Front {
     }
 
     /// Keeps as many of the next bytes as there is room for.
-    fn keep(&mut self, bytes: &[u8]) {
+    fn keep(&mut self, bytes: &[u8])
+        ensures { self.new.count ≡ min (min self.old.count 32 + length bytes.now) 32 }
+    {
         let from = self.count.min(FRONT_BYTES);
         let count = bytes.len().min(FRONT_BYTES - from);
         self.bytes[from..from + count].copy_from_slice(&bytes[..count]);

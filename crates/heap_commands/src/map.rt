@@ -30,7 +30,6 @@ where
     R::File: SystemFile,
     ensures { IfOk result (λ done. IsMap done.text.items) }
 {
-    let image = FileWord::new(Role::Image, request.image);
     let width = width_on(screen, &request);
     let cut = Cut {
         width,
@@ -38,6 +37,8 @@ where
         after: request.after,
         name: request.image,
     };
+    let image = Watched::open(rt, FileWord::new(Role::Image, request.image))?;
+    let image = image.with_shape(request.shape);
     match request.svg {
         Some(svg) => {
             let svg = FileWord::new(Role::Drawing, svg);
@@ -135,13 +136,13 @@ pub fn style_on(screen: Screen, look: Look) -> Style {
 /// Prints the picture of the image in a file.
 fn print<'a, R: Files + AllocGlobal + Threads + Sync>(
     rt: &R,
-    image: FileWord<'a>,
+    image: Watched<'a, R::File>,
     cut: Cut<'_>,
     style: Style,
 ) -> Result<WorkDone<'a>, Trouble<'a>>
     ensures { IfOk result (λ done. IsMap done.text.items) }
 {
-    let mut image = FromRead::new(Watched::open(rt, image)?);
+    let mut image = FromRead::new(image);
     match map(rt.alloc(), &mut image, cut, style, rt) {
         Ok(text) => Ok(WorkDone::printing(text.into_bytes())),
         Err(fault) => Err(Trouble::from(fault).if_image(&image.into_inner())),
@@ -151,7 +152,7 @@ fn print<'a, R: Files + AllocGlobal + Threads + Sync>(
 /// Draws the picture of the image in a file to another file, and prints the figures.
 fn draw<'a, R: Files + AllocGlobal + Threads + Sync>(
     rt: &R,
-    image: FileWord<'a>,
+    image: Watched<'a, R::File>,
     svg: FileWord<'a>,
     cut: Cut<'_>,
     atomic: bool,
@@ -160,7 +161,6 @@ where
     R::File: SystemFile,
     ensures { IfOk result (λ done. IsMap done.text.items) }
 {
-    let image = Watched::open(rt, image)?;
     let target = drawing_target(rt, &image, svg, atomic)?;
     draw_to(rt, image, cut, target)
 }

@@ -22,7 +22,7 @@ pub fn answer<'a, R: Files + AllocGlobal + Threads + Sync>(
     ensures { IfOk result (λ done. IsOrder done.text.items) }
 {
     let image = Watched::open(rt, FileWord::new(Role::Image, request.image))?;
-    let mut image = FromRead::new(image);
+    let mut image = FromRead::new(image.with_shape(request.shape));
     match order(rt.alloc(), &mut image, rt) {
         Ok(text) => Ok(WorkDone::printing(text.into_bytes())),
         Err(fault) => Err(Trouble::from(fault).if_image(&image.into_inner())),

@@ -23,7 +23,8 @@ pub fn answer<'a, R: Files + AllocGlobal + Threads + Sync>(
 {
     let image = FileWord::new(Role::Image, request.image);
     let schedule = FileWord::new(Role::Schedule, request.schedule);
-    let (mut image, mut schedule) = two_different_inputs(rt, image, schedule)?;
+    let (image, mut schedule) = two_different_inputs(rt, image, schedule)?;
+    let mut image = image.with_shape(request.shape);
     match replay_text(
         rt.alloc(),
         &mut FromRead::new(&mut image),

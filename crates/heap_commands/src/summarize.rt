@@ -24,7 +24,7 @@ pub fn answer<'a, R: Files + AllocGlobal + Threads + Sync>(
     ensures { IfOk result (λ done. IsSummary done.text.items) }
 {
     let image = Watched::open(rt, FileWord::new(Role::Image, request.image))?;
-    let mut image = FromRead::new(image);
+    let mut image = FromRead::new(image.with_shape(request.shape));
     let headed = (request.heading || screen.is_terminal) && !request.json;
     match summarize(rt.alloc(), &mut image, headed, rt) {
         Ok(text) => Ok(WorkDone::printing(text.into_bytes())),

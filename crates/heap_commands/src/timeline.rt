@@ -10,7 +10,7 @@ ghost use Rattle.heap_commands.specs.Unreplayed.{IsReplayRefused, IsUnreplayed};
 use crate::map::{drawing_target, style_on};
 use crate::replay::{Unreplayed, refused, schedule_in};
 use crate::screen::Screen;
-use command_line::Timeline;
+use command_line::{Shape, Timeline};
 use command_support::{
     Failure, FileTarget, FileWord, Late, Role, SystemFile, Trouble, Watched, WorkDone, ended,
     output_must_differ, reject_same_file, two_different_inputs,
@@ -42,6 +42,7 @@ where
 {
     let inputs = Inputs {
         image: FileWord::new(Role::Image, request.image),
+        shape: request.shape,
         schedule: FileWord::new(Role::Schedule, request.schedule),
     };
     let lanes = Lanes {
@@ -69,6 +70,8 @@ where
 #[derive(Clone, Copy)]
 struct Inputs<'a> {
     image: FileWord<'a>,
+    /// What the image is read with in place of what is in its head.
+    shape: Shape,
     schedule: FileWord<'a>,
 }
 
@@ -187,7 +190,10 @@ fn open<'a, H: Files + AllocGlobal>(
     inputs: Inputs<'a>,
 ) -> Result<Opened<'a, H::File>, Trouble<'a>> {
     let (image, schedule) = two_different_inputs(host, inputs.image, inputs.schedule)?;
-    Ok(Opened { image, schedule })
+    Ok(Opened {
+        image: image.with_shape(inputs.shape),
+        schedule,
+    })
 }
 
 /// The file for a picture, which must be neither of the files that are read.

@@ -3,8 +3,10 @@ ghost use Rattle.std.specs.Prelude.{◌≤◌, ◌<◌, None, IfSome};
 ghost use Rattle.heap_image.specs.Body.{body_words};
 ghost use Rattle.heap_image.specs.Extents.{IsBodyOf};
 
+use command_support::{Watched, reshape};
 use heap_image::{Body, Extent, FRONT_BYTES, FileStore, body_at};
 use std::alloc::Global;
+use std::fs::OpenFile;
 use std::os::unix::fs::FileExt;
 use std::thread::Threads;
 
@@ -21,30 +23,36 @@ pub struct Ahead {
 }
 
 impl Ahead {
-    /// Reads the body of a file of `len` bytes by at most `workers` threads. None for fewer than two workers, if the
-    /// file doesn't begin as that of a large image, or if a thread can't read its part.
-    pub fn read<F: FileExt + Sync>(
+    /// Reads the body of a regular file by at most `workers` threads. None for fewer than two workers or another file, if
+    /// the file doesn't begin as that of a large image, or if a thread can't read its part.
+    pub fn read<F: OpenFile + FileExt + Sync + Drop>(
         alloc: Global,
-        file: &F,
-        len: u64,
+        watched: &Watched<'_, F>,
         workers: u32,
         threads: &(impl Threads + Sync),
     ) -> Option<Ahead> {
         if workers < 2 {
             return None;
         }
-        let mut front = [0; FRONT_BYTES];
-        let Ok(FRONT_BYTES) = file.read_at(&mut front, 0) else {
-            return None;
-        };
-        let extent = extent_of(&front)?;
+        let len = watched.regular_len();
+        let extent = extent_of(&front_of(watched)?)?;
         if extent.end()? > len {
             return None;
         }
-        let store = FileStore::new(file);
+        let store = FileStore::new(watched.file());
         let body = body_at(alloc, &store, extent, workers as usize, threads)?;
         Some(Ahead { extent, body })
     }
+}
+
+/// The front of the image in a file, if it can be read whole.
+fn front_of<F: FileExt + Drop>(watched: &Watched<'_, F>) -> Option<[u8; FRONT_BYTES]> {
+    let mut front = [0; FRONT_BYTES];
+    let Ok(FRONT_BYTES) = watched.file().read_at(&mut front, 0) else {
+        return None;
+    };
+    reshape(watched.shape(), 0, &mut front);
+    Some(front)
 }
 
 /// The extent of the body after this front, if it is the front of a large image.

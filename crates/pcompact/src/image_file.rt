@@ -29,8 +29,7 @@ impl<'a, F: Drop> ImageFile<'a, F> {
     where
         F: OpenFile + FileExt + Sync,
     {
-        let len = watched.regular_len();
-        let ahead = Ahead::read(host.alloc(), watched.file(), len, workers, host);
+        let ahead = Ahead::read(host.alloc(), &watched, workers, host);
         ImageFile {
             watched,
             failed: false,
@@ -40,7 +39,7 @@ impl<'a, F: Drop> ImageFile<'a, F> {
 
     /// The number of words of the heap, if the image that was read so far has a sound front.
     pub fn heap_words(&self) -> Option<u64> {
-        heap_words(self.watched.front())
+        heap_words(&self.watched.front())
     }
 
     /// The file.

@@ -36,7 +36,7 @@ where
 {
     let watch = Stopwatch::start(rt, request.stats);
     let (image, mut out, mut schedule) = image_out_and_schedule(rt, &request)?;
-    let image = ImageFile::read_ahead(rt, image, request.workers);
+    let image = ImageFile::read_ahead(rt, image.with_shape(request.shape), request.workers);
     let mut image = TimedIntake::new(rt, watch, image);
     let may_have_holes = out.may_have_holes;
     let written = OutFile::new(&mut out.file, may_have_holes);

@@ -71,7 +71,8 @@ where
     let watch = Stopwatch::start(rt, request.stats);
     let before = FileWord::new(Role::Before, request.before);
     let after = FileWord::new(Role::After, request.after);
-    let (mut before, mut after) = two_inputs(rt, before, after)?;
+    let (before, mut after) = two_inputs(rt, before, after)?;
+    let mut before = before.with_shape(request.shape);
     let mut was = TimedIntake::new(rt, watch, FromRead::new(&mut before));
     let mut is = TimedIntake::new(rt, watch, FromRead::new(&mut after));
     let wishes = Wishes {

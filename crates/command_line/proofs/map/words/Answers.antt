@@ -1,14 +1,17 @@
 use Rattle.std.proofs.Common.{◌∙◌, ap}
 use Rattle.std.proofs.lemmas.Result.{IfOk-weaker}
 use Rattle.command_line.specs.Arguments.{with_look, with_replacement}
+use Rattle.command_line.specs.Commands.{with_shape_rules}
 use Rattle.command_line.proofs.map.words.Goals as goal
 
 pub returns-clause-app : goal.returns-clause-app
 returns-clause-app c =
-    let step0 = c.in_ok-looking.ensures.app ∙ ap with_look (c.in_ok-with_cells.ensures.app) in
-    IfOk-weaker c.with_last.result _ _ (λ command is. is ∙ ap with_replacement step0) c.with_last.ensures.app
+    let step0 = c.in_ok-shaped.ensures.app ∙ ap with_shape_rules (c.in_ok-with_cells.ensures.app) in
+    let step1 = c.in_ok-looking.ensures.app ∙ ap with_look step0 in
+    IfOk-weaker c.with_last.result _ _ (λ command is. is ∙ ap with_replacement step1) c.with_last.ensures.app
 
 pub returns-clause-local : goal.returns-clause-local
 returns-clause-local c =
-    let step0 = c.in_ok-looking.ensures.local c.in_ok-with_cells.ensures.local in
-    c.with_last.ensures.local step0
+    let step0 = c.in_ok-shaped.ensures.local c.in_ok-with_cells.ensures.local in
+    let step1 = c.in_ok-looking.ensures.local step0 in
+    c.with_last.ensures.local step1

@@ -4,18 +4,21 @@ use Rattle.std.specs.Prelude.{◌||◌}
 use Rattle.clap.specs.Simple.{app_of_fields}
 use Rattle.clap.specs.Words.{app_of, new_app, with_rule}
 use Rattle.clap.specs.declared.builder.command.Command.TheViews.{out-Command}
+use Rattle.command_line.specs.Commands.{with_shape_rules}
 use Rattle.command_line.proofs.replay.words.Goals as goal
 
 pub returns-clause-app : goal.returns-clause-app
 returns-clause-app c =
     let start : app_of c.after_help.result ≡ new_app (codes "replay") = ap app_of_fields c.after_help.ensures ∙ ap app_of_fields c.about.ensures ∙ c.new.ensures.app in
     let step0 = c.in_ok-arg.ensures.shape c.image.ensures.local ∙ ap₂ with_rule start c.image.ensures.rule in
-    let step1 = c.in_ok-arg-2.ensures.shape c.file.ensures.local ∙ ap₂ with_rule step0 c.file.ensures.rule in
-    IfOk-weaker c.arg-3.result _ _ (λ command added. added.shape c.verbose.ensures.local ∙ ap₂ with_rule step1 c.verbose.ensures.rule) c.arg-3.ensures
+    let step1 = c.in_ok-command.ensures.shape c.file.ensures.local ∙ ap₂ with_rule step0 c.file.ensures.rule in
+    let shaped = c.in_ok-with_shape.ensures.app ∙ ap with_shape_rules step1 in
+    IfOk-weaker c.arg-3.result _ _ (λ command added. added.shape c.verbose.ensures.local ∙ ap₂ with_rule shaped c.verbose.ensures.rule) c.arg-3.ensures
 
 pub returns-clause-local : goal.returns-clause-local
 returns-clause-local c =
     let start : (out-Command c.after_help.result).has_globals ≡ false = ap (λ f. f.has_globals) c.after_help.ensures ∙ ap (λ f. f.has_globals) c.about.ensures ∙ c.new.ensures.local in
     let step0 = c.in_ok-arg.ensures.globals ∙ ap₂ ◌||◌ start c.image.ensures.local in
-    let step1 = c.in_ok-arg-2.ensures.globals ∙ ap₂ ◌||◌ step0 c.file.ensures.local in
-    IfOk-weaker c.arg-3.result _ _ (λ command added. added.globals ∙ ap₂ ◌||◌ step1 c.verbose.ensures.local) c.arg-3.ensures
+    let step1 = c.in_ok-command.ensures.globals ∙ ap₂ ◌||◌ step0 c.file.ensures.local in
+    let shaped = c.in_ok-with_shape.ensures.local step1 in
+    IfOk-weaker c.arg-3.result _ _ (λ command added. added.globals ∙ ap₂ ◌||◌ shaped c.verbose.ensures.local) c.arg-3.ensures

@@ -13,9 +13,11 @@ returns-clause-app c =
     let step1 = c.in_ok-arg-2.ensures.shape c.file-2.ensures.local ∙ ap₂ with_rule step0 c.file-2.ensures.rule in
     let step2 = c.in_ok-arg-3.ensures.shape c.flag.ensures.local ∙ ap₂ with_rule step1 c.flag.ensures.rule in
     let step3 = c.in_ok-arg-4.ensures.shape c.flag-2.ensures.local ∙ ap₂ with_rule step2 c.flag-2.ensures.rule in
-    let step4 = c.in_ok-arg-5.ensures.shape c.json.ensures.local ∙ ap₂ with_rule step3 c.json.ensures.rule in
-    let step5 = c.in_ok-arg-6.ensures.shape c.stats.ensures.local ∙ ap₂ with_rule step4 c.stats.ensures.rule in
-    IfOk-weaker c.arg-7.result _ _ (λ command added. added.shape c.verbose.ensures.local ∙ ap₂ with_rule step5 c.verbose.ensures.rule) c.arg-7.ensures
+    let step4 = c.in_ok-arg-5.ensures.shape c.region_log.ensures.local ∙ ap₂ with_rule step3 c.region_log.ensures.rule in
+    let step5 = c.in_ok-arg-6.ensures.shape c.allowance_with.ensures.local ∙ ap₂ with_rule step4 c.allowance_with.ensures.rule in
+    let step6 = c.in_ok-arg-7.ensures.shape c.json.ensures.local ∙ ap₂ with_rule step5 c.json.ensures.rule in
+    let step7 = c.in_ok-arg-8.ensures.shape c.stats.ensures.local ∙ ap₂ with_rule step6 c.stats.ensures.rule in
+    IfOk-weaker c.arg-9.result _ _ (λ command added. added.shape c.verbose.ensures.local ∙ ap₂ with_rule step7 c.verbose.ensures.rule) c.arg-9.ensures
 
 pub returns-clause-local : goal.returns-clause-local
 returns-clause-local c =
@@ -24,6 +26,8 @@ returns-clause-local c =
     let step1 = c.in_ok-arg-2.ensures.globals ∙ ap₂ ◌||◌ step0 c.file-2.ensures.local in
     let step2 = c.in_ok-arg-3.ensures.globals ∙ ap₂ ◌||◌ step1 c.flag.ensures.local in
     let step3 = c.in_ok-arg-4.ensures.globals ∙ ap₂ ◌||◌ step2 c.flag-2.ensures.local in
-    let step4 = c.in_ok-arg-5.ensures.globals ∙ ap₂ ◌||◌ step3 c.json.ensures.local in
-    let step5 = c.in_ok-arg-6.ensures.globals ∙ ap₂ ◌||◌ step4 c.stats.ensures.local in
-    IfOk-weaker c.arg-7.result _ _ (λ command added. added.globals ∙ ap₂ ◌||◌ step5 c.verbose.ensures.local) c.arg-7.ensures
+    let step4 = c.in_ok-arg-5.ensures.globals ∙ ap₂ ◌||◌ step3 c.region_log.ensures.local in
+    let step5 = c.in_ok-arg-6.ensures.globals ∙ ap₂ ◌||◌ step4 c.allowance_with.ensures.local in
+    let step6 = c.in_ok-arg-7.ensures.globals ∙ ap₂ ◌||◌ step5 c.json.ensures.local in
+    let step7 = c.in_ok-arg-8.ensures.globals ∙ ap₂ ◌||◌ step6 c.stats.ensures.local in
+    IfOk-weaker c.arg-9.result _ _ (λ command added. added.globals ∙ ap₂ ◌||◌ step7 c.verbose.ensures.local) c.arg-9.ensures
