@@ -198,7 +198,7 @@ Options:
       --height <n>  Number of rows, from 1 to 100 (default: 1, or what a terminal has room for, or 8 of a drawing)
       --svg <FILE>  Write the picture to this file as SVG, and print only the figures
       --letters     Draw with letters even if the locale has block characters
-      --color       Use colours even if standard output is no terminal
+      --color       Use colours even if standard output is no terminal (or --color=WHEN: auto, always, never)
       --no-color    Never use colours
       --atomic      Replace files only once the command has succeeded
       --verbose     Print more details about errors
@@ -222,7 +222,7 @@ Options:
       --svg <FILE>   Write the lanes to this file as SVG, and print only the figures
       --html <FILE>  Write a page to this file that steps through the schedule, and print only the figures
       --letters      Draw with letters even if the locale has block characters
-      --color        Use colours even if standard output is no terminal
+      --color        Use colours even if standard output is no terminal (or --color=WHEN: auto, always, never)
       --no-color     Never use colours
       --atomic       Replace files only once the command has succeeded
       --verbose      Print more details about errors
@@ -434,6 +434,30 @@ error: invalid value '50.5' for '--live <share>': a whole number is wanted, of p
 For more information, try '--help'.
 """
 
+OTHER_COLOR = """\
+error: unexpected value 'blue' for '--color' found; auto, always or never is wanted
+
+Usage: pcompact map --color <IMAGE>
+
+For more information, try '--help'.
+"""
+
+COLOR_TWICE = """\
+error: the argument '--color' cannot be used multiple times
+
+Usage: pcompact map [OPTIONS] <IMAGE>
+
+For more information, try '--help'.
+"""
+
+NO_COLOR = """\
+error: unexpected argument '--color' found
+
+Usage: pcompact summary <IMAGE>
+
+For more information, try '--help'.
+"""
+
 VERSION = """\
 error: unrecognized subcommand 'version'
 
@@ -491,6 +515,11 @@ REFUSED = [
     ("collect in out --workers --allowance", OPTION_AS_VALUE),
     ("generate out --words 32MiB --live 50 --region-log 3 --seed 1", NO_UNIT),
     ("generate out --words 64 --live 50.5 --region-log 3 --seed 1", NO_POINT),
+    ("map heap --color=blue", OTHER_COLOR),
+    ("map heap --verbose=always --color=blue", OTHER_COLOR.replace("--color <", "--verbose --color <")),
+    ("map heap --color --color", COLOR_TWICE),
+    ("map heap --color=always --color --color", COLOR_TWICE),
+    ("summary heap --color=auto", NO_COLOR),
     ("version", VERSION),
     ("generat out", OTHER_COMMAND),
 ]

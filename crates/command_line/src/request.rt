@@ -7,6 +7,7 @@ use crate::map::Map;
 use crate::order::Order;
 use crate::record::Record;
 use crate::replay::Replay;
+use crate::respelled::When;
 use crate::summary::Summary;
 use crate::text::Text;
 use crate::timeline::Timeline;
@@ -34,9 +35,9 @@ pub enum Request<'a> {
     Show(String),
 }
 
-impl Request<'_> {
-    ghost use Rattle.std.specs.Prelude.{◌≡◌};
-    ghost use Rattle.command_line.specs.Request.{asks_json, asks_stats};
+impl<'a> Request<'a> {
+    ghost use Rattle.std.specs.Prelude.{◌≡◌, ℕ, List};
+    ghost use Rattle.command_line.specs.Request.{IsFor, asks_json, asks_stats};
 
     /// Whether to print timings and peak memory. A command without `--stats` prints none.
     pub fn asks_stats(&self) -> bool
@@ -81,6 +82,23 @@ impl Request<'_> {
             Request::Assemble(call) => call.verbose,
             Request::Map(call) => call.verbose,
             Request::Timeline(call) => call.verbose,
+        }
+    }
+
+    /// The request with colours as `--color` says by a value. A command without that option stays as it is.
+    pub fn coloured(self, when: When) -> Request<'a>
+        ensures { (name : List ℕ) → IsFor name self.entry → IsFor name result }
+    {
+        match self {
+            Request::Map(call) => Request::Map(Map {
+                look: call.look.with_color(when),
+                ..call
+            }),
+            Request::Timeline(call) => Request::Timeline(Timeline {
+                look: call.look.with_color(when),
+                ..call
+            }),
+            other => other,
         }
     }
 }
