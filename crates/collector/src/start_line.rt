@@ -1,15 +1,14 @@
 //! The line from which the workers of a collection start.
 ghost use Rattle.std.specs.Prelude.{◌≡◌};
 
-use crossbeam_utils::Backoff;
-use std::sync::atomic::{AtomicU64, Ordering};
+use std::sync::atomic::{AtomicUsize, Ordering};
 use std::thread;
 
-/// How often a worker looks at most whether the line is open: for a few milliseconds, if no other thread runs.
-const MOST_LOOKS: u32 = 4_000;
+/// How often a worker looks whether the line is open before it yields the processor.
+const LOOKS: u32 = 10_000;
 
-/// How many looks come after each other until the worker yields the processor.
-const LOOKS_IN_A_ROW: u32 = 8;
+/// How often it does so at most: a wait in vain takes a few milliseconds, if no other thread wants the processor.
+const MOST_YIELDS: u32 = 400;
 
 /// A line at which workers wait until all have arrived, so that none does all the work on a small heap before the others
 /// begin.
@@ -19,9 +18,9 @@ const LOOKS_IN_A_ROW: u32 = 8;
 #[derive(Drop)]
 pub(crate) struct StartLine {
     /// How many workers open it.
-    awaited: u64,
+    awaited: usize,
     /// How many have arrived.
-    arrived: AtomicU64,
+    arrived: AtomicUsize,
 }
 
 impl StartLine {
@@ -37,26 +36,26 @@ impl StartLine {
         ensures { result.awaited ≡ workers }
     {
         StartLine {
-            awaited: workers as u64,
-            arrived: AtomicU64::new(0),
+            awaited: workers,
+            arrived: AtomicUsize::new(0),
         }
     }
 
     /// Arrives, and waits until the line is open.
     pub(crate) fn pass(&self) {
         self.arrived.fetch_add(1, Ordering::SeqCst);
-        let backoff = Backoff::new();
-        for look in 0..MOST_LOOKS {
-            if self.is_open() {
+        for _ in 0..MOST_YIELDS {
+            if self.opens() {
                 return;
             }
-            if look % LOOKS_IN_A_ROW == 0 {
-                thread::yield_now();
-            } else {
-                backoff.spin();
-            }
+            thread::yield_now();
         }
         self.arrived.store(self.awaited, Ordering::SeqCst);
+    }
+
+    /// Looks whether it is open, some microseconds long.
+    fn opens(&self) -> bool {
+        (0..LOOKS).any(|_| self.is_open())
     }
 
     fn is_open(&self) -> bool {
