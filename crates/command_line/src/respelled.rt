@@ -1,6 +1,7 @@
 //! The options `--verbose` and `--color` with a value. Commands that `clap` compares exactly with their definitions have no option
 //! whose value may be left out, so such lines are parsed a second time, with the plain options.
-ghost use Rattle.std.specs.Prelude.{◌≡◌};
+ghost use Rattle.std.specs.Prelude.{◌≡◌, ℕ, Bool, false, List, map, filter, string_bytes, IsTrue, IfOk, IfSome};
+ghost use Rattle.command_line.specs.Respelling.{mentions, other_texts};
 
 use std::alloc::{AllocError, Global};
 
@@ -15,7 +16,9 @@ pub enum When {
 
 impl When {
     /// What this word says, if it is the option with a value.
-    fn of_word(word: &str, option: &str) -> Option<When> {
+    fn of_word(word: &str, option: &str) -> Option<When>
+        ensures { IfSome result (λ _. IsTrue (mentions option.now word.now)) }
+    {
         match word.strip_prefix(option)? {
             "=auto" => Some(When::Auto),
             "=always" => Some(When::Always),
@@ -45,8 +48,11 @@ pub struct Respelled {
     pub color: When,
 }
 
-/// Spells each `--verbose` and `--color` with a value as the plain option, or returns `None` if there is none.
-pub fn respell(alloc: Global, words: &[String]) -> Result<Option<Respelled>, AllocError> {
+/// Spells each `--verbose` and `--color` with a value as the plain option, or returns `None` if there is none. All other words
+/// stay.
+pub fn respell(alloc: Global, words: &[String]) -> Result<Option<Respelled>, AllocError>
+    ensures { IfOk result (λ found. IfSome found (λ line. other_texts line.words.items ≡ other_texts words.now)) }
+{
     let verbose = Mentions::of("--verbose", words);
     let color = Mentions::of("--color", words);
     if verbose.last.is_none() && color.last.is_none() {
@@ -72,7 +78,9 @@ struct Mentions {
 }
 
 impl Mentions {
-    fn of(option: &'static str, words: &[String]) -> Mentions {
+    fn of(option: &'static str, words: &[String]) -> Mentions
+        ensures { result.option ≡ option }
+    {
         let mut is_plain = false;
         let mut last = None;
         for word in words {
@@ -101,18 +109,25 @@ impl Mentions {
     }
 
     /// The line without values: with the plain option in place of the first, unless it is on the line already.
-    fn spell(self, alloc: Global, words: &[String]) -> Result<Vec<String>, AllocError> {
+    fn spell(self, alloc: Global, words: &[String]) -> Result<Vec<String>, AllocError>
+        ensures { IfOk result (λ line. (picks : List ℕ → Bool)
+            → ((word : List ℕ) → IsTrue (mentions self.option.now word) → picks word ≡ false)
+            → filter picks (map string_bytes line.items) ≡ filter picks (map string_bytes words.now)) }
+    {
         let mut spelled = Vec::new(alloc);
         let mut are_options = true;
         let mut is_there = self.is_plain;
         for word in words {
             let word = word.as_str();
             are_options = are_options && word != "--";
-            if !are_options || When::of_word(word, self.option).is_none() {
-                spelled.push(String::from_str(alloc, word)?)?;
-            } else if !is_there {
-                spelled.push(String::from_str(alloc, self.option)?)?;
-                is_there = true;
+            match When::of_word(word, self.option) {
+                Some(_) if are_options => {
+                    if !is_there {
+                        spelled.push(String::from_str(alloc, self.option)?)?;
+                        is_there = true;
+                    }
+                }
+                _ => spelled.push(String::from_str(alloc, word)?)?,
             }
         }
         Ok(spelled)
