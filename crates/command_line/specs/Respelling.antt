@@ -1,5 +1,5 @@
 -- Lines in which options have a value that may be left out.
-use Rattle.std.specs.Prelude.{ℕ, Bool, ◌||◌, not, List, ◌++◌, map, filter, String, codes, string_bytes, bytes_eq}
+use Rattle.std.specs.Prelude.{Bool, ◌||◌, not, List, ◌++◌, map, filter, String, codes, string_bytes, bytes_eq}
 use Rattle.clap.specs.Walk.{Text}
 
 -- the word is this option, plain or with a value

@@ -79,7 +79,7 @@ struct Mentions {
 
 impl Mentions {
     fn of(option: &'static str, words: &[String]) -> Mentions
-        ensures { result.option ≡ option }
+        ensures { result.option ≡ option.entry }
     {
         let mut is_plain = false;
         let mut last = None;
