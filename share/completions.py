@@ -7,11 +7,13 @@ BASH = """\
 %(made)s
 
 # Finds which command the words before the cursor call: `command`, the options that it was `given`, how many arguments, and
-# the `option` whose value is due.
+# the `option` whose value is due. Some options have a value only behind `=`.
 _pcompact_read() {
-    local word
+    local word open=
     command= given=' ' count=0 option= ended=
     for word in "${COMP_WORDS[@]:1:COMP_CWORD-1}"; do
+        [[ $word != '=' ]] || option=${option:-$open}
+        open=
         if [[ -n $option ]]; then
             [[ $word = '=' ]] || option=
         elif [[ -z $ended && $word = -- ]]; then
@@ -20,6 +22,7 @@ _pcompact_read() {
             given+="$word "
             case "$command $word" in
             %(valued)s) option=$word ;;
+            %(chosen)s) open=$word ;;
             esac
         elif [[ -z $command ]]; then
             command=$word
@@ -27,6 +30,7 @@ _pcompact_read() {
             count=$((count + 1))
         fi
     done
+    [[ $current != '=' ]] || option=${option:-$open}
 }
 
 # What the command takes: `options`, and as many arguments as `most`.
@@ -148,6 +152,14 @@ def valued(helps: Helps) -> list[tuple[Help, Option]]:
     return [(it, option) for it in helps.commands for option in it.options if option.value]
 
 
+def chosen(helps: Helps) -> list[tuple[Help, Option]]:
+    return [(it, option) for it in helps.commands for option in it.options if option.choices]
+
+
+def cases(options: list[tuple[Help, Option]]) -> str:
+    return " | \\\n                ".join(f"'{it.name} {option.name}'" for it, option in options)
+
+
 def numbers(option: Option) -> str:
     """The values of an option, as bash and zsh expand them."""
     return f"{{{option.values[0]}..{option.values[-1]}}}"
@@ -157,17 +169,20 @@ def bash_value(it: Help, option: Option) -> list[str]:
     """The line that completes a value, where one can."""
     if option.takes_file:
         return [f"    '{it.name} {option.name}') _pcompact_files ;;"]
+    if option.choices:
+        return [f"    '{it.name} {option.name}') _pcompact_words {' '.join(option.choices)} ;;"]
     return [f"    '{it.name} {option.name}') _pcompact_words {numbers(option)} ;;"] if option.values else []
 
 
 def bash(helps: Helps) -> str:
     return BASH % {
         "made": MADE,
-        "valued": " | \\\n                ".join(f"'{it.name} {option.name}'" for it, option in valued(helps)),
+        "valued": cases(valued(helps)),
+        "chosen": cases(chosen(helps)),
         "options": all_spellings(helps.program.options),
         "commands": "\n".join(f"    {it.name}) options='{all_spellings(it.options)}' most={len(it.arguments)} ;;"
                               for it in helps.commands),
-        "values": "\n".join(line for it, option in valued(helps) for line in bash_value(it, option)),
+        "values": "\n".join(line for it, option in valued(helps) + chosen(helps) for line in bash_value(it, option)),
         "names": names(helps),
     }
 
@@ -185,6 +200,8 @@ def zsh_option(option: Option) -> str:
     if option.value:
         values = "_files" if option.takes_file else f"({numbers(option)})" if option.values else " "
         return zsh_quoted(f"{option.name}={text}:{option.value}:{values}")
+    if option.choices:
+        return zsh_quoted(f"{option.name}=-{text}::when:({' '.join(option.choices)})")
     if option.short:
         return f"'(- *)'{{{','.join(option.spellings)}}}{zsh_quoted(text)}"
     return zsh_quoted(f"{option.name}{text}")
@@ -221,6 +238,8 @@ def fish_option(command: str, option: Option) -> str:
         words += ["-r -F"]
     elif option.value:
         words += ["-x", *([f"-a '(seq {option.values[0]} {option.values[-1]})'"] if option.values else [])]
+    elif option.choices:
+        words += [f"-a '{' '.join(option.choices)}'"]
     return f"complete -c pcompact {' '.join(words)} -d {fish_quoted(option.text)}"
 
 

@@ -7,6 +7,7 @@ import subprocess
 OPTION = re.compile(r" +(?:(-\w), )?(--[\w-]+)(?: <(\w+)>)? {2,}(\S.*)")
 ITEM = re.compile(r" +(\S+) {2,}(\S.*)")
 RANGE = re.compile(r"\bfrom (\d+) to (\d+)\b")
+CHOICES = re.compile(r"=WHEN: (\w+(?:, \w+)*)")
 # A completion offers no more values than these.
 MOST_VALUES = 64
 # The values of options whose help has no range.
@@ -31,6 +32,12 @@ class Option:
     @property
     def takes_file(self) -> bool:
         return self.value == "FILE"
+
+    @property
+    def choices(self) -> list[str]:
+        """The words that it takes behind `=`, where it takes some or none."""
+        found = CHOICES.search(self.text)
+        return found[1].split(", ") if found else []
 
     @property
     def values(self) -> range:

@@ -121,6 +121,10 @@ def try_looks(tried: Tried) -> None:
         tried.run("map image --width 4 --no-color --color", answer, env=environment(**names))
     before = f"before |{coloured('+::+', BEFORE)}|\n       |{coloured('fmmm', BEFORE)}|\n"
     tried.run("map image --width 4 --letters --color", Answer(0, f"{line}{before}{legend('fm')}"))
+    for words, has_colours in WHENS:
+        shown = before if has_colours else "before |+::+|\n       |fmmm|\n"
+        tried.run(f"map image --width 4 --letters {words}", Answer(0, f"{line}{shown}{legend('fm')}"))
+    tried.run("map --color=always -- --color=never", fault("13 input or output"))
     after = f"after  |{coloured('+#:_', AFTER)}|\n       |{coloured('fmm-', AFTER)}|\n"
     tried.run("map image --after --width 4 --letters --color", Answer(0, f"{line}{before}{after}{legend('fm-')}"))
     both = "before |▓▒▒▓|\n       |fmmm|\nafter  |▓█▒▁|\n       |fmm-|\n"
@@ -132,6 +136,16 @@ BEFORE = (33, 32, 32, 32)
 AFTER = (33, 32, 32, 36)
 
 
+# Whether there are colours, where standard output is no terminal.
+WHENS = (
+    ("--color=always", True), ("--color=never", False), ("--color=auto", False),
+    ("--color=never --color=always", True), ("--color=always --color=never", False), ("--color=always --color=auto", False),
+    ("--color --color=auto", True), ("--color=auto --color --color=auto", True), ("--color --color=never", False),
+    ("--color=always --no-color", False), ("--no-color --color=auto", False), ("--color=always --verbose=never", True),
+    ("--verbose=auto --color", True), ("--verbose=auto", False),
+)
+
+
 def coloured(marks: str, colours: tuple[int, ...]) -> str:
     return "".join(f"\x1b[{colour}m{mark}\x1b[0m" for colour, mark in zip(colours, marks))
 
@@ -141,7 +155,10 @@ def try_terminal(tried: Tried) -> None:
     tried.write("image", image(WORDS, LIVE, 2))
     for flag, names, has_colours in (
             ("", {}, True), ("--no-color", {}, False), ("", {"NO_COLOR": "1"}, False), ("", {"NO_COLOR": ""}, True),
-            ("", {"TERM": "dumb"}, False), ("--color", {"NO_COLOR": "1", "TERM": "dumb"}, True)):
+            ("", {"TERM": "dumb"}, False), ("--color", {"NO_COLOR": "1", "TERM": "dumb"}, True),
+            ("--color=auto", {}, True), ("--color=never --color=auto", {}, True), ("--color=auto", {"NO_COLOR": "1"}, False),
+            ("--color=always", {"NO_COLOR": "1", "TERM": "dumb"}, True), ("--color=never", {}, False),
+            ("--no-color --color=auto", {}, False)):
         ours, theirs = pty.openpty()
         words = [tried.program, "map", "image", "--width", "4", "--height", "1", "--letters", *flag.split()]
         tried.count += 1

@@ -115,10 +115,24 @@ def try_heading(tried: Tried) -> None:
 
 def try_gone(tried: Tried) -> None:
     """A reader of standard output that is gone: the status of SIGPIPE, and nothing on standard error."""
-    reading, writing = os.pipe()
-    os.close(reading)
-    with os.fdopen(writing, "wb") as gone:
-        tried.run("summary base", Answer(141), stdout=gone)
+    tried.write("dump", DUMP)
+    seeded = "--words 131072 --live 50 --region-log 9 --seed 1"
+    for words in ("summary base", "summary base --json --verbose", "collect base - --workers 2", "collect base /dev/stdout --workers 1",
+                  "collect base - --workers 1 --verbose --stats", "record base out - --workers 1", "upgrade base -",
+                  "map base --svg - --verbose=always", "import dump -", f"generate - {seeded}"):
+        reading, writing = os.pipe()
+        os.close(reading)
+        with os.fdopen(writing, "wb") as gone:
+            tried.run(words, Answer(141), stdout=gone)
+    tried.run(f"generate large {seeded}", Answer(0, None))
+    for words in ("collect large - --workers 2", "text large"):
+        tried.count += 1
+        with subprocess.Popen([tried.program, *words.split()], cwd=tried.folder, stdout=subprocess.PIPE, stderr=subprocess.PIPE) as process:
+            process.stdout.read(4)
+            process.stdout.close()
+            said = process.stderr.read()
+        if (process.returncode, said) != (141, b""):
+            tried.is_wrong(f"pcompact {words} | head -c 4: {process.returncode}, {said!r}")
 
 
 GROUPS = (try_standard, try_dumps, try_objects, try_terminal, try_heading, try_gone)

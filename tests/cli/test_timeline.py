@@ -60,12 +60,14 @@ def try_looks(tried: Tried) -> None:
     for names, answer in (({}, letters), ({"LANG": "C.UTF-8"}, blocks), ({"LC_ALL": "C", "LANG": "C.UTF-8"}, letters)):
         tried.run("timeline image schedule --width 1", answer, env=environment(**names))
         tried.run("timeline image schedule --width 1 --letters --verbose", letters, env=environment(**names))
-    tried.run("timeline image schedule --width 1 --letters --color", lanes("\x1b[32m#\x1b[0m", "\x1b[35mx\x1b[0m"))
+    for words in ("--color", "--color=always", "--color=never --color=always", "--color --color=auto"):
+        tried.run(f"timeline image schedule --width 1 --letters {words}", lanes("\x1b[32m#\x1b[0m", "\x1b[35mx\x1b[0m"))
     coloured = lanes("\x1b[32m█\x1b[0m", "\x1b[35mx\x1b[0m", BLOCK_HANDS)
     tried.run("timeline image schedule --width 1 --color", coloured, env=environment(LANG="C.UTF-8"))
-    tried.run("timeline image schedule --width 1 --letters --color --no-color", letters)
+    for words in ("--color --no-color", "--color=always --no-color", "--color=never", "--color=auto"):
+        tried.run(f"timeline image schedule --width 1 --letters {words}", letters)
     tried.run("timeline image schedule --letters", lanes("#" * 19, marks_of()))
-    for flag, has_colours in (("", True), ("--no-color", False)):
+    for flag, has_colours in (("", True), ("--no-color", False), ("--color=auto", True), ("--color=never", False)):
         ours, theirs = pty.openpty()
         words = [tried.program, "timeline", "image", "schedule", "--width", "1", "--letters", *flag.split()]
         tried.count += 1

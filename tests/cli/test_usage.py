@@ -210,7 +210,7 @@ Options:
       --region-log <k>  Read IMAGE as if its regions had 2^k words, k from 3 to 16
       --allowance <m>   Read IMAGE as if its dense prefix might keep m dead words
       --letters         Draw with letters even if the locale has block characters
-      --color           Use colours even if standard output is no terminal
+      --color           Use colours even if standard output is no terminal (or --color=WHEN: auto, always, never)
       --no-color        Never use colours
       --atomic          Replace files only once the command has succeeded
       --verbose         Print more details about errors
@@ -236,7 +236,7 @@ Options:
       --region-log <k>  Read IMAGE as if its regions had 2^k words, k from 3 to 16
       --allowance <m>   Read IMAGE as if its dense prefix might keep m dead words
       --letters         Draw with letters even if the locale has block characters
-      --color           Use colours even if standard output is no terminal
+      --color           Use colours even if standard output is no terminal (or --color=WHEN: auto, always, never)
       --no-color        Never use colours
       --atomic          Replace files only once the command has succeeded
       --verbose         Print more details about errors
@@ -453,6 +453,30 @@ error: invalid value '50.5' for '--live <share>': a whole number is wanted, of p
 For more information, try '--help'.
 """
 
+OTHER_COLOR = """\
+error: unexpected value 'blue' for '--color' found; auto, always or never is wanted
+
+Usage: pcompact map --color <IMAGE>
+
+For more information, try '--help'.
+"""
+
+COLOR_TWICE = """\
+error: the argument '--color' cannot be used multiple times
+
+Usage: pcompact map [OPTIONS] <IMAGE>
+
+For more information, try '--help'.
+"""
+
+NO_COLOR = """\
+error: unexpected argument '--color' found
+
+Usage: pcompact summary <IMAGE>
+
+For more information, try '--help'.
+"""
+
 VERSION = """\
 error: unrecognized subcommand 'version'
 
@@ -514,6 +538,11 @@ REFUSED = [
     ("summary in --allowance 18446744073709551616", NO_ALLOWANCE),
     ("generate out --words 32MiB --live 50 --region-log 3 --seed 1", NO_UNIT),
     ("generate out --words 64 --live 50.5 --region-log 3 --seed 1", NO_POINT),
+    ("map heap --color=blue", OTHER_COLOR),
+    ("map heap --verbose=always --color=blue", OTHER_COLOR.replace("--color <", "--verbose --color <")),
+    ("map heap --color --color", COLOR_TWICE),
+    ("map heap --color=always --color --color", COLOR_TWICE),
+    ("summary heap --color=auto", NO_COLOR),
     ("version", VERSION),
     ("generat out", OTHER_COMMAND),
 ]

@@ -1,5 +1,5 @@
 #!/usr/bin/env python3
-"""How many threads a collection starts in each of its phases, by the number of workers.
+"""How many threads a collection starts in each of its phases, by the number of workers; and that those of `record` begin together.
 
 A phase is shared by as many threads as there are workers, unless the heap is too small for so many to be worth it: the
 first thread starts the others, and in most phases one more that does nothing. Over each heap below just one phase has
@@ -14,6 +14,7 @@ import array
 import dataclasses
 import os
 import pathlib
+import re
 import subprocess
 import sys
 import tempfile
@@ -86,6 +87,11 @@ HEAPS = (
     Heap("listed", Phase("redirection of the live list", 4), 1, 9, 70_144, objects=70_000, at=1),
     Heap("rooted", Phase("redirection of roots", 4), 2, 9, 70_144, roots=70_000, at=1),
 )
+
+
+# Its regions are ready at once, and so few that one thread fills all of them while another is started.
+READY = Heap("ready", Phase("none", 1), 1, 3, 512, objects=64, size=8)
+RECORDINGS = 20
 
 
 @dataclasses.dataclass(frozen=True)
@@ -165,6 +171,23 @@ class Counted:
             self.run(heap, f"summary {heap.name}", owed_to_look(heap, number),
                      preexec_fn=lambda: os.sched_setaffinity(0, allowed))
 
+    def try_together(self) -> None:
+        """The workers of `record` begin together: in most recordings of a small heap several have a share."""
+        if len(os.sched_getaffinity(0)) < 2:
+            print("there is one processor, and whether workers begin together is left out")
+            return
+        (self.room / READY.name).write_bytes(READY.text())
+        self.count += 1
+        shared = 0
+        for _ in range(RECORDINGS):
+            subprocess.run([self.program, *f"record {READY.name} out schedule --workers 4".split()], check=True, cwd=self.room,
+                           stdout=subprocess.DEVNULL)
+            claims = re.findall(r"(?m)^(\d+) claim \d+ yes$", (self.room / "schedule").read_text())
+            shared += len(set(claims)) > 1
+        if 2 * shared < RECORDINGS:
+            self.wrong += 1
+            print(f"in {shared} of {RECORDINGS} recordings by 4 workers several have a share")
+
 
 def main() -> int:
     program = (pathlib.Path(sys.argv[1]) if len(sys.argv) > 1 else built()).resolve()
@@ -172,6 +195,7 @@ def main() -> int:
         counted = Counted(program, pathlib.Path(folder))
         for heap in HEAPS:
             counted.try_heap(heap)
+        counted.try_together()
     print(f"{counted.count - counted.wrong} passed, {counted.wrong} failed")
     return 1 if counted.wrong else 0
 

@@ -14,6 +14,7 @@ ghost use Rattle.collector.specs.declared.outcome.Refusal.TheVariants.{Kept, Los
 use crate::gate::Gate;
 use crate::outcome::{Outcome, Refusal};
 use crate::prepared::Prepared;
+use crate::start_line::StartLine;
 use claim_board::{Board, Finished, Pass};
 use heap_image::{Fault, Image};
 use history::{moves_are_lawful, settled_histories_have_each_once};
@@ -74,7 +75,7 @@ fn collected<G: Gate + Sync, T: Threads + Sync, W: Wait + Sync>(
 {
     settled_histories_have_each_once();
     moves_are_lawful(prepared.equipment.survey.plan());
-    let worked = prepared.work(gate, threads, wait)?;
+    let worked = prepared.work(&StartLine::open(), gate, threads, wait)?;
     let finished = finish(worked.desk, worked.seats)?;
     Ok((worked.outcome, finished))
 }

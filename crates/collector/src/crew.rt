@@ -9,6 +9,7 @@ ghost use Rattle.collector.specs.declared.worker.Halt.TheVariants.{Stopped};
 
 use crate::gate::Gate;
 use crate::ready::Thief;
+use crate::start_line::StartLine;
 use crate::worker::{Halt, Worker};
 use claim_board::{Desk, Done, Ticket};
 use crossbeam_utils::Backoff;
@@ -34,6 +35,7 @@ pub(crate) struct Crew<'a, D: Desk, G: Gate, W: Wait> {
     pub(crate) wait: &'a W,
     /// A handle to each worker's queue, by worker number.
     pub(crate) thieves: &'a [Thief],
+    pub(crate) start: &'a StartLine,
     /// Set once some worker has met a fault.
     pub(crate) stop: &'a AtomicBool,
     pub(crate) ghost moves: { D.moves desk.now ≡ image_table survey.now },
@@ -41,13 +43,15 @@ pub(crate) struct Crew<'a, D: Desk, G: Gate, W: Wait> {
 }
 
 impl<'a, D: Desk, G: Gate, W: Wait> Crew<'a, D, G, W> {
-    /// Fills regions until all are settled or some worker meets a fault. A fault of this worker stops the others.
+    /// Waits at the start line, and then fills regions until all are settled or some worker meets a fault. A fault of
+    /// this worker stops the others.
     pub(crate) fn work(&self, number: u32, worker: &mut Worker<D::Seat>)
         requires number { number < length self.now.thieves.now }
         requires seat { D.serves self.now.desk.now worker.old.seat }
         ensures seat { D.serves self.now.desk.now worker.new.seat }
         ensures end { IfErr worker.new.end (MayHalt D.may_fail (G.may_refuse self.now.gate.now number) (fill_count self.now.survey.now)) }
     {
+        self.start.pass();
         worker.end = self.fill_regions(number, worker);
         if let Err(Halt::Failed(_)) = worker.end {
             self.stop.store(true, Ordering::SeqCst);
@@ -245,7 +249,8 @@ where
     let count = workers.len();
     // The closure captures each part by itself: it isn't proved that threads may share a whole crew.
     let (desk, cells, survey) = (crew.desk, crew.cells, crew.survey);
-    let (gate, wait, thieves, stop) = (crew.gate, crew.wait, crew.thieves, crew.stop);
+    let (gate, wait, thieves) = (crew.gate, crew.wait, crew.thieves);
+    let (start, stop) = (crew.start, crew.stop);
     let work = |number: usize, worker: &mut Worker<D::Seat>|
         requires { (D.moves desk.now ≡ image_table survey.now) × (cells.now ≡ survey.now)
             × (number < length thieves.now) × (number < 2 ^ 32) × D.serves desk.now worker.old.seat }
@@ -257,6 +262,7 @@ where
             gate,
             wait,
             thieves,
+            start,
             stop,
         };
         own.work(number as u32, worker)

@@ -36,7 +36,8 @@
 //! the fault returned is the lowest worker's: this is proved of the function that picks it, and stated by no public
 //! contract. That the schedule of `record` is what its own workers did: tests force orders by a gate. That what a
 //! `Thief` takes was pushed, and that each number is taken once: a test steals with two threads. The order in which
-//! `take` tries the queues. No contract says how long a call takes, nor that `verify` has enough memory.
+//! `take` tries the queues. That the workers of `record` begin together: a test counts those that have a share of a
+//! small heap. No contract says how long a call takes, nor that `verify` has enough memory.
 #![tactic(auto)]
 
 mod clean_up;
@@ -57,6 +58,7 @@ mod ready;
 mod record_streaming;
 mod recording;
 mod staff;
+mod start_line;
 mod streaming;
 mod verdict;
 mod verdict_explanation;

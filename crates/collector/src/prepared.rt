@@ -12,6 +12,7 @@ use crate::equipment::Equipment;
 use crate::gate::Gate;
 use crate::outcome::{Figures, Outcome};
 use crate::staff::Staff;
+use crate::start_line::StartLine;
 use crate::worker::Worker;
 use heap_image::{Fault, Image};
 use history::MAX_WORKERS;
@@ -115,10 +116,11 @@ where
         }
     }
 
-    /// Runs all workers, and cleans up. Returns the fault of the lowest worker that met one, or fault 15 if a
-    /// region has not moved.
+    /// Runs all workers from this start line, and cleans up. Returns the fault of the lowest worker that met one, or
+    /// fault 15 if a region has not moved.
     pub(crate) fn work<G: Gate + Sync, T: Threads + Sync, W: Wait + Sync>(
         self,
+        start: &StartLine,
         gate: &G,
         threads: &T,
         wait: &W,
@@ -154,6 +156,7 @@ where
             gate,
             wait,
             thieves: thieves.as_slice(),
+            start,
             stop: &stop,
         };
         work_all(&crew, workers.as_mut_slice(), threads);

@@ -11,6 +11,7 @@ ghost use Rattle.collector.specs.declared.outcome.Refusal.TheVariants.{Kept, Los
 use crate::gate::Gate;
 use crate::outcome::{Outcome, Refusal};
 use crate::prepared::Prepared;
+use crate::start_line::StartLine;
 use claim_board::Recorder;
 use heap_image::{Fault, Image};
 use history::{Schedule, check, checked_histories_are_records};
@@ -21,7 +22,7 @@ use summary::Plan;
 use summary::laws::plans::planned_image_is_valid;
 
 /// Compacts an image as [`collect`](crate::collect) does, but under one lock, and returns the schedule of all the
-/// workers' calls and copies. Each call and copy allocates its line.
+/// workers' calls and copies. Each call and copy allocates its line. The workers begin together if each has a thread.
 ///
 /// Returns `Kept` as `collect` does. Returns `Lost` once a worker has begun: with the faults of `collect`, with fault
 /// 11 if memory for a line runs out, and with fault 14 if the schedule isn't one that moves all regions. Fault 14 names
@@ -53,7 +54,7 @@ pub fn record<G: Gate + Sync, T: Threads + Sync, W: Wait + Sync>(
     }
 }
 
-/// Runs all workers, and returns the schedule of their calls.
+/// Runs all workers, which begin together, and returns the schedule of their calls.
 fn recorded<G: Gate + Sync, T: Threads + Sync, W: Wait + Sync>(
     alloc: Global,
     prepared: Prepared<Recorder>,
@@ -68,9 +69,10 @@ fn recorded<G: Gate + Sync, T: Threads + Sync, W: Wait + Sync>(
     ensures loss { IfErr result (IsLossBy
         (MayRefuse (G.may_refuse gate.now) (worker_count prepared.equipment.desk) prepared.equipment.survey)) }
 {
-    let workers = prepared.equipment.staff.workers.len() as u32;
-    let worked = prepared.work(gate, threads, wait)?;
-    let schedule = whole_schedule(alloc, worked.desk, worked.survey.plan(), workers)?;
+    let workers = prepared.equipment.staff.workers.len();
+    let start = StartLine::awaiting(workers);
+    let worked = prepared.work(&start, gate, threads, wait)?;
+    let schedule = whole_schedule(alloc, worked.desk, worked.survey.plan(), workers as u32)?;
     Ok((worked.outcome, schedule))
 }
 

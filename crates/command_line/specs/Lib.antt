@@ -2,3 +2,4 @@ pub mod Arguments
 pub mod Commands
 pub mod CommandLine
 pub mod Request
+pub mod Respelling

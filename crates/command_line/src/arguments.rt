@@ -160,7 +160,7 @@ pub fn with_looks<'a>(alloc: Global, command: Command<'a>) -> Result<Command<'a>
         .arg(flag(
             alloc,
             "color",
-            "Use colours even if standard output is no terminal",
+            "Use colours even if standard output is no terminal (or --color=WHEN: auto, always, never)",
         ))?
         .arg(flag(alloc, "no-color", "Never use colours"))
 }

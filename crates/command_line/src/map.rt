@@ -7,6 +7,7 @@ ghost use Rattle.command_line.specs.Request.{IsNoUsage};
 ghost use Rattle.command_line.specs.Commands.{height_rule, map_cells, map_words};
 
 use crate::arguments;
+use crate::respelled::When;
 use crate::shape::Shape;
 use crate::unread::Unread;
 use clap::{Arg, ArgMatches, Command, value_parser};
@@ -101,6 +102,15 @@ impl Look {
             letters: matches.get_flag("letters"),
             coloured: matches.get_flag("color"),
             plain: matches.get_flag("no-color"),
+        }
+    }
+
+    /// With colours as `--color` says by a value. `--no-color` stays.
+    pub(crate) fn with_color(self, when: When) -> Look {
+        Look {
+            letters: self.letters,
+            coloured: when == When::Always,
+            plain: self.plain || when == When::Never,
         }
     }
 }

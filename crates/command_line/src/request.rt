@@ -7,6 +7,7 @@ use crate::map::Map;
 use crate::order::Order;
 use crate::record::Record;
 use crate::replay::Replay;
+use crate::respelled::When;
 use crate::summary::Summary;
 use crate::text::Text;
 use crate::timeline::Timeline;
@@ -95,6 +96,23 @@ impl<'a> Request<'a> {
             Request::Assemble(call) => call.verbose,
             Request::Map(call) => call.verbose,
             Request::Timeline(call) => call.verbose,
+        }
+    }
+
+    /// The request with colours as `--color` says by a value. A command without that option stays as it is.
+    pub fn with_color(self, when: When) -> Request<'a>
+        ensures { (name : List ℕ) → IsFor name self.entry → IsFor name result }
+    {
+        match self {
+            Request::Map(call) => Request::Map(Map {
+                look: call.look.with_color(when),
+                ..call
+            }),
+            Request::Timeline(call) => Request::Timeline(Timeline {
+                look: call.look.with_color(when),
+                ..call
+            }),
+            other => other,
         }
     }
 }

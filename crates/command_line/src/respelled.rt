@@ -1,30 +1,33 @@
-//! The option `--verbose` with a value. Commands that `clap` compares exactly with their definitions have no option whose value may
-//! be left out, so such lines are parsed a second time, with the plain option.
-ghost use Rattle.std.specs.Prelude.{◌≡◌};
+//! The options `--verbose` and `--color` with a value. Commands that `clap` compares exactly with their definitions have no option
+//! whose value may be left out, so such lines are parsed a second time, with the plain options.
+ghost use Rattle.std.specs.Prelude.{◌≡◌, ℕ, Bool, false, List, map, filter, string_bytes, IsTrue, IfOk, IfSome};
+ghost use Rattle.command_line.specs.Respelling.{mentions, other_texts};
 
 use std::alloc::{AllocError, Global};
 
-/// When details of an error are printed.
+/// When something is done that a terminal else decides: details of an error are printed, or colours are used.
 #[derive(Debug, Clone, Copy, PartialEq, Eq)]
 pub enum When {
-    /// If standard error is a terminal.
+    /// On a terminal.
     Auto,
     Always,
     Never,
 }
 
 impl When {
-    /// When to print details by the value in this word, if it is `--verbose` with a value.
-    fn of_word(word: &str) -> Option<When> {
-        match word {
-            "--verbose=auto" => Some(When::Auto),
-            "--verbose=always" => Some(When::Always),
-            "--verbose=never" => Some(When::Never),
+    /// What this word says, if it is the option with a value.
+    fn of_word(word: &str, option: &str) -> Option<When>
+        ensures { IfSome result (λ _. IsTrue (mentions option.now word.now)) }
+    {
+        match word.strip_prefix(option)? {
+            "=auto" => Some(When::Auto),
+            "=always" => Some(When::Always),
+            "=never" => Some(When::Never),
             _ => None,
         }
     }
 
-    /// Whether to print them, where standard error is a terminal or not.
+    /// Whether it is done, on a terminal or not.
     pub fn is_now(self, is_terminal: bool) -> bool {
         match self {
             When::Auto => is_terminal,
@@ -34,37 +37,99 @@ impl When {
     }
 }
 
-/// A line with the plain `--verbose` in place of the option with a value.
+/// A line with plain options in place of those with a value.
 #[derive(Debug, Drop)]
 pub struct Respelled {
     /// The words of the line.
     pub words: Vec<String>,
-    /// What the last of the values says.
-    pub when: When,
+    /// What the line says by `--verbose`.
+    pub verbose: When,
+    /// What the line says by `--color`.
+    pub color: When,
 }
 
-/// Spells each `--verbose` with a value as the plain option, or returns `None` if there is none. After the word `--` there are no
-/// options.
-pub fn respell(alloc: Global, words: &[String]) -> Result<Option<Respelled>, AllocError> {
-    let mut spelled = Vec::new(alloc);
-    let mut when = None;
-    let mut are_options = true;
-    for word in words {
-        are_options = are_options && word.as_str() != "--";
-        let plain = match When::of_word(word.as_str()) {
-            Some(value) if are_options => {
-                when = Some(value);
-                "--verbose"
-            }
-            _ => word.as_str(),
-        };
-        spelled.push(String::from_str(alloc, plain)?)?;
+/// Spells each `--verbose` and `--color` with a value as the plain option, or returns `None` if there is none. All other words
+/// stay.
+pub fn respell(alloc: Global, words: &[String]) -> Result<Option<Respelled>, AllocError>
+    ensures { IfOk result (λ found. IfSome found (λ line. other_texts line.words.items ≡ other_texts words.now)) }
+{
+    let verbose = Mentions::of("--verbose", words);
+    let color = Mentions::of("--color", words);
+    if verbose.last.is_none() && color.last.is_none() {
+        return Ok(None);
     }
-    Ok(match when {
-        Some(when) => Some(Respelled {
-            words: spelled,
-            when,
-        }),
-        None => None,
-    })
+    let half = verbose.spell(alloc, words)?;
+    Ok(Some(Respelled {
+        words: color.spell(alloc, half.as_slice())?,
+        verbose: verbose.when(),
+        color: color.when(),
+    }))
+}
+
+/// How a line mentions an option. After the word `--` there are no options.
+#[derive(Clone, Copy)]
+struct Mentions {
+    /// The plain option.
+    option: &'static str,
+    /// Whether it is on the line.
+    is_plain: bool,
+    /// The last value.
+    last: Option<When>,
+}
+
+impl Mentions {
+    fn of(option: &'static str, words: &[String]) -> Mentions
+        ensures { result.option ≡ option.entry }
+    {
+        let mut is_plain = false;
+        let mut last = None;
+        for word in words {
+            let word = word.as_str();
+            if word == "--" {
+                break;
+            }
+            is_plain = is_plain || word == option;
+            last = When::of_word(word, option).or(last);
+        }
+        Mentions {
+            option,
+            is_plain,
+            last,
+        }
+    }
+
+    /// What the line says: the last value decides, but `auto` changes nothing beside the plain option.
+    fn when(self) -> When {
+        match self.last {
+            Some(When::Always) => When::Always,
+            Some(When::Never) => When::Never,
+            _ if self.is_plain => When::Always,
+            _ => When::Auto,
+        }
+    }
+
+    /// The line without values: with the plain option in place of the first, unless it is on the line already.
+    fn spell(self, alloc: Global, words: &[String]) -> Result<Vec<String>, AllocError>
+        ensures { IfOk result (λ line. (picks : List ℕ → Bool)
+            → ((word : List ℕ) → IsTrue (mentions self.option.now word) → picks word ≡ false)
+            → filter picks (map string_bytes line.items) ≡ filter picks (map string_bytes words.now)) }
+    {
+        let mut spelled = Vec::new(alloc);
+        let mut are_options = true;
+        let mut is_there = self.is_plain;
+        for word in words {
+            let word = word.as_str();
+            are_options = are_options && word != "--";
+            match When::of_word(word, self.option) {
+                Some(_) if are_options => {
+                    if !is_there {
+                        spelled.push(String::from_str(alloc, self.option)?)?;
+                        is_there = true;
+                    }
+                }
+                _ => spelled.push(String::from_str(alloc, word)?)?,
+            }
+        }
+        Ok(spelled)
+    }
 }

@@ -1,9 +1,12 @@
-//! The texts of usage errors: those of `clap`, with what is wanted in place of how a number is refused, and without tips that
-//! don't fit.
+//! The texts of usage errors: those of `clap`, with what is wanted in place of how a number or a value is refused, and without tips
+//! that don't fit.
 use std::alloc::{AllocError, Global};
 
 /// How `clap` refuses what isn't a whole number, at the end of a line.
 const NO_NUMBER: &str = "invalid digit found in string";
+
+/// How `clap` refuses another value of `--color` than those that are spelled anew, at the end of a line.
+const NO_VALUE: &str = "'--color' found; no more were expected";
 
 /// The first line about the word `version`, which is like `verify` to `clap`.
 const NO_VERSION: &str = "error: unrecognized subcommand 'version'\n";
@@ -33,15 +36,15 @@ fn is_wrong_tip(line: &str) -> bool {
     }
 }
 
-/// Appends a line. One that refuses a number says what is wanted.
+/// Appends a line. One that refuses a number or a value says what is wanted.
 fn push_line(line: &str, mended: &mut String) -> Result<(), AllocError> {
-    match line.strip_suffix(NO_NUMBER) {
-        Some(refused) => {
-            mended.push_str(refused)?;
-            mended.push_str(wanted(refused))?;
-        }
-        None => mended.push_str(line)?,
-    }
+    let (begin, end) = match (line.strip_suffix(NO_NUMBER), line.strip_suffix(NO_VALUE)) {
+        (Some(refused), _) => (refused, wanted(refused)),
+        (None, Some(refused)) => (refused, "'--color' found; auto, always or never is wanted"),
+        (None, None) => (line, ""),
+    };
+    mended.push_str(begin)?;
+    mended.push_str(end)?;
     mended.push_str("\n")
 }
 

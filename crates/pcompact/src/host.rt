@@ -1,14 +1,14 @@
 //! The system that commands run on, with standard output among its files.
+use crate::standard_output::StandardOutput;
 use command_support::{FileId, FileLock, SystemFile};
 use std::alloc::Allocator;
 use std::fs::{FileTimes, Metadata, OpenFile, OpenOptions, Permissions};
 use std::io;
-use std::io::{ErrorKind, Read, Seek, SeekFrom, Stderr, Stdout, Write};
+use std::io::{Read, Seek, SeekFrom, Stderr, Write};
 use std::os::unix::fs::FileExt;
 use std::path::PathBuf;
 use std::rt::Files;
 use std::sync::Wait;
-use std::sync::atomic::{AtomicBool, Ordering};
 use std::thread::Threads;
 use std::time::{Clock, Duration};
 
@@ -21,33 +21,19 @@ const STANDARD_OUTPUT: &str = "/proc/self/fd/1";
 ///
 /// The methods of `Files` that no command calls are left out.
 #[derive(Drop)]
-pub struct Host<R> {
+pub struct Host<'s, R> {
     rt: R,
-    stdout: Stdout,
-    /// Whether standard output was opened as a file to write.
-    is_taken: AtomicBool,
-    /// Whether what a command printed found no reader.
-    has_no_reader: AtomicBool,
+    stdout: &'s StandardOutput,
 }
 
-impl<R> Host<R> {
+impl<'s, R> Host<'s, R> {
     /// This system, with this standard output.
-    pub fn new(rt: R, stdout: Stdout) -> Host<R> {
-        Host {
-            rt,
-            stdout,
-            is_taken: AtomicBool::new(false),
-            has_no_reader: AtomicBool::new(false),
-        }
-    }
-
-    /// Whether the reader of standard output was gone when a command printed.
-    pub fn has_no_reader(&self) -> bool {
-        self.has_no_reader.load(Ordering::SeqCst)
+    pub fn new(rt: R, stdout: &'s StandardOutput) -> Host<'s, R> {
+        Host { rt, stdout }
     }
 }
 
-impl<R: Files> Host<R> {
+impl<R: Files> Host<'_, R> {
     fn is_standard_output(&self, file: &R::File) -> bool {
         match (file.metadata(), self.rt.metadata(STANDARD_OUTPUT)) {
             (Ok(opened), Ok(standard)) => FileId::of(&opened).is_same(FileId::of(&standard)),
@@ -56,11 +42,11 @@ impl<R: Files> Host<R> {
     }
 }
 
-impl<R: Threads> Threads for Host<R> {}
+impl<R: Threads> Threads for Host<'_, R> {}
 
-impl<R: Wait> Wait for Host<R> {}
+impl<R: Wait> Wait for Host<'_, R> {}
 
-impl<R: Alloc> Alloc for Host<R> {
+impl<R: Alloc> Alloc for Host<'_, R> {
     type A = R::A;
 
     fn alloc(&self) -> R::A {
@@ -68,7 +54,7 @@ impl<R: Alloc> Alloc for Host<R> {
     }
 }
 
-impl<R: Clock> Clock for Host<R> {
+impl<R: Clock> Clock for Host<'_, R> {
     fn monotonic(&self) -> io::Result<Duration> {
         self.rt.monotonic()
     }
@@ -82,17 +68,17 @@ impl<R: Clock> Clock for Host<R> {
     }
 }
 
-impl<R: Files> Files for Host<R> {
-    type File = HostFile<R::File>;
+impl<'s, R: Files> Files for Host<'s, R> {
+    type File = HostFile<'s, R::File>;
 
     type Dir = R::Dir;
 
-    fn open_file(&self, how: &OpenOptions, path: &str) -> io::Result<HostFile<R::File>> {
+    fn open_file(&self, how: &OpenOptions, path: &str) -> io::Result<HostFile<'s, R::File>> {
         let file = self.rt.open_file(how, path)?;
         if !how.asks_write() || !self.is_standard_output(&file) {
             return Ok(HostFile { file, stdout: None });
         }
-        self.is_taken.store(true, Ordering::SeqCst);
+        self.stdout.take();
         Ok(HostFile {
             file,
             stdout: Some(self.stdout),
@@ -142,19 +128,19 @@ impl<R: Files> Files for Host<R> {
 
 /// An open file of the system.
 #[derive(Drop)]
-pub struct HostFile<F: Drop> {
+pub struct HostFile<'s, F: Drop> {
     file: F,
     /// Standard output, if the file is standard output and is written.
-    stdout: Option<Stdout>,
+    stdout: Option<&'s StandardOutput>,
 }
 
-impl<F: Read + Drop> Read for HostFile<F> {
+impl<F: Read + Drop> Read for HostFile<'_, F> {
     fn read(&mut self, buf: &mut [u8]) -> io::Result<usize> {
         self.file.read(buf)
     }
 }
 
-impl<F: Write + Drop> Write for HostFile<F> {
+impl<F: Write + Drop> Write for HostFile<'_, F> {
     fn write(&mut self, buf: &[u8]) -> io::Result<usize> {
         match &mut self.stdout {
             Some(stdout) => stdout.write(buf),
@@ -170,13 +156,13 @@ impl<F: Write + Drop> Write for HostFile<F> {
     }
 }
 
-impl<F: Seek + Drop> Seek for HostFile<F> {
+impl<F: Seek + Drop> Seek for HostFile<'_, F> {
     fn seek(&mut self, to: SeekFrom) -> io::Result<u64> {
         self.file.seek(to)
     }
 }
 
-impl<F: OpenFile + Drop> OpenFile for HostFile<F> {
+impl<F: OpenFile + Drop> OpenFile for HostFile<'_, F> {
     fn metadata(&self) -> io::Result<Metadata> {
         self.file.metadata()
     }
@@ -202,7 +188,7 @@ impl<F: OpenFile + Drop> OpenFile for HostFile<F> {
     }
 }
 
-impl<F: FileExt + Drop> FileExt for HostFile<F> {
+impl<F: FileExt + Drop> FileExt for HostFile<'_, F> {
     fn read_at(&self, buf: &mut [u8], offset: u64) -> io::Result<usize> {
         self.file.read_at(buf, offset)
     }
@@ -212,7 +198,7 @@ impl<F: FileExt + Drop> FileExt for HostFile<F> {
     }
 }
 
-impl<F: SystemFile + Drop> SystemFile for HostFile<F> {
+impl<F: SystemFile + Drop> SystemFile for HostFile<'_, F> {
     fn set_owner(&self, owner: Option<u32>, group: Option<u32>) -> io::Result<()> {
         self.file.set_owner(owner, group)
     }
@@ -228,43 +214,29 @@ impl<F: SystemFile + Drop> SystemFile for HostFile<F> {
 
 /// Where a command prints: to standard output, or to standard error if it has written standard output as a file.
 #[derive(Drop)]
-pub struct Printer<'h, R> {
-    host: &'h Host<R>,
-    stdout: Stdout,
+pub struct Printer<'s> {
+    stdout: &'s StandardOutput,
     stderr: Stderr,
 }
 
-impl<'h, R> Printer<'h, R> {
-    /// A printer to this system's standard output, or to this standard error.
-    pub fn new(host: &'h Host<R>, stderr: Stderr) -> Printer<'h, R> {
-        Printer {
-            host,
-            stdout: host.stdout,
-            stderr,
-        }
-    }
-
-    fn is_elsewhere(&self) -> bool {
-        self.host.is_taken.load(Ordering::SeqCst)
+impl<'s> Printer<'s> {
+    /// A printer to this standard output, or to this standard error.
+    pub fn new(stdout: &'s StandardOutput, stderr: Stderr) -> Printer<'s> {
+        Printer { stdout, stderr }
     }
 }
 
-impl<R> Write for Printer<'_, R> {
+impl Write for Printer<'_> {
     fn write(&mut self, buf: &[u8]) -> io::Result<usize> {
-        if self.is_elsewhere() {
-            return self.stderr.write(buf);
-        }
-        match self.stdout.write(buf) {
-            Err(error) if error.kind() == ErrorKind::BrokenPipe => {
-                self.host.has_no_reader.store(true, Ordering::SeqCst);
-                Err(error)
-            }
-            other => other,
+        if self.stdout.is_taken() {
+            self.stderr.write(buf)
+        } else {
+            self.stdout.write(buf)
         }
     }
 
     fn flush(&mut self) -> io::Result<()> {
-        if self.is_elsewhere() {
+        if self.stdout.is_taken() {
             self.stderr.flush()
         } else {
             self.stdout.flush()
@@ -272,23 +244,23 @@ impl<R> Write for Printer<'_, R> {
     }
 }
 
-/// Where errors are printed: to standard error, but nowhere once what a command printed found no reader.
+/// Where errors are printed: to standard error, but nowhere once standard output was found to have no reader.
 #[derive(Drop)]
-pub struct Errors<'h, R> {
-    host: &'h Host<R>,
+pub struct Errors<'s> {
+    stdout: &'s StandardOutput,
     stderr: Stderr,
 }
 
-impl<'h, R> Errors<'h, R> {
-    /// The errors of this system's commands, for this standard error.
-    pub fn new(host: &'h Host<R>, stderr: Stderr) -> Errors<'h, R> {
-        Errors { host, stderr }
+impl<'s> Errors<'s> {
+    /// The errors of commands with this standard output, for this standard error.
+    pub fn new(stdout: &'s StandardOutput, stderr: Stderr) -> Errors<'s> {
+        Errors { stdout, stderr }
     }
 }
 
-impl<R> Write for Errors<'_, R> {
+impl Write for Errors<'_> {
     fn write(&mut self, buf: &[u8]) -> io::Result<usize> {
-        if self.host.has_no_reader() {
+        if self.stdout.has_no_reader() {
             Ok(buf.len())
         } else {
             self.stderr.write(buf)

@@ -177,7 +177,7 @@ where
     }
 }
 
-/// A line that isn't a request, with the plain `--verbose` in place of the option with a value.
+/// A line that isn't a request, with plain options in place of those with a value.
 #[derive(Drop)]
 struct Spelled {
     line: Respelled,
@@ -185,7 +185,7 @@ struct Spelled {
     has_stats: bool,
 }
 
-/// Spells these words anew, if they are wrong usage and `--verbose` has a value in them. If memory runs out they stay wrong usage.
+/// Spells these words anew, if they are wrong usage and have options with a value. If memory runs out they stay wrong usage.
 fn respelled(alloc: Global, words: &[String], unread: &Unread) -> Option<Spelled>
     ensures usage_alone { IsNoUsage unread.now → result ≡ None }
     ensures stats { IfSome result (λ spelled. IsTrue spelled.has_stats → HaveWord (codes "--stats") words.now) }
@@ -219,9 +219,10 @@ where
     let words = spelled.line.words.as_slice();
     match command_line::read(rt.alloc(), words) {
         Ok(request) => {
+            let request = request.with_color(spelled.line.color);
             let manner = Manner {
                 screen,
-                details: spelled.line.when.is_now(screen.shows_errors),
+                details: spelled.line.verbose.is_now(screen.shows_errors),
                 measured: request.asks_stats() && spelled.has_stats,
                 json: request.asks_json(),
             };
