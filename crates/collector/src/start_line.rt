@@ -7,8 +7,8 @@ use std::thread;
 /// How often a worker looks whether the line is open before it yields the processor.
 const LOOKS: u32 = 10_000;
 
-/// How often it does so at most: a wait in vain takes a few milliseconds, if no other thread wants the processor.
-const MOST_YIELDS: u32 = 400;
+/// How often it does so at most: a wait in vain takes about ten milliseconds, if no other thread wants the processor.
+const MOST_YIELDS: u32 = 1_000;
 
 /// A line at which workers wait until all have arrived, so that none does all the work on a small heap before the others
 /// begin.
