@@ -1,0 +1,135 @@
+"""Reads crates/*/src as far as contracts go: the clauses of a call, and the types that clauses speak of."""
+import functools
+import re
+
+from tests.support.spec_files import TOP, TYPE, Definition, Key, Names, Uses, tell_unknown, without_comments
+
+IMPL = re.compile(r"(?m)^impl(?:<[^{]*?>)? (?:(\w+)(?:<[^{]*?>)? for )?(\w+)[^\n]*\{$")
+CLAUSE = re.compile(r"\s*(?:requires|ensures)\*?(?: \w+)? (?=\{)")
+FIELD_LINE = re.compile(r"(?m)^    (?:pub(?:\(\w+\))? )?(ghost )?(\w+): ")
+WORD = re.compile(r"(?<![\w.:'])[A-Z]\w*")
+
+
+@functools.cache
+def read_source(file: str) -> tuple[str, Names]:
+    """The text of a file without comments, and what its names stand for."""
+    text = re.sub(r"(?m)^ *#\[.*\]$", "", without_comments((TOP / file).read_text(), "//"))
+    return text, Names(file, text)
+
+
+def in_braces(text: str, begin: int) -> str:
+    """What stands in the braces that open at this place."""
+    depth = 0
+    for place in range(begin, len(text)):
+        depth += {"{": 1, "}": -1}.get(text[place], 0)
+        if depth == 0:
+            return text[begin + 1:place]
+    raise ValueError(f"a brace has no end: {text[begin:begin + 60]}")
+
+
+def types_in(text: str, names: Names) -> set[Key]:
+    """The types of crates/ that these words of Rust name."""
+    found = {names.find(word) for word in WORD.findall(text)}
+    return {it for it in found if isinstance(it, Key)}
+
+
+def find_call(call: str) -> tuple[str, int, str]:
+    """Where a public call of the form CRATE::NAME or CRATE::TYPE::NAME stands: its file, its place there and its type."""
+    crate, *owner, name = call.split("::")
+    for path in sorted((TOP / "crates" / crate / "src").rglob("*.rt")):
+        file = str(path.relative_to(TOP))
+        text, _ = read_source(file)
+        for found in re.finditer(rf"(?m)^( *)pub fn {name}\b", text):
+            impls = [it for it in IMPL.finditer(text, 0, found.start()) if found[1]]
+            if not owner and not impls or impls and owner == [impls[-1][2]] and not impls[-1][1]:
+                return file, found.end(), "".join(owner)
+    raise ValueError(f"there is no public call {call}")
+
+
+def read_call(call: str) -> Definition:
+    """What the clauses of a call use, and the types of what it is handed and returns."""
+    file, begin, owner = find_call(call)
+    text, names = read_source(file)
+    signature = re.compile(r"\s(?=requires\b|ensures\b|\{)").split(text[begin:], maxsplit=1)[0]
+    bound = set(re.findall(r"(\w+): ", signature)) | set(re.findall(r"[<,] ?(\w+)(?=[:,>])", signature)) | {"self", "result"}
+    uses = Uses(names, bound)
+    place, lines = begin + len(signature), 0
+    while clause := CLAUSE.match(text, place):
+        inside = in_braces(text, clause.end())
+        uses.add(inside)
+        place = clause.end() + len(inside) + 2
+        lines += 1 + inside.count("\n")
+    key = Key(file, call)
+    tell_unknown(key, uses.unknown)
+    types = types_in(signature + (f" {owner}" if "self" in signature or "Self" in signature else ""), names)
+    return Definition(key, text.count("\n", 0, begin) + 1, lines, uses.found | types, {}, uses.fields)
+
+
+def read_model(text: str, names: Names, name: str) -> tuple[Uses, int] | None:
+    """What the value and the view of a type's model use, and on how many lines they stand. None if contracts see its fields."""
+    model = next((it for it in IMPL.finditer(text) if it[1] == "Model" and it[2] == name), None)
+    inside = in_braces(text, model.end() - 1) if model else ""
+    if "ghost Value =" not in inside:
+        return None
+    uses, lines = Uses(names, set()), 0
+    for found in re.finditer(r"ghost (?:Value|view) = (?=\{)", inside):
+        expression = in_braces(inside, found.end())
+        uses.add(expression)
+        lines += 1 + expression.count("\n")
+    return uses, lines
+
+
+def read_fields(body: str, names: Names) -> tuple[dict[str, set], int]:
+    """What the type of each field uses, and the number of lines; facts about the fields, which are ghost, have none."""
+    by_field, lines = {}, 0
+    starts = [*FIELD_LINE.finditer(body)]
+    for start, end in zip(starts, [it.start() for it in starts[1:]] + [len(body)]):
+        text = body[start.end():end]
+        uses = Uses(names, set(by_field))
+        if start[1]:
+            uses.add(text)
+        by_field[start[2]] = uses.found | types_in(text, names)
+        lines += 0 if start[0].startswith("    ghost") else len(text.strip().split("\n"))
+    return by_field, lines
+
+
+def associated_types(text: str, names: Names, name: str) -> set[Key]:
+    """The types that the traits of a type ask for, as the tag of what a slot holds."""
+    impls = [in_braces(text, it.end() - 1) for it in IMPL.finditer(text) if it[1] and it[2] == name]
+    return set().union(*(types_in(" ".join(re.findall(r"(?m)^    type \w+ = ([^;]*);", it)), names) for it in impls))
+
+
+def read_trait(key: Key, line: int, body: str, names: Names) -> Definition:
+    """What the ghost items of a trait say of themselves. Its calls' contracts are for those who implement it."""
+    uses = Uses(names, set())
+    ghosts = re.findall(r"(?m)^    ghost \w+: \{([^}]*)\};$", body)
+    for ghost in ghosts:
+        uses.add(ghost)
+    return Definition(key, line, len(ghosts) + 2, uses.found, {}, uses.fields)
+
+
+@functools.cache
+def read_type(key: Key) -> Definition | None:
+    """A type of crates/*/src, or a constant. None for a type without any content, of which nothing is to be believed."""
+    text, names = read_source(key.file)
+    start = next((it for it in TYPE.finditer(text) if it[2] == key.name), None)
+    if start is None:
+        raise ValueError(f"{key.file} has no type {key.name}")
+    line, end = text.count("\n", 0, start.start()) + 1, re.compile(r"[;{]").search(text, start.end()).start()
+    if text[end] == ";":
+        rest = text[start.end():end]
+        return Definition(key, line, 1, types_in(rest, names), {}, set()) if start[1] != "struct" or "(" in rest else None
+    body = in_braces(text, end)
+    if start[1] == "trait":
+        return read_trait(key, line, body, names)
+    more = associated_types(text, names, key.name)
+    if start[1] == "enum":
+        lines = sum(bool(line.strip()) for line in body.split("\n"))
+        return Definition(key, line, lines + 2, types_in(body, names) | more, {}, set())
+    by_field, lines = read_fields(body, names)
+    model = read_model(text, names, key.name)
+    if model is None:
+        return Definition(key, line, lines + 2, more, by_field, set())
+    uses, shown_on = model
+    shown = set().union(*(by_field.get(field, set()) for field in uses.fields))
+    return Definition(key, line, lines + 2 + shown_on, uses.found | shown | more, {}, uses.fields)
