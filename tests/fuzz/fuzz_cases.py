@@ -152,8 +152,7 @@ def try_shaped(tried: Tried, image: Image, chance: random.Random) -> str:
     tried.run(f"summary image {options}", Answer(0, collection.report()))
     made = {"out": encode(collection.compaction())}
     tried.run(f"collect image out --workers {chance.randint(1, 8)} {options}", Answer(0, collection.figures(), made=made))
-    tried.run(f"verify image out {options}", Answer(0, "same
-"))
+    tried.run(f"verify image out {options}", Answer(0, "same\n"))
     return "taken"
 
 
