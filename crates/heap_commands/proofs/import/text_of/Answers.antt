@@ -1,4 +1,4 @@
-use Rattle.std.proofs.Common.{◌≡◌, ◌∙◌, List, ℕ, ap, sym, subst}
+use Rattle.std.proofs.Common.{◌∙◌, List, ℕ, ap, sym, subst}
 use Rattle.std.specs.Prelude.{◌++◌, codes, string_bytes}
 use Rattle.heap_dump.specs.ImportFigures.{figures_text}
 use Rattle.heap_commands.specs.Import.{IsLineOf, IsTextOf}

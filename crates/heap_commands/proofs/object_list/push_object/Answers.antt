@@ -1,4 +1,4 @@
-use Rattle.std.proofs.Common.{◌≡◌, ◌∙◌, ◌++◌, List, ℕ, ap₂, codes, string_bytes}
+use Rattle.std.proofs.Common.{◌∙◌, ◌++◌, List, ℕ, ap₂, codes, string_bytes}
 use Rattle.std.specs.Prelude.{decimal}
 use Rattle.heap_commands.proofs.Texts.{join3}
 use Rattle.heap_commands.proofs.object_list.push_object.Goals as goal
