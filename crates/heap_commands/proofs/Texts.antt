@@ -1,6 +1,5 @@
 -- Texts that grow piece by piece.
 use Rattle.std.proofs.Common.{◌≡◌, ℕ, ◌+◌, ◌<◌, ◌≤◌, List, [], ◌∷◌, ◌++◌, length, get_or, take, drop, append_assoc, append-nil, sym, ◌∙◌, ap}
-use Rattle.std.specs.Prelude.{flat_map}
 use Rattle.std.proofs.lemmas.List.{at_drop_all, at_drop_more, flat_map_more, take_all, take_more}
 use Rattle.heap_dump.specs.declared.listing.ListedObject.{ListedObject}
 use Rattle.heap_dump.specs.declared.class_names.ClassNames.{ClassNames}

@@ -1,5 +1,5 @@
 -- The histogram of the classes of an imported image.
-use Rattle.std.specs.Prelude.{◌≡◌, ℕ, ◌+◌, ◌*◌, min, List, [], ◌∷◌, ◌++◌, take, codes, decimal}
+use Rattle.std.specs.Prelude.{◌≡◌, ℕ, ◌+◌, ◌*◌, List, [], ◌∷◌, ◌++◌, take, codes, decimal}
 use Rattle.std.specs.Fmt.{format_spec, styled_decimal}
 use Rattle.heap_image.specs.HeapImage.{HeapImage, heap_words}
 use Rattle.heap_dump.specs.ClassNames.{name_of}
