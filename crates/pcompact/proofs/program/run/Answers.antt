@@ -26,3 +26,7 @@ returns-in-Some-clause-prints g c = λ name call good.
 pub returns-in-Some-clause-import : goal.returns-in-Some-clause-import
 returns-in-Some-clause-import g c = λ call good.
     absurd (some_none (c.in-Some.ensures.usage_alone (c.in-Err.ensures.calls (codes "import") call)))
+
+pub returns-in-Ok-clause-board_is_known : goal.returns-in-Ok-clause-board_is_known
+returns-in-Ok-clause-board_is_known g c = λ is_board.
+    c.carry_out.ensures.board_is_known (c.as_asked-request.ensures.name (codes "board") (c.in-Ok.ensures.board is_board))
