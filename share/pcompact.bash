@@ -1,11 +1,13 @@
 # Completes the words of pcompact. Made by share/make from the help of the program.
 
 # Finds which command the words before the cursor call: `command`, the options that it was `given`, how many arguments, and
-# the `option` whose value is due.
+# the `option` whose value is due. Some options have a value only behind `=`.
 _pcompact_read() {
-    local word
+    local word open=
     command= given=' ' count=0 option= ended=
     for word in "${COMP_WORDS[@]:1:COMP_CWORD-1}"; do
+        [[ $word != '=' ]] || option=${option:-$open}
+        open=
         if [[ -n $option ]]; then
             [[ $word = '=' ]] || option=
         elif [[ -z $ended && $word = -- ]]; then
@@ -14,15 +16,33 @@ _pcompact_read() {
             given+="$word "
             case "$command $word" in
             'collect --workers' | \
+                'collect --region-log' | \
+                'collect --allowance' | \
+                'verify --region-log' | \
+                'verify --allowance' | \
+                'summary --region-log' | \
+                'summary --allowance' | \
+                'order --region-log' | \
+                'order --allowance' | \
                 'map --width' | \
                 'map --height' | \
                 'map --svg' | \
+                'map --region-log' | \
+                'map --allowance' | \
                 'record --workers' | \
+                'record --region-log' | \
+                'record --allowance' | \
+                'replay --region-log' | \
+                'replay --allowance' | \
                 'timeline --width' | \
                 'timeline --svg' | \
                 'timeline --html' | \
+                'timeline --region-log' | \
+                'timeline --allowance' | \
                 'import --region-log' | \
                 'import --allowance' | \
+                'import --classes' | \
+                'import --histogram' | \
                 'generate --words' | \
                 'generate --live' | \
                 'generate --region-log' | \
@@ -30,6 +50,8 @@ _pcompact_read() {
                 'generate --refs' | \
                 'generate --version' | \
                 'generate --allowance') option=$word ;;
+            'map --color' | \
+                'timeline --color') open=$word ;;
             esac
         elif [[ -z $command ]]; then
             command=$word
@@ -37,6 +59,7 @@ _pcompact_read() {
             count=$((count + 1))
         fi
     done
+    [[ $current != '=' ]] || option=${option:-$open}
 }
 
 # What the command takes: `options`, and as many arguments as `most`.
@@ -44,18 +67,18 @@ _pcompact_takes() {
     options= most=0
     case $command in
     '') options='-h --help -V --version' ;;
-    collect) options='--workers --atomic --json --stats --verbose -h --help' most=2 ;;
-    verify) options='--explain --ignore-free --json --stats --verbose -h --help' most=2 ;;
-    summary) options='--heading --json --verbose -h --help' most=1 ;;
-    order) options='--json --verbose -h --help' most=1 ;;
-    map) options='--after --width --height --svg --letters --color --no-color --atomic --verbose -h --help' most=1 ;;
+    collect) options='--workers --region-log --allowance --atomic --json --stats --verbose -h --help' most=2 ;;
+    verify) options='--explain --ignore-free --region-log --allowance --json --stats --verbose -h --help' most=2 ;;
+    summary) options='--heading --region-log --allowance --json --verbose -h --help' most=1 ;;
+    order) options='--region-log --allowance --json --verbose -h --help' most=1 ;;
+    map) options='--after --width --height --svg --region-log --allowance --letters --color --no-color --atomic --verbose -h --help' most=1 ;;
     text) options='--verbose -h --help' most=1 ;;
     assemble) options='--atomic --verbose -h --help' most=2 ;;
-    record) options='--workers --atomic --stats --verbose -h --help' most=3 ;;
-    replay) options='--verbose -h --help' most=2 ;;
-    timeline) options='--width --svg --html --letters --color --no-color --atomic --verbose -h --help' most=2 ;;
+    record) options='--workers --region-log --allowance --atomic --stats --verbose -h --help' most=3 ;;
+    replay) options='--region-log --allowance --verbose -h --help' most=2 ;;
+    timeline) options='--width --svg --html --region-log --allowance --letters --color --no-color --atomic --verbose -h --help' most=2 ;;
     upgrade) options='--atomic --verbose -h --help' most=2 ;;
-    import) options='--region-log --allowance --live-only --json --atomic --verbose -h --help' most=2 ;;
+    import) options='--region-log --allowance --live-only --classes --histogram --json --stats --atomic --verbose -h --help' most=2 ;;
     generate) options='--words --live --region-log --seed --refs --version --allowance --atomic --verbose -h --help' most=1 ;;
     board) options='-h --help' most=0 ;;
     help) options='' most=1 ;;
@@ -72,13 +95,24 @@ _pcompact_files() {
 _pcompact_value() {
     case "$command $option" in
     'collect --workers') _pcompact_words {1..64} ;;
+    'collect --region-log') _pcompact_words {3..16} ;;
+    'verify --region-log') _pcompact_words {3..16} ;;
+    'summary --region-log') _pcompact_words {3..16} ;;
+    'order --region-log') _pcompact_words {3..16} ;;
     'map --svg') _pcompact_files ;;
+    'map --region-log') _pcompact_words {3..16} ;;
     'record --workers') _pcompact_words {1..64} ;;
+    'record --region-log') _pcompact_words {3..16} ;;
+    'replay --region-log') _pcompact_words {3..16} ;;
     'timeline --svg') _pcompact_files ;;
     'timeline --html') _pcompact_files ;;
+    'timeline --region-log') _pcompact_words {3..16} ;;
     'import --region-log') _pcompact_words {3..16} ;;
+    'import --classes') _pcompact_files ;;
     'generate --region-log') _pcompact_words {3..16} ;;
     'generate --version') _pcompact_words {1..2} ;;
+    'map --color') _pcompact_words auto always never ;;
+    'timeline --color') _pcompact_words auto always never ;;
     *) compopt +o default +o bashdefault 2>/dev/null ;;
     esac
 }
