@@ -22,7 +22,7 @@ BASH_ROWS = [
     ("pcompact --v", "--version"),
     ("pcompact collect --st", "--stats"),
     ("pcompact collect --stats --st", ""),
-    ("pcompact collect heap.pcheap --a", "--atomic"),
+    ("pcompact collect heap.pcheap --at", "--atomic"),
     ("pcompact collect ", "*"),
     ("pcompact collect --workers 2 ", "*"),
     ("pcompact collect a b --workers 6", "6 60 61 62 63 64"),
