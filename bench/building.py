@@ -40,6 +40,7 @@ def proved(scratch: pathlib.Path, source: pathlib.Path, crate: str, may_wait: in
     are files `.antt.txt` in a folder `proofs` beside it: they get their names in the scratch folder. A second call with
     the same folder builds only what has changed.
     """
+    subprocess.run([top / "prove", "--unpack"], check=True)
     lines = lines_up_to(crate)
     below = [name_of(line) for line in lines]
     for name in below:

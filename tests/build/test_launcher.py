@@ -292,7 +292,7 @@ def try_failures(it: Launcher, copy: pathlib.Path) -> None:
     call.send_signal(signal.SIGTERM)
     it.check(call.wait(20) == 128 + signal.SIGTERM, f"a call that is ended has status {call.returncode}")
     it.check(not subprocess.run(asleep, capture_output=True).stdout, "what it started still runs")
-    it.check((copy / "crates/raw_region/out/rlib").is_dir(), "what was kept is gone")
+    it.check((copy / "crates/raw_region/out/rlib.tar.gz").is_file(), "what was kept is gone")
     (it.kit / "sleeps").unlink()
     said, calls = it.call([copy / "pcompact", "a word"], 3, "the call after that")
     it.check("lib raw_region" in calls and "run pcompact" in calls, f"proved then: {calls}")
@@ -331,6 +331,7 @@ def try_dist(it: Launcher, copy: pathlib.Path) -> None:
     said, calls = it.call([clone / "prove"], 0, "prove in a clone")
     it.check("byte for byte" in said and calls == built(program_crates()), f"prove in a clone: {said!r} {calls}")
     it.runs(clone / "pcompact", "the call after it")
+    try_packed(it, clone)
     # Another program with a stamp of these sources.
     program = bytearray((copy / "dist/pcompact").read_bytes()) + b"\0"
     (clone / "dist/pcompact").write_bytes(program)
@@ -340,6 +341,19 @@ def try_dist(it: Launcher, copy: pathlib.Path) -> None:
     (clone / "dist/stamp").write_text(stamp.replace("kit stand-in", "kit another"))
     said, _ = it.call([clone / "prove"], 0, "prove beside a dist of another kit")
     it.check("by the kit another, and this is stand-in" in said, f"a dist of another kit: {said!r}")
+
+
+def try_packed(it: Launcher, clone: pathlib.Path) -> None:
+    """Libraries are packed once all is proved, and come back as they were."""
+    libraries = [clone / "crates" / name / "out" / "rlib" for name in program_crates() if name != "pcompact"]
+    it.check(not any(library.exists() for library in libraries), "a library isn't packed")
+    _, calls = it.call([clone / "prove"], 0, "prove where libraries are packed")
+    it.check(calls == "", f"proved again: {calls}")
+    _, calls = it.call([clone / "prove", "--unpack"], 0, "prove --unpack")
+    stamps = [library / "stamp" for library in libraries]
+    it.check(calls == "" and all(stamp.is_file() and stamp.read_text() == "stamp\n" for stamp in stamps), "a library doesn't come back")
+    _, calls = it.call([clone / "prove"], 0, "prove after that")
+    it.check(calls == "" and not any(library.exists() for library in libraries), f"packed again: {calls}")
 
 
 def try_wrong_dist(it: Launcher, copy: pathlib.Path) -> None:

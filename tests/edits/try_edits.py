@@ -187,14 +187,17 @@ class Trial:
         return refused
 
     def alone(self, edit):
-        """The line by which a check of this edit alone refuses it, or None. What its modules pass, others may refuse."""
+        """The line by which a check of this edit alone refuses it, or None, or no text where a check ends without a verdict. What
+        its modules pass, others may refuse."""
         texts = dict(self.sources.texts)
         edit.apply(texts)
         said, status = self.check(texts, sorted({file for file, _, _ in edit.changes}))
         if status == 0:
             said, status = self.check(texts)
-        if status != 1 or not re.search(r"^(logic=not-proved|only=\d+ proved=\d+)", said, re.MULTILINE):
+        if status == 0:
             return None
+        if status != 1 or not re.search(r"^(logic=not-proved|only=\d+ proved=\d+)", said, re.MULTILINE):
+            return ""
         lines = [it for it in said.split("\n") if re.match(r"(note: )?\S+:\d+:\d+: ", it)]
         own = [it for it in lines if it.startswith("note: src/") or ": error" in it and not NAMES_WHAT_IS_GONE.search(it)]
         return own[0] if own else None
@@ -235,7 +238,8 @@ def try_crate(crate, jobs):
         for edit in edits:
             if edit not in refused:
                 line = trial.alone(edit)
-                print(f"{crate} {edit.name}: {f'refused alone: {line[:140]}' if line else 'NOT refused'}", flush=True)
+                words = f"refused alone: {line[:140]}" if line else "NOT refused" if line is None else "NOT tried: no verdict"
+                print(f"{crate} {edit.name}: {words}", flush=True)
                 refused |= {edit} if line else set()
         return len(refused), len(edits) - len(refused)
 
@@ -248,6 +252,8 @@ def main():
     parser.add_argument("--lanes", type=int, default=os.cpu_count(), metavar="N", help="crates at a time")
     words = parser.parse_args()
     named = {it.parent.parent.name for it in TOP.glob("crates/*/must-fail/*.edit")} | {it.parent.name for it in TOP.glob("tests/edits/*/*.edit")}
+    if not words.fits:
+        subprocess.run([TOP / "prove", "--unpack"], check=True)
     crates = words.crates or sorted(named)
     unknown = [it for it in crates if it not in named]
     if unknown:
