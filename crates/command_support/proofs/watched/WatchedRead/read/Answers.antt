@@ -13,8 +13,10 @@ returns-in-Ok-clause-bytes g c =
     let file : List ℕ = c.read.new.buf in
     let piece : List ℕ = c.reshape.new.piece in
     let long : length piece ≡ n = ap length c.reshape.ensures ∙ length-bytes_read shape at (take n file) ∙ sym c.in-Ok.ensures.bound.1 in
-    let front : take n (piece ++ drop n file) ≡ bytes_read shape at (take n file) = take_at piece (drop n file) n long ∙ c.reshape.ensures in
-    (subst (Consumes _ _) (sym front) (read-more shape at c.keep.new.self.count _ _ (take n file) c.in-Ok.ensures.bytes.0 c.keep.ensures), λ none some.
-    let whole = length-append piece (drop n file) in
-    let rest = length-drop n file in
-    read-end shape c.keep.new.self.count _ (c.in-Ok.ensures.bytes.1 none (omega (arith, long, whole, rest))))
+    let front : take n (piece ++ drop n file) ≡ bytes_read shape at (take n file) = take_at piece (drop n file) n long ∙ c.reshape.ensures in (
+      subst (Consumes _ _) (sym front) (read-more shape at c.keep.new.self.count _ _ (take n file) c.in-Ok.ensures.bytes.0 c.keep.ensures),
+      λ none some.
+          let whole = length-append piece (drop n file) in
+          let rest = length-drop n file in
+          read-end shape c.keep.new.self.count _ (c.in-Ok.ensures.bytes.1 none (omega (arith, long, whole, rest))),
+    )
