@@ -13,6 +13,7 @@ pub mod BlockWords
 pub mod Bodies
 pub mod Spans
 pub mod Parts
+pub mod Versions
 pub mod LiveWords
 pub mod TextLaws
 pub mod Faultless

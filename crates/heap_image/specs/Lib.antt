@@ -1,4 +1,5 @@
 pub mod Header
+pub mod Version
 pub mod HeapImage
 pub mod ImageText
 pub mod LengthCause

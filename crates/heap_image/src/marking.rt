@@ -73,7 +73,7 @@ impl Marking {
     fn mark_reached(&mut self, heap: &Heap<'_>, roots: &[u64], batch: &mut Vec<Waiting>)
         requires words { self.old.words ≡ heap_words heap.now }
         requires bits { length self.old.bits ≡ self.old.words / 64 + 1 }
-        requires few { self.old.words ≤ 4194304 }
+        requires few { self.old.words ≤ 68719476736 }
         requires clear { (a : ℕ) → has self.old.bits a ≡ false }
         requires empty { self.old.stack.items ≡ [] }
         requires room { self.old.words ≤ vec_capacity self.old.stack }
@@ -92,7 +92,7 @@ impl Marking {
     /// Visits the targets of these references (the roots, or some references of an object), and notes whether one leads
     /// out of the heap.
     fn visit_all(&mut self, references: &[u64])
-        requires few { self.old.words ≤ 4194304 }
+        requires few { self.old.words ≤ 68719476736 }
         requires bits { self.old.words / 64 < length self.old.bits }
         requires room { length self.old.stack.items + unmarked self.old.words self.old.bits ≤ vec_capacity self.old.stack }
         ensures grown { IsGrown self.old.words (λ b. list_any (λ w. leads_to w b) references.now)
@@ -189,7 +189,7 @@ impl Marking {
     /// Marks the target of a reference and pushes it on the stack, unless it is marked already or outside the heap.
     #[inline]
     fn visit(&mut self, reference: u64)
-        requires few { self.old.words ≤ 4194304 }
+        requires few { self.old.words ≤ 68719476736 }
         requires bits { self.old.words / 64 < length self.old.bits }
         requires room { length self.old.stack.items + unmarked self.old.words self.old.bits ≤ vec_capacity self.old.stack }
         ensures grown { IsGrown self.old.words (leads_to reference)

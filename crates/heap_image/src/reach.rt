@@ -1,17 +1,17 @@
 //! Finds the live objects of a heap with roots.
-ghost use Rattle.std.specs.Prelude.{◌≡◌, ◌<◌, ◌≤◌, ◌⊎◌, Some, None, true, [], All, length, find, nat_lt, slice_index, IfOk, OnOk, IfErr, IsTrue};
+ghost use Rattle.std.specs.Prelude.{◌≡◌, ◌<◌, ◌≤◌, ◌^◌, ◌⊎◌, Some, None, [], All, length, find, nat_lt, slice_index, IfOk, OnOk, IfErr, IsTrue};
 ghost use Rattle.std.specs.List.{concat, range_with_len};
 ghost use Rattle.heap_image.specs.HeapImage.{FormHeap, heap_words, image_of, reachable, with_live};
 ghost use Rattle.heap_image.specs.ImageText.{first_some, from_tail, live_list_faults, misplaced_root};
 ghost use Rattle.heap_image.specs.Bits.{MarkBegins};
 ghost use Rattle.heap_image.specs.Soundness.{AreWellFormed};
 
-use crate::Fault;
 use crate::bits::Bits;
 use crate::check::check_live;
 use crate::heap::Heap;
 use crate::live_list::marked_addresses;
 use crate::marking::mark;
+use crate::{Fault, Version};
 use raw_region::Region;
 use std::alloc::Global;
 
@@ -29,10 +29,11 @@ pub fn mark_from_roots(
 ) -> Result<Vec<u64>, Fault>
     requires heap { FormHeap region_log regions.now }
     requires few { length roots.now ≤ length (concat regions.now) }
+    requires fits { length roots.now < 2 ^ 32 }
     ensures live { IfOk result (λ live. live.items ≡ reachable (image_of region_log 0 regions.now []) roots.now) }
-    ensures ok { let faults = live_list_faults (from_tail true (image_of region_log 0 regions.now roots.now)) in
+    ensures ok { let faults = live_list_faults (from_tail Version.Two (image_of region_log 0 regions.now roots.now)) in
         OnOk result (first_some faults ≡ None) }
-    ensures fault { let faults = live_list_faults (from_tail true (image_of region_log 0 regions.now roots.now)) in
+    ensures fault { let faults = live_list_faults (from_tail Version.Two (image_of region_log 0 regions.now roots.now)) in
         IfErr result (λ fault. (fault ≡ Fault.Memory) ⊎ (first_some faults ≡ Some fault)) }
 {
     let heap = Heap::new(regions, region_log);
@@ -64,14 +65,15 @@ pub(crate) fn find_reachable(
     roots: &[u64],
 ) -> Result<Reached, Fault>
     requires few { length roots.now ≤ heap_words heap.now }
+    requires fits { length roots.now < 2 ^ 32 }
     ensures live { IfOk result (λ reached. reached.live.items ≡ reachable heap.now roots.now) }
     ensures inside { IfOk result (λ reached. All (λ a. a < heap_words heap.now) reached.live.items) }
     ensures begins { IfOk result
         (λ reached. MarkBegins reached.live.items (heap_words heap.now) reached.begins) }
     ensures well_formed { IfOk result
         (λ reached. IsTrue reached.well_formed → AreWellFormed (with_live heap.now reached.live.items)) }
-    ensures roots { OnOk result (misplaced_root (from_tail true (with_live heap.now roots.now)) ≡ None) }
-    ensures fault { let faults = live_list_faults (from_tail true (with_live heap.now roots.now)) in
+    ensures roots { OnOk result (misplaced_root (from_tail Version.Two (with_live heap.now roots.now)) ≡ None) }
+    ensures fault { let faults = live_list_faults (from_tail Version.Two (with_live heap.now roots.now)) in
         IfErr result (λ fault. (fault ≡ Fault.Memory) ⊎ (first_some faults ≡ Some fault)) }
 {
     let words = heap.len();
@@ -90,7 +92,7 @@ pub(crate) fn find_reachable(
 /// The first index of a root that is above the number of words.
 fn misplaced_root(roots: &[u64], words: u64) -> Option<u32>
     requires few { length roots.now ≤ words }
-    requires fits { words ≤ 4194304 }
+    requires fits { length roots.now < 2 ^ 32 }
     ensures { result ≡ find (λ i. nat_lt words (slice_index roots.now i)) (range_with_len 0 (length roots.now)) }
 {
     for (index, root) in roots.iter().enumerate() {

@@ -39,3 +39,5 @@ mod stores;
 mod texts;
 #[cfg(test)]
 mod upgrading;
+#[cfg(test)]
+mod versions;

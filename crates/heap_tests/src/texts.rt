@@ -2,12 +2,17 @@
 use heap_samples::{Base, Settings};
 use std::alloc::{AllocError, Global};
 
-/// The first 32 bytes of an image with allowance 0.
+/// The first 32 bytes of an image of version 1 with allowance 0.
 pub fn front(region_log: u32, live_count: u32, words: u64) -> [u8; 32] {
+    front_in(b"PCHEAP01", region_log, live_count, words)
+}
+
+/// The first 32 bytes of an image with this magic and allowance 0.
+pub fn front_in(magic: &[u8; 8], region_log: u32, count: u32, words: u64) -> [u8; 32] {
     let mut front = [0; 32];
-    front[..8].copy_from_slice(b"PCHEAP01");
+    front[..8].copy_from_slice(magic);
     front[8..12].copy_from_slice(&region_log.to_le_bytes());
-    front[12..16].copy_from_slice(&live_count.to_le_bytes());
+    front[12..16].copy_from_slice(&count.to_le_bytes());
     front[16..24].copy_from_slice(&words.to_le_bytes());
     front
 }

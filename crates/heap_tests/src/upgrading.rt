@@ -17,7 +17,7 @@ use std::thread::Threads;
 const ROOTS: [u64; 4] = [1, 6, 13, 21];
 
 /// Upgrades a stream, and returns the result and the bytes that are written.
-fn upgrade_bytes(alloc: Global, bytes: &[u8]) -> (Result<u32, Fault>, Vec<u8>) {
+pub fn upgrade_bytes(alloc: Global, bytes: &[u8]) -> (Result<u32, Fault>, Vec<u8>) {
     let mut writer = ToWrite::new(Vec::new(alloc));
     let answer = upgrade_stream(alloc, &mut FromRead::new(bytes), &mut writer);
     (answer, writer.into_inner())

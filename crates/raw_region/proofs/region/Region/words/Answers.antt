@@ -11,12 +11,12 @@ long b ws now is = sym (length-shown_words b ws) ∙ ap length is
 nonempty : (b : Bool) (ws now : List ℕ) → shown_words b ws ≡ now → 1 ≤ length ws → 1 ≤ length now
 nonempty b ws now is some = subst (λ n. 1 ≤ n) (long b ws now is) some
 
-at_most : (b : Bool) (ws now : List ℕ) → shown_words b ws ≡ now → length ws ≤ 65536 → length now ≤ 65536
-at_most b ws now is most = subst (λ n. n ≤ 65536) (long b ws now is) most
+at_most : (b : Bool) (ws now : List ℕ) → shown_words b ws ≡ now → length ws ≤ 1048576 → length now ≤ 1048576
+at_most b ws now is most = subst (λ n. n ≤ 1048576) (long b ws now is) most
 
 -- As many of the zeros are the words of a cleared region.
-zeros : (b : Bool) (ws got now : List ℕ) → shown_words b ws ≡ now → b ≡ true → got ≡ ws → length ws ≤ 65536 → take (length got) (replicate {A = ℕ} 65536 0) ≡ now
-zeros b ws got now is cleared same most = ap (λ l. take (length l) (replicate {A = ℕ} 65536 0)) same ∙ take-replicate (length ws) 65536 0 most ∙ sym (shown_words-cleared b ws cleared) ∙ is
+zeros : (b : Bool) (ws got now : List ℕ) → shown_words b ws ≡ now → b ≡ true → got ≡ ws → length ws ≤ 1048576 → take (length got) (replicate {A = ℕ} 1048576 0) ≡ now
+zeros b ws got now is cleared same most = ap (λ l. take (length l) (replicate {A = ℕ} 1048576 0)) same ∙ take-replicate (length ws) 1048576 0 most ∙ sym (shown_words-cleared b ws cleared) ∙ is
 
 pub returns-then-self-clause-value : goal.returns-then-self-clause-value
 returns-then-self-clause-value c = zeros c.self.inside.is_clear c.self.inside.block.words c.words-words.result.now c.args.self.now c.self.view_is c.if-self.true c.words-words.ensures.value c.words-words.ensures.at_most

@@ -1,0 +1,82 @@
+//! The versions of the format.
+ghost use Rattle.std.specs.Prelude.{◌≡◌, ◌≤◌};
+ghost use Rattle.heap_image.specs.Version.{has_roots, max_region_log, max_regions, max_words, number_of};
+ghost use Rattle.heap_image.specs.ImageText.{magic};
+
+/// A version of the format.
+#[derive(Debug, Clone, Copy, PartialEq, Eq)]
+pub enum Version {
+    /// An image lists its live objects.
+    One,
+    /// An image has roots.
+    Two,
+    /// An image has roots, and may be larger.
+    Three,
+}
+
+impl Version {
+    /// The number by which the format calls the version.
+    pub fn number(self) -> u32
+        ensures { result ≡ number_of self }
+    {
+        match self {
+            Version::One => 1,
+            Version::Two => 2,
+            Version::Three => 3,
+        }
+    }
+
+    /// The first 8 bytes of an image.
+    pub(crate) fn magic(self) -> [u8; 8]
+        ensures { result ≡ magic self }
+    {
+        match self {
+            Version::One => *b"PCHEAP01",
+            Version::Two => *b"PCHEAP02",
+            Version::Three => *b"PCHEAP03",
+        }
+    }
+
+    /// Whether an image has roots. Otherwise it lists its live objects.
+    pub fn has_roots(self) -> bool
+        ensures { result ≡ has_roots self }
+    {
+        match self {
+            Version::One => false,
+            Version::Two | Version::Three => true,
+        }
+    }
+
+    /// The greatest logarithm, to base 2, of the number of words of a region.
+    pub fn max_region_log(self) -> u32
+        ensures value { result ≡ max_region_log self }
+        ensures few { result ≤ 20 }
+    {
+        match self {
+            Version::One | Version::Two => 16,
+            Version::Three => 20,
+        }
+    }
+
+    /// The largest number of words of a heap.
+    pub fn max_words(self) -> u64
+        ensures value { result ≡ max_words self }
+        ensures few { result ≤ 68719476736 }
+    {
+        match self {
+            Version::One | Version::Two => 4_194_304,
+            Version::Three => 68_719_476_736,
+        }
+    }
+
+    /// The largest number of regions of a heap.
+    pub fn max_regions(self) -> u64
+        ensures value { result ≡ max_regions self }
+        ensures few { result ≤ 1048576 }
+    {
+        match self {
+            Version::One | Version::Two => 16_384,
+            Version::Three => 1_048_576,
+        }
+    }
+}
