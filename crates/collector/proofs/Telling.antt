@@ -13,8 +13,8 @@ use Rattle.collector.specs.Verdict.{HaveSameShape, IsVerdict, IsVerdictBelow, Is
 use Rattle.collector.specs.declared.verdict.Verdict.{Verdict}
 use Rattle.collector.specs.declared.verdict.Verdict.TheVariants.{Same, Shape, Word, Live, Root}
 
-pub same_image : (x y : HeapImage) → x.region_log ≡ y.region_log → x.allowance ≡ y.allowance → x.words ≡ y.words → x.live ≡ y.live → x.roots ≡ y.roots → x ≡ y
-same_image x y a b c d e = λ i. record { region_log = a i; allowance = b i; words = c i; live = d i; roots = e i }
+pub same_image : (x y : HeapImage) → x.version ≡ y.version → x.region_log ≡ y.region_log → x.allowance ≡ y.allowance → x.words ≡ y.words → x.live ≡ y.live → x.roots ≡ y.roots → x ≡ y
+same_image x y v a b c d e = λ i. record { version = v i; region_log = a i; allowance = b i; words = c i; live = d i; roots = e i }
 
 -- images of the same version and the same numbers
 same_roots : (o p : Option (List ℕ)) → cond {A = ℕ} (is_some o) 2 1 ≡ cond {A = ℕ} (is_some p) 2 1 → roots_or [] o ≡ roots_or [] p → o ≡ p

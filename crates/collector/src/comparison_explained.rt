@@ -320,7 +320,7 @@ fn field_is_inside(image: &Image, a: u64, f: u64)
     requires live { Contains image.now.live a }
     requires field { f < references_at image.now a }
     ensures inside { a + 1 + f < heap_words image.now }
-    ensures few { heap_words image.now ≤ 4194304 }
+    ensures few { heap_words image.now ≤ 68719476736 }
 {
     image_is_valid(image);
 }

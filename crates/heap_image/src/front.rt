@@ -161,14 +161,23 @@ fn named_version(bytes: &[u8]) -> Option<Version>
     ensures version { IfSome result (λ version. version ≡ encoded_version bytes.now) }
     ensures known { is_some result ≡ bytes_eq (take 8 bytes.now) (magic (encoded_version bytes.now)) }
 {
-    if bytes[..8] == Version::Three.magic()[..] {
+    if has_magic(bytes, Version::Three) {
         return Some(Version::Three);
     }
-    if bytes[..8] == Version::Two.magic()[..] {
+    if has_magic(bytes, Version::Two) {
         return Some(Version::Two);
     }
-    if bytes[..8] == Version::One.magic()[..] {
+    if has_magic(bytes, Version::One) {
         return Some(Version::One);
     }
     None
+}
+
+/// Whether a front begins with the magic of this version.
+fn has_magic(bytes: &[u8], version: Version) -> bool
+    requires { 8 ≤ length bytes.now }
+    ensures { result ≡ bytes_eq (take 8 bytes.now) (magic version) }
+{
+    let magic = version.magic();
+    bytes[..8] == magic[..]
 }

@@ -78,6 +78,7 @@ impl<'a> Carrier<'a> {
         let live = self.new_live(alloc, image)?;
         let roots = self.new_roots(alloc, image)?;
         let parts = ImageParts {
+            version: image.version(),
             region_log: image.region_log(),
             allowance: image.allowance(),
             regions,
@@ -93,7 +94,7 @@ impl<'a> Carrier<'a> {
         requires image { self.now.plan.now ≡ image.now }
         ensures { IfOk result (λ roots. option_map (λ v. v.items) roots ≡ option_map (map (redirected image.now)) image.now.roots) }
     {
-        if image.version() == 1 {
+        if !image.version().has_roots() {
             return Ok(None);
         }
         let mut roots = Vec::new(alloc);

@@ -68,7 +68,7 @@ pub overflow_add-from-in-Some : goal.overflow_add-from-in-Some
 overflow_add-from-in-Some g c =
     let image : HeapImage = c.args.self.now.site.guide.now in
     let inside : c.in-Some.opening.source < table_regions (image_table image) = subst (λ (p : HeapImage). c.in-Some.opening.source < table_regions (image_table p)) c.plan.ensures c.in-Some.ensures.inside in
-    let few : table_regions (image_table image) ≤ 16384 = (c.moves_of_images.ensures.lawful image c.prefix_end.ensures.valid).few in
+    let few : table_regions (image_table image) ≤ 1048576 = (c.moves_of_images.ensures.lawful image c.prefix_end.ensures.valid).few in
     let e : c.source-s.result ≡ c.in-Some.opening.source = c.source-s.ensures in
     omega arith
 

@@ -25,7 +25,7 @@ pub overflow_cast-end : goal.overflow_cast-end
 overflow_cast-end c =
     let image : HeapImage = c.args.self.now.site.guide.now in
     let low = prefix_end-le image c.image_is_valid.ensures.live_list in
-    let few : heap_words image ≤ 4194304 = c.image_is_valid.ensures.limits.few_words in
+    let few : heap_words image ≤ 68719476736 = c.image_is_valid.ensures.limits.few_words in
     let up : c.gap_end-end.result ≤ prefix_end image = c.gap_end-end.ensures.inside in
     omega arith
 
