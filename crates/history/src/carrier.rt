@@ -25,7 +25,7 @@ pub(crate) struct Carrier<'a> {
     plan: &'a Plan,
     marks: &'a Marks,
     /// The old addresses of the words that go to the new addresses from the prefix end on.
-    origins: Vec<u32>,
+    origins: Vec<u64>,
     /// For each old address, whether its word is redirected as it is moved.
     early: Vec<bool>,
     /// For each new address, whether its word is redirected at the end.
@@ -195,7 +195,7 @@ impl<'a> Carrier<'a> {
     {
         let prefix_end = self.plan.prefix_end();
         if place >= prefix_end {
-            return Some(u64::from(self.origins[(place - prefix_end) as usize]));
+            return Some(self.origins[(place - prefix_end) as usize]);
         }
         if is_live(self.marks, place) {
             Some(place)
