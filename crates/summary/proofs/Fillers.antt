@@ -1,6 +1,7 @@
 -- Fillers by longest runs of dead words.
-use Rattle.std.proofs.Common.{◌≡◌, ℕ, zero, suc, ◌+◌, ◌-◌, ◌*◌, ◌/◌, ◌%◌, ◌≤◌, ◌<◌, inl, inr, min, Bool, true, false, ◌||◌, get_or, sym, ◌∙◌, ap, subst, arith, ltb, eqb}
+use Rattle.std.proofs.Common.{◌≡◌, ℕ, zero, suc, ◌+◌, ◌-◌, ◌*◌, ◌/◌, ◌%◌, ◌^◌, ◌≤◌, ◌<◌, inl, inr, min, mul_assoc, mul_comm, Bool, true, false, ◌||◌, get_or, sym, ◌∙◌, ap, subst, arith, ltb, eqb}
 use Rattle.std.proofs.lemmas.Bool.{cases_Bool, cases_lt, cond-true, cond-false, or_left, or_right, or_from, eq-eqb, ne_eqb, not_from_true, not_from_false, lt-ltb}
+use Rattle.std.proofs.lemmas.Nat.{mul-le, pow-add}
 use Rattle.std.proofs.lemmas.List.FromFn.{get_or-range_with_len, length-range_with_len}
 use Rattle.std.proofs.lemmas.List.Sums.{prefix_len_is}
 use Rattle.std.specs.Prelude.{not}
@@ -68,8 +69,24 @@ same_stride a p low high = omega arith
 first_of_stride : (a p : ℕ) → a ≡ p / 2147483648 * 2147483648 → a % 2147483648 ≡ 0
 first_of_stride a p e = omega arith
 
-within_stride : (a b p : ℕ) → a < p → p < b → b ≤ (a / 2147483648 + 1) * 2147483648 → p % 2147483648 ≡ 0 → ⊥
+pub within_stride : (a b p : ℕ) → a < p → p < b → b ≤ (a / 2147483648 + 1) * 2147483648 → p % 2147483648 ≡ 0 → ⊥
 within_stride a b p l m n e = omega arith
+
+-- a region lies within one stride
+pub region_in_stride : (log r at : ℕ) → log ≤ 20 → r * 2 ^ log ≤ at → at < r * 2 ^ log + 2 ^ log → r * 2 ^ log + 2 ^ log ≤ (at / 2147483648 + 1) * 2147483648
+region_in_stride log r at small low high =
+    let w : ℕ = 2 ^ log in
+    let m : ℕ = 2 ^ (31 - log) in
+    let k : ℕ = at / 2147483648 + 1 in
+    let e : log + (31 - log) ≡ 31 = omega arith in
+    let product : m * w ≡ 2147483648 = mul_comm m w ∙ (sym (pow-add 2 log (31 - log)) ∙ ap (λ n. 2 ^ n) e) in
+    let whole : k * 2147483648 ≡ k * m * w = ap (λ n. k * n) (sym product) ∙ sym (mul_assoc k m w) in
+    let past : at < k * 2147483648 = omega arith in
+    let next : (r + 1) * w ≡ r * w + w = omega arith in
+    elim (cases_lt r (k * m)) [
+      | inl less ↦ let fits : (r + 1) * w ≤ k * m * w = mul-le (r + 1) w (k * m) w (omega arith) (omega arith) in omega arith
+      | inr more ↦ let over : k * m * w ≤ r * w = mul-le (k * m) w r w (omega arith) (omega arith) in let no : ⊥ = omega arith in absurd no
+    ]
 
 module _ (image : HeapImage) where
   abbrev P : ℕ
