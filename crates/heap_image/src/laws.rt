@@ -1,13 +1,13 @@
 //! Laws of images and their texts, for callers' proofs. The functions do nothing: each one's contract is a law.
 ghost use Rattle.std.specs.Prelude.{◌≡◌, ◌+◌, ℕ, List, Bool, true, [], Some, None, All, IsTrue, filter, map};
 ghost use Rattle.std.specs.List.{range_with_len};
+ghost use Rattle.heap_image.specs.declared.version.Version.TheVariants.{Two};
 ghost use Rattle.heap_image.specs.HeapImage.{HeapImage, IsValid, HasLiveList, heap_words, image_of, is_null_or_live, reachable, versioned_image_of, roots_of};
 ghost use Rattle.heap_image.specs.ImageText.{text, from_tail, first_some, live_list_faults, misplaced_index, unsound_header, dangling, FaultlessIsText, TextIsFaultless};
 ghost use Rattle.heap_image.specs.Reading.{HasFittingNumbers};
 ghost use Rattle.heap_image.specs.Reachable.{is_listed, beyond, IsClosed};
 
 use crate::image::Image;
-use crate::version::Version;
 
 /// Every image is valid.
 pub fn image_is_valid(image: &Image)
@@ -45,8 +45,8 @@ pub fn reachable_is_the_least_closed()
 /// null nor to a live object leads out of the heap.
 pub fn faults_of_roots()
     ensures order { (image : HeapImage) (roots : List ℕ) → misplaced_index (heap_words image) (reachable image roots) ≡ None }
-    ensures references { (image : HeapImage) → unsound_header (from_tail Version.Two image) ≡ None
-        → dangling (from_tail Version.Two image) ≡ beyond (from_tail Version.Two image) }
+    ensures references { (image : HeapImage) → unsound_header (from_tail Two image) ≡ None
+        → dangling (from_tail Two image) ≡ beyond (from_tail Two image) }
 {}
 
 /// With a root to each live object, exactly the live objects are reachable.
@@ -63,8 +63,8 @@ pub fn roots_are_null_or_live()
 /// fault, are the parts of a valid image with the live objects that it returns, whatever the allowance.
 pub fn marked_parts_are_valid()
     ensures { (log allowance : ℕ) (blocks : List (List ℕ)) (roots live : List ℕ)
-        → HasFittingNumbers Version.Two (image_of log allowance blocks roots)
-        → first_some (live_list_faults (from_tail Version.Two (image_of log 0 blocks roots))) ≡ None
+        → HasFittingNumbers Two (image_of log allowance blocks roots)
+        → first_some (live_list_faults (from_tail Two (image_of log 0 blocks roots))) ≡ None
         → live ≡ reachable (image_of log 0 blocks []) roots
-        → IsValid (versioned_image_of Version.Two log allowance blocks live (Some roots)) }
+        → IsValid (versioned_image_of Two log allowance blocks live (Some roots)) }
 {}

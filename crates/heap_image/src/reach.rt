@@ -1,6 +1,7 @@
 //! Finds the live objects of a heap with roots.
 ghost use Rattle.std.specs.Prelude.{◌≡◌, ◌<◌, ◌≤◌, ◌^◌, ◌⊎◌, Some, None, [], All, length, find, nat_lt, slice_index, IfOk, OnOk, IfErr, IsTrue};
 ghost use Rattle.std.specs.List.{concat, range_with_len};
+ghost use Rattle.heap_image.specs.declared.version.Version.TheVariants.{Two};
 ghost use Rattle.heap_image.specs.HeapImage.{FormHeap, heap_words, image_of, reachable, with_live};
 ghost use Rattle.heap_image.specs.ImageText.{first_some, from_tail, live_list_faults, misplaced_root};
 ghost use Rattle.heap_image.specs.Bits.{MarkBegins};
@@ -11,7 +12,7 @@ use crate::check::check_live;
 use crate::heap::Heap;
 use crate::live_list::marked_addresses;
 use crate::marking::mark;
-use crate::{Fault, Version};
+use crate::Fault;
 use raw_region::Region;
 use std::alloc::Global;
 
@@ -31,9 +32,9 @@ pub fn mark_from_roots(
     requires few { length roots.now ≤ length (concat regions.now) }
     requires fits { length roots.now < 2 ^ 32 }
     ensures live { IfOk result (λ live. live.items ≡ reachable (image_of region_log 0 regions.now []) roots.now) }
-    ensures ok { let faults = live_list_faults (from_tail Version.Two (image_of region_log 0 regions.now roots.now)) in
+    ensures ok { let faults = live_list_faults (from_tail Two (image_of region_log 0 regions.now roots.now)) in
         OnOk result (first_some faults ≡ None) }
-    ensures fault { let faults = live_list_faults (from_tail Version.Two (image_of region_log 0 regions.now roots.now)) in
+    ensures fault { let faults = live_list_faults (from_tail Two (image_of region_log 0 regions.now roots.now)) in
         IfErr result (λ fault. (fault ≡ Fault.Memory) ⊎ (first_some faults ≡ Some fault)) }
 {
     let heap = Heap::new(regions, region_log);
@@ -72,8 +73,8 @@ pub(crate) fn find_reachable(
         (λ reached. MarkBegins reached.live.items (heap_words heap.now) reached.begins) }
     ensures well_formed { IfOk result
         (λ reached. IsTrue reached.well_formed → AreWellFormed (with_live heap.now reached.live.items)) }
-    ensures roots { OnOk result (misplaced_root (from_tail Version.Two (with_live heap.now roots.now)) ≡ None) }
-    ensures fault { let faults = live_list_faults (from_tail Version.Two (with_live heap.now roots.now)) in
+    ensures roots { OnOk result (misplaced_root (from_tail Two (with_live heap.now roots.now)) ≡ None) }
+    ensures fault { let faults = live_list_faults (from_tail Two (with_live heap.now roots.now)) in
         IfErr result (λ fault. (fault ≡ Fault.Memory) ⊎ (first_some faults ≡ Some fault)) }
 {
     let words = heap.len();
