@@ -27,6 +27,7 @@ pub mod Targets
 pub mod Objects
 pub mod Fields
 pub mod Refusing
+pub mod Fronts
 pub mod Sending
 pub mod WellFormed
 pub mod WholeBytes
