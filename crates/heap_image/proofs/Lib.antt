@@ -27,7 +27,6 @@ pub mod Targets
 pub mod Objects
 pub mod Fields
 pub mod Refusing
-pub mod Fronts
 pub mod Sending
 pub mod WellFormed
 pub mod WholeBytes

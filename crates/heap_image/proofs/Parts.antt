@@ -1,7 +1,7 @@
 -- What an image and its regions have to do with one another.
 use Rattle.std.proofs.Common.{◌≡◌, ℕ, ◌-◌, ◌*◌, ◌%◌, ◌^◌, ◌≤◌, ◌<◌, List, [], length, get_or, sym, ◌∙◌, ap, arith, bit_and, Option}
 use Rattle.std.proofs.lemmas.Nat.{and_mask, pow_below}
-use Rattle.std.proofs.Math.Nat.{one-le-pow, mod-eq_of_lt}
+use Rattle.std.proofs.Math.Nat.{one-le-pow, mod-eq_of_lt, pow-le-pow_right}
 use Rattle.heap_image.specs.HeapImage.{HeapImage, AreValidParts, versioned_image_of, heap_words, region_count, block_of}
 use Rattle.heap_image.specs.declared.version.Version.{Version}
 use Rattle.heap_image.proofs.BlockWords.{length-concat, count, concat_part}
@@ -31,6 +31,13 @@ module _ (version : Version) (log allowance : ℕ) (blocks : List (List ℕ)) (l
 
   pub block_by_blocks : (r : ℕ) → r < length blocks → block_of image r ≡ get_or blocks r []
   block_by_blocks r l = concat_part (2 ^ log) blocks parts.whole r l
+
+-- the words of a region, as they are shifted
+pub region_few : (log : ℕ) → log ≤ 20 → 1 * 2 ^ log % 18446744073709551616 ≤ 1048576
+region_few log high =
+    let few : 2 ^ log ≤ 2 ^ 20 = pow-le-pow_right {n = 2} (omega arith) high in
+    let same : 1 * 2 ^ log % 18446744073709551616 ≡ 1 * 2 ^ log = mod-eq_of_lt (omega arith) in
+    omega arith
 
 -- the mask of a place in a region
 pub place_by_mask : (log a : ℕ) → log ≤ 20 → bit_and a (1 * 2 ^ log % 18446744073709551616 - 1) ≡ a % 2 ^ log

@@ -213,5 +213,5 @@ front_of_bytes version bytes fit long magic_is log count words allowance a b c d
     ∙ ap (λ n. front version log count words n) (sym d)
 
 -- the magic, by the version that was found
-pub magic_found : (bytes : List ℕ) (found : Option Version) (version : Version) → found ≡ Some version → version ≡ encoded_version bytes → is_some found ≡ bytes_eq (take 8 bytes) (magic (encoded_version bytes)) → take 8 bytes ≡ magic version
-magic_found bytes found version is v k = same_text (take 8 bytes) (magic (encoded_version bytes)) (ap is_some (sym is) ∙ k) ∙ ap magic (sym v)
+pub magic_found : (bytes : List ℕ) (found : Option Version) (v : Version) → found ≡ Some v → v ≡ encoded_version bytes → is_some found ≡ bytes_eq (take 8 bytes) (magic (encoded_version bytes)) → take 8 bytes ≡ magic v
+magic_found bytes found v is named k = same_text (take 8 bytes) (magic (encoded_version bytes)) (ap is_some (sym is) ∙ k) ∙ ap magic (sym named)

@@ -7,12 +7,12 @@ ghost use Rattle.heap_image.specs.ImageText.{first_some, from_tail, live_list_fa
 ghost use Rattle.heap_image.specs.Bits.{MarkBegins};
 ghost use Rattle.heap_image.specs.Soundness.{AreWellFormed};
 
+use crate::Fault;
 use crate::bits::Bits;
 use crate::check::check_live;
 use crate::heap::Heap;
 use crate::live_list::marked_addresses;
 use crate::marking::mark;
-use crate::Fault;
 use raw_region::Region;
 use std::alloc::Global;
 

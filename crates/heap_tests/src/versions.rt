@@ -11,6 +11,7 @@ use std::test::Fail;
 const WORDS: u64 = 1 << 36;
 
 /// A front of version 3 with these numbers, and its fault.
+#[derive(Clone, Copy)]
 struct Row {
     region_log: u32,
     count: u32,

@@ -1,5 +1,7 @@
-use Rattle.std.proofs.Common.{◌≡◌, ◌<◌, true, refl, sym, ap, ◌∙◌, subst}
+use Rattle.std.proofs.Common.{◌≡◌, ◌<◌, ◌⊎◌, Some, refl, sym, ap, ◌∙◌, subst}
 use Rattle.std.specs.Prelude.{All}
+use Rattle.std.proofs.lemmas.Result.{err_from_is_err_and}
+use Rattle.heap_image.specs.declared.fault.Fault.TheVariants.{Memory}
 use Rattle.heap_image.specs.HeapImage.{heap_words, with_live, reachable}
 use Rattle.heap_image.specs.ImageText.{first_some, first_object_fault, live_list_faults, from_tail, misplaced_root}
 use Rattle.heap_image.specs.declared.version.Version.TheVariants.{Two}
@@ -25,6 +27,16 @@ returns-then-has_roots-clause-ordered c =
     let none = ap (λ xs. misplaced_root (from_tail Two (with_live heap xs))) (sym c.as_slice.ensures.value) ∙ c.in_ok-live.ensures.roots in
     ap first_some (sym (rooted_faults c.args.version (with_live heap tail) (sym c.has_roots.ensures ∙ c.if-has_roots.true)))
     ∙ only_objects heap tail found (heap_words heap) refl none is
+
+pub returns-in_err-live-clause-fault : goal.returns-in_err-live-clause-fault
+returns-in_err-live-clause-fault c =
+    let p = err_from_is_err_and c.from_residual.result c.from_residual.ensures.1 in
+    let heap = c.args.heap.now in
+    let tail = c.args.tail.items in
+    let fault = c.in_err-live.field-0.0 in
+    let same : live_list_faults (from_tail Two (with_live heap c.as_slice.result.now)) ≡ live_list_faults (from_tail c.args.version (with_live heap tail)) =
+    ap (λ xs. live_list_faults (from_tail Two (with_live heap xs))) c.as_slice.ensures.value ∙ rooted_faults c.args.version (with_live heap tail) (sym c.has_roots.ensures ∙ c.if-has_roots.true) in
+    rw (p.1, p.2) (subst (λ faults. (fault ≡ Memory) ⊎ (first_some faults ≡ Some fault)) same c.in_err-live.ensures.fault)
 
 pub of-requires : goal.of-requires
 of-requires c =

@@ -15,6 +15,6 @@ returns-in-Some-clause-counted c =
 pub returns-in-None-clause-counted : goal.returns-in-None-clause-counted
 returns-in-None-clause-counted c =
     let image : HeapImage = c.args.self.now in
-    let same : c.as_slice-2.result.now ≡ (with_tail image).live =
-    c.as_slice-2.ensures.value ∙ ap (λ o. roots_or c.self.inside.live.items (option_map (λ v. v.items) o)) (sym c.in-None.is) ∙ ap (λ (i : HeapImage). (with_tail i).live) c.self.view_is in
+    let same : c.as_slice-in-None.result.now ≡ (with_tail image).live =
+    c.as_slice-in-None.ensures.value ∙ ap (λ o. roots_or c.self.inside.live.items (option_map (λ v. v.items) o)) (sym c.in-None.is) ∙ ap (λ (i : HeapImage). (with_tail i).live) c.self.view_is in
     subst (λ xs. length xs < 2 ^ 32) (sym same) (valid_numbers image (subst IsValid c.self.view_is c.self.invariant.parts.valid)).counted
