@@ -1,5 +1,5 @@
 -- A heap with its live objects, as contracts see an image.
-use Rattle.std.specs.Prelude.{◌≡◌, ℕ, zero, suc, ◌+◌, ◌-◌, ◌*◌, ◌/◌, ◌%◌, ◌^◌, ◌<◌, ◌≤◌, Bool, not, ◌&&◌, ◌||◌, nat_lt, nat_le, ◌==◌, IsTrue, if◌then◌else◌, List, [], length, take, drop, fold, filter, All, count_by, slice_index, Option, None, Some, IfSome}
+use Rattle.std.specs.Prelude.{◌≡◌, ℕ, zero, suc, ◌+◌, ◌-◌, ◌*◌, ◌/◌, ◌%◌, ◌^◌, ◌<◌, ◌≤◌, Bool, not, ◌&&◌, ◌||◌, nat_lt, nat_le, ◌==◌, IsTrue, List, [], length, take, drop, fold, filter, All, count_by, slice_index, Option, None, Some, IfSome}
 use Rattle.std.specs.List.{concat, list_any, range_with_len, AllAdjacentBelow}
 use Rattle.std.specs.Option.{is_some}
 use Rattle.heap_image.specs.Header.{size_of, references_of, kind_of}

@@ -3,7 +3,7 @@ use Rattle.std.specs.Prelude.{All}
 use Rattle.std.proofs.lemmas.Result.{err_from_is_err_and}
 use Rattle.heap_image.specs.declared.fault.Fault.TheVariants.{Memory}
 use Rattle.heap_image.specs.HeapImage.{heap_words, with_live, reachable}
-use Rattle.heap_image.specs.ImageText.{first_some, first_object_fault, live_list_faults, from_tail, misplaced_root}
+use Rattle.heap_image.specs.ImageText.{first_some, live_list_faults, from_tail, misplaced_root}
 use Rattle.heap_image.specs.declared.version.Version.TheVariants.{Two}
 use Rattle.heap_image.proofs.FromTail.{rooted_faults, rooted_live}
 use Rattle.heap_image.specs.Bits.{MarkBegins}

@@ -1,4 +1,4 @@
-use Rattle.std.proofs.Common.{◌≡◌, take, sym, arith}
+use Rattle.std.proofs.Common.{◌≡◌, take, arith}
 use Rattle.heap_image.specs.ImageText.{magic}
 use Rattle.heap_image.proofs.ReadBack.{front_of_bytes, magic_found}
 use Rattle.heap_image.proofs.front.Front.parse_unvalidated.Goals as goal
