@@ -19,7 +19,7 @@ struct Row {
     fault: Fault,
 }
 
-const fn row(region_log: u32, count: u32, words: u64, fault: Fault) -> Row {
+const fn row_of(region_log: u32, count: u32, words: u64, fault: Fault) -> Row {
     Row {
         region_log,
         count,
@@ -31,20 +31,20 @@ const fn row(region_log: u32, count: u32, words: u64, fault: Fault) -> Row {
 #[test]
 fn limits_of_version_3(rt: HostRuntime) {
     let rows = [
-        row(2, 0, 32, Fault::RegionLog),
-        row(3, 0, 32, Fault::TruncatedBody),
-        row(20, 0, WORDS, Fault::TruncatedBody),
-        row(21, 0, WORDS, Fault::RegionLog),
-        row(16, u32::MAX, WORDS, Fault::TruncatedBody),
-        row(16, 0, WORDS + 65_536, Fault::Length),
-        row(15, 0, WORDS / 2, Fault::TruncatedBody),
-        row(15, 0, WORDS / 2 + 32_768, Fault::Length),
-        row(3, 0, 8_388_608, Fault::TruncatedBody),
-        row(3, 0, 8_388_616, Fault::Length),
-        row(3, 32, 32, Fault::TruncatedBody),
-        row(3, 33, 32, Fault::Length),
-        row(20, 0, 0, Fault::Length),
-        row(20, 0, 524_288, Fault::Length),
+        row_of(2, 0, 32, Fault::RegionLog),
+        row_of(3, 0, 32, Fault::TruncatedBody),
+        row_of(20, 0, WORDS, Fault::TruncatedBody),
+        row_of(21, 0, WORDS, Fault::RegionLog),
+        row_of(16, u32::MAX, WORDS, Fault::TruncatedBody),
+        row_of(16, 0, WORDS + 65_536, Fault::Length),
+        row_of(15, 0, WORDS / 2, Fault::TruncatedBody),
+        row_of(15, 0, WORDS / 2 + 32_768, Fault::Length),
+        row_of(3, 0, 8_388_608, Fault::TruncatedBody),
+        row_of(3, 0, 8_388_616, Fault::Length),
+        row_of(3, 32, 32, Fault::TruncatedBody),
+        row_of(3, 33, 32, Fault::Length),
+        row_of(20, 0, 0, Fault::Length),
+        row_of(20, 0, 524_288, Fault::Length),
     ];
     for (index, row) in rows.iter().enumerate() {
         let front = front_in(b"PCHEAP03", row.region_log, row.count, row.words);

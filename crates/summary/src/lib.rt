@@ -26,7 +26,6 @@
 
 mod counting;
 mod deferred;
-mod fillers;
 pub mod laws;
 mod layout;
 mod plainly;
@@ -38,11 +37,12 @@ mod region_data;
 mod region_table;
 mod report_text;
 mod sources;
+mod stride;
 mod survey;
 
-pub use fillers::{FILLER_STRIDE, filler_limit};
 pub use plainly::compact_plainly;
 pub use plan::{Plan, report};
 pub use reads::Reads;
 pub use region_data::RegionData;
+pub use stride::{FILLER_STRIDE, filler_limit};
 pub use survey::Survey;

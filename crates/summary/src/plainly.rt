@@ -13,7 +13,7 @@ ghost use Rattle.summary.specs.Compaction.{redirected, is_reference_of, carried,
 ghost use Rattle.summary.specs.RegionData.{region_addresses};
 ghost use Rattle.summary.specs.Placement.{IsPrefix, IsPlacement};
 
-use crate::fillers::{FILLER_STRIDE, filler_limit};
+use crate::stride::{FILLER_STRIDE, filler_limit};
 use heap_image::{Image, ImageParts, header};
 use raw_region::Region;
 use std::alloc::{AllocError, Global};
