@@ -162,7 +162,7 @@ module _ (image : HeapImage) (valid : IsValid image) where
       recursion_from_All (λ w. w < 2 ^ 64) (words_between image from n)
       (All-take (λ w. w < 2 ^ 64) n (drop from image.words) (All-drop (λ w. w < 2 ^ 64) from image.words valid.words_fit))
 
-  pub few_words : heap_words image ≤ 4194304
+  pub few_words : heap_words image ≤ 68719476736
   few_words = valid.limits.few_words
 
   -- the object at an address

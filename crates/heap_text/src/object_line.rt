@@ -16,7 +16,7 @@ impl ParsedHeap {
     /// Pushes the words of the next object, in a heap of `len` words.
     pub(crate) fn parse_object(&mut self, len: u64, mut tokens: Tokens<'_>) -> Result<(), LineError>
         requires left { self.old.words.len < len }
-        requires few { len ≤ 4194304 }
+        requires few { len ≤ 68719476736 }
         ensures accepts { (refs others : List ℕ) → AllByRecursion (λ w. w ≤ len) refs → AllByRecursion (λ w. w < 2 ^ 64) others
             → tokens.entry.rest.now ≡ number_text (1 + (length refs + length others)) ++ (references_part refs ++ data_part others)
             → self.old.words.len + (1 + (length refs + length others)) ≤ len
@@ -42,7 +42,7 @@ impl ParsedHeap {
 impl WordList {
     /// Parses `refs` and references, then `data` and numbers.
     fn parse_fields(&mut self, len: u64, mut tokens: Tokens<'_>) -> Result<(), LineError>
-        requires few { len ≤ 4194304 }
+        requires few { len ≤ 68719476736 }
         ensures accepts { (refs others : List ℕ) → AllByRecursion (λ w. w ≤ len) refs → AllByRecursion (λ w. w < 2 ^ 64) others
             → tokens.entry.rest.now ≡ references_part refs ++ data_part others → self.old.len + (length refs + length others) ≤ len
             → Accepts result (λ _. HasPushed self.old self.new (refs ++ others)) }
@@ -65,7 +65,7 @@ impl WordList {
         len: u64,
         mut tokens: Tokens<'_>,
     ) -> Result<(), LineError>
-        requires few { len ≤ 4194304 }
+        requires few { len ≤ 68719476736 }
         ensures accepts { (refs others : List ℕ) → AllByRecursion (λ w. w ≤ len) refs → AllByRecursion (λ w. w < 2 ^ 64) others
             → 0 < length refs → tokens.entry.rest.now ≡ flat_map reference_text refs ++ data_part others
             → self.old.len + (length refs + length others) ≤ len
@@ -80,7 +80,7 @@ impl WordList {
 
     /// Parses one number or more, up to the end of the line.
     fn parse_data(&mut self, len: u64, tokens: Tokens<'_>) -> Result<(), LineError>
-        requires few { len ≤ 4194304 }
+        requires few { len ≤ 68719476736 }
         ensures accepts { (ws : List ℕ) → AllByRecursion (λ w. w < 2 ^ 64) ws → 0 < length ws
             → tokens.entry.rest.now ≡ flat_map number_text ws → self.old.len + length ws ≤ len
             → Accepts result (λ _. HasPushed self.old self.new ws) }
@@ -93,7 +93,7 @@ impl WordList {
 
     /// Parses one reference or more, up to `data` or the end of the line. Returns whether `data` comes.
     fn parse_references(&mut self, len: u64, tokens: &mut Tokens<'_>) -> Result<bool, LineError>
-        requires few { len ≤ 4194304 }
+        requires few { len ≤ 68719476736 }
         ensures accepts { (refs others : List ℕ) → AllByRecursion (λ w. w ≤ len) refs → 0 < length refs
             → tokens.old.rest.now ≡ flat_map reference_text refs ++ data_part others → self.old.len + length refs ≤ len
             → Accepts result (λ has_data. (has_data ≡ has_some others) × HasPushed self.old self.new refs
@@ -119,7 +119,7 @@ impl WordList {
         len: u64,
         mut tokens: Tokens<'_>,
     ) -> Result<bool, LineError>
-        requires few { len ≤ 4194304 }
+        requires few { len ≤ 68719476736 }
         ensures grown { OnOk result (self.old.len ≤ self.new.len) }
         ensures accepts { (ws : List ℕ) → AllByRecursion (λ w. w < 2 ^ 64) ws → 0 < length ws
             → tokens.entry.rest.now ≡ flat_map number_text ws → self.old.len + length ws ≤ len
@@ -143,7 +143,7 @@ impl WordList {
     /// Pushes a word, but keeps at most one word more than the heap has. That one shows that the line is too long, and a
     /// line of any length takes no more memory.
     pub(crate) fn push_word(&mut self, len: u64, word: u64) -> Result<(), AllocError>
-        requires { len ≤ 4194304 }
+        requires { len ≤ 68719476736 }
         ensures grown { OnOk result (self.old.len ≤ self.new.len) }
         ensures pushed { self.old.len < len → OnOk result (HasPushed self.old self.new (word ∷ [])) }
     {

@@ -24,7 +24,7 @@ pub fn explanation_of_images(
 ) -> Result<String, Fault> {
     let sizes = Sizes { was, is };
     let heap = is.heap();
-    let has_roots = is.version() == 2;
+    let has_roots = is.version().has_roots();
     let tail = if has_roots { is.roots() } else { is.live() };
     let found = contents(&heap, tail, has_roots);
     let words = explanation_of_words(alloc, was, found, ignore_free, threads)?;
@@ -49,7 +49,7 @@ pub fn explanation_of_file<R: AllocGlobal + Threads + Sync, F: FileExt + Sync>(
     let heap = heap_of(&body, extent.size.region_log)?;
     let tail = body.tail.as_slice();
     // The last byte of the magic is the version.
-    let has_roots = front[7] == b'2';
+    let has_roots = front[7] != b'1';
     let found = contents(&heap, tail, has_roots);
     let listed = Listed::of(was, has_roots, tail.len());
     let words = explanation_of_words(rt.alloc(), was, found, ignore_free, rt).ok()?;
@@ -121,7 +121,7 @@ impl fmt::Display for Sizes<'_> {
         write_size("region-log", log(was), log(is), f)?;
         write_size("words", was.len(), is.len(), f)?;
         write_size("allowance", was.allowance(), is.allowance(), f)?;
-        let version = |image: &Image| u64::from(image.version());
+        let version = |image: &Image| u64::from(image.version().number());
         write_size("version", version(was), version(is), f)?;
         let live = |image: &Image| image.live().len() as u64;
         write_size("live objects", live(was), live(is), f)?;

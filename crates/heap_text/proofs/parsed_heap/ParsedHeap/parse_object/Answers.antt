@@ -31,6 +31,6 @@ returns c = record {
             (pushed_word c.args.self.now.words c.push-2.new.self _ (object_header n (length refs)) c.in_ok-push-2.ensures.words c.in_ok-push-2.ensures.len
             (omega (arith, size, counted, c.min-references.ensures))) pushed;
         live = rw c.len-place.ensures at c.in_ok-push.ensures.items;
-        head = record { is_rooted = refl; region_log = refl; allowance = refl; roots = refl };
+        head = record { version = refl; region_log = refl; allowance = refl; roots = refl };
       };
 }
