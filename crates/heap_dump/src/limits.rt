@@ -2,6 +2,8 @@
 ghost use Rattle.std.specs.Prelude.{◌≡◌, ◌<◌, ◌≤◌, ◌^◌, All, OnOk, IfOk, length, ◌≢◌};
 ghost use Rattle.std.specs.List.{concat};
 ghost use Rattle.heap_image.specs.HeapImage.{AreBlocks, IsWithinLimits};
+ghost use Rattle.heap_image.specs.Version.{Allows};
+ghost use Rattle.heap_image.specs.declared.version.Version.TheVariants.{Two};
 
 use crate::error::ImportError;
 use heap_image::Fault;
@@ -15,6 +17,8 @@ pub(crate) fn words_within_limits(region_log: u32, regions: &[Region]) -> Result
     requires whole { AreBlocks region_log regions.now }
     ensures count { IfOk result (λ words. words ≡ length (concat regions.now)) }
     ensures limits { IfOk result (λ words. IsWithinLimits region_log words 0) }
+    ensures allowed { IfOk result (λ words. Allows Two region_log words) }
+    ensures few { IfOk result (λ words. words ≤ 4194304) }
     ensures fit { OnOk result (All (λ w. w < 2 ^ 64) (concat regions.now)) }
     ensures no_device { result ≢ Err ImportError.Input }
 {

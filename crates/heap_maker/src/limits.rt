@@ -1,6 +1,8 @@
 //! The sizes of an image.
 ghost use Rattle.std.specs.Prelude.{◌≡◌, ◌≤◌, ◌*◌, ◌/◌, ◌^◌};
 ghost use Rattle.heap_image.specs.HeapImage.{IsWithinLimits};
+ghost use Rattle.heap_image.specs.Version.{Allows};
+ghost use Rattle.heap_image.specs.declared.version.Version.TheVariants.{Two};
 
 /// Sizes that are within the limits of an image.
 #[derive(Clone, Copy)]
@@ -12,5 +14,7 @@ pub(crate) struct Limits {
     /// The number of words.
     pub(crate) words: u64,
     ghost allowed: { IsWithinLimits region_log words 0 },
+    ghost two: { Allows Two region_log words },
+    ghost few: { words ≤ 4194304 },
     ghost whole: { words ≡ regions * 2 ^ region_log },
 }

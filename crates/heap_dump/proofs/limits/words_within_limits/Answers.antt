@@ -15,10 +15,21 @@ returns-clause-limits c =
     let some = c.if-words-eq0.false in
     record {
       region_log_low = c.requires.low;
-      region_log_high = c.requires.high;
+      region_log_high = omega (arith, c.requires.high);
       not_empty = omega arith;
       whole_regions = ap (λ n. n % 2 ^ log) long ∙ mul-mod_left (length regions) (2 ^ log);
-      few_words = c.if-words-gt-MAX_HEAP_WORDS.false;
+      few_words = omega (arith, c.if-words-gt-MAX_HEAP_WORDS.false);
       few_regions = omega arith;
       few_live = omega arith;
+    }
+
+pub returns-clause-allowed : goal.returns-clause-allowed
+returns-clause-allowed c =
+    let log = c.args.region_log in
+    let regions = c.args.regions.now in
+    let rows : c.words_of-words.result / 2 ^ log ≡ length regions = ap (λ n. n / 2 ^ log) c.words_of-words.ensures.count ∙ count (2 ^ log) (region_some log) regions c.requires.whole in
+    record {
+      region_log_high = c.requires.high;
+      few_words = c.if-words-gt-MAX_HEAP_WORDS.false;
+      few_regions = omega arith;
     }

@@ -1,5 +1,6 @@
-use Rattle.std.proofs.Common.{◌≡◌, ◌<◌, ◌^◌, All, List, ℕ, None, true, [], subst, arith}
+use Rattle.std.proofs.Common.{◌≡◌, ◌<◌, ◌^◌, All, List, ℕ, None, [], subst, arith}
 use Rattle.heap_image.specs.HeapImage.{image_of, reachable}
+use Rattle.heap_image.specs.declared.version.Version.TheVariants.{Two}
 use Rattle.heap_image.specs.ImageText.{from_tail, first_some, live_list_faults}
 use Rattle.heap_maker.proofs.Valid.{fitting, listed-valid}
 use Rattle.heap_maker.proofs.generating.UnmarkedHeap.into_image.Goals as goal
@@ -12,10 +13,10 @@ of_rooted_parts-requires-clause-valid c =
     let roots : List ℕ = c.args.self.roots.items in
     let live : List ℕ = c.in-Ok.live.items in
     let inside : All (λ w. w < 2 ^ 64) roots = subst (λ xs. All (λ w. w < 2 ^ 64) xs) c.as_slice-3.ensures.value c.all_fit.ensures in
-    let fits = fitting log allowance c.args.self.limits.words blocks roots c.args.self.limits.allowed c.args.self.count c.args.self.fit c.args.self.few inside (omega arith) in
-    let faultless : first_some (live_list_faults (from_tail true (image_of log 0 blocks roots))) ≡ None =
-    subst (λ xs. first_some (live_list_faults (from_tail true (image_of log 0 xs roots))) ≡ None) c.as_slice.ensures.value
-    (subst (λ xs. first_some (live_list_faults (from_tail true (image_of log 0 c.as_slice.result.now xs))) ≡ None) c.as_slice-2.ensures.value c.in-Ok.ensures.ok) in
+    let fits = fitting log allowance c.args.self.limits.words blocks roots c.args.self.limits.allowed c.args.self.limits.two c.args.self.count c.args.self.fit c.args.self.few inside (omega arith) in
+    let faultless : first_some (live_list_faults (from_tail Two (image_of log 0 blocks roots))) ≡ None =
+    subst (λ xs. first_some (live_list_faults (from_tail Two (image_of log 0 xs roots))) ≡ None) c.as_slice.ensures.value
+    (subst (λ xs. first_some (live_list_faults (from_tail Two (image_of log 0 c.as_slice.result.now xs))) ≡ None) c.as_slice-2.ensures.value c.in-Ok.ensures.ok) in
     let reached : live ≡ reachable (image_of log 0 blocks []) roots =
     subst (λ xs. live ≡ reachable (image_of log 0 xs []) roots) c.as_slice.ensures.value
     (subst (λ xs. live ≡ reachable (image_of log 0 c.as_slice.result.now []) xs) c.as_slice-2.ensures.value c.in-Ok.ensures.live) in
@@ -29,10 +30,10 @@ of_parts-requires-clause-valid c =
     let roots : List ℕ = c.args.self.roots.items in
     let live : List ℕ = c.in-Ok.live.items in
     let inside : All (λ w. w < 2 ^ 64) roots = subst (λ xs. All (λ w. w < 2 ^ 64) xs) c.as_slice-3.ensures.value c.all_fit.ensures in
-    let fits = fitting log allowance c.args.self.limits.words blocks roots c.args.self.limits.allowed c.args.self.count c.args.self.fit c.args.self.few inside (omega arith) in
-    let faultless : first_some (live_list_faults (from_tail true (image_of log 0 blocks roots))) ≡ None =
-    subst (λ xs. first_some (live_list_faults (from_tail true (image_of log 0 xs roots))) ≡ None) c.as_slice.ensures.value
-    (subst (λ xs. first_some (live_list_faults (from_tail true (image_of log 0 c.as_slice.result.now xs))) ≡ None) c.as_slice-2.ensures.value c.in-Ok.ensures.ok) in
+    let fits = fitting log allowance c.args.self.limits.words blocks roots c.args.self.limits.allowed c.args.self.limits.two c.args.self.count c.args.self.fit c.args.self.few inside (omega arith) in
+    let faultless : first_some (live_list_faults (from_tail Two (image_of log 0 blocks roots))) ≡ None =
+    subst (λ xs. first_some (live_list_faults (from_tail Two (image_of log 0 xs roots))) ≡ None) c.as_slice.ensures.value
+    (subst (λ xs. first_some (live_list_faults (from_tail Two (image_of log 0 c.as_slice.result.now xs))) ≡ None) c.as_slice-2.ensures.value c.in-Ok.ensures.ok) in
     let reached : live ≡ reachable (image_of log 0 blocks []) roots =
     subst (λ xs. live ≡ reachable (image_of log 0 xs []) roots) c.as_slice.ensures.value
     (subst (λ xs. live ≡ reachable (image_of log 0 c.as_slice.result.now []) xs) c.as_slice-2.ensures.value c.in-Ok.ensures.live) in
