@@ -5,8 +5,7 @@ ghost use Rattle.heap_image.specs.HeapImage.{AreBlocks};
 use collector::{
     ExplainedWord, Explanation, Found, Lead, Moved, OtherLive, OtherRoot, Part, explain,
 };
-use heap_image::limits::MAX_HEAP_WORDS;
-use heap_image::{Body, Extent, FRONT_BYTES, Fault, FileStore, Heap, Image, body_at};
+use heap_image::{Body, Extent, FRONT_BYTES, Fault, FileStore, Heap, Image, Version, body_at};
 use std::alloc::Global;
 use std::fmt;
 use std::fmt::Write;
@@ -58,12 +57,13 @@ pub fn explanation_of_file<R: AllocGlobal + Threads + Sync, F: FileExt + Sync>(
 
 /// The heap of a body, if it isn't too large.
 fn heap_of<'a>(body: &'a Body, region_log: u32) -> Option<Heap<'a>>
-    requires log { region_log ≤ 16 }
+    requires log { region_log ≤ 20 }
     requires blocks { AreBlocks region_log body.now.regions.items }
-    requires few { length body.now.regions.items * 2 ^ region_log ≤ 8388608 }
+    requires few { length body.now.regions.items * 2 ^ region_log ≤ 137438953472 }
 {
     let words = (body.regions.len() as u64) << region_log;
-    if words > MAX_HEAP_WORDS {
+    let most = Version::Three.max_words();
+    if words > most {
         return None;
     }
     Some(Heap::new(body.regions.as_slice(), region_log))
