@@ -121,14 +121,14 @@ IMAGES = [
     (head(8, 4_194_305), "4 length"),
     (head(2, 0), "3 region log"),
     (head(17, 0), "3 region log"),
-    (head(2, 0, magic=b"PCHEAP03"), "2 magic"),
+    (head(2, 0, magic=b"PCHEAP04"), "2 magic"),
     (head(3, 0, words=0), "4 length"),
     (head(3, 0, words=12), "4 length"),
     (head(16, 0, words=1 << 63), "4 length"),
 ]
 # A byte of the base image, the one that stands there instead, and the fault, also where a byte follows the image.
 CHANGED = [
-    (7, 0x33, "2 magic"),
+    (7, 0x34, "2 magic"),
     (8, 2, "3 region log"),
     (16, 31, "4 length"),
     (304, 5, "6 live order at index 2"),

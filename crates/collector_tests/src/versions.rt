@@ -4,6 +4,7 @@ use collector::{OpenGate, Verdict, collect, verify};
 use heap_image::{Fault, Image, Version, decode_by_threads, encode};
 use heap_samples::{Base, MOVED_ROOTS, MOVED_WORDS, Settings, plain_words, rooted_text};
 use std::alloc::Global;
+use std::process::Abort;
 use std::sync::Wait;
 use std::test::Fail;
 use std::thread::Threads;
