@@ -39,6 +39,7 @@ overflow_cast-end c =
 pub returns : goal.returns
 returns c =
     let image = c.args.plan.now in
+    let valid = c.prefix_end-prefix_end.ensures.valid in
     let place = c.args.place in
     let limit : ℕ = c.filler_limit-limit.result in
     let inside = c.requires.inside in
@@ -47,7 +48,7 @@ returns c =
     let above : place < limit = c.filler_limit-limit.ensures.above (omega arith) in
     let next : MatchOption c.next_live.result (NoneFrom (is_live_word image) place) (IsFirstFrom (is_live_word image) place) =
     subst (λ (i : HeapImage). MatchOption c.next_live.result (NoneFrom (is_live_word i) place) (IsFirstFrom (is_live_word i) place)) c.requires.same c.next_live.ensures in
-    let gap = filler_end image place limit c.next_live.result is above c.requires.dead next in
+    let gap = filler_end image valid place limit c.next_live.result is above c.requires.dead next in
     let end : c.min-end.result ≡ min (unwrap_or c.next_live.result limit) limit = c.min-end.ensures ∙ ap (λ (n : ℕ). min n limit) c.unwrap_or.ensures in
     let first : may_begin_filler image place ≡ true = ap (λ (i : HeapImage). may_begin_filler i place) (sym c.requires.same) ∙ (sym c.may_begin_filler.ensures ∙ c.if-not-may_begin_filler.false) in
     c.filler.ensures ∙ (ap (λ (n : ℕ). filler_header (n - place)) end ∙ (ap filler_header (sym gap) ∙ sym (cond-true (may_begin_filler image place) (filler_header (gap_at image place)) 0 first)))
