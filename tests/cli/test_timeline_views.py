@@ -26,7 +26,7 @@ from tests.models import image as model
 from tests.models.generated_heap import Wanted, generated
 from tests.models.schedule import Line, Machine, Schedule, fill, read
 from tests.models.timeline import LEGEND, Timeline, stages_at
-from tests.support.browser import part, run_page, runner
+from tests.support.browser import layout, part, run_page, runner
 from tests.support.cases import LIVE, WORDS, image
 from tests.support.contrast import schemes, worst
 from tests.support.program import TOP, Answer, Tried, built
@@ -201,6 +201,25 @@ def try_contrast(tried: Tried) -> None:
                 tried.count += 1
                 if worst(colours[one], colours[other]) < least:
                     tried.is_wrong(f"{one} on {other} has a contrast of {worst(colours[one], colours[other]):.2f} in {option}, {scheme}")
+
+
+def try_layout(tried: Tried) -> None:
+    """A page and a drawing on narrow and wide screens, light and dark: nothing stands beyond the screen, and a dark screen gets
+    other colours."""
+    if runner() in (None, "node"):
+        return
+    tried.write("base", image(WORDS, LIVE, 0))
+    tried.write("schedule", BASE)
+    tried.run("timeline base schedule --html page", Answer(0, None))
+    tried.run("map base --after --svg map", Answer(0, None))
+    pages = {"page": tried.read("page").decode(), "map": f"<html><body>{tried.read('map').decode().split('?>')[1]}</body></html>"}
+    for name, page in pages.items():
+        for width in (375, 1400):
+            light, dark = (layout(page, width, is_dark, tried.folder) for is_dark in (False, True))
+            tried.count += 1
+            fit = all(0 < it.get("wide", 0) <= it.get("room", 0) == width for it in (light, dark))
+            if not fit or (name == "page" and light["page"] == dark["page"]):
+                tried.is_wrong(f"{name}, {width} points wide: {light}, dark: {dark}")
 
 
 def write_drawing(tried: Tried) -> None:
@@ -403,7 +422,7 @@ def main() -> None:
     words.add_argument("--write", action="store_true")
     asked = words.parse_args()
     name = runner()
-    groups = [try_base, try_open, try_contrast, try_seeded, *([try_pages, try_large] if name else [])]
+    groups = [try_base, try_open, try_contrast, try_seeded, *([try_pages, try_large, try_layout] if name else [])]
     with tempfile.TemporaryDirectory() as room:
         tried = Tried(asked.program or built(), pathlib.Path(room))
         if asked.write:

@@ -1,5 +1,6 @@
 """Runs the pages of `pcompact timeline --html`: in a headless browser where there is one, else under Node.js over a
 document that is none, else not at all."""
+import html
 import json
 import pathlib
 import re
@@ -33,6 +34,18 @@ const begun = performance.now();
 for (let i = 0; i < 50; i += 1) timeline.show(1 + ((i * 7919) % timeline.last));
 found.step = (performance.now() - begun) / 50;
 found.last = timeline.last;
+"""
+# A page in a frame, as a window can't be as narrow as a telephone, and what is looked at there once it is loaded.
+FRAME = """<html><head><meta name="color-scheme" content="light dark"></head><body>
+<iframe id="frame" style="width:{width}px; height:900px; border:0" srcdoc="{page}"></iframe></body></html>"""
+LAYOUT = """
+const found = {};
+addEventListener('load', () => {
+  const it = document.getElementById('frame').contentDocument;
+  const style = it.defaultView.getComputedStyle(it.body);
+  Object.assign(found, { room: it.defaultView.innerWidth, wide: it.documentElement.scrollWidth, page: style.backgroundColor, text: style.color });
+  document.getElementById('found').textContent = JSON.stringify(found);
+});
 """
 TELL = """
 const told = document.createElement('pre');
@@ -74,12 +87,11 @@ def part(page: str, name: str) -> str:
     return page.split(head)[1].split("</script>")[0]
 
 
-def in_browser(browser: str, page: str, wanted: dict, folder: pathlib.Path) -> tuple[dict, str]:
-    """What a browser found, and what it says on standard error of the script."""
+def in_browser(browser: str, page: str, script: str, folder: pathlib.Path, *options: str) -> tuple[dict, str]:
+    """What a script at the end of a page found in a browser, and what the browser says on standard error of it."""
     driven = folder / "driven.html"
-    driver = f"<script>'use strict';\nconst WANTED = {json.dumps(wanted)};\n{DRIVER}{TELL}</script>\n</body>"
-    driven.write_text(page.replace("</body>", driver))
-    words = [browser, "--headless", "--no-sandbox", "--disable-gpu", "--enable-logging=stderr", "--log-level=0",
+    driven.write_text(page.replace("</body>", f"<script>'use strict';\n{script}{TELL}</script>\n</body>"))
+    words = [browser, "--headless", "--no-sandbox", "--disable-gpu", "--enable-logging=stderr", "--log-level=0", *options,
              f"--user-data-dir={folder / 'browser'}", "--dump-dom", driven.as_uri()]
     done = subprocess.run(words, capture_output=True, text=True, timeout=120)
     found = re.search(r'<pre id="found">(.*?)</pre>', done.stdout, re.DOTALL)
@@ -100,4 +112,12 @@ def under_node(page: str, wanted: dict, folder: pathlib.Path) -> tuple[dict, str
 def run_page(page: str, wanted: dict, folder: pathlib.Path) -> tuple[dict, str]:
     """What the page showed of the lines and keys that are wanted, and what went wrong in its script."""
     name = runner()
-    return under_node(page, wanted, folder) if name == "node" else in_browser(name, page, wanted, folder)
+    if name == "node":
+        return under_node(page, wanted, folder)
+    return in_browser(name, page, f"const WANTED = {json.dumps(wanted)};\n{DRIVER}", folder)
+
+
+def layout(page: str, width: int, is_dark: bool, folder: pathlib.Path) -> dict:
+    """How wide a page's frame is and what the page fills, in points, and the colours of the page and of its text."""
+    options = ["--window-size=1600,1000", *(["--blink-settings=preferredColorScheme=0"] if is_dark else [])]
+    return in_browser(runner(), FRAME.format(width=width, page=html.escape(page)), LAYOUT, folder, *options)[0]
