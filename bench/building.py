@@ -12,6 +12,13 @@ bench = pathlib.Path(__file__).resolve().parent
 top = bench.parent
 
 
+def built() -> pathlib.Path:
+    """The program that fits the sources, which the script at the top of the repository builds where there is none."""
+    subprocess.run([top / "pcompact", "--version"], check=True, stdout=subprocess.DEVNULL)
+    words = ["sh", "-c", 'top=$1; . "$top/sources.sh"; program_path', "sh", top]
+    return pathlib.Path(subprocess.run(words, check=True, capture_output=True, text=True).stdout.removesuffix("\n"))
+
+
 def lines_up_to(crate: str) -> list[str]:
     """The lines of crates.txt for a crate and those below it, which come before it."""
     lines = [line for line in (top / "crates.txt").read_text().splitlines() if line and not line.startswith("#")]

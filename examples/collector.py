@@ -17,8 +17,8 @@ def fields(a):
     return range(a + 1, a + 1 + (words[a] >> 32 & 0xFFFFFF))
 
 
-# Mark. Version 1 lists the live objects; version 2 has roots.
-todo, marked = ([root - 1 for root in listed if root] if magic == b"PCHEAP02" else listed), set()
+# Mark. Version 1 lists the live objects; later ones have roots.
+todo, marked = ([root - 1 for root in listed if root] if magic != b"PCHEAP01" else listed), set()
 while todo:
     marked.update(todo)
     todo = list({words[q] - 1 for a in todo for q in fields(a) if words[q]} - marked)
@@ -44,7 +44,7 @@ for a in live:
 for p in sorted(set(range(prefix)) - used):
     gap = next((q for q in range(p, prefix) if q in used), prefix) - p
     out[p] = (2 << 56 | gap + (bug == "filler")) if p == 0 or p - 1 in used else 0
-tail = [forward[root] for root in listed] if magic == b"PCHEAP02" else [new[a] for a in live]
+tail = [forward[root] for root in listed] if magic != b"PCHEAP01" else [new[a] for a in live]
 for i in [i for i in range(count) if bug == "root" and tail[i] != listed[i]][:1]:
     tail[i] = listed[i]
 open(sys.argv[2], "wb").write(data[:32] + struct.pack(f"<{size + count}Q", *out, *tail))

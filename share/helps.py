@@ -10,8 +10,6 @@ RANGE = re.compile(r"\bfrom (\d+) to (\d+)\b")
 CHOICES = re.compile(r"=WHEN: (\w+(?:, \w+)*)")
 # A completion offers no more values than these.
 MOST_VALUES = 64
-# The values of options whose help has no range.
-RANGES = {"--version": range(1, 3)}
 SECONDS = 60
 
 
@@ -45,7 +43,7 @@ class Option:
         if not self.value:
             return range(0)
         found = RANGE.search(self.text)
-        values = range(int(found[1]), int(found[2]) + 1) if found else RANGES.get(self.name, range(0))
+        values = range(int(found[1]), int(found[2]) + 1) if found else range(0)
         return values if len(values) <= MOST_VALUES else range(0)
 
 

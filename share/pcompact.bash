@@ -39,8 +39,10 @@ _pcompact_read() {
                 'timeline --html' | \
                 'timeline --region-log' | \
                 'timeline --allowance' | \
+                'upgrade --to' | \
                 'import --region-log' | \
                 'import --allowance' | \
+                'import --version' | \
                 'import --classes' | \
                 'import --histogram' | \
                 'generate --words' | \
@@ -50,8 +52,15 @@ _pcompact_read() {
                 'generate --refs' | \
                 'generate --version' | \
                 'generate --allowance') option=$word ;;
-            'map --color' | \
-                'timeline --color') open=$word ;;
+            'collect --progress' | \
+                'verify --progress' | \
+                'map --color' | \
+                'record --progress' | \
+                'replay --progress' | \
+                'timeline --color' | \
+                'upgrade --progress' | \
+                'import --progress' | \
+                'generate --progress') open=$word ;;
             esac
         elif [[ -z $command ]]; then
             command=$word
@@ -67,19 +76,19 @@ _pcompact_takes() {
     options= most=0
     case $command in
     '') options='-h --help -V --version' ;;
-    collect) options='--workers --region-log --allowance --atomic --json --stats --verbose -h --help' most=2 ;;
-    verify) options='--explain --ignore-free --region-log --allowance --json --stats --verbose -h --help' most=2 ;;
+    collect) options='--workers --region-log --allowance --atomic --json --stats --progress --verbose -h --help' most=2 ;;
+    verify) options='--explain --ignore-free --region-log --allowance --json --stats --progress --verbose -h --help' most=2 ;;
     summary) options='--heading --region-log --allowance --json --verbose -h --help' most=1 ;;
     order) options='--region-log --allowance --json --verbose -h --help' most=1 ;;
     map) options='--after --width --height --svg --region-log --allowance --letters --color --no-color --atomic --verbose -h --help' most=1 ;;
     text) options='--verbose -h --help' most=1 ;;
     assemble) options='--atomic --verbose -h --help' most=2 ;;
-    record) options='--workers --region-log --allowance --atomic --stats --verbose -h --help' most=3 ;;
-    replay) options='--region-log --allowance --verbose -h --help' most=2 ;;
+    record) options='--workers --region-log --allowance --atomic --stats --progress --verbose -h --help' most=3 ;;
+    replay) options='--region-log --allowance --progress --verbose -h --help' most=2 ;;
     timeline) options='--width --svg --html --region-log --allowance --letters --color --no-color --atomic --verbose -h --help' most=2 ;;
-    upgrade) options='--atomic --verbose -h --help' most=2 ;;
-    import) options='--region-log --allowance --live-only --classes --histogram --json --stats --atomic --verbose -h --help' most=2 ;;
-    generate) options='--words --live --region-log --seed --refs --version --allowance --atomic --verbose -h --help' most=1 ;;
+    upgrade) options='--to --progress --atomic --verbose -h --help' most=2 ;;
+    import) options='--region-log --allowance --version --live-only --classes --histogram --json --stats --progress --atomic --verbose -h --help' most=2 ;;
+    generate) options='--words --live --region-log --seed --refs --version --allowance --progress --atomic --verbose -h --help' most=1 ;;
     board) options='-h --help' most=0 ;;
     help) options='' most=1 ;;
     esac
@@ -95,24 +104,33 @@ _pcompact_files() {
 _pcompact_value() {
     case "$command $option" in
     'collect --workers') _pcompact_words {1..64} ;;
-    'collect --region-log') _pcompact_words {3..16} ;;
-    'verify --region-log') _pcompact_words {3..16} ;;
-    'summary --region-log') _pcompact_words {3..16} ;;
-    'order --region-log') _pcompact_words {3..16} ;;
+    'collect --region-log') _pcompact_words {3..20} ;;
+    'verify --region-log') _pcompact_words {3..20} ;;
+    'summary --region-log') _pcompact_words {3..20} ;;
+    'order --region-log') _pcompact_words {3..20} ;;
     'map --svg') _pcompact_files ;;
-    'map --region-log') _pcompact_words {3..16} ;;
+    'map --region-log') _pcompact_words {3..20} ;;
     'record --workers') _pcompact_words {1..64} ;;
-    'record --region-log') _pcompact_words {3..16} ;;
-    'replay --region-log') _pcompact_words {3..16} ;;
+    'record --region-log') _pcompact_words {3..20} ;;
+    'replay --region-log') _pcompact_words {3..20} ;;
     'timeline --svg') _pcompact_files ;;
     'timeline --html') _pcompact_files ;;
-    'timeline --region-log') _pcompact_words {3..16} ;;
-    'import --region-log') _pcompact_words {3..16} ;;
+    'timeline --region-log') _pcompact_words {3..20} ;;
+    'upgrade --to') _pcompact_words {2..3} ;;
+    'import --region-log') _pcompact_words {3..20} ;;
+    'import --version') _pcompact_words {2..3} ;;
     'import --classes') _pcompact_files ;;
-    'generate --region-log') _pcompact_words {3..16} ;;
-    'generate --version') _pcompact_words {1..2} ;;
+    'generate --region-log') _pcompact_words {3..20} ;;
+    'generate --version') _pcompact_words {1..3} ;;
+    'collect --progress') _pcompact_words auto always never ;;
+    'verify --progress') _pcompact_words auto always never ;;
     'map --color') _pcompact_words auto always never ;;
+    'record --progress') _pcompact_words auto always never ;;
+    'replay --progress') _pcompact_words auto always never ;;
     'timeline --color') _pcompact_words auto always never ;;
+    'upgrade --progress') _pcompact_words auto always never ;;
+    'import --progress') _pcompact_words auto always never ;;
+    'generate --progress') _pcompact_words auto always never ;;
     *) compopt +o default +o bashdefault 2>/dev/null ;;
     esac
 }

@@ -45,7 +45,7 @@ import tempfile
 here = pathlib.Path(__file__).resolve().parent
 sys.dont_write_bytecode = True
 sys.path.insert(0, str(here.parent))
-from building import TUNABLES, plain_program, proved
+from building import TUNABLES, built, plain_program, proved
 
 WORKERS = (1, 2, 4)
 # How many of a hundred words behind the headers are references.
@@ -166,14 +166,6 @@ def measure(programs: Programs, case: Case, commands: dict[str, list], count: in
             sys.exit(f"{case}: {', '.join(others)} and plain differ; the files are in {programs.scratch}")
         rounds.append({job: run for job, (run, _) in done.items()})
     return rounds
-
-
-def built() -> pathlib.Path:
-    """The program that fits the sources, which the script at the top of the repository builds where there is none."""
-    top = here.parents[1]
-    subprocess.run([top / "pcompact", "--version"], check=True, stdout=subprocess.DEVNULL)
-    words = ["sh", "-c", 'top=$1; . "$top/sources.sh"; program_path', "sh", top]
-    return pathlib.Path(subprocess.run(words, check=True, capture_output=True, text=True).stdout.removesuffix("\n"))
 
 
 def milliseconds(rounds: Rounds, job: str) -> float:

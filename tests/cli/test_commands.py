@@ -17,7 +17,7 @@ sys.dont_write_bytecode = True
 sys.path.insert(0, str(pathlib.Path(__file__).resolve().parents[2]))
 from tests.models.image import FILLER, header
 from tests.support.cases import (BASE, COLLECTED, COMPACTED, LIVE, MOVED, MOVED_LIVE, ONE_WORKER, REPORT, SMALL,
-                                 TWO_WORKERS, WORDS, head, image, rooted, try_collected, try_groups, try_refused, try_upgraded,
+                                 TWO_WORKERS, WORDS, head, image, later, rooted, try_collected, try_groups, try_refused, try_upgraded,
                                  upgraded, with_word)
 from tests.support.program import Answer, Tried, differs, fault, usage
 
@@ -121,14 +121,14 @@ IMAGES = [
     (head(8, 4_194_305), "4 length"),
     (head(2, 0), "3 region log"),
     (head(17, 0), "3 region log"),
-    (head(2, 0, magic=b"PCHEAP03"), "2 magic"),
+    (head(2, 0, magic=b"PCHEAP04"), "2 magic"),
     (head(3, 0, words=0), "4 length"),
     (head(3, 0, words=12), "4 length"),
     (head(16, 0, words=1 << 63), "4 length"),
 ]
 # A byte of the base image, the one that stands there instead, and the fault, also where a byte follows the image.
 CHANGED = [
-    (7, 0x33, "2 magic"),
+    (7, 0x34, "2 magic"),
     (8, 2, "3 region log"),
     (16, 31, "4 length"),
     (304, 5, "6 live order at index 2"),
@@ -296,7 +296,7 @@ def try_collections(tried: Tried) -> None:
 
 
 def try_upgrades(tried: Tried) -> None:
-    """Images of version 1 as ones of version 2, which are collected alike."""
+    """Images as ones of version 2 and 3, which are collected alike."""
     tried.run("upgrade base out", Answer(0, "roots 4\n", made={"out": rooted(WORDS, [1, 6, 13, 21])}))
     tried.write("rooted", tried.read("out"))
     tried.run("upgrade rooted out", Answer(0, "roots 4\n", made={"out": tried.read("rooted")}))
@@ -304,9 +304,31 @@ def try_upgrades(tried: Tried) -> None:
     tried.write("image", image([999] * 32, []))
     tried.run("upgrade image out", Answer(0, "roots 0\n", made={"out": rooted([999] * 32, [])}))
     tried.write("image", BASE[:319])
-    tried.run("upgrade image out", fault("5 truncated body", {"out": b""}))
+    for to in ("", " --to 2", " --to 3"):
+        tried.run(f"upgrade image out{to}", fault("5 truncated body", {"out": b""}))
     for words, live, allowance, *_ in COLLECTIONS:
         try_upgraded(tried, image(words, live, allowance))
+    try_version_3(tried)
+
+
+def try_version_3(tried: Tried) -> None:
+    """An image of version 3, which is no earlier one, and what `--to` takes."""
+    large = rooted(WORDS, [1, 6, 13, 21], version=3)
+    tried.write("rooted", rooted(WORDS, [1, 6, 13, 21]))
+    for name in ("base", "rooted"):
+        tried.run(f"upgrade {name} large --to 3", Answer(0, "roots 4\n", made={"large": large}))
+    tried.run("upgrade large out --to 3", Answer(0, "roots 4\n", made={"out": large}))
+    for to in ("", " --to 2"):
+        tried.run(f"upgrade large out{to}", later({"out": b""}))
+        tried.run(f"upgrade large out{to} --atomic", later({"out": None}))
+        tried.run(f"upgrade large large --atomic{to}", later({}))
+        tried.run(f"upgrade large out{to} --verbose",
+                  Answer(1, err="pcompact: version 3 can't be upgraded to version 2\npcompact: file IMAGE large\n", made={"out": b""}))
+    if tried.read("large") != large:
+        tried.is_wrong("a refused upgrade in place changes the image")
+    for to, said in (("1", "1 is not in 2..=3"), ("4", "4 is not in 2..=3"), ("two", "a whole number is wanted")):
+        answer = usage(f"error: invalid value '{to}' for '--to <v>': {said}\n")
+        tried.run(f"upgrade base out --to {to}", dataclasses.replace(answer, made={"out": None}))
 
 
 def try_verdicts(tried: Tried) -> None:

@@ -52,7 +52,7 @@ def try_bugs(tried: Tried, before: bytes) -> None:
 def try_others(tried: Tried) -> None:
     """Other sizes, single words, and more than ten words."""
     others = [COMPACTED, BASE, image(MOVED[:24], MOVED_LIVE), image(MOVED, []), image(MOVED, MOVED_LIVE, allowance=2),
-              image(MOVED, MOVED_LIVE, log=4), encode(upgraded(decode(COMPACTED)))]
+              image(MOVED, MOVED_LIVE, log=4), encode(upgraded(decode(COMPACTED))), encode(upgraded(decode(COMPACTED), 3))]
     others += [image(with_word(MOVED, p, word), MOVED_LIVE) for p, word in ((18, 130), (31, 1), (19, 7), (1, 0), (1, 8))]
     others += [image(MOVED, live) for live in (MOVED_LIVE[:-1], MOVED_LIVE[1:], MOVED_LIVE[::-1])]
     for after in others:
@@ -61,7 +61,8 @@ def try_others(tried: Tried) -> None:
 
 def try_heaps(tried: Tried) -> None:
     try_bugs(tried, BASE)
-    try_bugs(tried, encode(upgraded(decode(BASE))))
+    for version in (2, 3):
+        try_bugs(tried, encode(upgraded(decode(BASE), version)))
     for version, live, allowance in HEAPS:
         words = f"generate heap --words 512 --live {live} --region-log 3 --seed 5 --version {version} --allowance {allowance}"
         tried.run(words, Answer(0, None))

@@ -30,6 +30,7 @@ WISHES = [
     Wanted(4096, 12, 100, 25, 1, 0, 5), Wanted(16384, 3, 75, 50, 2, 100, 6), Wanted(65536, 16, 50, 25, 2, 0, 7),
     Wanted(65536, 9, 10, 90, 1, 1000, 2**63), Wanted(32, 3, 60, 50, 2, 5, 35), Wanted(32, 3, 60, 50, 1, 5, 35),
     Wanted(512, 3, 60, 50, 2, 5, 35), Wanted(512, 3, 60, 50, 2, 5, 36),
+    Wanted(32, 3, 60, 50, 3, 5, 35), Wanted(512, 9, 99, 100, 3, 0, 2**64 - 1), Wanted(131072, 17, 50, 25, 3, 40, 8),
 ]
 
 
@@ -40,7 +41,7 @@ def words_of(wanted: Wanted) -> str:
 
 
 def try_wishes(tried: Tried) -> None:
-    """Heaps as the model makes them, in both versions, and what a collection makes of them."""
+    """Heaps as the model makes them, in each version, and what a collection makes of them."""
     for wanted in WISHES:
         image, line = generated(wanted)
         tried.run(words_of(wanted), Answer(0, line, made={"out": model.encode(image)}))
@@ -70,9 +71,9 @@ def try_words(tried: Tried) -> None:
     options = ["--words <n>", "--live <share>", "--region-log <k>", "--seed <s>"]
     tried.run("generate out", usage(missing + "".join(f"  {option}\n" for option in options)))
     tried.run(f"generate {SMALL}", usage(f"{missing}  <IMAGE>\n"))
-    for option, value, least, most in (("words <n>", 0, 1, 4194304), ("words <n>", 4194305, 1, 4194304),
+    for option, value, least, most in (("words <n>", 0, 1, 68719476736), ("words <n>", 68719476737, 1, 68719476736),
                                        ("live <share>", 101, 0, 100), ("refs <share>", 101, 0, 100),
-                                       ("region-log <k>", 17, 3, 16), ("version <v>", 3, 1, 2)):
+                                       ("region-log <k>", 21, 3, 20), ("version <v>", 0, 1, 3), ("version <v>", 4, 1, 3)):
         said = f"error: invalid value '{value}' for '--{option}': {value} is not in {least}..={most}\n"
         tried.run(f"generate out --{option.split()[0]} {value}", dataclasses.replace(usage(said), made={"out": None}))
 
@@ -80,16 +81,42 @@ def try_words(tried: Tried) -> None:
 def try_no_heaps(tried: Tried) -> None:
     """Wishes that no image has. Nothing is changed."""
     tried.write("kept", OLD)
-    for words, log, said in ((12, 3, "12 words are not a multiple of the 8 words of a region"),
-                             (1000, 9, "1000 words are not a multiple of the 512 words of a region"),
-                             (131080, 3, "131080 words are 16385 regions, where 16384 are the most"),
-                             (262144, 3, "262144 words are 32768 regions, where 16384 are the most")):
+    many = "where 16384 are the most"
+    for words, log, version, said in ((12, 3, "", "12 words are not a multiple of the 8 words of a region"),
+                                      (1000, 9, "", "1000 words are not a multiple of the 512 words of a region"),
+                                      (131080, 3, "1", f"131080 words are 16385 regions, {many}"),
+                                      (131080, 3, "2", f"131080 words are 16385 regions, {many}"),
+                                      (262144, 3, "2", f"262144 words are 32768 regions, {many}"),
+                                      (4194312, 3, "2", "4194312 words, where 1 to 4194304 are allowed"),
+                                      (131072, 17, "1", "region log 17, where 3 to 16 are allowed"),
+                                      (131072, 17, "2", "region log 17, where 3 to 16 are allowed"),
+                                      (8388616, 3, "", "8388616 words are 1048577 regions, where 1048576 are the most"),
+                                      (8388616, 3, "3", "8388616 words are 1048577 regions, where 1048576 are the most")):
         for flag in ("", " --atomic"):
-            wish = f"--words {words} --region-log {log} --live 50 --seed 1{flag}"
+            asked = f" --version {version}" if version else ""
+            wish = f"--words {words} --region-log {log} --live 50 --seed 1{asked}{flag}"
             tried.run(f"generate out {wish}", Answer(2, err=f"pcompact: {said}\n", made={"out": None}))
             tried.run(f"generate kept {wish}", Answer(2, err=f"pcompact: {said}\n"))
     if tried.read("kept") != OLD:
         tried.is_wrong("a file is changed by a wish that no image has")
+
+
+def try_chosen_versions(tried: Tried) -> None:
+    """Without a version a heap has version 2 where that allows it, and else version 3; words and roots are the same."""
+    for words, log, version in ((131072, 3, 2), (131080, 3, 3), (131072, 16, 2), (131072, 17, 3), (1048576, 20, 3)):
+        wish = f"--words {words} --region-log {log} --live 40 --seed 11"
+        tried.run(f"generate out {wish}", Answer(0, None))
+        tried.run(f"generate asked {wish} --version {version}", Answer(0, None))
+        chosen = tried.read("out")
+        if chosen != tried.read("asked") or not chosen.startswith(b"PCHEAP0%d" % version):
+            tried.is_wrong(f"generate {wish}: the image begins with {chosen[:8]!r}")
+        tried.run("collect out collected --workers 4", Answer(0, None))
+        tried.run("verify out collected", Answer(0, "same\n"))
+    tried.run("generate small --words 4096 --region-log 5 --live 70 --seed 3 --version 3", Answer(0, None))
+    tried.run("generate usual --words 4096 --region-log 5 --live 70 --seed 3", Answer(0, None))
+    small, usual = tried.read("small"), tried.read("usual")
+    if (small[:8], small[8:]) != (b"PCHEAP03", usual[8:]):
+        tried.is_wrong("a heap in version 3 differs from that in version 2 by more than its magic")
 
 
 def try_files(tried: Tried) -> None:
@@ -128,7 +155,7 @@ def try_rows(tried: Tried) -> None:
             tried.is_wrong(f"{words}: another checksum")
 
 
-GROUPS = (try_wishes, try_shares, try_words, try_no_heaps, try_files, try_rows)
+GROUPS = (try_wishes, try_shares, try_words, try_no_heaps, try_chosen_versions, try_files, try_rows)
 
 if __name__ == "__main__":
     sys.exit(try_groups(GROUPS))

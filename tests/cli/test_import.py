@@ -7,6 +7,7 @@ import dataclasses
 import os
 import pathlib
 import re
+import struct
 import sys
 
 # Finds the package `tests` from any folder, and writes nothing beside its modules.
@@ -105,8 +106,13 @@ def try_imports(tried: Tried) -> None:
     """Dumps as images, with each option, and what the other commands make of these."""
     tried.write("dump", DUMP)
     tried.run("import dump out", imported(DUMP))
-    for log in (3, 9, 16):
+    for log in (3, 9, 16, 17, 20):
         tried.run(f"import dump out --region-log {log}", imported(DUMP, region_log=log))
+    for version, log in ((2, 3), (2, 16), (3, 3), (3, 9), (3, 20)):
+        tried.run(f"import dump out --version {version} --region-log {log}", imported(DUMP, region_log=log, version=version))
+        tried.run(f"import dump out --version {version} --region-log {log} --live-only",
+                  imported(DUMP, region_log=log, live_only=True, version=version))
+    tried.run("import dump out --version 2 --region-log 17", refused("region log 17, where 3 to 16 are allowed", {"out": None}))
     tried.run("import dump out --allowance 18446744073709551615", imported(DUMP, allowance=2**64 - 1))
     tried.run("import --live-only dump out", imported(DUMP, live_only=True))
     for flags in ("--verbose", "--atomic", "--atomic --verbose"):
@@ -206,14 +212,16 @@ def try_malformed_dumps(tried: Tried) -> None:
     heap = [to.primitives(8, 11, [0] * 131_072), to.references(4_000_000, []), to.root(0x05, 4_000_000)]
     tried.write("dump", heap_dump(*heap))
     many = "131074 words, and 131072 are the most"
-    tried.run("import dump out --region-log 3", refused(f"the heap has {many}; with --live-only it has 1", {"out": None}))
+    tried.run("import dump out --version 2 --region-log 3", refused(f"the heap has {many}; with --live-only it has 1", {"out": None}))
+    tried.run("import dump out --version 2 --region-log 3 --live-only",
+              imported(heap_dump(*heap), region_log=3, live_only=True, version=2))
     tried.write("dump", heap_dump(*heap, to.root(0x05, 8)))
-    tried.run("import dump out --region-log 3 --live-only", refused(f"the reachable objects have {many}", {"out": None}))
+    tried.run("import dump out --version 2 --region-log 3 --live-only", refused(f"the reachable objects have {many}", {"out": None}))
 
 
 def try_most_words(tried: Tried) -> None:
-    """Heaps of exactly the most words that an image may have, and of one more: with regions of 8 words, and with the usual
-    ones."""
+    """Heaps of exactly the most words that an image of version 2 may have, and of one more: with regions of 8 words, and with
+    the usual ones. Without a version the larger ones are of version 3."""
     to = dump_writer.Writer()
     for words, most in ((" --region-log 3", 131_072), ("", 4_194_304)):
         for count in (most, most + 1):
@@ -223,10 +231,29 @@ def try_most_words(tried: Tried) -> None:
             many = f"{count} words, and {most} are the most"
             whole = Answer(0, told) if count == most else refused(f"the heap has {many}; with --live-only it has {count}", {"out": None})
             live = Answer(0, told) if count == most else refused(f"the reachable objects have {many}", {"out": None})
-            tried.write("dump", heap_dump(array))
-            tried.run(f"import dump out{words}", whole)
-            tried.write("dump", heap_dump(array, to.references(2**40, [8])))
-            tried.run(f"import dump out --live-only{words}", live)
+            log, version = (3 if words else 9), (2 if count == most else 3)
+            total = -(-count >> log) << log
+            told = f"words {total} objects 1 roots 1 live 1 dead 0 dropped-gaps 0 unresolved 0\n"
+            begin = struct.pack("<8sIIQQ", b"PCHEAP0%d" % version, log, 1, total, 0)
+            for flag, data, answer in (("", heap_dump(array), whole), (" --live-only", heap_dump(array, to.references(2**40, [8])), live)):
+                tried.write("dump", data)
+                tried.run(f"import dump out{flag}{words} --version 2", answer)
+                tried.run(f"import dump out{flag}{words}", Answer(0, told))
+                if not tried.read("out").startswith(begin):
+                    tried.is_wrong(f"import of {count} words{flag}{words}: the image begins with {tried.read('out')[:32]!r}")
+
+
+def try_sparse(tried: Tried) -> None:
+    """A heap with more words in gaps than in objects, which has version 3 only where that is requested."""
+    to = dump_writer.Writer()
+    sparse = heap_dump(*(to.primitives(8 + 4096 * at, 8, []) for at in range(300)), to.root(0x05, 8))
+    tried.write("dump", sparse)
+    many = "the heap has 153089 words, and 131072 are the most; with --live-only it has 1"
+    for version in ("", " --version 2"):
+        tried.run(f"import dump out --region-log 3{version}", refused(many, {"out": None}))
+    tried.run("import dump out --region-log 3 --version 3", imported(sparse, region_log=3, version=3))
+    tried.run("import dump out --region-log 3 --live-only", imported(sparse, region_log=3, live_only=True))
+    tried.run("import dump out --region-log 4", imported(sparse, region_log=4))
 
 
 def try_refused_dumps(tried: Tried) -> None:
@@ -237,7 +264,7 @@ def try_refused_dumps(tried: Tried) -> None:
     rows = [("", b"", "byte 0: the dump ends here, inside a record"), ("", OLD, NAME), ("", DUMP[:-1], CUT),
             ("--live-only", DUMP[:-1], CUT), ("--atomic", DUMP[:-1], CUT),
             ("", dump_writer.Writer().text(), "byte 31: the dump ends without a heap"),
-            ("--region-log 3", whole, dump_model.make(whole, 3).line)]
+            ("--region-log 3 --version 2", whole, dump_model.make(whole, 3, version=2).line)]
     for words, data, said in rows:
         tried.write("dump", data)
         tried.run(f"import dump out {words}", refused(said, {"out": None}))
@@ -246,6 +273,7 @@ def try_refused_dumps(tried: Tried) -> None:
         if tried.read("old") != OLD:
             tried.is_wrong(f"import {words}: the file is changed where the dump gives no image")
     tried.run("import dump out --region-log 3 --live-only", imported(whole, region_log=3, live_only=True))
+    tried.run("import dump out --region-log 3", imported(whole, region_log=3))
 
 
 def try_import_words(tried: Tried) -> None:
@@ -256,7 +284,8 @@ def try_import_words(tried: Tried) -> None:
     tried.run("import dump", usage(f"{missing}  <IMAGE>\n"))
     tried.run("import", usage(f"{missing}  <DUMP>\n  <IMAGE>\n"))
     tried.run("import dump out more", usage("error: unexpected argument 'more' found\n"))
-    for option, value, said in (("--region-log <k>", "2", "2 is not in 3..=16"), ("--region-log <k>", "17", "17 is not in 3..=16"),
+    for option, value, said in (("--region-log <k>", "2", "2 is not in 3..=20"), ("--region-log <k>", "21", "21 is not in 3..=20"),
+                                ("--version <v>", "1", "1 is not in 2..=3"), ("--version <v>", "4", "4 is not in 2..=3"),
                                 ("--region-log <k>", "nine", "a whole number is wanted"),
                                 ("--allowance <m>", "18446744073709551616", "number too large to fit in target type"),
                                 ("--allowance <m>", "1.5", "a whole number is wanted, of words of 8 bytes")):
@@ -304,7 +333,7 @@ def try_import_files(tried: Tried) -> None:
         tried.is_wrong("a dump that was named twice is changed")
 
 
-GROUPS = (try_imports, try_lists, try_sample, try_malformed_dumps, try_most_words, try_refused_dumps, try_import_words,
+GROUPS = (try_imports, try_lists, try_sample, try_malformed_dumps, try_most_words, try_sparse, try_refused_dumps, try_import_words,
           try_import_files)
 
 if __name__ == "__main__":

@@ -1,5 +1,5 @@
 #!/usr/bin/env python3
-"""Runs commands over images with roots, and over both versions of one heap.
+"""Runs commands over images with roots, of versions 2 and 3, and over all versions of one heap.
 
 usage: tests/cli/test_roots.py [PROGRAM]
 """
@@ -11,7 +11,8 @@ import sys
 # Finds the package `tests` from any folder, and writes nothing beside its modules.
 sys.dont_write_bytecode = True
 sys.path.insert(0, str(pathlib.Path(__file__).resolve().parents[2]))
-from tests.models.image import FRONT, header
+from tests.models.heap_text import text_of
+from tests.models.image import FRONT, Collection, decode, header
 from tests.support.cases import (COLLECTED, COMPACTED, LIVE, MOVED, ONE_WORKER, REPORT, SMALL, TWO_WORKERS, WORDS, head,
                                  image, rooted, try_collected, try_groups, try_refused, with_word)
 from tests.support.program import Answer, Tried, differs, fault
@@ -58,8 +59,10 @@ COLLECTIONS = [
 
 def try_roots(tried: Tried) -> None:
     for words, roots, figures, report, new_words, new_roots in COLLECTIONS:
-        try_collected(tried, rooted(words, roots), figures, rooted(new_words, new_roots))
-        tried.run("summary image", Answer(0, report))
+        for version in (2, 3):
+            after = rooted(new_words, new_roots, version=version)
+            try_collected(tried, rooted(words, roots, version=version), figures, after)
+            tried.run("summary image", Answer(0, report))
     for allowance in (1, 2, 5, 7, 2 ** 64 - 1):
         for roots in ([], [0]):
             nothing = rooted([0] * 32, roots, allowance)
@@ -87,6 +90,21 @@ REFUSED = [
     (head(17, 0, magic=b"PCHEAP02"), "3 region log"),
     (head(2, 0, magic=b"PCHEAP02"), "3 region log"),
     (head(2, 0, magic=b"PCHEAP00"), "2 magic"),
+    (head(20, 0, words=2 ** 36, magic=b"PCHEAP03"), "5 truncated body"),
+    (head(20, 0, words=2 ** 36 + 2 ** 20, magic=b"PCHEAP03"), "4 length"),
+    (head(21, 0, words=2 ** 36, magic=b"PCHEAP03"), "3 region log"),
+    (head(3, 0, words=2 ** 23, magic=b"PCHEAP03"), "5 truncated body"),
+    (head(3, 0, words=2 ** 23 + 8, magic=b"PCHEAP03"), "4 length"),
+    (head(2, 0, magic=b"PCHEAP03"), "3 region log"),
+    (head(16, 2 ** 32 - 1, words=2 ** 36, magic=b"PCHEAP03"), "5 truncated body"),
+    (head(15, 0, words=2 ** 35, magic=b"PCHEAP03"), "5 truncated body"),
+    (head(15, 0, words=2 ** 35 + 2 ** 15, magic=b"PCHEAP03"), "4 length"),
+    (head(20, 0, words=2 ** 19, magic=b"PCHEAP03"), "4 length"),
+    (head(3, 33, words=32, magic=b"PCHEAP03"), "4 length"),
+    (head(3, 0, words=0, magic=b"PCHEAP03"), "4 length"),
+    (rooted(WORDS, [4, 33], version=3), "17 root at index 1"),
+    (rooted(WORDS, [32], version=3), "7 header at 31"),
+    (rooted(WORDS, [21], version=3) + b"\0", "10 trailing bytes"),
     (head(2, 0, magic=b"PCHEAP12"), "2 magic"),
     (rooted(with_word(WORDS, 1, 34), [1]), "9 reference at 0 field 0"),
     (rooted(with_word(WORDS, 2, LARGEST), [1]), "9 reference at 0 field 1"),
@@ -155,21 +173,49 @@ def try_rooted_verdicts(tried: Tried) -> None:
     tried.write("after", rooted([0] * 8, []))
     tried.run("verify before after", differs("shape"))
     tried.run("verify after before", differs("shape"))
+    # So do versions 2 and 3.
+    tried.write("before", ROOTED_BASE)
+    tried.write("after", rooted(MOVED, [10, 0], version=3))
+    tried.run("verify before after", differs("shape"))
+
+
+def try_version_3(tried: Tried) -> None:
+    """A small image of version 3 under the commands that collect nothing: only its version differs from version 2."""
+    small = rooted(WORDS, [21, 0], version=3)
+    collection, text = Collection(decode(small)), text_of(decode(small))
+    tried.write("small", small)
+    tried.write("rooted", ROOTED_BASE)
+    tried.write("schedule", TWO_WORKERS)
+    tried.run("summary small", Answer(0, REPORT))
+    tried.run("order small", Answer(0, collection.order()))
+    tried.run("map small --after --letters --width 8", Answer(0, collection.map(8, True)))
+    tried.run("text small", Answer(0, text))
+    tried.write("lines", text)
+    tried.run("assemble lines made", Answer(0, "words 32 roots 2 live 4\n", made={"made": small}))
+    for flag in ("--svg drawing", "--html page"):
+        made = []
+        for name in ("rooted", "small"):
+            (tried.folder / "heap").write_bytes(tried.read(name))
+            tried.run(f"timeline heap schedule {flag}", Answer(0, None))
+            made.append(tried.read(flag.split()[1]))
+        if made[0] != made[1]:
+            tried.is_wrong(f"timeline {flag} of versions 2 and 3 differs")
+    tried.run("replay small schedule", Answer(0, TWO_WORKERS + "finished\n"))
 
 
 def try_rooted_schedules(tried: Tried) -> None:
-    """Both versions of a heap have the same summary, and one schedule with one worker."""
+    """All versions of a heap have the same summary, and one schedule with one worker."""
     tried.write("rooted", ROOTED_BASE)
     tried.run("summary rooted", Answer(0, REPORT))
     made = {"out": ROOTED_COMPACTED, "schedule": ONE_WORKER.encode()}
     tried.run("record rooted out schedule --workers 1", Answer(0, COLLECTED, made=made))
     tried.run("record base out schedule --workers 1", Answer(0, COLLECTED, made=made | {"out": COMPACTED}))
     schedules = []
-    for text in (image(WORDS, LIVE, 2), rooted(WORDS, [21, 0], 2)):
+    for text in (image(WORDS, LIVE, 2), rooted(WORDS, [21, 0], 2), rooted(WORDS, [21, 0], 2, version=3)):
         tried.write("image", text)
         tried.run("record image out schedule --workers 1", Answer(0, "prefix 8 top 21 filled 3\n"))
         schedules.append(tried.read("schedule"))
-    if schedules[0] != schedules[1]:
+    if len(set(schedules)) != 1:
         tried.is_wrong("one worker records another schedule where the heap has roots")
     for schedule in (ONE_WORKER, TWO_WORKERS):
         tried.write("schedule", schedule)
@@ -215,7 +261,7 @@ def try_many(tried: Tried) -> None:
               Answer(0, figures, made={"out": in_bytes(moved + [0] * (count + 1), [1])}))
 
 
-GROUPS = (try_roots, try_refused_roots, try_rooted_verdicts, try_rooted_schedules, try_many)
+GROUPS = (try_roots, try_refused_roots, try_rooted_verdicts, try_version_3, try_rooted_schedules, try_many)
 
 if __name__ == "__main__":
     sys.exit(try_groups(GROUPS))

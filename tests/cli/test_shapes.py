@@ -49,7 +49,7 @@ class Shape:
 
 
 SHAPES = [Shape(3), Shape(4), Shape(5), Shape(None, 0), Shape(None, 3), Shape(None, 9), Shape(None, 2 ** 64 - 1), Shape(4, 7),
-          Shape(5, 1), Shape(6), Shape(16, 5)]
+          Shape(5, 1), Shape(6), Shape(16, 5), Shape(17), Shape(20, 5)]
 
 
 def answered(tried: Tried, words: str, made: tuple[str, ...] = ()) -> Answer:
@@ -77,9 +77,9 @@ def try_shape(tried: Tried, text: bytes, shape: Shape) -> None:
 
 
 def try_small(tried: Tried) -> None:
-    """The base heap, and generated ones with a dense prefix, in both versions."""
+    """The base heap, and generated ones with a dense prefix, in each version."""
     texts = [BASE, rooted(WORDS, [1 + a for a in LIVE])]
-    for version in (1, 2):
+    for version in (1, 2, 3):
         tried.run(f"generate heap --words 1024 --live 80 --region-log 4 --seed {version} --version {version}", Answer(0, None))
         texts.append(tried.read("heap"))
     for text in texts:
@@ -146,10 +146,10 @@ def try_streams(tried: Tried) -> None:
 
 def try_large(tried: Tried) -> None:
     """A file that several threads read, and a pipe with the same bytes."""
-    for version in (1, 2):
+    for version in (1, 2, 3):
         tried.run(f"generate heap --words 262144 --live 70 --region-log 9 --seed 3 --version {version}", Answer(0, None))
         text = tried.read("heap")
-        for shape in (Shape(6), Shape(16), Shape(None, 2000), Shape(5, 900)):
+        for shape in (Shape(6), Shape(16), Shape(None, 2000), Shape(5, 900), *[Shape(17, 300)] * (version == 3)):
             tried.write("image", shape.of(text))
             wanted = answered(tried, "collect image out --workers 4", ("out",))
             for workers in (1, 2, 4, 64):

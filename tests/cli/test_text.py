@@ -39,9 +39,10 @@ ROOTED_COUNTS = "words 32 roots 2 live 4\n"
 OLD = b"what stood there before" * 40
 REFERENCE = "`null`, or `@` and an address below 32"
 NUMBER = "a number below 2^64, decimal and without leading zeros"
-VERSION = "`heap version 1` or `heap version 2`"
+VERSION = "`heap version 1`, `heap version 2` or `heap version 3`"
 REGION_LOG = "`region-log K`, where K is 3 to 16"
 WORDS = "`words N`, where N is 1 to 4194304 and makes whole regions, 16384 at most"
+LARGE_WORDS = "`words N`, where N is 1 to 68719476736 and makes whole regions, 1048576 at most"
 ALLOWANCE = "`allowance M`, where M is a number below 2^64"
 ROOTS = "`roots`, and behind it `null` or `@` and an address for each root"
 DEAD = "`of` and a number, or `words` and numbers, behind the number of dead words"
@@ -58,10 +59,13 @@ roots
 
 # In the text of the base heap with roots: what is changed into what, the line that is told, and what it says.
 MISTAKES = [
-    ("heap version 2", "heap version 3", 1, VERSION),
+    ("heap version 2", "heap version 4", 1, VERSION),
     ("heap version 2", "heap  version 2", 1, VERSION),
     ("region-log 3", "region-log 2", 2, REGION_LOG),
     ("region-log 3", "region-log 17", 2, REGION_LOG),
+    ("version 2\nregion-log 3", "version 3\nregion-log 21", 2, REGION_LOG.replace("16", "20")),
+    ("version 2\nregion-log 3\nwords 32", "version 3\nregion-log 3\nwords 8388616", 3, LARGE_WORDS),
+    ("version 2\nregion-log 3\nwords 32", "version 3\nregion-log 20\nwords 68720525312", 3, LARGE_WORDS),
     *(("words 32", f"words {number}", 3, WORDS) for number in ("0", "36", "032", "32\r", "4194312", "131080")),
     ("allowance 0", "allowance -1", 4, ALLOWANCE),
     ("allowance 0", "allowance", 4, ALLOWANCE),
@@ -220,6 +224,7 @@ def try_image(tried: Tried, image: Image) -> int:
 def try_limits(tried: Tried) -> None:
     """The most regions and the most words, each of 64 bits, of a live object and behind it, in a text of over 80 MB."""
     try_image(tried, generated(Wanted(8 * MAX_REGIONS, 3, 50, 25, 2, 7, 3))[0])
+    try_image(tried, generated(Wanted(262144, 17, 50, 25, 3, 7, 3))[0])
     half = MAX_WORDS // 2
     words = [header(half, 0), *range(2**64 - half, 2**64 - 1), *range(2**64 - 1 - half, 2**64 - 1)]
     if try_image(tried, Image(2, 16, 0, words, [1])) < 80_000_000:

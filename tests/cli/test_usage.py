@@ -28,7 +28,7 @@ Commands:
   record    Collect a heap image and record what each worker does
   replay    Replay a schedule word by word and print it with all replies
   timeline  Draw which worker has which region along the lines of a schedule
-  upgrade   Convert a heap image to version 2, which has roots
+  upgrade   Convert a heap image to version 2, which has roots, or 3, which may be larger
   import    Convert the heap dump of a Java virtual machine to a heap image
   generate  Generate a heap image from a seed, for benchmarks and experiments
   board     Schedule three regions among two workers, and count claims and completions
@@ -66,7 +66,7 @@ Arguments:
 
 Options:
       --heading         Print the names of the columns even if standard output is no terminal
-      --region-log <k>  Read IMAGE as if its regions had 2^k words, k from 3 to 16
+      --region-log <k>  Read IMAGE as if its regions had 2^k words, k from 3 to 20
       --allowance <m>   Read IMAGE as if its dense prefix might keep m dead words
       --json            Print a JSON object
       --verbose         Print more details about errors
@@ -87,11 +87,12 @@ Arguments:
 
 Options:
       --workers <n>     Number of worker threads, from 1 to 64
-      --region-log <k>  Read IMAGE as if its regions had 2^k words, k from 3 to 16
+      --region-log <k>  Read IMAGE as if its regions had 2^k words, k from 3 to 20
       --allowance <m>   Read IMAGE as if its dense prefix might keep m dead words
       --atomic          Replace files only once the command has succeeded
       --json            Print a JSON object
       --stats           Print timings and peak memory to stderr
+      --progress        Show progress even if standard error is no terminal (or --progress=WHEN: auto, always, never)
       --verbose         Print more details about errors
   -h, --help            Print help
 
@@ -111,10 +112,11 @@ Arguments:
 
 Options:
       --workers <n>     Number of worker threads, from 1 to 64
-      --region-log <k>  Read IMAGE as if its regions had 2^k words, k from 3 to 16
+      --region-log <k>  Read IMAGE as if its regions had 2^k words, k from 3 to 20
       --allowance <m>   Read IMAGE as if its dense prefix might keep m dead words
       --atomic          Replace files only once the command has succeeded
       --stats           Print timings and peak memory to stderr
+      --progress        Show progress even if standard error is no terminal (or --progress=WHEN: auto, always, never)
       --verbose         Print more details about errors
   -h, --help            Print help
 
@@ -132,8 +134,9 @@ Arguments:
   <SCHEDULE>  A schedule for the image
 
 Options:
-      --region-log <k>  Read IMAGE as if its regions had 2^k words, k from 3 to 16
+      --region-log <k>  Read IMAGE as if its regions had 2^k words, k from 3 to 20
       --allowance <m>   Read IMAGE as if its dense prefix might keep m dead words
+      --progress        Show progress even if standard error is no terminal (or --progress=WHEN: auto, always, never)
       --verbose         Print more details about errors
   -h, --help            Print help
 
@@ -150,7 +153,7 @@ Arguments:
   <IMAGE>  A heap image
 
 Options:
-      --region-log <k>  Read IMAGE as if its regions had 2^k words, k from 3 to 16
+      --region-log <k>  Read IMAGE as if its regions had 2^k words, k from 3 to 20
       --allowance <m>   Read IMAGE as if its dense prefix might keep m dead words
       --json            Print a JSON object
       --verbose         Print more details about errors
@@ -207,7 +210,7 @@ Options:
       --width <n>       Number of cells of a row, from 1 to 1000 (default: what a terminal has room for, or 64)
       --height <n>      Number of rows, from 1 to 100 (default: 1, or what a terminal has room for, or 8 of a drawing)
       --svg <FILE>      Write the picture to this file as SVG, and print only the figures
-      --region-log <k>  Read IMAGE as if its regions had 2^k words, k from 3 to 16
+      --region-log <k>  Read IMAGE as if its regions had 2^k words, k from 3 to 20
       --allowance <m>   Read IMAGE as if its dense prefix might keep m dead words
       --letters         Draw with letters even if the locale has block characters
       --color           Use colours even if standard output is no terminal (or --color=WHEN: auto, always, never)
@@ -233,7 +236,7 @@ Options:
       --width <n>       Number of cells of a lane, from 1 to 1000 (default: what a terminal has room for, or 64)
       --svg <FILE>      Write the lanes to this file as SVG, and print only the figures
       --html <FILE>     Write a page to this file that steps through the schedule, and print only the figures
-      --region-log <k>  Read IMAGE as if its regions had 2^k words, k from 3 to 16
+      --region-log <k>  Read IMAGE as if its regions had 2^k words, k from 3 to 20
       --allowance <m>   Read IMAGE as if its dense prefix might keep m dead words
       --letters         Draw with letters even if the locale has block characters
       --color           Use colours even if standard output is no terminal (or --color=WHEN: auto, always, never)
@@ -259,10 +262,11 @@ Arguments:
 Options:
       --explain         Say which words differ, in which objects, and where wrong references lead
       --ignore-free     Don't compare the words above the top
-      --region-log <k>  Read BEFORE as if its regions had 2^k words, k from 3 to 16
+      --region-log <k>  Read BEFORE as if its regions had 2^k words, k from 3 to 20
       --allowance <m>   Read BEFORE as if its dense prefix might keep m dead words
       --json            Print a JSON object
       --stats           Print timings and peak memory to stderr
+      --progress        Show progress even if standard error is no terminal (or --progress=WHEN: auto, always, never)
       --verbose         Print more details about errors
   -h, --help            Print help
 
@@ -271,7 +275,7 @@ Example:
 """
 
 UPGRADE_HELP = """\
-Convert a heap image to version 2, which has roots
+Convert a heap image to version 2, which has roots, or 3, which may be larger
 
 Usage: pcompact upgrade [OPTIONS] <IMAGE> <OUT>
 
@@ -280,9 +284,11 @@ Arguments:
   <OUT>    Where to write the upgraded image
 
 Options:
-      --atomic   Replace files only once the command has succeeded
-      --verbose  Print more details about errors
-  -h, --help     Print help
+      --to <v>    Version of the upgraded image, from 2 to 3 (default 2)
+      --progress  Show progress even if standard error is no terminal (or --progress=WHEN: auto, always, never)
+      --atomic    Replace files only once the command has succeeded
+      --verbose   Print more details about errors
+  -h, --help      Print help
 
 Example:
   pcompact upgrade heap.pcheap rooted.pcheap
@@ -298,13 +304,15 @@ Arguments:
   <IMAGE>  Where to write the image
 
 Options:
-      --region-log <k>  Regions have 2^k words, k from 3 to 16 (default 9)
+      --region-log <k>  Regions have 2^k words, k from 3 to 20 (default 9)
       --allowance <m>   Number of dead words that the dense prefix may keep (default 0)
+      --version <v>     Version of the image, from 2 to 3 (default 2, or 3 for a larger heap)
       --live-only       Keep only objects that are reachable from the roots
       --classes <FILE>  List each object's address, class and bytes, and whether it is live
       --histogram <n>   Print the n classes with the most bytes, live and dead
       --json            Print a JSON object
       --stats           Print timings and peak memory to stderr
+      --progress        Show progress even if standard error is no terminal (or --progress=WHEN: auto, always, never)
       --atomic          Replace files only once the command has succeeded
       --verbose         Print more details about errors
   -h, --help            Print help
@@ -323,13 +331,14 @@ Arguments:
   <IMAGE>  Where to write the image
 
 Options:
-      --words <n>       Number of words of the heap, a multiple of 2^k and at most 4194304
+      --words <n>       Number of words of the heap, a multiple of 2^k and at most 68719476736
       --live <share>    Percentage of the words that belongs to live objects, 0 to 100
-      --region-log <k>  Regions have 2^k words, k from 3 to 16
+      --region-log <k>  Regions have 2^k words, k from 3 to 20
       --seed <s>        A number of 64 bits; the same seed gives the same bytes everywhere
       --refs <share>    Percentage of the words after the headers that are references, 0 to 100 (default 25)
-      --version <v>     Version of the image: 1 lists the live objects, 2 has roots (default 2)
+      --version <v>     Version of the image, from 1 to 3: 1 lists the live objects (default 2, or 3 for a larger heap)
       --allowance <m>   Number of dead words that the dense prefix may keep (default 0)
+      --progress        Show progress even if standard error is no terminal (or --progress=WHEN: auto, always, never)
       --atomic          Replace files only once the command has succeeded
       --verbose         Print more details about errors
   -h, --help            Print help
@@ -381,13 +390,13 @@ For more information, try '--help'.
 """
 
 REGION_LOG_OUTSIDE = """\
-error: invalid value '2' for '--region-log <k>': 2 is not in 3..=16
+error: invalid value '2' for '--region-log <k>': 2 is not in 3..=20
 
 For more information, try '--help'.
 """
 
 REGION_LOG_ABOVE = """\
-error: invalid value '17' for '--region-log <k>': 17 is not in 3..=16
+error: invalid value '21' for '--region-log <k>': 21 is not in 3..=20
 
 For more information, try '--help'.
 """
@@ -461,6 +470,30 @@ Usage: pcompact map --color <IMAGE>
 For more information, try '--help'.
 """
 
+OTHER_PROGRESS = """\
+error: unexpected value 'blue' for '--progress' found; auto, always or never is wanted
+
+Usage: pcompact verify --progress <BEFORE> <AFTER>
+
+For more information, try '--help'.
+"""
+
+PROGRESS_TWICE = """\
+error: the argument '--progress' cannot be used multiple times
+
+Usage: pcompact verify [OPTIONS] <BEFORE> <AFTER>
+
+For more information, try '--help'.
+"""
+
+NO_PROGRESS = """\
+error: unexpected argument '--progress' found
+
+Usage: pcompact summary <IMAGE>
+
+For more information, try '--help'.
+"""
+
 COLOR_TWICE = """\
 error: the argument '--color' cannot be used multiple times
 
@@ -524,7 +557,7 @@ REFUSED = [
     ("summary", NO_IMAGE),
     ("board twice", EXTRA_WORD),
     ("import in out --region-log 2", REGION_LOG_OUTSIDE),
-    ("import in out --region-log 17", REGION_LOG_ABOVE),
+    ("import in out --region-log 21", REGION_LOG_ABOVE),
     ("import in out --allowance 18446744073709551616", NO_ALLOWANCE),
     ("collect in out", NO_WORKERS),
     ("collect in out --workers", NO_VALUE),
@@ -534,7 +567,7 @@ REFUSED = [
     ("collect in out --workers --allowance", NO_VALUE),
     ("collect in out --workers --live-only", OPTION_AS_VALUE),
     ("collect in out --workers 1 --region-log 2", REGION_LOG_OUTSIDE),
-    ("verify in out --region-log 17", REGION_LOG_ABOVE),
+    ("verify in out --region-log 21", REGION_LOG_ABOVE),
     ("summary in --allowance 18446744073709551616", NO_ALLOWANCE),
     ("generate out --words 32MiB --live 50 --region-log 3 --seed 1", NO_UNIT),
     ("generate out --words 64 --live 50.5 --region-log 3 --seed 1", NO_POINT),
@@ -543,6 +576,9 @@ REFUSED = [
     ("map heap --color --color", COLOR_TWICE),
     ("map heap --color=always --color --color", COLOR_TWICE),
     ("summary heap --color=auto", NO_COLOR),
+    ("verify in out --progress=blue", OTHER_PROGRESS),
+    ("verify in out --progress --progress=never --progress", PROGRESS_TWICE),
+    ("summary heap --progress=auto", NO_PROGRESS),
     ("version", VERSION),
     ("generat out", OTHER_COMMAND),
 ]

@@ -21,7 +21,7 @@ from tests.support import dump_writer
 from tests.support.cases import BASE, COMPACTED, MOVED, MOVED_LIVE, ONE_WORKER, WORDS, head, image, with_word
 from tests.support.program import PRELOAD, Answer, Tried, built
 
-ROOTED = b"PCHEAP02"
+ROOTED, LARGE = b"PCHEAP02", b"PCHEAP03"
 
 
 def told(owed: str, *more: str, status: int = 1, made: dict[str, bytes | None] | None = None) -> Answer:
@@ -49,10 +49,19 @@ LENGTHS = [
     (3, 0, 131_080, "there are more than 16384 regions"),
     (3, 33, 32, "there are more live addresses or roots than words"),
 ]
+# The same of version 3.
+LARGE_LENGTHS = [
+    (16, 0, 2 ** 36 + 2 ** 16, "the number of words is above 68719476736"),
+    (3, 0, 2 ** 23 + 8, "there are more than 1048576 regions"),
+    (20, 0, 2 ** 19, "the number of words is not a multiple of the words of a region"),
+]
 
 
 def try_lengths(tried: Tried) -> None:
-    """Each cause of fault 4, in both versions and of each command."""
+    """Each cause of fault 4, in each version and of each command."""
+    for log, count, words, cause in LARGE_LENGTHS:
+        tried.write("image", head(log, count, words, LARGE))
+        try_both(tried, "summary image", told("fault 4 length", "file IMAGE image", f"reason {cause}"))
     for log, count, words, cause in LENGTHS:
         for text in (head(log, count, words), head(log, count, words, ROOTED), head(log, count, words) + b"\0" * 300):
             tried.write("image", text)
@@ -223,7 +232,7 @@ def try_dumps(tried: Tried) -> None:
     for root, live, hint in ((4_000_000, 1, "it has 1.5 MiB, 1.0 MiB are the most, and with --live-only it has 0.0 MiB"),
                              (8, 200_001, "its live objects have 1.5 MiB, and 1.0 MiB are the most")):
         tried.write("large", dump_writer.Writer().record(0x0C, array + to.root(0x05, root)).text())
-        try_both(tried, "import large out --region-log 3",
+        try_both(tried, "import large out --region-log 3 --version 2",
                  told(f"{many}; with --live-only it has {live}", "file DUMP large", f"hint {hint}"))
     missing = "no such file or folder"
     for words in ("import nothing out", "import nothing out --atomic"):

@@ -124,6 +124,9 @@ def owed(heap: Heap, workers: int, is_pipe: bool) -> Started:
         rows = -(-heap.objects // 64)
         share = -(-rows // max(1, min(workers, rows // 16)))
         check = Phase(CHECK, -(-rows // share)).starts(workers)
+    # A heap of 524,288 words with roots is marked in parts of 262,144, each by one thread, before the end is asked for, too.
+    if heap.version > 1 and heap.words >= 1 << 19:
+        check += Phase("marking", heap.words >> 18).starts(workers)
     later = heap.phase.starts(workers) if heap.phase.name not in (READING, CHECK) else 0
     return Started(reading, check, later + FILLS.starts(workers))
 

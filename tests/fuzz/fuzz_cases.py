@@ -63,7 +63,7 @@ def try_collected(tried: Tried, collection: Collection, chance: random.Random) -
         tried.run(f"collect image out --workers {workers}{flag}", fault("12 workers", left(flag, "out")))
         tried.run(f"record image out schedule --workers {workers}{flag}",
                   fault("12 workers", left(flag, "out", "schedule")))
-    if image.version == 2:
+    if image.version != 1:
         try_twin(tried, as_version_1(image), alone)
     try_upgraded(tried, image)
 
@@ -96,7 +96,10 @@ def try_twin(tried: Tried, twin: Image, recorded: str) -> None:
 
 
 def try_upgraded(tried: Tried, image: Image) -> None:
-    """Version 2 of the heap, which collects to the same words and figures."""
+    """Versions 2 and 3 of the heap, which collect to the same words and figures."""
+    try_version_3(tried, image)
+    if image.version == 3:
+        return
     new = upgraded(image)
     collection = Collection(new)
     tried.run("upgrade image new", Answer(0, f"roots {len(new.tail)}\n", made={"new": encode(new)}))
@@ -105,6 +108,18 @@ def try_upgraded(tried: Tried, image: Image) -> None:
     tried.run("upgrade new new --atomic", Answer(0, f"roots {len(new.tail)}\n"))
     made = {"out": encode(collection.compaction())}
     tried.run("collect new out --workers 2", Answer(0, collection.figures(), made=made))
+
+
+def try_version_3(tried: Tried, image: Image) -> None:
+    """The heap in version 3, which is upgraded no further, and to no earlier version."""
+    new = upgraded(image, 3)
+    roots, made = f"roots {len(new.tail)}\n", encode(new)
+    tried.run("upgrade image third --to 3", Answer(0, roots, made={"third": made}))
+    tried.run("upgrade third third --to 3 --atomic", Answer(0, roots))
+    tried.run("upgrade third fourth --to 3", Answer(0, roots, made={"fourth": made}))
+    tried.run("upgrade third out --to 2", Answer(1, err="pcompact: version 3 can't be upgraded to version 2\n", made={"out": b""}))
+    collection = Collection(new)
+    tried.run("collect third out --workers 2", Answer(0, collection.figures(), made={"out": encode(collection.compaction())}))
 
 
 def try_text(tried: Tried, image: Image, chance: random.Random) -> str:
@@ -141,7 +156,7 @@ def try_verdict(tried: Tried, image: Image, chance: random.Random) -> str:
 
 def try_shaped(tried: Tried, image: Image, chance: random.Random) -> str:
     """A valid image that is read with another region log and allowance."""
-    shaped = dataclasses.replace(image, region_log=chance.choice([3, 4, image.region_log, chance.randint(3, 16)]),
+    shaped = dataclasses.replace(image, region_log=chance.choice([3, 4, image.region_log, chance.randint(3, 20)]),
                                  allowance=chance.choice([0, 1, chance.randint(0, len(image.words)), 2 ** 64 - 1]))
     options = f"--region-log {shaped.region_log} --allowance {shaped.allowance}"
     try:

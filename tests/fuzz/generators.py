@@ -88,7 +88,7 @@ class ImageMaker:
 
     def image(self) -> Image:
         """A valid image. In version 1 the live list is what some roots lead to."""
-        rooted = Image(2, self.log, self.allowance(), self.words, self.roots())
+        rooted = Image(self.chance.choice([2, 2, 3]), self.log, self.allowance(), self.words, self.roots())
         return chance_of(self.chance, 60, rooted, as_version_1(rooted))
 
 

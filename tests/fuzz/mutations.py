@@ -3,7 +3,7 @@ import dataclasses
 import random
 
 from tests.fuzz.generators import LARGEST
-from tests.models.image import FRONT, MAX_REGIONS, MAX_WORDS, Image, encode, header, is_sound, references_of, size_of
+from tests.models.image import FRONT, LIMITS, MAGICS, MAX_REGIONS, MAX_WORDS, Image, encode, header, is_sound, references_of, size_of
 from tests.models.schedule import ANY, FORMS, LARGEST_NUMBER, MAX_WORKERS, Schedule
 
 
@@ -24,7 +24,7 @@ class ImageSpoiler:
     def changed(self) -> bytes:
         """Another image, mostly valid where the first one is: other plain data, roots to the same objects in another
         order, or a live object that lies in the data of the one that was live."""
-        if self.image.version == 2 and self.tail and self.chance.randrange(2):
+        if self.image.version != 1 and self.tail and self.chance.randrange(2):
             self.chance.shuffle(self.tail)
         if self.chance.randrange(3) == 0:
             self.exchange_for_inner()
@@ -43,7 +43,7 @@ class ImageSpoiler:
                  if is_sound(words, b) and b + size_of(words[b]) <= a + size_of(words[a])]
         if inner:
             a, b = self.chance.choice(inner)
-            base = self.version - 1
+            base = int(self.version != 1)
             self.tail = [base + b if number == base + a else number for number in self.tail]
 
     def spoiled(self) -> bytes:
@@ -109,7 +109,7 @@ class ImageSpoiler:
 
     def exchange_versions(self) -> None:
         """Roots in place of the live list or the other way round, as references, as addresses or as they are."""
-        self.version = 3 - self.version
+        self.version = self.chance.choice([version for version in (1, 2, 3) if version != self.version])
         change = self.chance.choice([0, 1, -1])
         self.tail = [(number + change) % (LARGEST + 1) for number in self.tail]
 
@@ -122,7 +122,7 @@ class ImageSpoiler:
         b = self.chance.choice(data)
         self.words[b] = header(self.chance.randint(1, 4), 0)
         if self.chance.randrange(3) and len(self.tail) < len(self.words):
-            self.tail = [*self.tail, 1 + b] if self.version == 2 else sorted({*self.tail, b})
+            self.tail = [*self.tail, 1 + b] if self.version != 1 else sorted({*self.tail, b})
 
     def cut(self, text: bytes) -> bytes:
         return text[:self.chance.choice([len(text) - 1, len(text) - 8, self.chance.randrange(len(text)), 32, 31])]
@@ -147,9 +147,10 @@ class ImageSpoiler:
     def go_to_limits(self, text: bytes) -> bytes:
         """A head of as many words, regions or roots as there may be, or a region or a root more, and no such body."""
         magic, _, _, _, allowance = FRONT.unpack_from(text)
-        log = self.chance.choice([2, 3, 7, 8, 9, 16, 17])
-        length = min(MAX_REGIONS << log, MAX_WORDS) + self.chance.choice([0, 0, 1 << log])
-        count = self.chance.choice([0, 1, length, length + 1])
+        _, words, regions = LIMITS[MAGICS[magic]]
+        log = self.chance.choice([2, 3, 7, 8, 9, 16, 17, 20, 21])
+        length = min(regions << log, words) + self.chance.choice([0, 0, 1 << log])
+        count = min(self.chance.choice([0, 1, length, length + 1]), 2 ** 32 - 1)
         return FRONT.pack(magic, log, count, length, allowance) + text[FRONT.size:]
 
     def limits(self, log: int, count: int, length: int, _allowance: int) -> list[list[int]]:

@@ -7,7 +7,7 @@ import dataclasses
 import itertools
 import struct
 
-from tests.models.image import MAX_REGIONS, MAX_WORDS
+from tests.models.image import LIMITS, allows
 
 NAMES = (b"JAVA PROFILE 1.0.1\0", b"JAVA PROFILE 1.0.2\0")
 # The records that hold a heap or a part of one, and the one that ends the parts.
@@ -248,10 +248,18 @@ def places(dump: Dump, ids: list[int], gaps: bool) -> tuple[dict[int, int], int,
     return addresses, at, dropped
 
 
-def make(data: bytes, region_log: int = 9, allowance: int = 0, live_only: bool = False) -> Import:
+def most_words(version: int, region_log: int) -> int:
+    """The most words of an image of this version."""
+    _, max_words, max_regions = LIMITS[version]
+    return min(max_words, max_regions << region_log)
+
+
+def make(data: bytes, region_log: int = 9, allowance: int = 0, live_only: bool = False, version: int | None = None) -> Import:
     dump = Dump(data)
     live = reached(dump)
-    most = min(MAX_WORDS, MAX_REGIONS << region_log)
+    most = most_words(version or 3, region_log)
+    if not (version or live_only):
+        most = min(most, max(most_words(2, region_log), 2 * sum(made.words() for made in dump.objects.values())))
     ids = sorted(live if live_only else dump.objects)
     addresses, end, dropped = places(dump, ids, not live_only)
     if end > most:
@@ -272,7 +280,8 @@ def make(data: bytes, region_log: int = 9, allowance: int = 0, live_only: bool =
     roots = sorted({addresses[id_] + 1 for id_ in dump.roots if id_ in addresses})
     lost = sum(id_ != 0 and id_ not in dump.objects for made in dump.objects.values() for id_ in made.references)
     lost += sum(id_ not in dump.objects for id_ in dump.roots)
-    head = struct.pack("<8sIIQQ", b"PCHEAP02", region_log, len(roots), total, allowance)
+    version = version or (2 if allows(2, region_log, total) else 3)
+    head = struct.pack("<8sIIQQ", b"PCHEAP0%d" % version, region_log, len(roots), total, allowance)
     line = (f"words {total} objects {len(ids)} roots {len(roots)} live {len(live)} dead {len(ids) - len(live)} "
             f"dropped-gaps {dropped} unresolved {lost}")
     return Import(head + struct.pack(f"<{total}Q", *words) + struct.pack(f"<{len(roots)}Q", *roots), line)

@@ -1,7 +1,7 @@
 """A plain model of what `verify --explain` says, made from docs/COMMANDS.md alone."""
 import struct
 
-from tests.models.image import FRONT, Collection, Fault, Image, decode, references_of, verdict
+from tests.models.image import FRONT, MAGICS, Collection, Fault, Image, decode, references_of, verdict
 
 
 class Explanation:
@@ -104,8 +104,8 @@ def verified(before: bytes, after: bytes, ignore_free: bool = False) -> list[str
         told = [f"fault {fault}", *told]
         magic, log, count, length, allowance = FRONT.unpack_from(after)
         numbers = list(struct.unpack_from(f"<{length + count}Q", after, FRONT.size))
-        found = Image(2 if magic == b"PCHEAP02" else 1, log, allowance, numbers[:length], numbers[length:])
-        name, expected = ("roots", len(was.roots())) if found.version == 2 else ("live objects", len(was.live()))
+        found = Image(MAGICS[magic], log, allowance, numbers[:length], numbers[length:])
+        name, expected = ("roots", len(was.roots())) if found.version != 1 else ("live objects", len(was.live()))
         told += [f"{name} expected {expected} found {count}"] if count != expected else []
     if len(found.words) != len(was.words):
         return [*told, "the words are not compared"]

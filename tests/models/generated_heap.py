@@ -99,7 +99,7 @@ def generated(wanted: Wanted) -> tuple[Image, str]:
     roots = [1 + a for a in live if a not in kept]
     if reached(words, roots) != set(live):
         raise ValueError("the roots don't reach just the live objects")
-    rooted = wanted.version == 2
+    rooted = wanted.version != 1
     image = Image(wanted.version, wanted.region_log, wanted.allowance, words, roots if rooted else live)
     counts = f"words {len(words)} objects {len(objects)} roots {len(roots) if rooted else 0} live {len(live)}\n"
     return image, counts

@@ -32,7 +32,7 @@ def text_of(image: Image) -> str:
     """The text of a valid image."""
     lines = [f"heap version {image.version}", f"region-log {image.region_log}", f"words {len(image.words)}",
              f"allowance {image.allowance}"]
-    lines += [" ".join(["roots", *map(reference_text, image.tail)])] if image.version == 2 else []
+    lines += [" ".join(["roots", *map(reference_text, image.tail)])] if image.version != 1 else []
     live = image.live()
     owned = {word for a in live for word in range(a, image.end(a))}
     runs = itertools.groupby(range(len(image.words)), key=lambda word: word in owned)
@@ -58,16 +58,16 @@ def assembled(text: str) -> Image | None:
     """The valid image of which this is the text, if there is one."""
     try:
         version, log, length, allowance, *lines = text.splitlines()
-        if version[-1] not in "12":
+        if version[-1] not in "123":
             return None
-        tail = [0 if word == "null" else 1 + int(word[1:]) for word in lines.pop(0).split(" ")[1:]] if version[-1] == "2" else []
+        tail = [0 if word == "null" else 1 + int(word[1:]) for word in lines.pop(0).split(" ")[1:]] if version[-1] != "1" else []
         words, objects = [], []
         for line in lines:
             told, is_object = words_of(line)
             objects += [len(words)] if is_object else []
             words += told
         image = Image(int(version[-1]), int(log.split(" ")[1]), int(allowance.split(" ")[1]), words,
-                      tail if version[-1] == "2" else objects)
+                      tail if version[-1] != "1" else objects)
         image = decode(encode(image))
         return image if text_of(image) == text else None
     except (Fault, ValueError, IndexError, struct.error):

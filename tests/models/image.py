@@ -11,10 +11,14 @@ import struct
 from collections.abc import Iterator
 
 OBJECT, FILLER = 1, 2
-MAGICS = {b"PCHEAP01": 1, b"PCHEAP02": 2}
+MAGICS = {b"PCHEAP01": 1, b"PCHEAP02": 2, b"PCHEAP03": 3}
 FRONT = struct.Struct("<8sIIQQ")
+# The limits of versions 1 and 2.
+MAX_LOG = 16
 MAX_WORDS = 4_194_304
 MAX_REGIONS = 16_384
+# The largest region log, number of words and number of regions by version.
+LIMITS = {1: (MAX_LOG, MAX_WORDS, MAX_REGIONS), 2: (MAX_LOG, MAX_WORDS, MAX_REGIONS), 3: (20, 2 ** 36, 2 ** 20)}
 # The areas of a map by their letters, from the lowest.
 AREAS = {"p": "prefix", "f": "prefix with fillers", "m": "moving", "-": "free"}
 
@@ -46,14 +50,14 @@ class Image:
     region_log: int
     allowance: int
     words: list[int]
-    # The live list in version 1, the roots in version 2.
+    # The live list in version 1, the roots in versions 2 and 3.
     tail: list[int]
 
     def live(self) -> list[int]:
         return self.tail if self.version == 1 else sorted(reached(self.words, self.tail))
 
     def roots(self) -> list[int]:
-        return self.tail if self.version == 2 else []
+        return [] if self.version == 1 else self.tail
 
     def references(self, a: int) -> list[int]:
         return references_at(self.words, a)
@@ -84,9 +88,19 @@ def reached(words: list[int], roots: list[int]) -> set[int]:
     return found
 
 
-def upgraded(image: Image) -> Image:
-    """The same heap in version 2. An image of version 1 gets a root to each live object."""
-    return image if image.version == 2 else dataclasses.replace(image, version=2, tail=[1 + a for a in image.tail])
+def upgraded(image: Image, version: int = 2) -> Image:
+    """The same heap in this version, which is no earlier one than its own. A live list becomes roots, one to each live
+    object."""
+    if image.version > version:
+        raise ValueError(f"version {image.version} can't be upgraded to version {version}")
+    tail = image.tail if image.version != 1 or version == 1 else [1 + a for a in image.tail]
+    return dataclasses.replace(image, version=version, tail=tail)
+
+
+def allows(version: int, region_log: int, words: int) -> bool:
+    """Whether an image of this version may have so many words in regions of this size."""
+    max_log, max_words, max_regions = LIMITS[version]
+    return region_log <= max_log and words <= max_words and words >> region_log <= max_regions
 
 
 def encode(image: Image) -> bytes:
@@ -103,9 +117,10 @@ def decode(text: bytes) -> Image:
     magic, log, count, length, allowance = FRONT.unpack_from(text)
     if magic not in MAGICS:
         raise Fault("2 magic")
-    if not 3 <= log <= 16:
+    max_log, max_words, max_regions = LIMITS[MAGICS[magic]]
+    if not 3 <= log <= max_log:
         raise Fault("3 region log")
-    if not 0 < length <= MAX_WORDS or length % (1 << log) or length >> log > MAX_REGIONS or count > length:
+    if not 0 < length <= max_words or length % (1 << log) or length >> log > max_regions or count > length:
         raise Fault("4 length")
     end = FRONT.size + 8 * (length + count)
     if len(text) < end:
@@ -190,9 +205,9 @@ class Collection:
         return [words[a], *map(self.redirected, self.image.references(a)), *words[after:self.image.end(a)]]
 
     def filler_runs(self) -> list[list[int]]:
-        """Each longest run of dead words of the prefix."""
-        runs = itertools.groupby(range(self.prefix_end), key=lambda word: word in self.owner)
-        return [list(run) for is_live, run in runs if not is_live]
+        """Each longest run of dead words of the prefix, cut at multiples of 2^31."""
+        runs = itertools.groupby(range(self.prefix_end), key=lambda word: (word in self.owner, word >> 31))
+        return [list(run) for (is_live, _), run in runs if not is_live]
 
     def compaction(self) -> Image:
         words = [0] * len(self.image.words)
@@ -201,7 +216,7 @@ class Collection:
             words[to:to + len(moved)] = moved
         for run in self.filler_runs():
             words[run[0]] = header(len(run), 0, FILLER)
-        is_rooted = self.image.version == 2
+        is_rooted = self.image.version != 1
         tail = map(self.redirected, self.image.tail) if is_rooted else self.new.values()
         return dataclasses.replace(self.image, words=words, tail=list(tail))
 

@@ -64,9 +64,9 @@ def image(words: list[int], live: list[int], allowance: int = 0, log: int = 3) -
     return model.encode(model.Image(1, log, allowance, words, live))
 
 
-def rooted(words: list[int], roots: list[int], allowance: int = 0, log: int = 3) -> bytes:
-    """The text of an image of version 2, valid or not."""
-    return model.encode(model.Image(2, log, allowance, words, roots))
+def rooted(words: list[int], roots: list[int], allowance: int = 0, log: int = 3, version: int = 2) -> bytes:
+    """The text of an image of version 2 or 3, valid or not."""
+    return model.encode(model.Image(version, log, allowance, words, roots))
 
 
 def head(log: int, count: int, words: int = model.MAX_WORDS, magic: bytes = b"PCHEAP01") -> bytes:
@@ -112,21 +112,32 @@ def try_collected(tried: Tried, text: bytes, figures: str, after: bytes) -> None
         tried.run("replay image schedule", Answer(0, schedule + "finished\n"))
     tried.run("verify image out", Answer(0, "same\n"))
     try_upgraded(tried, text)
-    tried.run("collect rooted out --workers 2", Answer(0, figures, made={"out": upgraded(after)}))
+    for version in range(max(2, model.decode(text).version), 4):
+        tried.write("rooted", upgraded(text, version))
+        tried.run("collect rooted out --workers 2", Answer(0, figures, made={"out": upgraded(after, version)}))
 
 
-def upgraded(text: bytes) -> bytes:
-    """The text of an image, upgraded."""
-    return model.encode(model.upgraded(model.decode(text)))
+def upgraded(text: bytes, version: int = 2) -> bytes:
+    """The text of an image, upgraded to this version."""
+    return model.encode(model.upgraded(model.decode(text), version))
 
 
 def try_upgraded(tried: Tried, text: bytes) -> None:
-    """What `upgrade` makes of the image with this text, and then of the result."""
-    right = upgraded(text)
-    roots = f"roots {len(model.decode(right).roots())}\n"
+    """What `upgrade` makes of the image with this text in each version, and then of the result."""
     tried.write("image", text)
-    tried.run("upgrade image rooted", Answer(0, roots, made={"rooted": right}))
-    tried.run("upgrade rooted again", Answer(0, roots, made={"again": right}))
+    for words, version in (("", 2), (" --to 2", 2), (" --to 3", 3)):
+        if model.decode(text).version > version:
+            tried.run(f"upgrade image rooted{words}", later({"rooted": b""}))
+            continue
+        right = upgraded(text, version)
+        roots = f"roots {len(model.decode(right).roots())}\n"
+        tried.run(f"upgrade image rooted{words}", Answer(0, roots, made={"rooted": right}))
+        tried.run(f"upgrade rooted again{words}", Answer(0, roots, made={"again": right}))
+
+
+def later(made: dict[str, bytes | None]) -> Answer:
+    """The answer of an upgrade of an image of version 3 to version 2."""
+    return Answer(1, err="pcompact: version 3 can't be upgraded to version 2\n", made=made)
 
 
 def try_groups(groups: Iterable[Callable[[Tried], None]]) -> int:

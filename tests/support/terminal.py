@@ -6,12 +6,12 @@ import subprocess
 from tests.support.program import Tried
 
 
-def on_terminal(tried: Tried, words: str, stream: str = "stderr") -> tuple[int, str]:
+def on_terminal(tried: Tried, words: str, stream: str = "stderr", **how) -> tuple[int, str]:
     """The status, and what comes on a terminal that is this stream."""
     mine, its = pty.openpty()
     tried.count += 1
     streams = {"stdin": subprocess.DEVNULL, "stdout": subprocess.DEVNULL, "stderr": subprocess.DEVNULL, stream: its}
-    done = subprocess.run([tried.program, *words.split()], cwd=tried.folder, **streams)
+    done = subprocess.run([tried.program, *words.split()], cwd=tried.folder, **streams, **how)
     os.close(its)
     said = b""
     try:

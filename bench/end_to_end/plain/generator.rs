@@ -43,8 +43,8 @@ pub struct Asked {
     /// How many of a hundred words behind the headers are references, about. Only graphs and single objects ask.
     pub references: u64,
     pub shape: Shape,
-    /// Whether the image has roots in place of its live list.
-    pub is_rooted: bool,
+    /// The version of the image: 1 has a live list, 2 and 3 have roots.
+    pub version: u8,
 }
 
 struct Random(u64);
@@ -207,8 +207,8 @@ pub fn generate(asked: &Asked) -> Image {
         Shape::Last => asked.words as u64 - 2,
         _ => 0,
     };
-    let mut image = Image { region_log: asked.region_log, allowance, words, live, roots: None };
-    if asked.is_rooted {
+    let mut image = Image { version: asked.version, region_log: asked.region_log, allowance, words, live, roots: None };
+    if asked.version > 1 {
         image.roots = Some(roots_of(&image, &mut random));
     }
     image

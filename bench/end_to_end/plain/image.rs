@@ -9,6 +9,10 @@ pub const ROOM: usize = 1 << 16;
 
 const FRONT_BYTES: usize = 32;
 
+/// The most words that are read, fewer than an image of version 3 may have: stack and ranks have 32 bits for each, and no gap
+/// is so long that it takes two fillers.
+const MOST_WORDS: u64 = 1 << 31;
+
 #[derive(Debug)]
 #[allow(dead_code)]
 pub enum Fault {
@@ -34,11 +38,13 @@ impl From<io::Error> for Fault {
 
 #[derive(Clone)]
 pub struct Image {
+    /// 1 has a live list, 2 and 3 have roots.
+    pub version: u8,
     pub region_log: u32,
     pub allowance: u64,
     pub words: Vec<u64>,
     pub live: Vec<u64>,
-    /// In version 2 alone.
+    /// From version 2 on.
     pub roots: Option<Vec<u64>>,
 }
 
@@ -69,7 +75,7 @@ impl Image {
         self.live.iter().map(|&a| self.header(a as usize).references()).sum()
     }
 
-    /// Finds the live objects of version 2. Whether they are sound, do not overlap, and lead to one another.
+    /// Finds the live objects where there are roots. Whether they are sound, do not overlap, and lead to one another.
     fn check(&mut self) -> Result<(), Fault> {
         match &self.roots {
             None => check_objects(self, &self.live, &self.check_order()?)?,
@@ -156,26 +162,28 @@ fn read_numbers(reader: &mut impl Read, buffer: &mut [u8], count: usize) -> Resu
 pub fn read(mut reader: impl Read, laps: &mut Laps) -> Result<Image, Fault> {
     let mut front = [0; FRONT_BYTES];
     reader.read_exact(&mut front).map_err(|_| Fault::TruncatedHeader)?;
-    let is_rooted = match &front[..8] {
-        b"PCHEAP01" => false,
-        b"PCHEAP02" => true,
+    let version = match &front[..8] {
+        b"PCHEAP01" => 1,
+        b"PCHEAP02" => 2,
+        b"PCHEAP03" => 3,
         _ => return Err(Fault::Magic),
     };
+    let (most_log, most_words, most_regions) = if version == 3 { (20, MOST_WORDS, 1 << 20) } else { (16, 1 << 22, 1 << 14) };
     let region_log = u32::from_le_bytes(front[8..12].try_into().unwrap());
-    if !(3..=16).contains(&region_log) {
+    if !(3..=most_log).contains(&region_log) {
         return Err(Fault::RegionLog);
     }
     let count = u64::from(u32::from_le_bytes(front[12..16].try_into().unwrap()));
     let words = number(&front[16..24]);
     let is_whole = words & ((1 << region_log) - 1) == 0;
-    if words == 0 || words > 1 << 22 || !is_whole || words >> region_log > 1 << 14 || count > words {
+    if words == 0 || words > most_words || !is_whole || words >> region_log > most_regions || count > words {
         return Err(Fault::Length);
     }
     let mut buffer = vec![0; ROOM];
     let words = read_numbers(&mut reader, &mut buffer, words as usize)?;
     let tail = read_numbers(&mut reader, &mut buffer, count as usize)?;
-    let (live, roots) = if is_rooted { (Vec::new(), Some(tail)) } else { (tail, None) };
-    let mut image = Image { region_log, allowance: number(&front[24..]), words, live, roots };
+    let (live, roots) = if version == 1 { (tail, None) } else { (Vec::new(), Some(tail)) };
+    let mut image = Image { version, region_log, allowance: number(&front[24..]), words, live, roots };
     laps.end("read");
     image.check()?;
     laps.end("check");
@@ -197,12 +205,10 @@ fn write_numbers(writer: &mut impl Write, buffer: &mut [u8], numbers: &[u64]) ->
 }
 
 pub fn write(image: &Image, mut writer: impl Write) -> Result<(), Fault> {
-    let (magic, tail) = match &image.roots {
-        None => (b"PCHEAP01", &image.live),
-        Some(roots) => (b"PCHEAP02", roots),
-    };
+    let tail = image.roots.as_ref().unwrap_or(&image.live);
     let mut front = [0; FRONT_BYTES];
-    front[..8].copy_from_slice(magic);
+    front[..7].copy_from_slice(b"PCHEAP0");
+    front[7] = b'0' + image.version;
     front[8..12].copy_from_slice(&image.region_log.to_le_bytes());
     front[12..16].copy_from_slice(&(tail.len() as u32).to_le_bytes());
     front[16..24].copy_from_slice(&(image.words.len() as u64).to_le_bytes());

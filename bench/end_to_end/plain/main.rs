@@ -18,7 +18,7 @@ use std::time::Instant;
 
 const USAGE: &str = "usage:
   plain generate OUT --mib n --live percent --log n --references percent
-                     [--shape graph|list|array|object|last] [--version 1|2]
+                     [--shape graph|list|array|object|last] [--version 1|2|3]
   plain tell IMAGE
   plain collect IMAGE OUT
   plain phases IMAGE OUT
@@ -78,7 +78,7 @@ fn generate(out: &str, words: &[String]) -> Option<Result<(), image::Fault>> {
         region_log: asked(words, "--log")?,
         references: asked(words, "--references")?,
         shape: asked_or(words, "--shape", generator::Shape::Graph)?,
-        is_rooted: asked_or(words, "--version", 1)? == 2,
+        version: asked_or(words, "--version", 1)?,
     };
     let image = generator::generate(&wanted);
     tell(&image);

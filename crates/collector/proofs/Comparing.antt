@@ -6,13 +6,12 @@ use Rattle.heap_image.specs.Header.{filler_header}
 use Rattle.heap_image.specs.HeapImage.{HeapImage, IsValid, HasSoundHeader, heap_words, word_at, size_at, references_at}
 use Rattle.summary.specs.LiveObjects.{object_count, object_at}
 use Rattle.summary.specs.NewAddresses.{new_address, new_top}
-use Rattle.summary.specs.Fillers.{IsDeadRun}
 use Rattle.summary.specs.Compaction.{compacted_word, compact}
-use Rattle.collector.specs.Compared.{IsPlaced, AreKnown, behind}
+use Rattle.collector.specs.Compared.{IsGap, IsPlaced, AreKnown, behind}
 use Rattle.collector.specs.Tally.{IsTally}
 use Rattle.collector.specs.declared.difference_tally.OtherWord.{OtherWord}
 use Rattle.collector.proofs.Gaps.{behind-zero, behind-suc}
-use Rattle.collector.proofs.Placing.{place_end, is_placed, is_dead_run, behind_place, filler_zeros, data_words, compact_word}
+use Rattle.collector.proofs.Placing.{place_end, is_placed, is_gap, behind_place, filler_zeros, data_words, compact_word}
 
 pub tally_to : {wanted found : ℕ → ℕ} {count : ℕ} {first : List OtherWord} (p q : ℕ) → p ≡ q → IsTally wanted found p count first → IsTally wanted found q count first
 tally_to {wanted} {found} {count} {first} p q e tally = subst (λ n. IsTally wanted found n count first) e tally
@@ -62,9 +61,9 @@ module _ (image : HeapImage) (known : AreKnown image) (items : List ℕ) (i next
   pub low : next ≤ place
   low = subst (λ n. next ≤ n) (sym place_is) (subst (λ n. n ≤ new_address image (object_at image i)) (sym next_is) (behind_place image known i inside))
 
-  pub run : next < place → IsDeadRun image next place
-  run h = subst (λ n. IsDeadRun image next n) (sym place_is) (subst (λ n. IsDeadRun image n (new_address image (object_at image i))) (sym next_is)
-      (is_dead_run image known i inside (subst (λ n. n < new_address image (object_at image i)) next_is (subst (λ n. next < n) place_is h))))
+  pub run : next < place → IsGap image next place
+  run h = subst (λ n. IsGap image next n) (sym place_is) (subst (λ n. IsGap image n (new_address image (object_at image i))) (sym next_is)
+      (is_gap image known i inside (subst (λ n. n < new_address image (object_at image i)) next_is (subst (λ n. next < n) place_is h))))
 
   pub object : IsPlaced image (get_or items i 0) place
   object = subst (λ (xs : List ℕ). IsPlaced image (get_or xs i 0) place) (sym items_are) (subst (λ n. IsPlaced image (object_at image i) n) (sym place_is) (is_placed image known i inside))

@@ -1,6 +1,7 @@
 pub mod Joined
 pub mod Gaps
 pub mod Placing
+mod Strides
 pub mod Telling
 pub mod Queues
 pub mod Passes

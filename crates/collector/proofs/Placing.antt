@@ -8,10 +8,9 @@ use Rattle.heap_image.specs.HeapImage.{HeapImage, heap_words, word_at, size_at, 
 use Rattle.summary.specs.LiveObjects.{object_count, object_at}
 use Rattle.summary.specs.NewAddresses.{prefix_end, new_address, new_end_of, new_top, next_at}
 use Rattle.summary.specs.WordMoves.{slid}
-use Rattle.summary.specs.Fillers.{IsDeadRun}
 use Rattle.heap_image.specs.Header.{filler_header}
 use Rattle.summary.specs.Compaction.{is_reference_of, redirected, compacted_word, compact}
-use Rattle.collector.specs.Compared.{IsPlaced, AreKnown, behind}
+use Rattle.collector.specs.Compared.{IsGap, IsPlaced, AreKnown, behind}
 use Rattle.collector.proofs.Joined.{AreWanted}
 use Rattle.collector.proofs.Gaps.{ArePlaced, behind-zero, behind-suc, behind_low, gap_low, gap_empty, gap_begins, low_stays, top_low}
 
@@ -89,8 +88,8 @@ module _ (image : HeapImage) where
             ∙ ap (λ xs. get_or xs j 0) (known.object i l)
             ∙ get_or-map-range_with_len (λ q. if is_reference_of image (at i) q then redirected image (word_at image q) else word_at image q) (at i) (size i) j (at i + j) 0 m refl
 
-    pub is_dead_run : (i : ℕ) → i < object_count image → behind place_end i < place i → IsDeadRun image (behind place_end i) (place i)
-    is_dead_run i l some = record {
+    pub is_gap : (i : ℕ) → i < object_count image → behind place_end i < place i → IsGap image (behind place_end i) (place i)
+    is_gap i l some = record {
       some = some;
       inside = gap_low (object_count image) (prefix_end image) (new_top image) at size place placed i l some;
       dead = λ q from to. elim (cases_Bool (is_live_word image q)) [

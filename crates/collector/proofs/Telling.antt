@@ -1,7 +1,8 @@
 -- What the first difference between an image and the compaction of another says.
-use Rattle.std.proofs.Common.{◌≡◌, ℕ, ◌<◌, List, [], cond, length, get_or, refl, ap, sym, ◌∙◌, subst, arith}
+use Rattle.std.proofs.Common.{◌≡◌, ℕ, ◌<◌, List, [], length, get_or, refl, ap, sym, ◌∙◌, subst, arith}
 use Rattle.std.specs.Prelude.{Option, None, Some, map, option_map}
 use Rattle.std.specs.Option.{is_some}
+use Rattle.std.proofs.lemmas.Bool.{true≢false}
 use Rattle.std.proofs.lemmas.List.{get_or-map, length-map, ext_get_or}
 use Rattle.heap_image.specs.HeapImage.{HeapImage, heap_words, word_at, roots_or, roots_of}
 use Rattle.summary.specs.LiveObjects.{object_count, object_at}
@@ -13,19 +14,19 @@ use Rattle.collector.specs.Verdict.{HaveSameShape, IsVerdict, IsVerdictBelow, Is
 use Rattle.collector.specs.declared.verdict.Verdict.{Verdict}
 use Rattle.collector.specs.declared.verdict.Verdict.TheVariants.{Same, Shape, Word, Live, Root}
 
-pub same_image : (x y : HeapImage) → x.region_log ≡ y.region_log → x.allowance ≡ y.allowance → x.words ≡ y.words → x.live ≡ y.live → x.roots ≡ y.roots → x ≡ y
-same_image x y a b c d e = λ i. record { region_log = a i; allowance = b i; words = c i; live = d i; roots = e i }
+pub same_image : (x y : HeapImage) → x.version ≡ y.version → x.region_log ≡ y.region_log → x.allowance ≡ y.allowance → x.words ≡ y.words → x.live ≡ y.live → x.roots ≡ y.roots → x ≡ y
+same_image x y v a b c d e = λ i. record { version = v i; region_log = a i; allowance = b i; words = c i; live = d i; roots = e i }
 
--- images of the same version and the same numbers
-same_roots : (o p : Option (List ℕ)) → cond {A = ℕ} (is_some o) 2 1 ≡ cond {A = ℕ} (is_some p) 2 1 → roots_or [] o ≡ roots_or [] p → o ≡ p
+-- the same numbers, where both images have roots or neither
+same_roots : (o p : Option (List ℕ)) → is_some o ≡ is_some p → roots_or [] o ≡ roots_or [] p → o ≡ p
 same_roots None None v e = refl
-same_roots None (Some ys) v e = let no : ⊥ = omega arith in absurd no
-same_roots (Some xs) None v e = let no : ⊥ = omega arith in absurd no
+same_roots None (Some ys) v e = absurd (true≢false (sym v))
+same_roots (Some xs) None v e = absurd (true≢false v)
 same_roots (Some xs) (Some ys) v e = ap Some e
 
-same_version : (f : List ℕ → List ℕ) (o : Option (List ℕ)) → cond {A = ℕ} (is_some (option_map f o)) 2 1 ≡ cond {A = ℕ} (is_some o) 2 1
-same_version f None = refl
-same_version f (Some xs) = refl
+same_some : (f : List ℕ → List ℕ) (o : Option (List ℕ)) → is_some (option_map f o) ≡ is_some o
+same_some f None = refl
+same_some f (Some xs) = refl
 
 new_roots : (f : ℕ → ℕ) (o : Option (List ℕ)) → roots_or [] (option_map (map f) o) ≡ map f (roots_or [] o)
 new_roots f None = refl
@@ -48,10 +49,10 @@ module _ (before after : HeapImage) (long : heap_words (compact before) ≡ heap
   new_root i = redirected before (root_at before i)
 
   pub shape : HaveSameShape before after → HaveSameShape (compact before) after
-  shape h = record { region_log = h.region_log; words = h.words ∙ sym long; allowance = h.allowance; live = h.live ∙ sym live_count; version = h.version ∙ sym (same_version (map (redirected before)) before.roots); roots = h.roots ∙ sym root_count_same }
+  shape h = record { region_log = h.region_log; words = h.words ∙ sym long; allowance = h.allowance; live = h.live ∙ sym live_count; version = h.version; rooted = h.rooted ∙ sym (same_some (map (redirected before)) before.roots); roots = h.roots ∙ sym root_count_same }
 
   pub shape_back : HaveSameShape (compact before) after → HaveSameShape before after
-  shape_back h = record { region_log = h.region_log; words = h.words ∙ long; allowance = h.allowance; live = h.live ∙ live_count; version = h.version ∙ same_version (map (redirected before)) before.roots; roots = h.roots ∙ root_count_same }
+  shape_back h = record { region_log = h.region_log; words = h.words ∙ long; allowance = h.allowance; live = h.live ∙ live_count; version = h.version; rooted = h.rooted ∙ same_some (map (redirected before)) before.roots; roots = h.roots ∙ root_count_same }
 
   pub words_same : HaveSameShape before after → AreCompacted before after 0 (heap_words before) → after.words ≡ (compact before).words
   words_same h alike = ext_get_or 0 after.words (compact before).words (h.words ∙ sym long) (λ k l. alike.alike k (omega arith) (subst (λ n. k < n) h.words l))
@@ -81,7 +82,7 @@ module _ (before after : HeapImage) (long : heap_words (compact before) ≡ heap
       below k i n h m = omega (arith, h, m)
 
   pub roots_same : HaveSameShape before after → AreAlike new_root (root_at after) (root_count before) → after.roots ≡ (compact before).roots
-  roots_same h alike = same_roots after.roots (compact before).roots (h.version ∙ sym (same_version (map (redirected before)) before.roots))
+  roots_same h alike = same_roots after.roots (compact before).roots (h.rooted ∙ sym (same_some (map (redirected before)) before.roots))
       (ext_get_or 0 (roots_of after) (roots_of (compact before)) (h.roots ∙ sym root_count_same) (λ k l.
       let m : k < root_count before = subst (λ n. k < n) h.roots l in
       alike k m ∙ sym (new_root_at k m)))
@@ -99,7 +100,7 @@ module _ (before after : HeapImage) (long : heap_words (compact before) ≡ heap
   -- the verdict on live lists and roots, once all words agree
   pub after_words : HaveSameShape before after → AreCompacted before after 0 (heap_words before)
       → (verdict : Verdict) → IsVerdictOnLists (compact before) after verdict → IsVerdict (compact before) after verdict
-  after_words h words Same lists = same_image after (compact before) h.region_log h.allowance (words_same h words) lists.0 lists.1
+  after_words h words Same lists = same_image after (compact before) h.version h.region_log h.allowance (words_same h words) lists.0 lists.1
   after_words h words Shape w = absurd w
   after_words h words (Word a) w = absurd w
   after_words h words (Live i) other = (shape h, words_same h words, other)

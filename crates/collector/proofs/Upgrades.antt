@@ -4,7 +4,7 @@ use Rattle.std.proofs.lemmas.Bool.{ne_eqb, cond-false}
 use Rattle.std.proofs.lemmas.Simd.{map-map}
 use Rattle.std.specs.Prelude.{map, option_map}
 use Rattle.heap_image.specs.HeapImage.{HeapImage, roots_or}
-use Rattle.heap_image.specs.Upgrade.{upgraded}
+use Rattle.heap_image.specs.Upgrade.{upgraded, upgraded_version}
 use Rattle.summary.specs.NewAddresses.{new_address, new_live}
 use Rattle.summary.specs.Compaction.{redirected, compact}
 
@@ -24,4 +24,4 @@ module _ (image : HeapImage) where
   roots_alike (Some roots) = refl
 
   pub collected_alike : compact (upgraded image) ≡ upgraded (compact image)
-  collected_alike = ap (λ (roots : List ℕ). record (compact image) { roots = Some roots }) (roots_alike image.roots)
+  collected_alike = ap (λ (roots : List ℕ). record (compact image) { version = upgraded_version image.version; roots = Some roots }) (roots_alike image.roots)

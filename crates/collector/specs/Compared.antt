@@ -1,5 +1,5 @@
 -- The words of an image compared with the compaction of another, and the laws of that compaction.
-use Rattle.std.specs.Prelude.{◌≡◌, ℕ, zero, suc, ◌+◌, ◌<◌, ◌≤◌, ◌≢◌, if◌then◌else◌, IsTrue, true, slice_range}
+use Rattle.std.specs.Prelude.{◌≡◌, ℕ, zero, suc, ◌+◌, ◌-◌, ◌<◌, ◌≤◌, ◌≢◌, if◌then◌else◌, IsTrue, true, false, slice_range}
 use Rattle.heap_image.specs.HeapImage.{HeapImage, IsValid, HasSoundHeader, heap_words, word_at, size_at, references_at, reference_at, end_of, is_null_or_live, is_live_word, last_end}
 use Rattle.summary.specs.LiveObjects.{object_count, object_at}
 use Rattle.summary.specs.NewAddresses.{prefix_end, new_address, new_end_of, new_top}
@@ -16,6 +16,14 @@ pub record IsFirstOther (before after : HeapImage) (from to a : ℕ) : Type 0 wh
   pub inside : a < to
   pub differs : word_at after a ≢ word_at (compact before) a
   pub least : (p : ℕ) → from ≤ p → p < a → word_at after p ≡ word_at (compact before) p
+
+-- the dead words from a up to b, which lie between two live words or at an end of the dense prefix
+pub record IsGap (image : HeapImage) (a b : ℕ) : Type 0 where
+  pub some : a < b
+  pub inside : b ≤ prefix_end image
+  pub dead : (q : ℕ) → a ≤ q → q < b → is_live_word image q ≡ false
+  pub begins : 0 < a → is_live_word image (a - 1) ≡ true
+  pub ends : b < prefix_end image → is_live_word image b ≡ true
 
 -- a live object begins at a, and its new address is `place`
 pub record IsPlaced (image : HeapImage) (a place : ℕ) : Type 0 where

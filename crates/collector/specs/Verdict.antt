@@ -1,6 +1,7 @@
 -- The first difference between an image and the one that it should be.
 use Rattle.std.specs.Prelude.{◌≡◌, ℕ, length, slice_index}
-use Rattle.heap_image.specs.HeapImage.{HeapImage, heap_words, word_at, version_of, roots_of}
+use Rattle.std.specs.Option.{is_some}
+use Rattle.heap_image.specs.HeapImage.{HeapImage, heap_words, word_at, roots_of}
 use Rattle.summary.specs.LiveObjects.{object_count, object_at}
 use Rattle.collector.specs.Difference.{AreAlike, IsLeastDifference}
 use Rattle.collector.specs.declared.verdict.Verdict.{Verdict}
@@ -19,7 +20,8 @@ pub record HaveSameShape (wanted found : HeapImage) : Type 0 where
   pub words : heap_words found ≡ heap_words wanted
   pub allowance : found.allowance ≡ wanted.allowance
   pub live : object_count found ≡ object_count wanted
-  pub version : version_of found ≡ version_of wanted
+  pub version : found.version ≡ wanted.version
+  pub rooted : is_some found.roots ≡ is_some wanted.roots
   pub roots : root_count found ≡ root_count wanted
 
 -- The first difference decides: in the shape, else the lowest in the words, else in the live list, else in the roots.

@@ -1,5 +1,5 @@
 ghost use Rattle.std.specs.Prelude.{◌≡◌, ◌<◌, IfOk, IfErr, IsTrue, All, Contains, map, option_map};
-ghost use Rattle.heap_image.specs.HeapImage.{IsValid, AreBlocks, rooted_image_of, is_null_or_live};
+ghost use Rattle.heap_image.specs.HeapImage.{IsValid, AreBlocks, versioned_image_of, is_null_or_live};
 ghost use Rattle.summary.specs.NewAddresses.{new_address};
 ghost use Rattle.summary.specs.Compaction.{redirected, compact};
 ghost use Rattle.fill.specs.FillFaults.{IsOverwritten};

@@ -5,13 +5,12 @@ ghost use Rattle.summary.specs.NewAddresses.{new_address, new_top};
 ghost use Rattle.summary.specs.Fillers.{IsDeadRun};
 ghost use Rattle.summary.specs.Compaction.{redirected, compact};
 ghost use Rattle.collector.specs.Difference.{AreAlike, IsLeastDifference};
-ghost use Rattle.collector.specs.Compared.{AreCompacted, IsFirstOther, IsPlaced, AreKnown};
+ghost use Rattle.collector.specs.Compared.{IsGap, AreCompacted, IsFirstOther, IsPlaced, AreKnown};
 ghost use Rattle.collector.specs.Verdict.{IsVerdict, IsVerdictBelow, IsVerdictOnLists, HaveSameShape, root_count, root_at};
 
 use crate::difference::{first_nonzero, first_unlike};
 use crate::verdict::Verdict;
 use heap_image::{Image, header, image_is_valid};
-use summary::Survey;
 use summary::laws::compaction::{blocks_of_regions, compaction_by_objects};
 use summary::laws::dense_prefix::{fillers_by_runs, prefix_end_is_greatest};
 use summary::laws::live_words::words_of_objects;
@@ -19,6 +18,7 @@ use summary::laws::new_addresses::{
     new_address_by_counting, no_gaps_above_the_prefix, objects_keep_their_order,
 };
 use summary::laws::region_data::regions_to_fill;
+use summary::{Survey, filler_limit};
 
 /// An image, and the one whose compaction it should be.
 #[derive(Drop)]
@@ -121,8 +121,28 @@ impl Comparison<'_> {
         self.other_above(next)
     }
 
-    /// The same in the dead words before an object, which become a filler.
+    /// The same in the dead words before an object, which become fillers.
     fn other_in_gap(&self, from: u64, to: u64) -> Option<u64>
+        requires ordered { from ≤ to }
+        requires inside { to ≤ heap_words self.now.before.now }
+        requires run { from < to → IsGap self.now.before.now from to }
+        ensures { MatchOption result (AreCompacted self.now.before.now self.now.after.now from to)
+            (IsFirstOther self.now.before.now self.now.after.now from to) }
+    {
+        image_is_valid(self.before);
+        let mut at = from;
+        while at < to {
+            let end = filler_limit(to, at);
+            if let Some(p) = self.other_in_filler(at, end) {
+                return Some(p);
+            }
+            at = end;
+        }
+        None
+    }
+
+    /// The same in the dead words that become one filler.
+    fn other_in_filler(&self, from: u64, to: u64) -> Option<u64>
         requires ordered { from ≤ to }
         requires inside { to ≤ heap_words self.now.before.now }
         requires run { from < to → IsDeadRun self.now.before.now from to }

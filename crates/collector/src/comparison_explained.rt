@@ -5,7 +5,7 @@ ghost use Rattle.heap_image.specs.declared.fault.Fault.TheVariants.{Memory};
 ghost use Rattle.summary.specs.LiveObjects.{object_count, object_at};
 ghost use Rattle.summary.specs.NewAddresses.{new_address, new_top};
 ghost use Rattle.summary.specs.Fillers.{IsDeadRun};
-ghost use Rattle.collector.specs.Compared.{IsPlaced};
+ghost use Rattle.collector.specs.Compared.{IsGap, IsPlaced};
 ghost use Rattle.collector.specs.Explanation.{IsTallyOf, IsMoved, IsPart, IsPartAt, IsLead, IsLeadOf, IsExplained, IsExplanation, IsOtherLive, IsOtherRoot, limit_of};
 ghost use Rattle.collector.specs.Difference.{AreAlike};
 ghost use Rattle.collector.specs.Verdict.{root_count, root_at};
@@ -19,9 +19,9 @@ use crate::verdict_explanation::{
 use heap_image::{Fault, Heap, Image, header, image_is_valid};
 use std::alloc::{AllocError, Global};
 use std::thread::Threads;
-use summary::Survey;
 use summary::laws::compaction::compaction_by_objects;
 use summary::laws::dense_prefix::fillers_by_runs;
+use summary::{Survey, filler_limit};
 
 /// Compares the words of `after` with those of the compaction of `before`: all, or if `below_top` those below the new
 /// top. Counts the words that differ, and says of the first ten which object they belong to, which of its words they
@@ -133,8 +133,26 @@ impl WordComparison<'_> {
         Ok(tally)
     }
 
-    /// Compares the dead words before an object, which become a filler.
+    /// Compares the dead words before an object, which become fillers.
     fn compare_gap(&self, tally: &mut Tally, from: u64, to: u64) -> Result<(), AllocError>
+        requires ordered { from ≤ to }
+        requires inside { to ≤ heap_words self.now.before.now }
+        requires run { from < to → IsGap self.now.before.now from to }
+        requires tally { IsTallyOf self.now.before.now self.now.after.now from tally.old }
+        ensures { OnOk result (IsTallyOf self.now.before.now self.now.after.now to tally.new) }
+    {
+        image_is_valid(self.before);
+        let mut at = from;
+        while at < to {
+            let end = filler_limit(to, at);
+            self.compare_filler(tally, at, end)?;
+            at = end;
+        }
+        Ok(())
+    }
+
+    /// Compares the dead words that become one filler.
+    fn compare_filler(&self, tally: &mut Tally, from: u64, to: u64) -> Result<(), AllocError>
         requires ordered { from ≤ to }
         requires inside { to ≤ heap_words self.now.before.now }
         requires run { from < to → IsDeadRun self.now.before.now from to }
@@ -320,7 +338,7 @@ fn field_is_inside(image: &Image, a: u64, f: u64)
     requires live { Contains image.now.live a }
     requires field { f < references_at image.now a }
     ensures inside { a + 1 + f < heap_words image.now }
-    ensures few { heap_words image.now ≤ 4194304 }
+    ensures few { heap_words image.now ≤ 68719476736 }
 {
     image_is_valid(image);
 }

@@ -44,7 +44,7 @@ impl Tally {
         found: u64,
     ) -> Result<(), AllocError>
         requires few { self.old.count ≤ address }
-        requires inside { address < 4194304 }
+        requires inside { address < 68719476736 }
         ensures few { OnOk result (self.new.count ≤ address + 1) }
         ensures tally { (wanted is : ℕ → ℕ) → wanted address ≡ expected → is address ≡ found
             → IsTally wanted is address self.old.count self.old.first.items

@@ -30,4 +30,6 @@ mod seeded;
 #[cfg(test)]
 mod verdicts;
 #[cfg(test)]
+mod versions;
+#[cfg(test)]
 mod workers;

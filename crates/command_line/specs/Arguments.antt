@@ -30,6 +30,10 @@ verbose_rule = flag_rule (codes "verbose")
 abbrev pub stats_rule : Rule
 stats_rule = flag_rule (codes "stats")
 
+-- the option `--progress`
+abbrev pub progress_rule : Rule
+progress_rule = flag_rule (codes "progress")
+
 -- the option `--json`
 abbrev pub json_rule : Rule
 json_rule = flag_rule (codes "json")

@@ -3,18 +3,18 @@ use Rattle.std.specs.Prelude.{ℕ, true, List, [], ◌∷◌, Some, codes, pos}
 use Rattle.clap.specs.Walk.{Rule, Text}
 use Rattle.clap.specs.Words.{App, new_app, new_rule, with_rule}
 use Rattle.clap.specs.declared.builder.value_parser.ValueParser.TheVariants.{Signed, Unsigned}
-use Rattle.command_line.specs.Arguments.{atomic_rule, file_rule, flag_rule, json_rule, stats_rule, verbose_rule, workers_rule}
+use Rattle.command_line.specs.Arguments.{atomic_rule, file_rule, flag_rule, json_rule, progress_rule, stats_rule, verbose_rule, workers_rule}
 
 -- the definition of `board`
 abbrev pub board_words : App
 board_words = new_app (codes "board")
 
--- the option `--region-log`, with a number from 3 to 16
+-- the option `--region-log`, with a number from 3 to 20
 abbrev pub region_log_rule : Rule
 region_log_rule = record (new_rule (codes "region-log")) {
   long = Some (codes "region-log");
   value_names = 1;
-  parser = Some (Signed (pos 3) (pos 16));
+  parser = Some (Signed (pos 3) (pos 20));
 }
 
 -- the option `--allowance`, with a number of 64 bits
@@ -50,41 +50,29 @@ summary_words =
 -- the definition of `collect`
 abbrev pub collect_words : App
 collect_words =
-    with_rule (with_rule (with_rule (with_rule (with_shape_rules (with_rule (with_rule (with_rule (new_app (codes "collect"))
-    (file_rule (codes "IMAGE"))) (file_rule (codes "OUT"))) workers_rule)) atomic_rule) json_rule) stats_rule) verbose_rule
+    with_rule (with_rule (with_rule (with_rule (with_rule (with_shape_rules (with_rule (with_rule (with_rule (new_app (codes "collect"))
+    (file_rule (codes "IMAGE"))) (file_rule (codes "OUT"))) workers_rule)) atomic_rule) json_rule) stats_rule) progress_rule)
+    verbose_rule
 
 -- the definition of `verify`
 abbrev pub verify_words : App
 verify_words =
-    with_rule (with_rule (with_rule (with_shape_rules (with_rule (with_rule (with_rule (with_rule (new_app (codes "verify"))
+    with_rule (with_rule (with_rule (with_rule (with_shape_rules (with_rule (with_rule (with_rule (with_rule (new_app (codes "verify"))
     (file_rule (codes "BEFORE"))) (file_rule (codes "AFTER"))) (flag_rule (codes "explain"))) (flag_rule (codes "ignore-free"))))
-    json_rule) stats_rule) verbose_rule
+    json_rule) stats_rule) progress_rule) verbose_rule
 
 -- the definition of `record`
 abbrev pub record_words : App
 record_words =
-    with_rule (with_rule (with_rule (with_shape_rules (with_rule (with_rule (with_rule (with_rule (new_app (codes "record"))
+    with_rule (with_rule (with_rule (with_rule (with_shape_rules (with_rule (with_rule (with_rule (with_rule (new_app (codes "record"))
     (file_rule (codes "IMAGE"))) (file_rule (codes "OUT"))) (file_rule (codes "SCHEDULE"))) workers_rule)) atomic_rule) stats_rule)
-    verbose_rule
+    progress_rule) verbose_rule
 
 -- the definition of `replay`
 abbrev pub replay_words : App
 replay_words =
-    with_rule (with_shape_rules (with_rule (with_rule (new_app (codes "replay")) (file_rule (codes "IMAGE"))) (file_rule (codes "SCHEDULE"))))
-    verbose_rule
-
--- the definition of `upgrade`
-abbrev pub upgrade_words : App
-upgrade_words =
-    with_rule (with_rule (with_rule (with_rule (new_app (codes "upgrade")) (file_rule (codes "IMAGE"))) (file_rule (codes "OUT"))) atomic_rule)
-    verbose_rule
-
--- the definition of `import`
-abbrev pub import_words : App
-import_words =
-    with_rule (with_rule (with_rule (with_rule (with_rule (with_rule (with_rule (with_rule (with_rule (with_rule (with_rule (new_app (codes "import"))
-    (file_rule (codes "DUMP"))) (file_rule (codes "IMAGE"))) region_log_rule) allowance_rule) (flag_rule (codes "live-only")))
-    classes_rule) histogram_rule) json_rule) stats_rule) atomic_rule) verbose_rule
+    with_rule (with_rule (with_shape_rules (with_rule (with_rule (new_app (codes "replay")) (file_rule (codes "IMAGE")))
+    (file_rule (codes "SCHEDULE")))) progress_rule) verbose_rule
 
 -- makes an option required
 abbrev pub required : Rule → Rule
@@ -94,9 +82,35 @@ required rule = record rule { required = true }
 abbrev pub number_rule : Text → ℕ → ℕ → Rule
 number_rule name low high = record (new_rule name) { long = Some name; value_names = 1; parser = Some (Signed (pos low) (pos high)) }
 
--- the required option `--words`, with a number from 1 to 4194304
+-- the option `--to` of `upgrade`, with version 2 or 3
+abbrev pub to_rule : Rule
+to_rule = number_rule (codes "to") 2 3
+
+-- the definition of `upgrade`
+abbrev pub upgrade_words : App
+upgrade_words =
+    with_rule (with_rule (with_rule (with_rule (with_rule (with_rule (new_app (codes "upgrade")) (file_rule (codes "IMAGE")))
+    (file_rule (codes "OUT"))) to_rule) progress_rule) atomic_rule) verbose_rule
+
+-- the option `--version` of an image with roots, with 2 or 3
+abbrev pub rooted_version_rule : Rule
+rooted_version_rule = number_rule (codes "version") 2 3
+
+-- the definition of `import`
+abbrev pub import_words : App
+import_words =
+    with_rule (with_rule (with_rule (with_rule (with_rule (with_rule (with_rule (with_rule (with_rule (with_rule (with_rule (with_rule (with_rule
+    (new_app (codes "import")) (file_rule (codes "DUMP"))) (file_rule (codes "IMAGE"))) region_log_rule) allowance_rule) rooted_version_rule)
+    (flag_rule (codes "live-only"))) classes_rule) histogram_rule) json_rule) stats_rule) progress_rule) atomic_rule) verbose_rule
+
+-- the required option `--words`, with a number from 1 to 68719476736
 abbrev pub words_rule : Rule
-words_rule = required (number_rule (codes "words") 1 4194304)
+words_rule = record (new_rule (codes "words")) {
+  long = Some (codes "words");
+  value_names = 1;
+  parser = Some (Unsigned 1 68719476736);
+  required = true;
+}
 
 -- the required option `--live`, with a number from 0 to 100
 abbrev pub live_rule : Rule
@@ -115,9 +129,9 @@ seed_rule = record (new_rule (codes "seed")) {
 abbrev pub refs_rule : Rule
 refs_rule = number_rule (codes "refs") 0 100
 
--- the option `--version` of an image, with 1 or 2
+-- the option `--version` of an image, with 1, 2 or 3
 abbrev pub version_rule : Rule
-version_rule = number_rule (codes "version") 1 2
+version_rule = number_rule (codes "version") 1 3
 
 -- `generate` with its file and its required options
 abbrev pub generate_needs : App
@@ -125,16 +139,16 @@ generate_needs =
     with_rule (with_rule (with_rule (with_rule (with_rule (new_app (codes "generate")) (file_rule (codes "IMAGE"))) words_rule) live_rule)
     (required region_log_rule)) seed_rule
 
--- adds the options about the heap that may be left out
+-- adds the options about the heap that may be left out, and `--progress`
 abbrev pub with_generate_wishes : App → App
-with_generate_wishes app = with_rule (with_rule (with_rule app refs_rule) version_rule) allowance_rule
+with_generate_wishes app = with_rule (with_rule (with_rule (with_rule app refs_rule) version_rule) allowance_rule) progress_rule
 
 -- the definition of `generate`
 abbrev pub generate_words : App
 generate_words =
-    with_rule (with_rule (with_rule (with_rule (with_rule (with_rule (with_rule (with_rule (with_rule (with_rule (new_app (codes "generate"))
-    (file_rule (codes "IMAGE"))) words_rule) live_rule) (required region_log_rule)) seed_rule) refs_rule) version_rule)
-    allowance_rule) atomic_rule) verbose_rule
+    with_rule (with_rule (with_rule (with_rule (with_rule (with_rule (with_rule (with_rule (with_rule (with_rule (with_rule
+    (new_app (codes "generate")) (file_rule (codes "IMAGE"))) words_rule) live_rule) (required region_log_rule)) seed_rule) refs_rule)
+    version_rule) allowance_rule) progress_rule) atomic_rule) verbose_rule
 
 -- the definition of `order`
 abbrev pub order_words : App

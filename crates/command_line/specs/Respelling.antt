@@ -8,6 +8,7 @@ mentions option word = bytes_eq word option || bytes_eq word (option ++ codes "=
     || bytes_eq word (option ++ codes "=always") || bytes_eq word (option ++ codes "=never")
 
 module _ {A : Type 0} where
-  -- the texts of the words but `--verbose` and `--color`, plain or with a value
+  -- the texts of the words but `--verbose`, `--color` and `--progress`, plain or with a value
   abbrev pub other_texts : List (String A) → List Text
-  other_texts words = filter (λ w. not (mentions (codes "--verbose") w || mentions (codes "--color") w)) (map string_bytes words)
+  other_texts words =
+      filter (λ w. not (mentions (codes "--verbose") w || mentions (codes "--color") w || mentions (codes "--progress") w)) (map string_bytes words)

@@ -2,7 +2,7 @@
 ghost use Rattle.std.specs.Prelude.{◌≡◌, codes, false, IfErr, IfOk};
 ghost use Rattle.clap.specs.Words.{app_of, rule_of};
 ghost use Rattle.clap.specs.declared.builder.command.Command.TheViews.{out-Command as fields_of};
-ghost use Rattle.command_line.specs.Arguments.{file_rule, flag_rule, with_look, with_replacement, workers_rule};
+ghost use Rattle.command_line.specs.Arguments.{file_rule, flag_rule, progress_rule, with_look, with_replacement, workers_rule};
 ghost use Rattle.command_line.specs.Commands.{allowance_rule, region_log_rule, svg_rule, width_rule, with_shape_rules};
 ghost use Rattle.command_line.specs.Request.{IsNoUsage};
 
@@ -94,6 +94,18 @@ pub fn asks_stats(matches: &ArgMatches<'_>) -> bool {
     matches.get_flag("stats")
 }
 
+/// The option `--progress`.
+pub fn progress<'a>(alloc: Global) -> Arg<'a>
+    ensures rule { rule_of result ≡ progress_rule }
+    ensures local { result.global ≡ false }
+{
+    flag(
+        alloc,
+        "progress",
+        "Show progress even if standard error is no terminal (or --progress=WHEN: auto, always, never)",
+    )
+}
+
 /// The option `--json`.
 pub fn json<'a>(alloc: Global) -> Arg<'a>
     ensures rule { rule_of result ≡ flag_rule (codes "json") }
@@ -137,7 +149,7 @@ pub fn with_shape<'a>(alloc: Global, command: Command<'a>) -> Result<Command<'a>
     command
         .arg(region_log(
             alloc,
-            "Read IMAGE as if its regions had 2^k words, k from 3 to 16",
+            "Read IMAGE as if its regions had 2^k words, k from 3 to 20",
         ))?
         .arg(allowance_with(
             alloc,
@@ -196,7 +208,7 @@ pub fn region_log<'a>(alloc: Global, help: &'a str) -> Arg<'a>
     Arg::new(alloc, "region-log")
         .long("region-log")
         .value_name("k")
-        .value_parser(value_parser!(u32).range(3..=16))
+        .value_parser(value_parser!(u32).range(3..=20))
         .help(help)
 }
 

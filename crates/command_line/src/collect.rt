@@ -31,6 +31,7 @@ pub fn words<'a>(alloc: Global) -> Result<Command<'a>, AllocError>
         .arg(arguments::atomic(alloc))?
         .arg(arguments::json(alloc))?
         .arg(arguments::stats(alloc))?
+        .arg(arguments::progress(alloc))?
         .arg(arguments::verbose(alloc))
 }
 
@@ -75,5 +76,5 @@ impl<'a> Collect<'a> {
 /// Lines that call `collect`.
 pub fn lines_call_collect()
     ensures line { IsCallOf (codes "collect") (codes "collect" ∷ codes "heap.pcheap" ∷ codes "out.pcheap" ∷ codes "--workers" ∷ codes "2" ∷ []) }
-    ensures options { IsCallOf (codes "collect") (codes "collect" ∷ codes "heap.pcheap" ∷ codes "heap.pcheap" ∷ codes "--workers" ∷ codes "2" ∷ codes "--atomic" ∷ codes "--stats" ∷ codes "--json" ∷ codes "--verbose" ∷ codes "--region-log" ∷ codes "12" ∷ codes "--allowance" ∷ codes "64" ∷ []) }
+    ensures options { IsCallOf (codes "collect") (codes "collect" ∷ codes "heap.pcheap" ∷ codes "heap.pcheap" ∷ codes "--workers" ∷ codes "2" ∷ codes "--atomic" ∷ codes "--stats" ∷ codes "--json" ∷ codes "--verbose" ∷ codes "--region-log" ∷ codes "12" ∷ codes "--allowance" ∷ codes "64" ∷ codes "--progress" ∷ []) }
 {}

@@ -14,9 +14,6 @@ use std::alloc::{AllocError, Global};
 /// The percentage of references without `--refs`.
 const USUAL_REFERENCES: u32 = 25;
 
-/// The version of the image without `--version`.
-const USUAL_VERSION: u32 = 2;
-
 const EXAMPLE: &str = "\
 Example:
   pcompact generate heap.pcheap --words 65536 --live 50 --region-log 9 --seed 1";
@@ -45,7 +42,7 @@ fn with_needs<'a>(alloc: Global) -> Result<Command<'a>, AllocError>
         .arg(seed(alloc))
 }
 
-/// Adds the options about the heap that may be left out.
+/// Adds the options about the heap that may be left out, and `--progress`.
 fn with_wishes<'a>(alloc: Global, command: Command<'a>) -> Result<Command<'a>, AllocError>
     ensures app { IfOk result (λ made. app_of made ≡ with_generate_wishes (app_of command.entry)) }
     ensures local { (fields_of command.entry).has_globals ≡ false
@@ -54,7 +51,8 @@ fn with_wishes<'a>(alloc: Global, command: Command<'a>) -> Result<Command<'a>, A
     command
         .arg(references(alloc))?
         .arg(version(alloc))?
-        .arg(arguments::allowance(alloc))
+        .arg(arguments::allowance(alloc))?
+        .arg(arguments::progress(alloc))
 }
 
 /// The option `--words`, the size of the heap in words.
@@ -65,8 +63,8 @@ fn heap_words<'a>(alloc: Global) -> Arg<'a>
     Arg::new(alloc, "words")
         .long("words")
         .value_name("n")
-        .value_parser(value_parser!(u32).range(1..=4_194_304))
-        .help("Number of words of the heap, a multiple of 2^k and at most 4194304")
+        .value_parser(value_parser!(u64).range(1..=68_719_476_736))
+        .help("Number of words of the heap, a multiple of 2^k and at most 68719476736")
         .required(true)
 }
 
@@ -88,7 +86,7 @@ fn region_log<'a>(alloc: Global) -> Arg<'a>
     ensures rule { rule_of result ≡ required region_log_rule }
     ensures local { result.global ≡ false }
 {
-    arguments::region_log(alloc, "Regions have 2^k words, k from 3 to 16").required(true)
+    arguments::region_log(alloc, "Regions have 2^k words, k from 3 to 20").required(true)
 }
 
 /// The option `--seed`.
@@ -126,8 +124,10 @@ fn version<'a>(alloc: Global) -> Arg<'a>
     Arg::new(alloc, "version")
         .long("version")
         .value_name("v")
-        .value_parser(value_parser!(u32).range(1..=2))
-        .help("Version of the image: 1 lists the live objects, 2 has roots (default 2)")
+        .value_parser(value_parser!(u32).range(1..=3))
+        .help(
+            "Version of the image, from 1 to 3: 1 lists the live objects (default 2, or 3 for a larger heap)",
+        )
 }
 
 /// The arguments of `generate`.
@@ -136,7 +136,7 @@ pub struct Generate<'a> {
     /// The file for the image.
     pub image: &'a str,
     /// The size of the heap in words.
-    pub words: u32,
+    pub words: u64,
     /// The percentage of the words that belongs to live objects.
     pub live: u32,
     /// The binary logarithm of the region size in words.
@@ -145,8 +145,8 @@ pub struct Generate<'a> {
     pub seed: u64,
     /// The percentage of the words after the headers that are references.
     pub references: u32,
-    /// The version of the image.
-    pub version: u32,
+    /// The version of the image, if it is on the line.
+    pub version: Option<u32>,
     /// The number of dead words that the dense prefix may keep.
     pub allowance: u64,
     /// Whether files are replaced only once all is done.
@@ -161,12 +161,12 @@ impl<'a> Generate<'a> {
     {
         Ok(Generate {
             image: arguments::file_in(matches, "IMAGE")?,
-            words: arguments::number_in(matches, "words")?,
+            words: matches.get_one("words").ok_or(Unread::NoCommand)?,
             live: arguments::number_in(matches, "live")?,
             region_log: arguments::number_in(matches, "region-log")?,
             seed: matches.get_one("seed").ok_or(Unread::NoCommand)?,
             references: matches.get_one("refs").unwrap_or(USUAL_REFERENCES),
-            version: matches.get_one("version").unwrap_or(USUAL_VERSION),
+            version: matches.get_one("version"),
             allowance: matches.get_one("allowance").unwrap_or(0),
             atomic: arguments::is_atomic(matches),
             verbose: arguments::is_verbose(matches),

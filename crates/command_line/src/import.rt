@@ -4,7 +4,7 @@ ghost use Rattle.clap.specs.Words.{app_of, rule_of};
 ghost use Rattle.clap.specs.declared.builder.command.Command.TheViews.{out-Command as fields_of};
 ghost use Rattle.command_line.specs.CommandLine.{HaveBeginning, IsCallOf};
 ghost use Rattle.command_line.specs.Request.{IsNoUsage, rows_in};
-ghost use Rattle.command_line.specs.Commands.{classes_rule, histogram_rule, import_words};
+ghost use Rattle.command_line.specs.Commands.{classes_rule, histogram_rule, import_words, rooted_version_rule};
 
 use crate::arguments;
 use crate::beginning::have_beginning;
@@ -27,8 +27,9 @@ pub fn words<'a>(alloc: Global) -> Result<Command<'a>, AllocError>
         .after_help(EXAMPLE)
         .arg(arguments::file(alloc, "DUMP", "A heap dump"))?
         .arg(arguments::file(alloc, "IMAGE", "Where to write the image"))?
-        .arg(arguments::region_log(alloc, "Regions have 2^k words, k from 3 to 16 (default 9)"))?
+        .arg(arguments::region_log(alloc, "Regions have 2^k words, k from 3 to 20 (default 9)"))?
         .arg(arguments::allowance(alloc))?
+        .arg(version(alloc))?
         .arg(arguments::flag(
             alloc,
             "live-only",
@@ -37,8 +38,21 @@ pub fn words<'a>(alloc: Global) -> Result<Command<'a>, AllocError>
         .arg(classes(alloc))?
         .arg(histogram(alloc))?
         .arg(arguments::json(alloc))?
-        .arg(arguments::stats(alloc))?;
+        .arg(arguments::stats(alloc))?
+        .arg(arguments::progress(alloc))?;
     arguments::with_last(alloc, command)
+}
+
+/// The option `--version`, the version of the image.
+fn version<'a>(alloc: Global) -> Arg<'a>
+    ensures rule { rule_of result ≡ rooted_version_rule }
+    ensures local { result.global ≡ false }
+{
+    Arg::new(alloc, "version")
+        .long("version")
+        .value_name("v")
+        .value_parser(value_parser!(u32).range(2..=3))
+        .help("Version of the image, from 2 to 3 (default 2, or 3 for a larger heap)")
 }
 
 /// The option `--classes`, the file for a list of objects.
@@ -75,6 +89,8 @@ pub struct Import<'a> {
     pub region_log: Option<u32>,
     /// The number of dead words that the dense prefix may keep.
     pub allowance: u64,
+    /// The version of the image, if it is on the line.
+    pub version: Option<u32>,
     /// Whether only reachable objects are kept.
     pub live_only: bool,
     /// The file for a list of objects.
@@ -100,6 +116,7 @@ impl<'a> Import<'a> {
             image: arguments::file_in(matches, "IMAGE")?,
             region_log: matches.get_one("region-log"),
             allowance: matches.get_one("allowance").unwrap_or(0),
+            version: matches.get_one("version"),
             live_only: matches.get_flag("live-only"),
             classes: matches.get_str("classes"),
             histogram: matches.get_one("histogram"),
@@ -136,5 +153,5 @@ impl<'a> Import<'a> {
 pub fn lines_call_import()
     ensures line { IsCallOf (codes "import") (codes "import" ∷ codes "heap.hprof" ∷ codes "heap.pcheap" ∷ []) }
     ensures lists { IsCallOf (codes "import") (codes "import" ∷ codes "heap.hprof" ∷ codes "heap.pcheap" ∷ codes "--classes" ∷ codes "objects" ∷ codes "--histogram" ∷ codes "20" ∷ codes "--stats" ∷ []) }
-    ensures options { IsCallOf (codes "import") (codes "import" ∷ codes "heap.hprof" ∷ codes "heap.pcheap" ∷ codes "--region-log" ∷ codes "12" ∷ codes "--allowance" ∷ codes "64" ∷ codes "--live-only" ∷ codes "--atomic" ∷ codes "--verbose" ∷ []) }
+    ensures options { IsCallOf (codes "import") (codes "import" ∷ codes "heap.hprof" ∷ codes "heap.pcheap" ∷ codes "--region-log" ∷ codes "12" ∷ codes "--allowance" ∷ codes "64" ∷ codes "--version" ∷ codes "3" ∷ codes "--live-only" ∷ codes "--atomic" ∷ codes "--verbose" ∷ []) }
 {}

@@ -53,7 +53,7 @@ pub use reading::read;
 pub use record::{Record, line_calls_record};
 pub use replay::{Replay, line_calls_replay};
 pub use request::Request;
-pub use respelled::{Respelled, When, respell};
+pub use respelled::{Respelled, When, progress_in, respell};
 pub use shape::Shape;
 pub use summary::{Summary, lines_call_summary};
 pub use text::{Text, lines_call_text};

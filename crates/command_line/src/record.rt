@@ -35,6 +35,7 @@ pub fn words<'a>(alloc: Global) -> Result<Command<'a>, AllocError>
     arguments::with_shape(alloc, command)?
         .arg(arguments::atomic(alloc))?
         .arg(arguments::stats(alloc))?
+        .arg(arguments::progress(alloc))?
         .arg(arguments::verbose(alloc))
 }
 
@@ -79,5 +80,5 @@ impl<'a> Record<'a> {
 /// Lines that call `record`.
 pub fn line_calls_record()
     ensures line { IsCallOf (codes "record") (codes "record" ∷ codes "heap.pcheap" ∷ codes "out.pcheap" ∷ codes "schedule" ∷ codes "--workers=2" ∷ []) }
-    ensures options { IsCallOf (codes "record") (codes "record" ∷ codes "heap.pcheap" ∷ codes "out.pcheap" ∷ codes "schedule" ∷ codes "--workers=2" ∷ codes "--stats" ∷ codes "--region-log" ∷ codes "12" ∷ codes "--allowance" ∷ codes "64" ∷ []) }
+    ensures options { IsCallOf (codes "record") (codes "record" ∷ codes "heap.pcheap" ∷ codes "out.pcheap" ∷ codes "schedule" ∷ codes "--workers=2" ∷ codes "--stats" ∷ codes "--region-log" ∷ codes "12" ∷ codes "--allowance" ∷ codes "64" ∷ codes "--progress" ∷ []) }
 {}

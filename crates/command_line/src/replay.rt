@@ -26,7 +26,9 @@ pub fn words<'a>(alloc: Global) -> Result<Command<'a>, AllocError>
         .after_help(EXAMPLE)
         .arg(arguments::image(alloc))?
         .arg(arguments::file(alloc, "SCHEDULE", "A schedule for the image"))?;
-    arguments::with_shape(alloc, command)?.arg(arguments::verbose(alloc))
+    arguments::with_shape(alloc, command)?
+        .arg(arguments::progress(alloc))?
+        .arg(arguments::verbose(alloc))
 }
 
 /// The arguments of `replay`.
@@ -58,5 +60,5 @@ impl<'a> Replay<'a> {
 /// Lines that call `replay`.
 pub fn line_calls_replay()
     ensures line { IsCallOf (codes "replay") (codes "replay" ∷ codes "heap.pcheap" ∷ codes "schedule" ∷ []) }
-    ensures options { IsCallOf (codes "replay") (codes "replay" ∷ codes "heap.pcheap" ∷ codes "schedule" ∷ codes "--region-log" ∷ codes "12" ∷ codes "--allowance" ∷ codes "64" ∷ codes "--verbose" ∷ []) }
+    ensures options { IsCallOf (codes "replay") (codes "replay" ∷ codes "heap.pcheap" ∷ codes "schedule" ∷ codes "--region-log" ∷ codes "12" ∷ codes "--allowance" ∷ codes "64" ∷ codes "--verbose" ∷ codes "--progress" ∷ []) }
 {}

@@ -1,11 +1,11 @@
-//! The options `--verbose` and `--color` with a value. Commands that `clap` compares exactly with their definitions have no option
+//! The options `--verbose`, `--color` and `--progress` with a value. Commands that `clap` compares exactly with their definitions have no option
 //! whose value may be left out, so such lines are parsed a second time, with the plain options.
 ghost use Rattle.std.specs.Prelude.{◌≡◌, ℕ, Bool, false, List, map, filter, string_bytes, IsTrue, IfOk, IfSome};
 ghost use Rattle.command_line.specs.Respelling.{mentions, other_texts};
 
 use std::alloc::{AllocError, Global};
 
-/// When something is done that a terminal else decides: details of an error are printed, or colours are used.
+/// When something is done that a terminal else decides: details of an error are printed, colours are used, or progress is shown.
 #[derive(Debug, Clone, Copy, PartialEq, Eq)]
 pub enum When {
     /// On a terminal.
@@ -48,22 +48,39 @@ pub struct Respelled {
     pub color: When,
 }
 
-/// Spells each `--verbose` and `--color` with a value as the plain option, or returns `None` if there is none. All other words
-/// stay.
+/// Spells each `--verbose`, `--color` and `--progress` with a value as the plain option, or returns `None` if there is none. All
+/// other words stay.
 pub fn respell(alloc: Global, words: &[String]) -> Result<Option<Respelled>, AllocError>
     ensures { IfOk result (λ found. IfSome found (λ line. other_texts line.words.items ≡ other_texts words.now)) }
 {
     let verbose = Mentions::of("--verbose", words);
     let color = Mentions::of("--color", words);
-    if verbose.last.is_none() && color.last.is_none() {
+    let progress = Mentions::of("--progress", words);
+    if verbose.last.is_none() && color.last.is_none() && progress.last.is_none() {
         return Ok(None);
     }
-    let half = verbose.spell(alloc, words)?;
+    let first = verbose.spell(alloc, words)?;
+    let second = color.spell(alloc, first.as_slice())?;
     Ok(Some(Respelled {
-        words: color.spell(alloc, half.as_slice())?,
+        words: progress.spell(alloc, second.as_slice())?,
         verbose: verbose.when(),
         color: color.when(),
     }))
+}
+
+/// The commands that show progress.
+const SHOWING: [&str; 7] = [
+    "collect", "verify", "record", "replay", "upgrade", "import", "generate",
+];
+
+/// When progress is shown, by the words of a line. A command without the option `--progress` never shows it.
+pub fn progress_in(words: &[String]) -> When {
+    match words.first() {
+        Some(name) if SHOWING.contains(&name.as_str()) => {
+            Mentions::of("--progress", words).when()
+        }
+        _ => When::Never,
+    }
 }
 
 /// How a line mentions an option. After the word `--` there are no options.

@@ -1,15 +1,18 @@
 //! The command `upgrade`: its arguments, their help, and how they are parsed.
 ghost use Rattle.std.specs.Prelude.{◌≡◌, codes, false, IfErr, IfOk, ◌∷◌, []};
-ghost use Rattle.clap.specs.Words.{app_of};
+ghost use Rattle.clap.specs.Words.{app_of, rule_of};
 ghost use Rattle.clap.specs.declared.builder.command.Command.TheViews.{out-Command as fields_of};
 ghost use Rattle.command_line.specs.CommandLine.{IsCallOf};
 ghost use Rattle.command_line.specs.Request.{IsNoUsage};
-ghost use Rattle.command_line.specs.Commands.{upgrade_words};
+ghost use Rattle.command_line.specs.Commands.{to_rule, upgrade_words};
 
 use crate::arguments;
 use crate::unread::Unread;
-use clap::{ArgMatches, Command};
+use clap::{Arg, ArgMatches, Command, value_parser};
 use std::alloc::{AllocError, Global};
+
+/// The version of the upgraded image without `--to`.
+const USUAL_VERSION: u32 = 2;
 
 const EXAMPLE: &str = "\
 Example:
@@ -21,11 +24,25 @@ pub fn words<'a>(alloc: Global) -> Result<Command<'a>, AllocError>
     ensures local { IfOk result (λ command. (fields_of command).has_globals ≡ false) }
 {
     let command = Command::new(alloc, "upgrade")
-        .about("Convert a heap image to version 2, which has roots")
+        .about("Convert a heap image to version 2, which has roots, or 3, which may be larger")
         .after_help(EXAMPLE)
         .arg(arguments::image(alloc))?
-        .arg(arguments::file(alloc, "OUT", "Where to write the upgraded image"))?;
+        .arg(arguments::file(alloc, "OUT", "Where to write the upgraded image"))?
+        .arg(to(alloc))?
+        .arg(arguments::progress(alloc))?;
     arguments::with_last(alloc, command)
+}
+
+/// The option `--to`, the version of the upgraded image.
+fn to<'a>(alloc: Global) -> Arg<'a>
+    ensures rule { rule_of result ≡ to_rule }
+    ensures local { result.global ≡ false }
+{
+    Arg::new(alloc, "to")
+        .long("to")
+        .value_name("v")
+        .value_parser(value_parser!(u32).range(2..=3))
+        .help("Version of the upgraded image, from 2 to 3 (default 2)")
 }
 
 /// The arguments of `upgrade`.
@@ -35,6 +52,8 @@ pub struct Upgrade<'a> {
     pub image: &'a str,
     /// The file for the upgraded image.
     pub out: &'a str,
+    /// The version of the upgraded image.
+    pub to: u32,
     /// Whether files are replaced only once all is done.
     pub atomic: bool,
     /// Whether to print more details about errors.
@@ -48,6 +67,7 @@ impl<'a> Upgrade<'a> {
         Ok(Upgrade {
             image: arguments::file_in(matches, "IMAGE")?,
             out: arguments::file_in(matches, "OUT")?,
+            to: matches.get_one("to").unwrap_or(USUAL_VERSION),
             atomic: arguments::is_atomic(matches),
             verbose: arguments::is_verbose(matches),
         })
@@ -57,5 +77,5 @@ impl<'a> Upgrade<'a> {
 /// Lines that call `upgrade`.
 pub fn lines_call_upgrade()
     ensures line { IsCallOf (codes "upgrade") (codes "upgrade" ∷ codes "heap.pcheap" ∷ codes "out.pcheap" ∷ []) }
-    ensures options { IsCallOf (codes "upgrade") (codes "upgrade" ∷ codes "heap.pcheap" ∷ codes "--atomic" ∷ codes "out.pcheap" ∷ []) }
+    ensures options { IsCallOf (codes "upgrade") (codes "upgrade" ∷ codes "heap.pcheap" ∷ codes "--to" ∷ codes "3" ∷ codes "--atomic" ∷ codes "out.pcheap" ∷ []) }
 {}

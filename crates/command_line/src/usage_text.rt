@@ -5,8 +5,11 @@ use std::alloc::{AllocError, Global};
 /// How `clap` refuses what isn't a whole number, at the end of a line.
 const NO_NUMBER: &str = "invalid digit found in string";
 
-/// How `clap` refuses another value of `--color` than those that are spelled anew, at the end of a line.
-const NO_VALUE: &str = "'--color' found; no more were expected";
+/// How `clap` refuses another value of an option than those that are spelled anew, at the end of a line.
+const NO_VALUE: &str = "' found; no more were expected";
+
+/// What stands in its place.
+const WANTED_VALUE: &str = "' found; auto, always or never is wanted";
 
 /// The first line about the word `version`, which is like `verify` to `clap`.
 const NO_VERSION: &str = "error: unrecognized subcommand 'version'\n";
@@ -40,12 +43,17 @@ fn is_wrong_tip(line: &str) -> bool {
 fn push_line(line: &str, mended: &mut String) -> Result<(), AllocError> {
     let (begin, end) = match (line.strip_suffix(NO_NUMBER), line.strip_suffix(NO_VALUE)) {
         (Some(refused), _) => (refused, wanted(refused)),
-        (None, Some(refused)) => (refused, "'--color' found; auto, always or never is wanted"),
-        (None, None) => (line, ""),
+        (None, Some(refused)) if is_about_when(refused) => (refused, WANTED_VALUE),
+        _ => (line, ""),
     };
     mended.push_str(begin)?;
     mended.push_str(end)?;
     mended.push_str("\n")
+}
+
+/// Whether this beginning of a line is about `--color` or `--progress`.
+fn is_about_when(refused: &str) -> bool {
+    refused.ends_with("--color") || refused.ends_with("--progress")
 }
 
 /// What the option wants that this beginning of a line is about.

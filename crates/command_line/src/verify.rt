@@ -38,7 +38,7 @@ pub fn words<'a>(alloc: Global) -> Result<Command<'a>, AllocError>
         ))?
         .arg(arguments::region_log(
             alloc,
-            "Read BEFORE as if its regions had 2^k words, k from 3 to 16",
+            "Read BEFORE as if its regions had 2^k words, k from 3 to 20",
         ))?
         .arg(arguments::allowance_with(
             alloc,
@@ -46,6 +46,7 @@ pub fn words<'a>(alloc: Global) -> Result<Command<'a>, AllocError>
         ))?
         .arg(arguments::json(alloc))?
         .arg(arguments::stats(alloc))?
+        .arg(arguments::progress(alloc))?
         .arg(arguments::verbose(alloc))
 }
 
@@ -91,5 +92,5 @@ impl<'a> Verify<'a> {
 /// Lines that call `verify`.
 pub fn line_calls_verify()
     ensures line { IsCallOf (codes "verify") (codes "verify" ∷ codes "heap.pcheap" ∷ codes "out.pcheap" ∷ []) }
-    ensures options { IsCallOf (codes "verify") (codes "verify" ∷ codes "heap.pcheap" ∷ codes "out.pcheap" ∷ codes "--stats" ∷ codes "--region-log" ∷ codes "12" ∷ codes "--allowance" ∷ codes "64" ∷ []) }
+    ensures options { IsCallOf (codes "verify") (codes "verify" ∷ codes "heap.pcheap" ∷ codes "out.pcheap" ∷ codes "--stats" ∷ codes "--region-log" ∷ codes "12" ∷ codes "--allowance" ∷ codes "64" ∷ codes "--progress" ∷ []) }
 {}

@@ -5,6 +5,7 @@ use Rattle.std.specs.Io.KnownBytes.{Consumes, IsAtEnd, Keeps}
 use Rattle.std.proofs.lemmas.Bool.{and_right, cases_lt, le-ltb}
 use Rattle.std.proofs.lemmas.List.{ext_get_or}
 use Rattle.heap_image.specs.ImageText.{front}
+use Rattle.heap_image.specs.declared.version.Version.{Version}
 use Rattle.command_line.specs.declared.shape.Shape.{Shape}
 use Rattle.command_support.specs.Heads.{byte_at, byte_read, bytes_read}
 
@@ -65,22 +66,22 @@ whole-read shape at many old new long done rest past = ext_get_or 0 new (bytes_r
 ])
 
 -- the head that is read has the values of the shape
-head-read : (new_log new_allowance : Option ℕ) (rooted : Bool) (log count words allowance : ℕ)
-    → bytes_read (record { region_log = new_log; allowance = new_allowance }) 0 (front rooted log count words allowance)
-    ≡ front rooted (unwrap_or new_log log) count words (unwrap_or new_allowance allowance)
-head-read None None rooted log count words allowance = refl
-head-read None (Some m) rooted log count words allowance = refl
-head-read (Some k) None rooted log count words allowance = refl
-head-read (Some k) (Some m) rooted log count words allowance = refl
+head-read : (new_log new_allowance : Option ℕ) (version : Version) (log count words allowance : ℕ)
+    → bytes_read (record { region_log = new_log; allowance = new_allowance }) 0 (front version log count words allowance)
+    ≡ front version (unwrap_or new_log log) count words (unwrap_or new_allowance allowance)
+head-read None None version log count words allowance = refl
+head-read None (Some m) version log count words allowance = refl
+head-read (Some k) None version log count words allowance = refl
+head-read (Some k) (Some m) version log count words allowance = refl
 
-pub image-read : (shape : Shape) (rooted : Bool) (log count words allowance : ℕ) (body : List ℕ)
-    → bytes_read shape 0 (front rooted log count words allowance ++ body)
-    ≡ front rooted (unwrap_or shape.region_log log) count words (unwrap_or shape.allowance allowance) ++ body
-image-read shape rooted log count words allowance body =
-    let text : List ℕ = front rooted log count words allowance in
+pub image-read : (shape : Shape) (version : Version) (log count words allowance : ℕ) (body : List ℕ)
+    → bytes_read shape 0 (front version log count words allowance ++ body)
+    ≡ front version (unwrap_or shape.region_log log) count words (unwrap_or shape.allowance allowance) ++ body
+image-read shape version log count words allowance body =
+    let text : List ℕ = front version log count words allowance in
     let long : length text ≡ 32 = refl in
     bytes_read-append shape 0 text body
-    ∙ ap₂ (λ xs ys. xs ++ ys) (head-read shape.region_log shape.allowance rooted log count words allowance) (bytes_read-past shape (0 + length text) body (omega (arith, long)))
+    ∙ ap₂ (λ xs ys. xs ++ ys) (head-read shape.region_log shape.allowance version log count words allowance) (bytes_read-past shape (0 + length text) body (omega (arith, long)))
 
 -- positions count as far as the head goes
 bytes_read-count : (shape : Shape) (at count now : ℕ) (bytes : List ℕ) → now ≡ min (min at 32 + count) 32 → bytes_read shape (at + count) bytes ≡ bytes_read shape now bytes

@@ -4,7 +4,7 @@ use Rattle.heap_maker.specs.declared.error.GenerationError.{GenerationError}
 use Rattle.heap_text.specs.declared.error.TextError.{TextError}
 use Rattle.heap_image.specs.declared.fault.Fault.TheVariants.{Memory, Io}
 use Rattle.command_support.specs.declared.failure.Failure.{Failure}
-use Rattle.command_support.specs.declared.failure.Failure.TheVariants.{Usage, Fault, Differs, Dump, Generation, Text}
+use Rattle.command_support.specs.declared.failure.Failure.TheVariants.{Usage, Fault, Differs, Dump, Generation, Text, Later}
 
 -- the exit status of a failure
 abbrev pub status_of : Failure → ℕ
@@ -15,6 +15,7 @@ status_of (Dump error) = 1
 status_of (Generation GenerationError.Defect) = 1
 status_of (Generation error) = 2
 status_of (Text error) = 1
+status_of (Later version wanted) = 1
 
 -- the failure if memory runs out
 abbrev pub out_of_memory : Failure

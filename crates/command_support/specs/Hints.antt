@@ -14,7 +14,7 @@ begins front text = starts_with nat_eq front text
 -- what a file with these first bytes has
 abbrev pub content_of : List ℕ → Option Content
 content_of front =
-    if begins front (codes "PCHEAP01") || begins front (codes "PCHEAP02") then Some Image
+    if begins front (codes "PCHEAP01") || begins front (codes "PCHEAP02") || begins front (codes "PCHEAP03") then Some Image
     else (if begins front (codes "JAVA PROFILE ") then Some Dump
     else (if begins front (codes "schedule ") then Some Schedule
     else (if begins front (codes "heap version ") then Some Text

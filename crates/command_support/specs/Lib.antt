@@ -2,4 +2,5 @@ pub mod Failure
 pub mod Heads
 pub mod Hints
 pub mod Json
+pub mod Transfer
 pub mod Watching

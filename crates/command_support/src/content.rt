@@ -22,7 +22,10 @@ impl Content {
     pub fn of(front: &[u8]) -> Option<Content>
         ensures { result ≡ content_of front.now }
     {
-        if front.starts_with(b"PCHEAP01") || front.starts_with(b"PCHEAP02") {
+        if front.starts_with(b"PCHEAP01")
+            || front.starts_with(b"PCHEAP02")
+            || front.starts_with(b"PCHEAP03")
+        {
             Some(Content::Image)
         } else if front.starts_with(b"JAVA PROFILE ") {
             Some(Content::Dump)

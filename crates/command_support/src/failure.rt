@@ -6,7 +6,7 @@ ghost use Rattle.command_support.specs.declared.failure.Failure.TheVariants.{Fau
 use crate::difference::Difference;
 use command_line::Unread;
 use heap_dump::ImportError;
-use heap_image::Fault;
+use heap_image::{Fault, Version};
 use heap_maker::GenerationError;
 use heap_text::TextError;
 use std::alloc::{AllocError, Global};
@@ -25,6 +25,8 @@ pub enum Failure {
     Generation(GenerationError),
     /// A text isn't that of a heap.
     Text(TextError),
+    /// An image has a later version than the one that is wanted.
+    Later { version: Version, wanted: Version },
 }
 
 impl Failure {
@@ -57,6 +59,7 @@ impl Failure {
             Failure::Generation(GenerationError::Defect) => 1,
             Failure::Usage(_) | Failure::Generation(_) => 2,
             Failure::Fault(_) | Failure::Differs(_) | Failure::Dump(_) | Failure::Text(_) => 1,
+            Failure::Later { .. } => 1,
         }
     }
 }

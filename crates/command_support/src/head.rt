@@ -1,6 +1,7 @@
 //! The head of an image that is read with another region log or allowance than its own.
-ghost use Rattle.std.specs.Prelude.{◌≡◌, ◌++◌, ℕ, Bool, List, None, unwrap_or};
+ghost use Rattle.std.specs.Prelude.{◌≡◌, ◌++◌, ℕ, List, None, unwrap_or};
 ghost use Rattle.heap_image.specs.ImageText.{front};
+ghost use Rattle.heap_image.specs.declared.version.Version.{Version};
 ghost use Rattle.command_line.specs.declared.shape.Shape.{Shape as Wanted};
 ghost use Rattle.command_support.specs.Heads.{byte_at, byte_read, bytes_read};
 
@@ -51,7 +52,7 @@ pub fn unchanged_heads_stay()
 
 /// The head that is read is the one with the values of the shape in place of its own. The body is read as it is.
 pub fn heads_have_shapes()
-    ensures { (shape : Wanted) (rooted : Bool) (region_log count words allowance : ℕ) (body : List ℕ)
-        → bytes_read shape 0 (front rooted region_log count words allowance ++ body)
-        ≡ front rooted (unwrap_or shape.region_log region_log) count words (unwrap_or shape.allowance allowance) ++ body }
+    ensures { (shape : Wanted) (version : Version) (region_log count words allowance : ℕ) (body : List ℕ)
+        → bytes_read shape 0 (front version region_log count words allowance ++ body)
+        ≡ front version (unwrap_or shape.region_log region_log) count words (unwrap_or shape.allowance allowance) ++ body }
 {}

@@ -9,7 +9,7 @@
 //! [`Reason`] and a [`Hint`], which `--verbose` prints.
 //!
 //! **Timings.** [`Stats`] has what `--stats` prints: times by a [`Stopwatch`] and by devices that note when bytes go through them
-//! ([`TimedIntake`], [`TimedOutlet`]).
+//! ([`TimedIntake`], [`TimedOutlet`]). A [`Meter`] has the line that `--progress` shows, of what a [`Gauge`] counts.
 //!
 //! # What is proved
 //!
@@ -17,6 +17,7 @@
 //! - Adding a file, a reason or a hint leaves a failure the same.
 //! - Which hint comes of which first bytes (`hint_of` of `specs/Hints.antt`).
 //! - A system call that fails on a file is fault 13.
+//! - The text of the line that shows how far a file is (`transfer_text` of `specs/Transfer.antt`).
 //! - An image that is read with a shape has the head with its values, and the same body (`bytes_read` of `specs/Heads.antt`).
 //! - A timed device has the contract of the device that it wraps.
 //! - Nothing here reads out of bounds, overflows or stops the process, and every loop ends.
@@ -24,7 +25,7 @@
 //! # What is only tested
 //!
 //! Which files are opened, emptied, made, replaced and removed, and in which order: no clause is about the content of a file.
-//! The texts of reasons and times. The tests are those of the program (see the README).
+//! The texts of reasons and times, and when progress is shown. The tests are those of the program (see the README).
 #![tactic(auto)]
 
 mod access;
@@ -36,6 +37,7 @@ mod file_id;
 mod file_target;
 mod file_word;
 mod files;
+mod gauge;
 mod head;
 mod hint;
 mod json;
@@ -43,6 +45,7 @@ mod laps;
 mod late;
 mod leftovers;
 mod live_share;
+mod meter;
 mod moved;
 mod output;
 mod peak_memory;
@@ -51,11 +54,13 @@ mod printable;
 mod reason;
 mod replacement;
 mod stats;
+mod status_line;
 mod stopwatch;
 mod system_file;
 mod tenths;
 mod timed_intake;
 mod timed_outlet;
+mod transfer;
 mod trouble;
 mod watched;
 mod work_done;
@@ -71,12 +76,14 @@ pub use files::{
     ended, failed, failed_between, image_and_out, must_differ, not_regular, output_must_differ,
     reject_same_file, same_file, target_beside, two_different_inputs, two_inputs,
 };
+pub use gauge::Gauge;
 pub use head::{heads_have_shapes, reshape, unchanged_heads_stay};
 pub use hint::Hint;
 pub use json::push_json;
 pub use laps::Laps;
 pub use late::Late;
 pub use live_share::LiveShare;
+pub use meter::Meter;
 pub use moved::Moved;
 pub use output::Output;
 pub use phase::Phase;
@@ -88,6 +95,7 @@ pub use stopwatch::Stopwatch;
 pub use system_file::{FileLock, SystemFile};
 pub use timed_intake::TimedIntake;
 pub use timed_outlet::TimedOutlet;
+pub use transfer::{Transfer, transfers_have_lines};
 pub use trouble::{Trouble, on_file};
 pub use watched::Watched;
 pub use work_done::WorkDone;

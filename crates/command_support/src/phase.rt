@@ -22,6 +22,11 @@ pub enum Phase {
 }
 
 impl fmt::Display for Phase {
+    ghost use Rattle.std.specs.Prelude.{Some};
+    ghost use Rattle.command_support.specs.Transfer.{phase_text};
+
+    ghost output = { λ phase. Some (phase_text phase) };
+
     fn fmt<W: fmt::Write>(&self, f: &mut fmt::Formatter<W>) -> fmt::Result {
         f.write_str(match self {
             Phase::Read => "read",

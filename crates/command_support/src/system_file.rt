@@ -19,6 +19,9 @@ pub trait SystemFile: OpenFile {
     fn is_standard_output(&self) -> bool {
         false
     }
+
+    /// Says how long a file that is written will be, or 0 where that isn't known, for who shows how far it is.
+    fn expect_len(&self, _len: u64) {}
 }
 
 /// The lock of a file, held until it is dropped.

@@ -113,10 +113,14 @@ impl<'a> Trouble<'a> {
         }
     }
 
-    /// Adds this file, if it is a fault of the image in the file or a call on the file failed.
+    /// Adds this file, if it is a fault of the image in the file, the image has a later version than wanted, or a call on
+    /// the file failed.
     pub fn if_image<F: Drop>(self, image: &Watched<'a, F>) -> Trouble<'a>
         ensures { result.failure ≡ self.entry.failure }
     {
+        if self.is_later() {
+            return self.about(image.word());
+        }
         match self.fault() {
             Some(Fault::Length) => self.because_of_length(image).about(image.word()),
             Some(fault) if is_of_image(fault) => self.about_content(Content::Image, image),
@@ -196,6 +200,13 @@ impl<'a> Trouble<'a> {
         match &self.failure {
             Failure::Fault(fault) => Some(*fault),
             _ => None,
+        }
+    }
+
+    fn is_later(&self) -> bool {
+        match &self.failure {
+            Failure::Later { .. } => true,
+            _ => false,
         }
     }
 

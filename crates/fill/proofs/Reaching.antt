@@ -1,6 +1,6 @@
 -- How much more of a region is written after another source.
-use Rattle.std.proofs.Common.{◌≡◌, ℕ, ◌-◌, ◌≤◌, ◌<◌, arith}
-use Rattle.std.proofs.lemmas.Nat.{mul-le}
+use Rattle.std.proofs.Common.{◌≡◌, ℕ, ◌-◌, ◌^◌, ◌≤◌, ◌<◌, arith}
+use Rattle.std.proofs.lemmas.Nat.{mul-le, pow_below}
 use Rattle.heap_image.specs.HeapImage.{HeapImage, IsValid, region_words, region_count, start_of}
 use Rattle.summary.specs.NewAddresses.{prefix_end}
 use Rattle.fill.specs.CopiedWords.{written_to}
@@ -14,5 +14,6 @@ written_to-more image valid d from next to end inside behind l m one two =
     let up : start_of image from ≤ start_of image next = mul-le from (region_words image) next (region_words image) m (omega arith) in
     let more = slid-monotone image (start_of image from) (start_of image next) first up in
     let fits = region_fits image valid d inside in
-    let few = valid.limits.few_words in
+    let high = valid.limits.region_log_high in
+    let short : region_words image < 2 ^ 21 = pow_below image.region_log 21 (omega arith) in
     (omega arith, omega arith)

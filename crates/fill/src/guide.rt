@@ -1,6 +1,7 @@
 ghost use Rattle.std.specs.Prelude.{◌≡◌, ℕ, ◌+◌, ◌-◌, ◌<◌, ◌≤◌, ◌==◌, ◌||◌, true, false, IfSome, MatchOption, Some};
 ghost use Rattle.heap_image.specs.HeapImage.{IsValid, heap_words, region_words, region_count, start_of, is_live_word};
 ghost use Rattle.summary.specs.NewAddresses.{prefix_end, new_address, new_top};
+ghost use Rattle.summary.specs.Fillers.{filler_limit, may_begin_filler};
 ghost use Rattle.summary.specs.WordMoves.{slid};
 ghost use Rattle.summary.specs.RegionData.{source};
 ghost use Rattle.fill.specs.SourceRegions.{IsAfterPrefix};
@@ -15,7 +16,7 @@ use summary::laws::new_addresses::objects_keep_their_order;
 use summary::laws::plans::planned_image_is_valid;
 use summary::laws::readers::sources_in_a_row;
 use summary::laws::region_data::region_data_by_words;
-use summary::{Plan, Survey};
+use summary::{FILLER_STRIDE, Plan, Survey, filler_limit};
 
 /// The plan and the marks of one image, which say where words go.
 ///
@@ -158,26 +159,27 @@ impl<'a> Guide<'a> {
         self.marks.next_begin_before(from, to)
     }
 
-    /// The first live word from `at` on, or the prefix end if no word of the prefix from there on is live.
-    pub(crate) fn gap_end(&self, at: u64) -> u64
-        requires { at ≤ prefix_end self.now }
+    /// The end of the filler that begins at `begin`, if the words from there up to `at` are dead.
+    pub(crate) fn filler_end(&self, begin: u64, at: u64) -> u64
+        requires below { begin < prefix_end self.now }
+        requires reached { at ≤ filler_limit self.now begin }
         ensures after { at ≤ result }
-        ensures inside { result ≤ prefix_end self.now }
+        ensures inside { result ≤ filler_limit self.now begin }
+        ensures near { result ≤ begin + 2147483648 }
         ensures dead { (q : ℕ) → at ≤ q → q < result → is_live_word self.now q ≡ false }
-        ensures live { result < prefix_end self.now → is_live_word self.now result ≡ true }
+        ensures live { result < filler_limit self.now begin → is_live_word self.now result ≡ true }
     {
-        let prefix_end = self.plan.prefix_end();
-        self.marks
-            .next_live_before(at, prefix_end)
-            .unwrap_or(prefix_end)
+        planned_image_is_valid(self.plan);
+        let limit = filler_limit(self.plan.prefix_end(), begin);
+        self.marks.next_live_before(at, limit).unwrap_or(limit)
     }
 
-    /// Whether a filler begins at `at`, whose word is dead.
-    pub(crate) fn begins_gap(&self, at: u64) -> bool
+    /// Whether a filler begins at `at`, if its word is dead.
+    pub(crate) fn may_begin_filler(&self, at: u64) -> bool
         requires { at ≤ heap_words self.now }
-        ensures { result ≡ ((at == 0) || is_live_word self.now (at - 1)) }
+        ensures { result ≡ may_begin_filler self.now at }
     {
-        at == 0 || self.marks.live_words(at - 1, at) == 1
+        at % FILLER_STRIDE == 0 || self.marks.live_words(at - 1, at) == 1
     }
 
     #[inline]

@@ -59,8 +59,8 @@ impl InPrefix<'_> {
         }
         let first = (at - self.site.span.start) as usize;
         let n = (stop - at) as usize;
-        if self.site.guide.begins_gap(at) {
-            let end = self.site.guide.gap_end(stop);
+        if self.site.guide.may_begin_filler(at) {
+            let end = self.site.guide.filler_end(at, stop);
             target.set(first, filler((end - at) as u32));
             target.fill(first + 1, n - 1, 0);
         } else {

@@ -2,3 +2,4 @@ pub mod Timelines
 pub mod Unreplayed
 pub mod Texts
 pub mod Imports
+pub mod Upgrades

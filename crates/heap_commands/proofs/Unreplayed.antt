@@ -32,7 +32,7 @@ replay_stopped left left' schedule image v first fault is valid read whole refus
       reason = inr (record { schedule = v; whole = whole; refused = refused });
     }))
 
-memory_is_a_reason : (left : Option (List ℕ)) → IfSome left (λ bytes. IsReason bytes Memory)
+pub memory_is_a_reason : (left : Option (List ℕ)) → IfSome left (λ bytes. IsReason bytes Memory)
 memory_is_a_reason None = tt
 memory_is_a_reason (Some bytes) = inl refl
 

@@ -1,25 +1,25 @@
-use Rattle.std.specs.Prelude.{◌≡◌, ℕ, List, ◌++◌, ◌==◌, Option, codes}
+use Rattle.std.specs.Prelude.{◌≡◌, ℕ, List, ◌++◌, Option, option_map, codes}
 use Rattle.std.specs.Io.KnownBytes.{Appends}
 use Rattle.heap_image.specs.HeapImage.{HeapImage, IsValid}
 use Rattle.heap_image.specs.ImageText.{text}
+use Rattle.heap_image.specs.Version.{IsChosen}
 use Rattle.heap_maker.specs.GenerationFigures.{AreFiguresOf, figures_text}
 use Rattle.heap_maker.specs.Wanted.{IsAsWanted}
 use Rattle.heap_maker.specs.declared.figures.GenerationFigures.{GenerationFigures}
 use Rattle.heap_maker.specs.declared.wanted.Wanted.{Wanted}
 use Rattle.command_line.specs.declared.generate.Generate.{Generate}
 use Rattle.heap_commands.specs.Command.{Command}
+use Rattle.heap_commands.specs.Versions.{version_numbered}
 
--- the heap that a request describes
-abbrev pub wanted_of : Generate → Wanted
-wanted_of request = record {
-  words = request.words;
-  region_log = request.region_log;
-  live_percent = request.live;
-  reference_percent = request.references;
-  is_rooted = request.version == 2;
-  allowance = request.allowance;
-  seed = request.seed;
-}
+-- The heap that a request describes. Without a version it has version 2 where that allows it, else version 3.
+pub record IsWantedOf (request : Generate) (wanted : Wanted) : Type 0 where
+  pub words : wanted.words ≡ request.words
+  pub region_log : wanted.region_log ≡ request.region_log
+  pub live : wanted.live_percent ≡ request.live
+  pub references : wanted.reference_percent ≡ request.references
+  pub version : IsChosen (option_map version_numbered request.version) request.region_log request.words wanted.version
+  pub allowance : wanted.allowance ≡ request.allowance
+  pub seed : wanted.seed ≡ request.seed
 
 -- the line with the figures of an image
 pub record IsFiguresLine (image : HeapImage) (shown : List ℕ) : Type 0 where

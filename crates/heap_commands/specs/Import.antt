@@ -1,26 +1,29 @@
-use Rattle.std.specs.Prelude.{◌≡◌, ℕ, List, [], ◌++◌, Option, None, Some, codes}
+use Rattle.std.specs.Prelude.{◌≡◌, ℕ, true, List, [], ◌++◌, Option, None, Some, codes}
 use Rattle.std.specs.Io.KnownBytes.{Appends}
-use Rattle.heap_image.specs.HeapImage.{HeapImage, IsValid, version_of}
+use Rattle.heap_image.specs.HeapImage.{HeapImage, IsValid}
 use Rattle.heap_image.specs.ImageText.{text}
+use Rattle.heap_image.specs.Version.{has_roots}
 use Rattle.heap_dump.specs.ImportFigures.{AreFiguresOf, figures_text}
+use Rattle.heap_dump.specs.Requested.{HasChosenVersion}
 use Rattle.heap_dump.specs.declared.figures.ImportFigures.{ImportFigures}
+use Rattle.heap_dump.specs.declared.options.Options.{Options}
 use Rattle.heap_commands.specs.Command.{Command}
 use Rattle.heap_commands.specs.Histogram.{IsHistogram}
 
--- the line with the figures of an image of version 2
+-- the line with the figures of an image with roots
 pub record IsLineOf (image : HeapImage) (shown : List ℕ) : Type 0 where
   pub valid : IsValid image
-  pub rooted : version_of image ≡ 2
+  pub rooted : has_roots image.version ≡ true
   pub figures : ImportFigures
   pub counted : AreFiguresOf image figures
   pub printed : shown ≡ figures_text figures ++ codes "\n"
 
--- the text of a valid image of version 2 with this allowance was written, and its figures are printed
-abbrev pub IsImport : ℕ → Option (List ℕ) → Option (List ℕ) → List ℕ → Type 0
-IsImport allowance took took' shown = (image : HeapImage) × IsLineOf image shown
-    × (image.allowance ≡ allowance) × Appends took took' (text image)
+-- the text of a valid image with roots was written, of the requested version and allowance, and its figures are printed
+abbrev pub IsImport : Options → Option (List ℕ) → Option (List ℕ) → List ℕ → Type 0
+IsImport options took took' shown = (image : HeapImage) × IsLineOf image shown
+    × (image.allowance ≡ options.allowance) × HasChosenVersion options image × Appends took took' (text image)
 
--- the line with the figures of some valid image of version 2
+-- the line with the figures of some valid image with roots
 abbrev pub IsImportLine : List ℕ → Type 0
 IsImportLine shown = (image : HeapImage) × IsLineOf image shown
 
@@ -29,7 +32,7 @@ abbrev pub IsRest : HeapImage → ImportFigures → Option ℕ → List ℕ → 
 IsRest image figures None rest = rest ≡ []
 IsRest image figures (Some most) rest = IsHistogram image figures most rest
 
--- the line with the figures of an image of version 2, and the histogram of its objects if one is requested
+-- the line with the figures of an image with roots, and the histogram of its objects if one is requested
 pub record IsTextOf (image : HeapImage) (most : Option ℕ) (shown : List ℕ) : Type 0 where
   pub line : List ℕ
   pub begins : IsLineOf image line
@@ -37,10 +40,10 @@ pub record IsTextOf (image : HeapImage) (most : Option ℕ) (shown : List ℕ) :
   pub ends : IsRest image begins.figures most rest
   pub printed : shown ≡ line ++ rest
 
--- the text of a valid image of version 2 with this allowance was written, and this is printed of it
-abbrev pub IsListedImport : ℕ → Option ℕ → Option (List ℕ) → Option (List ℕ) → List ℕ → Type 0
-IsListedImport allowance most took took' shown = (image : HeapImage) × IsTextOf image most shown
-    × (image.allowance ≡ allowance) × Appends took took' (text image)
+-- the text of a valid image with roots was written, of the requested version and allowance, and this is printed of it
+abbrev pub IsListedImport : Options → Option ℕ → Option (List ℕ) → Option (List ℕ) → List ℕ → Type 0
+IsListedImport options most took took' shown = (image : HeapImage) × IsTextOf image most shown
+    × (image.allowance ≡ options.allowance) × HasChosenVersion options image × Appends took took' (text image)
 
 -- Of some valid image: without a histogram exactly the line with its figures, and with one that line and the histogram.
 abbrev pub IsImportText : Option ℕ → List ℕ → Type 0

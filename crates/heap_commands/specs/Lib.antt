@@ -13,3 +13,4 @@ pub mod Text
 pub mod Timeline
 pub mod Unreplayed
 pub mod Upgrade
+pub mod Versions

@@ -1,13 +1,14 @@
 ghost use Rattle.std.specs.Prelude.{◌≡◌, ◌≢◌, ◌⊎◌, ◌++◌, codes, ℕ, List, IfOk, IfErr, OnOk, OnErr, IsTrue, string_bytes};
 ghost use Rattle.heap_maker.specs.GenerationFigures.{figures_text};
-ghost use Rattle.heap_commands.specs.Generate.{IsGeneration, IsGenerationLine, wanted_of};
+ghost use Rattle.heap_commands.specs.Generate.{IsGeneration, IsGenerationLine, IsWantedOf};
 ghost use Rattle.command_support.specs.Failure.{failed_device};
 
+use crate::versions::requested_version;
 use command_line::Generate;
 use command_support::{
     Failure, FileTarget, FileWord, Late, Role, SystemFile, Trouble, WorkDone, Writing, ended,
 };
-use heap_image::{Outlet, ToWrite, write_image_buffered};
+use heap_image::{Outlet, ToWrite, Version, write_image_buffered};
 use heap_maker::{Generated, GenerationFigures, Wanted, generate};
 use std::alloc::{AllocError, Global};
 use std::rt::Files;
@@ -42,14 +43,19 @@ where
 
 /// The heap that the request describes.
 fn generation_of(request: &Generate<'_>) -> Wanted
-    ensures { result ≡ wanted_of request.now }
+    ensures { IsWantedOf request.now result }
 {
+    let (words, region_log) = (request.words, request.region_log);
+    let version = match requested_version(request.version) {
+        Some(version) => version,
+        None => Version::for_roots(region_log, words),
+    };
     Wanted {
-        words: u64::from(request.words),
-        region_log: request.region_log,
+        words,
+        region_log,
         live_percent: request.live,
         reference_percent: request.references,
-        is_rooted: request.version == 2,
+        version,
         allowance: request.allowance,
         seed: request.seed,
     }

@@ -1,7 +1,8 @@
-ghost use Rattle.std.specs.Prelude.{◌≡◌, ◌≢◌, ◌⊎◌, ◌++◌, codes, None, ℕ, List, IfOk, IfErr, OnOk, OnErr, IsTrue, string_bytes};
+ghost use Rattle.std.specs.Prelude.{◌≡◌, ◌≢◌, ◌⊎◌, ◌++◌, codes, true, None, ℕ, List, IfOk, IfErr, OnOk, OnErr, IsTrue, string_bytes};
 ghost use Rattle.std.specs.Io.KnownBytes.{IsAtEnd};
 ghost use Rattle.command_line.specs.Request.{rows_in};
-ghost use Rattle.heap_image.specs.HeapImage.{IsValid, version_of};
+ghost use Rattle.heap_image.specs.HeapImage.{IsValid};
+ghost use Rattle.heap_image.specs.Version.{has_roots};
 ghost use Rattle.heap_dump.specs.ImportFigures.{AreFiguresOf, figures_text};
 ghost use Rattle.heap_dump.specs.Listing.{AreObjectsOf};
 ghost use Rattle.heap_commands.specs.Import.{IsImport, IsImportText, IsImported, IsListedImport, IsTextOf};
@@ -12,6 +13,7 @@ use crate::import_ending::{finished, unfinished};
 use crate::import_files::{ImportFiles, keep, late_beside};
 use crate::live_share::live_share;
 use crate::object_list::list_room;
+use crate::versions::requested_version;
 use command_line::Import;
 use command_support::{
     Failure, Laps, LiveShare, Phase, Stats, Stopwatch, SystemFile, TimedIntake, TimedOutlet,
@@ -160,6 +162,7 @@ impl ImportWish {
                 region_log: request.region_log,
                 allowance: request.allowance,
                 live_only: request.live_only,
+                version: requested_version(request.version),
             },
             lists_objects: request.classes.is_some(),
             rows: request.rows(),
@@ -230,7 +233,7 @@ pub fn import_into<R: Intake, O: Outlet>(
     output: &mut O,
     options: Options,
 ) -> Result<ImportLine, Failure>
-    ensures image { IfOk result (λ line. IsImport options.allowance
+    ensures image { IfOk result (λ line. IsImport options
         (O.took output.old) (O.took output.new) (string_bytes line.text)) }
     ensures first_end { OnOk result (IsAtEnd (R.left first.new)) }
     ensures second_end { OnOk result (IsAtEnd (R.left second.new)) }
@@ -276,7 +279,7 @@ pub fn import_listed_into<R: Intake, O: Outlet>(
     output: &mut O,
     wish: ImportWish,
 ) -> Result<ListedText, Failure>
-    ensures image { IfOk result (λ made. IsListedImport wish.options.allowance wish.rows
+    ensures image { IfOk result (λ made. IsListedImport wish.options wish.rows
         (O.took output.old) (O.took output.new) (string_bytes made.text)) }
     ensures objects { IfOk result (λ made. AreObjectsOf made.import.imported.image made.import.objects.items) }
     ensures first_end { OnOk result (IsAtEnd (R.left first.new)) }
@@ -297,7 +300,7 @@ pub fn import_listed_into<R: Intake, O: Outlet>(
 /// The line with the figures of an import, and a histogram with at most so many classes if one is wanted.
 fn text_of(alloc: Global, import: &ListedImport, rows: Option<u32>) -> Result<String, AllocError>
     requires valid { IsValid import.now.imported.image }
-    requires rooted { version_of import.now.imported.image ≡ 2 }
+    requires rooted { has_roots import.now.imported.image.version ≡ true }
     requires objects { AreObjectsOf import.now.imported.image import.now.objects.items }
     requires figures { AreFiguresOf import.now.imported.image import.now.imported.figures }
     ensures { IfOk result (λ text. IsTextOf import.now.imported.image rows (string_bytes text)) }

@@ -34,3 +34,4 @@ pub mod summarize;
 pub mod text;
 pub mod timeline;
 pub mod upgrade;
+mod versions;

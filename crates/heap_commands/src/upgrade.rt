@@ -1,14 +1,24 @@
-ghost use Rattle.std.specs.Prelude.{◌≡◌, ◌≢◌, ◌≤◌, ◌⊎◌, ◌++◌, [], codes, decimal, ℕ, List, IfOk, IfErr, OnErr, IfSome, string_bytes};
+ghost use Rattle.std.specs.Prelude.{◌≡◌, ◌≢◌, ◌≤◌, ◌<◌, ◌⊎◌, ◌++◌, [], codes, decimal, length, ℕ, List, IfOk, IfErr, OnErr, IfSome, string_bytes};
 ghost use Rattle.std_alloc.specs.String.{string_capacity};
 ghost use Rattle.heap_image.specs.declared.fault.Fault.{Fault};
+ghost use Rattle.heap_image.specs.declared.version.Version.{Version};
+ghost use Rattle.heap_image.specs.HeapImage.{roots_of};
 ghost use Rattle.heap_image.specs.Refusals.{IsReason};
-ghost use Rattle.heap_image.specs.Upgrade.{IsUpgradeBegun};
-ghost use Rattle.heap_commands.specs.Upgrade.{IsRootCount, IsUpgrading};
+ghost use Rattle.heap_image.specs.Upgrade.{upgraded_to};
+ghost use Rattle.heap_image.specs.Version.{number_of};
+ghost use Rattle.heap_commands.specs.Upgrade.{IsBegun, IsRootCount, IsUpgrading};
+ghost use Rattle.command_support.specs.Failure.{failed_device};
+ghost use Rattle.command_support.specs.declared.failure.Failure.TheVariants.{Fault as OfFault, Later};
 
 use crate::line::{push_number, push_text};
+use crate::versions::version_numbered;
 use command_line::Upgrade;
-use command_support::{SystemFile, Trouble, WorkDone, ended, failed_between, image_and_out};
-use heap_image::{Fault, FromRead, Intake, Outlet, ToWrite, upgrade_stream};
+use command_support::{
+    Failure, SystemFile, Trouble, WorkDone, ended, failed_between, image_and_out,
+};
+use heap_image::{
+    FromRead, Image, Intake, Outlet, ToWrite, Version, read_image, upgrade_to, write_image_buffered,
+};
 use std::alloc::Global;
 use std::rt::Files;
 
@@ -29,33 +39,57 @@ where
         rt.alloc(),
         &mut FromRead::new(&mut image),
         &mut ToWrite::new(&mut out.file),
+        version_numbered(request.to),
     );
     match line {
         Ok(line) => ended(rt, line, out),
-        Err(fault) => Err(failed_between(rt, Trouble::from(fault), &image, out)),
+        Err(failure) => Err(failed_between(rt, Trouble::new(failure), &image, out)),
     }
 }
 
-/// Reads an image and writes its upgrade. Returns the line for standard output, with the number of roots.
+/// Reads an image and writes its upgrade to this version. Returns the line for standard output, with the number of roots.
 ///
-/// Nothing is allocated once a byte is written.
+/// Nothing is allocated once a byte is written. An image of a later version is refused, and nothing is written.
 pub fn upgrade_into<R: Intake, O: Outlet>(
     alloc: Global,
     input: &mut R,
     output: &mut O,
-) -> Result<String, Fault>
-    ensures upgrade { IfOk result (λ shown. IsUpgrading (R.left input.old) (R.left input.new)
+    version: Version,
+) -> Result<String, Failure>
+    ensures upgrade { IfOk result (λ shown. IsUpgrading version (R.left input.old) (R.left input.new)
         (O.took output.old) (O.took output.new) (string_bytes shown)) }
     // Nothing was written, or all of the input was read and the upgrade made.
     ensures written { OnErr result ((output.new ≡ output.old)
-        ⊎ IsUpgradeBegun (R.left input.old) (R.left input.new) (O.took output.old) (O.took output.new)) }
+        ⊎ IsBegun version (R.left input.old) (R.left input.new) (O.took output.old) (O.took output.new)) }
     // Only the device stops it once it writes.
-    ensures nothing_yet { IfErr result (λ fault. fault ≢ Fault.Io → output.new ≡ output.old) }
-    ensures fault { IfErr result (λ fault. IfSome (R.left input.old) (λ bytes. IsReason bytes fault)) }
+    ensures nothing_yet { IfErr result (λ failure. failure ≢ failed_device → output.new ≡ output.old) }
+    ensures fault { IfErr result (λ failure. (fault : Fault) → failure ≡ OfFault fault
+        → IfSome (R.left input.old) (λ bytes. IsReason bytes fault)) }
+    // Only a later version is refused as one.
+    ensures later { IfErr result (λ failure. (found wanted : Version) → failure ≡ Later found wanted
+        → number_of version < number_of found) }
 {
     let line = String::with_capacity(alloc, LINE_ROOM)?;
-    let roots = upgrade_stream(alloc, input, output)?;
-    Ok(roots_line(roots, line))
+    let image = read_image(alloc, input)?;
+    if version.number() < image.version().number() {
+        return Err(Failure::Later {
+            version: image.version(),
+            wanted: version,
+        });
+    }
+    let image = match upgrade_to(alloc, image, version) {
+        Ok(image) => image,
+        Err((_, fault)) => return Err(Failure::Fault(fault)),
+    };
+    write_image_buffered(alloc, &image, output)?;
+    Ok(roots_line(count_roots(&image), line))
+}
+
+/// The number of roots of an image.
+fn count_roots(image: &Image) -> u32
+    ensures { result ≡ length (roots_of image.now) }
+{
+    image.roots().len() as u32
 }
 
 /// Writes the line with the number of roots to an empty text that has room for it.

@@ -1,7 +1,8 @@
 //! The heap of an image before its live objects are marked.
-ghost use Rattle.std.specs.Prelude.{◌≡◌, IfOk, ◌≢◌};
+ghost use Rattle.std.specs.Prelude.{◌≡◌, true, IfOk, ◌≢◌};
 ghost use Rattle.std.specs.List.Sorted.{IsStrictlyIncreasing};
-ghost use Rattle.heap_image.specs.HeapImage.{IsValid, roots_of, version_of};
+ghost use Rattle.heap_image.specs.HeapImage.{IsValid, heap_words, roots_of};
+ghost use Rattle.heap_image.specs.Version.{IsChosen, has_roots};
 ghost use Rattle.heap_dump.specs.ImportFigures.{AreFiguresOf};
 
 use crate::error::ImportError;
@@ -10,7 +11,7 @@ use crate::heap::UnsealedHeap;
 use crate::limits::words_within_limits;
 use crate::options::Regions;
 use crate::roots::roots_to;
-use heap_image::{Fault, Image, mark_from_roots, marked_parts_are_valid};
+use heap_image::{Fault, Image, ImageParts, mark_from_roots, marked_parts_are_valid};
 use std::alloc::Global;
 
 /// A heap whose objects have their headers, and its roots.
@@ -29,14 +30,15 @@ pub(crate) struct Draft {
 /// An imported heap.
 #[derive(Drop)]
 pub struct Imported {
-    /// The image, of version 2.
+    /// The image, of version 2 or 3.
     pub image: Image,
     /// Its counts.
     pub figures: ImportFigures,
 }
 
 impl Draft {
-    /// Marks the heap from its roots, and returns the image. A heap that has other regions than requested is rejected.
+    /// Marks the heap from its roots, and returns the image. A heap that has other regions than requested is rejected, and
+    /// so are more roots than an image can count.
     pub(crate) fn into_image(
         self,
         alloc: Global,
@@ -44,7 +46,9 @@ impl Draft {
         allowance: u64,
     ) -> Result<Imported, ImportError>
         ensures valid { IfOk result (λ imported. IsValid imported.image) }
-        ensures rooted { IfOk result (λ imported. version_of imported.image ≡ 2) }
+        ensures rooted { IfOk result (λ imported. has_roots imported.image.version ≡ true) }
+        ensures version { IfOk result (λ imported. IsChosen requested.version requested.log (heap_words imported.image)
+            imported.image.version) }
         ensures region_log { IfOk result (λ imported. imported.image.region_log ≡ requested.log) }
         ensures roots { IfOk result (λ imported. IsStrictlyIncreasing (roots_of imported.image)) }
         ensures allowance { IfOk result (λ imported. imported.image.allowance ≡ allowance) }
@@ -63,7 +67,11 @@ impl Draft {
             return Err(ImportError::NoHeap(Fault::RegionLog));
         }
         let words = words_within_limits(region_log, regions.as_slice())?;
+        let version = requested.version_for(words)?;
         let roots = roots_to(alloc, roots.as_slice(), words)?;
+        if roots.len() > u32::MAX as usize {
+            return Err(ImportError::TooManyRoots(roots.len() as u64));
+        }
         let live = match mark_from_roots(alloc, region_log, regions.as_slice(), roots.as_slice()) {
             Ok(live) => live,
             Err(Fault::Memory) => return Err(ImportError::Memory),
@@ -79,7 +87,17 @@ impl Draft {
             unresolved,
         };
         marked_parts_are_valid();
-        let image = Image::of_rooted_parts(region_log, allowance, regions, live, roots);
-        Ok(Imported { image, figures })
+        let parts = ImageParts {
+            version,
+            region_log,
+            allowance,
+            regions,
+            live,
+            roots: Some(roots),
+        };
+        Ok(Imported {
+            image: parts.into_image(),
+            figures,
+        })
     }
 }

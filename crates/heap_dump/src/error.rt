@@ -81,9 +81,23 @@ pub enum ImportError {
         /// The most words that an image may have with regions of the requested size.
         most: u64,
     },
-    /// The requested region log is not 3 to 16.
-    #[error("region log {0}, where 3 to 16 are allowed")]
-    RegionLog(u32),
+    /// The requested region log is below 3, or above that of the version.
+    #[error("region log {region_log}, where 3 to {most} are allowed")]
+    RegionLog {
+        /// The requested region log.
+        region_log: u32,
+        /// The largest region log that the version allows.
+        most: u32,
+    },
+    /// Version 1 is requested, whose images have no roots.
+    #[error("version 1 has no roots, where those of the dump are needed")]
+    NoRoots,
+    /// There are more roots than an image can count: 2^32 or more.
+    #[error("the heap has {0} roots, and 4294967295 are the most")]
+    TooManyRoots(u64),
+    /// An object has more references than a header can count: 2^24 or more.
+    #[error("an object has {0} references, and 16777215 are the most")]
+    TooManyReferences(u64),
     /// The dump could not be read.
     #[error("the dump could not be read")]
     Input,

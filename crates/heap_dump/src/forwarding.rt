@@ -1,4 +1,7 @@
 //! The new addresses of the survivors of a heap.
+ghost use Rattle.std.specs.Prelude.{◌≢◌};
+
+use crate::error::ImportError;
 use crate::heap::{UnsealedHeap, header, references, size};
 use std::alloc::{AllocError, Global};
 
@@ -75,10 +78,19 @@ impl Forwarding {
         }
     }
 
-    /// Copies the object at `from` to `to`, with its references redirect.
-    pub(crate) fn copy(&self, old: &UnsealedHeap, new: &mut UnsealedHeap, from: u64, to: u64) {
+    /// Copies the object at `from` to `to`, with its references redirected. More references than a header can count are an
+    /// error.
+    pub(crate) fn copy(
+        &self,
+        old: &UnsealedHeap,
+        new: &mut UnsealedHeap,
+        from: u64,
+        to: u64,
+    ) -> Result<(), ImportError>
+        ensures { result ≢ Err ImportError.Input }
+    {
         let first = old.word(from);
-        new.put(to, header(first));
+        new.put(to, header(first)?);
         for index in 1..size(first) {
             let word = old.word(from.saturating_add(index));
             let word = if index <= references(first) {
@@ -88,5 +100,6 @@ impl Forwarding {
             };
             new.put(to.saturating_add(index), word);
         }
+        Ok(())
     }
 }

@@ -1,9 +1,13 @@
 //! The words of an image under construction.
-ghost use Rattle.std.specs.Prelude.{◌<◌, ◌≤◌, ◌^◌};
+ghost use Rattle.std.specs.Prelude.{◌<◌, ◌≤◌, ◌^◌, ◌≢◌};
 ghost use Rattle.heap_image.specs.HeapImage.{AreBlocks};
 
+use crate::error::ImportError;
 use raw_region::Region;
 use std::alloc::{AllocError, Global};
+
+/// The most references of an object: their number has 24 bits of its header.
+const MAX_REFERENCES: u64 = 0xFF_FFFF;
 
 /// The words of a heap, in regions of `2 ^ region_log` words.
 ///
@@ -14,7 +18,7 @@ pub(crate) struct UnsealedHeap {
     region_log: u32,
     regions: Vec<Region>,
     ghost low: { 3 ≤ region_log },
-    ghost high: { region_log ≤ 16 },
+    ghost high: { region_log ≤ 20 },
     ghost whole: { AreBlocks region_log regions.items },
 }
 
@@ -26,7 +30,7 @@ impl UnsealedHeap {
         words: u64,
     ) -> Result<UnsealedHeap, AllocError>
         requires low { 3 ≤ region_log }
-        requires high { region_log ≤ 16 }
+        requires high { region_log ≤ 20 }
     {
         let count = words.div_ceil(1 << region_log).max(1);
         let mut regions = Vec::new(alloc);
@@ -72,7 +76,7 @@ impl UnsealedHeap {
     /// Returns the region log and the regions.
     pub(crate) fn into_parts(self) -> (u32, Vec<Region>)
         ensures low { 3 ≤ result.0 }
-        ensures high { result.0 ≤ 16 }
+        ensures high { result.0 ≤ 20 }
         ensures whole { AreBlocks result.0 result.1.items }
     {
         let UnsealedHeap {
@@ -98,7 +102,12 @@ pub(crate) fn references(first: u64) -> u64 {
     first >> 32
 }
 
-/// The header for a first word.
-pub(crate) fn header(first: u64) -> u64 {
-    first | 1 << 56
+/// The header for a first word. More references than a header can count are an error.
+pub(crate) fn header(first: u64) -> Result<u64, ImportError>
+    ensures { result ≢ Err ImportError.Input }
+{
+    if references(first) > MAX_REFERENCES {
+        return Err(ImportError::TooManyReferences(references(first)));
+    }
+    Ok(first | 1 << 56)
 }

@@ -1,9 +1,10 @@
 //! Imports a heap dump as an image.
-ghost use Rattle.std.specs.Prelude.{◌≡◌, IfOk, OnOk, IsTrue, ◌⊎◌};
+ghost use Rattle.std.specs.Prelude.{◌≡◌, true, IfOk, OnOk, IsTrue, ◌⊎◌};
 ghost use Rattle.std.specs.Io.KnownBytes.{IsAtEnd};
 ghost use Rattle.std.specs.List.Sorted.{IsStrictlyIncreasing};
-ghost use Rattle.heap_image.specs.HeapImage.{IsValid, roots_of, version_of};
-ghost use Rattle.heap_dump.specs.Requested.{requested_log};
+ghost use Rattle.heap_image.specs.HeapImage.{IsValid, roots_of};
+ghost use Rattle.heap_image.specs.Version.{has_roots};
+ghost use Rattle.heap_dump.specs.Requested.{HasChosenVersion, requested_log};
 ghost use Rattle.heap_dump.specs.ImportFigures.{AreFiguresOf};
 ghost use Rattle.heap_dump.specs.Listing.{AreObjectsOf};
 ghost use Rattle.heap_dump.specs.Totals.{AreDeadWords, IsRanking, sums_of};
@@ -33,7 +34,8 @@ pub fn import<R: Intake>(
     options: Options,
 ) -> Result<Imported, ImportError>
     ensures valid { IfOk result (λ imported. IsValid imported.image) }
-    ensures rooted { IfOk result (λ imported. version_of imported.image ≡ 2) }
+    ensures rooted { IfOk result (λ imported. has_roots imported.image.version ≡ true) }
+    ensures version { IfOk result (λ imported. HasChosenVersion options imported.image) }
     ensures region_log { IfOk result (λ imported. imported.image.region_log ≡ requested_log options) }
     ensures roots { IfOk result (λ imported. IsStrictlyIncreasing (roots_of imported.image)) }
     ensures allowance { IfOk result (λ imported. imported.image.allowance ≡ options.allowance) }
@@ -66,7 +68,8 @@ pub fn import_listed<R: Intake>(
     options: Options,
 ) -> Result<ListedImport, ImportError>
     ensures valid { IfOk result (λ listed. IsValid listed.imported.image) }
-    ensures rooted { IfOk result (λ listed. version_of listed.imported.image ≡ 2) }
+    ensures rooted { IfOk result (λ listed. has_roots listed.imported.image.version ≡ true) }
+    ensures version { IfOk result (λ listed. HasChosenVersion options listed.imported.image) }
     ensures region_log { IfOk result (λ listed. listed.imported.image.region_log ≡ requested_log options) }
     ensures roots { IfOk result (λ listed. IsStrictlyIncreasing (roots_of listed.imported.image)) }
     ensures allowance { IfOk result (λ listed. listed.imported.image.allowance ≡ options.allowance) }
@@ -122,7 +125,8 @@ fn import_classed<R: Intake>(
     wants_classes: bool,
 ) -> Result<(Imported, ObjectClasses), ImportError>
     ensures valid { IfOk result (λ made. IsValid made.0.image) }
-    ensures rooted { IfOk result (λ made. version_of made.0.image ≡ 2) }
+    ensures rooted { IfOk result (λ made. has_roots made.0.image.version ≡ true) }
+    ensures version { IfOk result (λ made. HasChosenVersion options made.0.image) }
     ensures region_log { IfOk result (λ made. made.0.image.region_log ≡ requested_log options) }
     ensures roots { IfOk result (λ made. IsStrictlyIncreasing (roots_of made.0.image)) }
     ensures allowance { IfOk result (λ made. made.0.image.allowance ≡ options.allowance) }
@@ -136,10 +140,13 @@ fn import_classed<R: Intake>(
     let inventory = Inventory::of(alloc, first, second, wants_classes)?;
     let (draft, classes) = if options.live_only {
         live_heap(alloc, inventory, second, regions)?
-    } else if inventory.measure(true).words() <= regions.most_words() {
-        whole_heap(alloc, inventory, second, regions)?
     } else {
-        return Err(too_many_words(alloc, inventory, second, regions));
+        let words = inventory.measure(true).words();
+        let most = regions.most_words_with_gaps(inventory.measure(false).words());
+        if words > most {
+            return Err(too_many_words(alloc, inventory, second, words, most));
+        }
+        whole_heap(alloc, inventory, second, regions)?
     };
     let imported = draft.into_image(alloc, regions, options.allowance)?;
     Ok((imported, classes))
@@ -162,7 +169,7 @@ fn whole_heap<R: Intake>(
         classes,
     } = Transcribed::of(alloc, &mut inventory, source, regions.log, true)?;
     let Inventory { objects, roots, .. } = inventory;
-    objects.seal(&mut heap);
+    objects.seal(&mut heap)?;
     let draft = Draft {
         heap,
         roots,
@@ -206,21 +213,21 @@ fn live_heap<R: Intake>(
     Ok((draft, classes))
 }
 
-/// Returns the error for a dump with too many words. It names the words of the reachable objects, so the dump is read
-/// again.
+/// Returns the error for a dump with more words than the most. It names the words of the reachable objects, so the dump
+/// is read again.
 fn too_many_words<R: Intake>(
     alloc: Global,
     inventory: Inventory,
     source: &mut R,
-    regions: Regions,
+    words: u64,
+    most: u64,
 ) -> ImportError
     ensures { result ≡ ImportError.Input → IsTrue (R.has_failed source.new) }
 {
-    let words = inventory.measure(true).words();
     match Packed::of(alloc, inventory, source) {
         Ok(packed) => ImportError::TooManyWords {
             words,
-            most: regions.most_words(),
+            most,
             live_words: packed.survivors.words,
         },
         Err(error) => error,

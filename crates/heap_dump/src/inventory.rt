@@ -79,7 +79,7 @@ impl Inventory {
         keeps_gaps: bool,
     ) -> Result<(UnsealedHeap, Arrangement), AllocError>
         requires low { 3 ≤ region_log }
-        requires high { region_log ≤ 16 }
+        requires high { region_log ≤ 20 }
     {
         let arrangement = self.measure(keeps_gaps);
         let mut heap = UnsealedHeap::new(alloc, region_log, arrangement.words())?;

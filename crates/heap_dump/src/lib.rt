@@ -1,9 +1,9 @@
 //! Heap dumps of Java virtual machines as images.
 //!
-//! [`import`] reads a dump in the HPROF format, version 1.0.1 or 1.0.2, twice, and makes an image of version 2 of it.
+//! [`import`] reads a dump in the HPROF format, version 1.0.1 or 1.0.2, twice, and makes an image of version 2 or 3 of it.
 //! `docs/DUMPS.md` says what is read and where it is in the image.
 //!
-//! **Proved**, for all inputs: the image is valid and has the requested region log and allowance, and its roots ascend;
+//! **Proved**, for all inputs: the image is valid and has the requested version, region log and allowance, and its roots ascend;
 //! at Ok both readings are at the end of the dump; an input error comes only where a device has failed; no call indexes
 //! out of range, overflows or runs forever. **Only tested**: that the objects, references and roots are those of the
 //! dump. See the README.

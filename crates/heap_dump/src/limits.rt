@@ -4,25 +4,24 @@ ghost use Rattle.std.specs.List.{concat};
 ghost use Rattle.heap_image.specs.HeapImage.{AreBlocks, IsWithinLimits};
 
 use crate::error::ImportError;
-use heap_image::Fault;
-use heap_image::limits::{MAX_HEAP_WORDS, MAX_REGIONS};
+use heap_image::{Fault, Version};
 use raw_region::Region;
 
-/// The number of words of these regions of `2 ^ region_log` words, if an image may have as many.
+/// The number of words of these regions of `2 ^ region_log` words, if an image of some version may have as many.
 pub(crate) fn words_within_limits(region_log: u32, regions: &[Region]) -> Result<u64, ImportError>
     requires low { 3 ≤ region_log }
-    requires high { region_log ≤ 16 }
+    requires high { region_log ≤ 20 }
     requires whole { AreBlocks region_log regions.now }
     ensures count { IfOk result (λ words. words ≡ length (concat regions.now)) }
     ensures limits { IfOk result (λ words. IsWithinLimits region_log words 0) }
     ensures fit { OnOk result (All (λ w. w < 2 ^ 64) (concat regions.now)) }
     ensures no_device { result ≢ Err ImportError.Input }
 {
-    if regions.len() as u64 > MAX_REGIONS {
+    if regions.len() as u64 > Version::Three.max_regions() {
         return Err(ImportError::NoHeap(Fault::Length));
     }
     let words = words_of(regions);
-    if words == 0 || words > MAX_HEAP_WORDS {
+    if words == 0 || words > Version::Three.max_words() {
         return Err(ImportError::NoHeap(Fault::Length));
     }
     Ok(words)
@@ -30,7 +29,7 @@ pub(crate) fn words_within_limits(region_log: u32, regions: &[Region]) -> Result
 
 /// The number of words of these regions.
 fn words_of(regions: &[Region]) -> u64
-    requires { length regions.now ≤ 16384 }
+    requires { length regions.now ≤ 1048576 }
     ensures count { result ≡ length (concat regions.now) }
     ensures fit { All (λ w. w < 2 ^ 64) (concat regions.now) }
 {

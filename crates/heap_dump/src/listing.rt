@@ -121,7 +121,7 @@ impl ObjectList {
 /// Whether the live address with this index is this one.
 fn is_next_live(image: &Image, index: usize, address: u64) -> bool
     ensures next { IsTrue result → IsNextLive image.now index address }
-    ensures few { IsTrue result → index < 4194304 }
+    ensures few { IsTrue result → index < 68719476736 }
 {
     let live = image.live();
     index < live.len() && live[index] == address

@@ -213,14 +213,18 @@ impl Objects {
         Some(from.saturating_add(index))
     }
 
-    /// Turns the first word of each object into a header.
-    pub(crate) fn seal(&self, heap: &mut UnsealedHeap) {
+    /// Turns the first word of each object into a header. An object with more references than a header can count is an
+    /// error.
+    pub(crate) fn seal(&self, heap: &mut UnsealedHeap) -> Result<(), ImportError>
+        ensures { result ≢ Err ImportError.Input }
+    {
         for entry in self.entries.as_slice() {
             if let Object::Placed { address, .. } = entry.object {
-                let first = heap.word(address);
-                heap.put(address, header(first));
+                let header = header(heap.word(address))?;
+                heap.put(address, header);
             }
         }
+        Ok(())
     }
 }
 

@@ -32,7 +32,7 @@ impl Transcribed {
         keeps_gaps: bool,
     ) -> Result<Transcribed, ImportError>
         requires low { 3 ≤ region_log }
-        requires high { region_log ≤ 16 }
+        requires high { region_log ≤ 20 }
         ensures end { OnOk result (IsAtEnd (R.left source.new)) }
         ensures input { result ≡ Err ImportError.Input → IsTrue (R.has_failed source.new) }
     {

@@ -3,7 +3,6 @@ use Rattle.std.proofs.Common.{◌≡◌, ℕ, zero, suc, ◌+◌, ◌-◌, ◌*�
 use Rattle.std.proofs.lemmas.Bool.{cond-false, le-ltb, lt-ltb, lt-leb, eq-eqb, ne_eqb, or_from, and_right}
 use Rattle.std.proofs.lemmas.List.FromFn.{get_or-range_with_len, length-range_with_len}
 use Rattle.std.specs.Prelude.{find, zip, flat_map, map, Option, Some, None, option_map, not, IfSome}
-use Rattle.std.specs.Option.{is_some}
 use Rattle.std.specs.Str.{bytes_eq}
 use Rattle.std.specs.List.{range_with_len}
 use Rattle.std.specs.Option.{option_or}
@@ -11,12 +10,15 @@ use Rattle.std.proofs.lemmas.List.{append-nil}
 use Rattle.std.proofs.lemmas.List.Folds.{find-append}
 use Rattle.heap_image.specs.Reading.{HasFittingNumbers}
 use Rattle.heap_image.specs.declared.fault.Fault.TheVariants.{TruncatedHeader, RegionLog, Length, TruncatedBody, LiveOrder, Header, Overlap, Reference, Trailing, Magic, Root}
-use Rattle.heap_image.specs.HeapImage.{HeapImage, IsValid, IsWithinLimits, HasLiveList, heap_words, end_of, size_at, references_at, kind_at, reference_at, is_null_or_live, AreRoots, roots_or}
-use Rattle.heap_image.specs.ImageText.{front, numbers, text, listed_text, with_tail, from_tail, magic, is_rooted, misplaced_root, encoded_image, front_faults, layout_faults, live_list_faults, encoded_words, encoded_count, encoded_region_log, encoded_length, encoded_region_words, first_fault, first_some, fault_if, is_misplaced, misplaced_index, unsound_header, overlapping, dangling, object_faults, first_object_fault}
+use Rattle.heap_image.specs.HeapImage.{HeapImage, IsValid, HasLiveList, heap_words, end_of, size_at, references_at, kind_at, reference_at, is_null_or_live, AreRoots, roots_or}
+use Rattle.heap_image.specs.Version.{max_region_log, max_regions, max_words}
+use Rattle.heap_image.specs.declared.version.Version.{Version}
+use Rattle.heap_image.specs.ImageText.{front, numbers, text, listed_text, with_tail, from_tail, magic, encoded_version, misplaced_root, encoded_image, front_faults, layout_faults, live_list_faults, encoded_words, encoded_count, encoded_region_log, encoded_length, encoded_region_words, first_fault, first_some, fault_if, is_misplaced, misplaced_index, unsound_header, overlapping, dangling, object_faults, first_object_fault}
 use Rattle.heap_image.specs.declared.fault.Fault.{Fault}
 use Rattle.heap_image.proofs.Spans.{Apart}
 use Rattle.heap_image.proofs.LiveWords.{live_apart, live_end-le}
-use Rattle.heap_image.proofs.TextLaws.{valid_numbers, encoded_image-append, from_tail-with_tail, length_told, fronted, front_log, front_live, front_words, front_length}
+use Rattle.heap_image.proofs.TextLaws.{valid_numbers, encoded_image-append, from_tail-with_tail, length_told, fronted, front_fits, front_log, front_live, front_words, front_length}
+use Rattle.heap_image.proofs.Versions.{FitsFront, known_magic, magic_names}
 
 pub find_none : {X : Type 0} (t : X → Bool) (xs : List X) (d : X) → ((i : ℕ) → i < length xs → t (get_or xs i d) ≡ false) → find t xs ≡ None
 find_none t [] d h = refl
@@ -106,38 +108,41 @@ module _ (image : HeapImage) (sound : HasLiveList image) where
   dangling-None = find_none_in_flat_map (λ (p : ℕ × ℕ). not (is_null_or_live image (reference_at image p.0 p.1))) (λ a. map (λ f. (a, f)) (range_with_len 0 (references_at image a))) image.live (λ i l.
       find_none_in_fields (λ (p : ℕ × ℕ). not (is_null_or_live image (reference_at image p.0 p.1))) (get_or image.live i 0) 0 (references_at image (get_or image.live i 0)) (λ f k. ap not (sound.references i 0 l f (omega arith))))
 
-known_magic : (rooted : Bool) → not (bytes_eq (magic rooted) (magic false) || bytes_eq (magic rooted) (magic true)) ≡ false
-known_magic true = refl
-known_magic false = refl
-
--- a front within the limits is without a fault, whatever follows it
-module _ (rooted : Bool) (log live_count words allowance : ℕ) (limits : IsWithinLimits log words live_count) (behind : List ℕ) where
+-- a front within the limits of its version is without a fault, whatever follows it
+module _ (version : Version) (log live_count words allowance : ℕ) (limits : FitsFront version log words live_count) (behind : List ℕ) where
   abbrev whole : List ℕ
-  whole = fronted rooted log live_count words allowance limits behind
+  whole = fronted version log live_count words allowance limits behind
+
+  version_told : encoded_version whole ≡ version
+  version_told = magic_names version
 
   region_words_told : encoded_region_words whole ≡ 2 ^ log
-  region_words_told = ap (λ n. 2 ^ n) (front_log rooted log live_count words allowance limits behind)
+  region_words_told = ap (λ n. 2 ^ n) (front_log version log live_count words allowance limits behind)
 
-  lengths : (eqb (encoded_words whole) 0 || not (eqb (encoded_words whole % encoded_region_words whole) 0) || ltb 4194304 (encoded_words whole) || ltb 16384 (encoded_words whole / encoded_region_words whole) || ltb (encoded_words whole) (encoded_count whole)) ≡ false
+  lengths : (eqb (encoded_words whole) 0 || not (eqb (encoded_words whole % encoded_region_words whole) 0) || ltb (max_words (encoded_version whole)) (encoded_words whole) || ltb (max_regions (encoded_version whole)) (encoded_words whole / encoded_region_words whole) || ltb (encoded_words whole) (encoded_count whole)) ≡ false
   lengths =
-      let one : eqb words 0 ≡ false = ne_eqb words 0 (λ z. let s = limits.not_empty in omega arith) in
-      let two : not (eqb (words % 2 ^ log) 0) ≡ false = ap not (eq-eqb (words % 2 ^ log) 0 limits.whole_regions) in
-      let three : ltb 4194304 words ≡ false = le-ltb 4194304 words limits.few_words in
-      let four : ltb 16384 (words / 2 ^ log) ≡ false = le-ltb 16384 (words / 2 ^ log) limits.few_regions in
-      let five : ltb words live_count ≡ false = le-ltb words live_count limits.few_live in
-      rw (front_words rooted log live_count words allowance limits behind) (rw region_words_told (rw (front_live rooted log live_count words allowance limits behind) (rw (one, two, three, four, five) refl)))
+      let one : eqb words 0 ≡ false = ne_eqb words 0 (λ z. let s = limits.limits.not_empty in omega arith) in
+      let two : not (eqb (words % 2 ^ log) 0) ≡ false = ap not (eq-eqb (words % 2 ^ log) 0 limits.limits.whole_regions) in
+      let three : ltb (max_words version) words ≡ false = le-ltb (max_words version) words limits.allowed.few_words in
+      let four : ltb (max_regions version) (words / 2 ^ log) ≡ false = le-ltb (max_regions version) (words / 2 ^ log) limits.allowed.few_regions in
+      let five : ltb words live_count ≡ false = le-ltb words live_count limits.limits.few_live in
+      let told : (eqb (encoded_words whole) 0 || not (eqb (encoded_words whole % encoded_region_words whole) 0) || ltb (max_words version) (encoded_words whole) || ltb (max_regions version) (encoded_words whole / encoded_region_words whole) || ltb (encoded_words whole) (encoded_count whole)) ≡ false =
+      rw (front_words version log live_count words allowance limits behind) (rw region_words_told (rw (front_live version log live_count words allowance limits behind) (rw (one, two, three, four, five) refl))) in
+      ap (λ v. eqb (encoded_words whole) 0 || not (eqb (encoded_words whole % encoded_region_words whole) 0) || ltb (max_words v) (encoded_words whole) || ltb (max_regions v) (encoded_words whole / encoded_region_words whole) || ltb (encoded_words whole) (encoded_count whole)) version_told
+      ∙ told
 
   pub front_faults-None : first_some (front_faults whole) ≡ None
   front_faults-None =
-      let long : length whole ≡ 32 + length behind = length-append (front rooted log live_count words allowance) behind in
-      let logs : (ltb (encoded_region_log whole) 3 || ltb 16 (encoded_region_log whole)) ≡ false = rw (front_log rooted log live_count words allowance limits behind) (or_from (ltb log 3) (ltb 16 log) (le-ltb log 3 limits.region_log_low) (le-ltb 16 log limits.region_log_high)) in
+      let long : length whole ≡ 32 + length behind = length-append (front version log live_count words allowance) behind in
+      let logs_told : (ltb (encoded_region_log whole) 3 || ltb (max_region_log version) (encoded_region_log whole)) ≡ false = rw (front_log version log live_count words allowance limits behind) (or_from (ltb log 3) (ltb (max_region_log version) log) (le-ltb log 3 limits.limits.region_log_low) (le-ltb (max_region_log version) log limits.allowed.region_log_high)) in
+      let logs : (ltb (encoded_region_log whole) 3 || ltb (max_region_log (encoded_version whole)) (encoded_region_log whole)) ≡ false = ap (λ v. ltb (encoded_region_log whole) 3 || ltb (max_region_log v) (encoded_region_log whole)) version_told ∙ logs_told in
       first_some-None (front_faults whole) (
         fault_if-None (ltb (length whole) 32) TruncatedHeader (le-ltb (length whole) 32 (omega arith)),
         (
-          fault_if-None (not (bytes_eq (take 8 whole) (magic false) || is_rooted whole)) Magic (known_magic rooted),
+          fault_if-None (not (bytes_eq (take 8 whole) (magic (encoded_version whole)))) Magic (known_magic version),
           (
-            fault_if-None (ltb (encoded_region_log whole) 3 || ltb 16 (encoded_region_log whole)) RegionLog logs,
-            (fault_if-None (eqb (encoded_words whole) 0 || not (eqb (encoded_words whole % encoded_region_words whole) 0) || ltb 4194304 (encoded_words whole) || ltb 16384 (encoded_words whole / encoded_region_words whole) || ltb (encoded_words whole) (encoded_count whole)) Length lengths, tt),
+            fault_if-None (ltb (encoded_region_log whole) 3 || ltb (max_region_log (encoded_version whole)) (encoded_region_log whole)) RegionLog logs,
+            (fault_if-None (eqb (encoded_words whole) 0 || not (eqb (encoded_words whole % encoded_region_words whole) 0) || ltb (max_words (encoded_version whole)) (encoded_words whole) || ltb (max_regions (encoded_version whole)) (encoded_words whole / encoded_region_words whole) || ltb (encoded_words whole) (encoded_count whole)) Length lengths, tt),
           ),
         ),
       )
@@ -145,8 +150,8 @@ module _ (rooted : Bool) (log live_count words allowance : ℕ) (limits : IsWith
   -- too few bytes come after it
   pub layout_fault-truncated : length behind < 8 * (words + live_count) → first_some (layout_faults whole) ≡ Some TruncatedBody
   layout_fault-truncated few =
-      let long : length whole ≡ 32 + length behind = length-append (front rooted log live_count words allowance) behind in
-      let told = front_length rooted log live_count words allowance limits behind in
+      let long : length whole ≡ 32 + length behind = length-append (front version log live_count words allowance) behind in
+      let told = front_length version log live_count words allowance limits behind in
       let short : ltb (length whole) (encoded_length whole) ≡ true = lt-ltb (length whole) (encoded_length whole) (omega arith) in
       first_some_past (front_faults whole) (fault_if (ltb (length whole) (encoded_length whole)) TruncatedBody ∷ []) front_faults-None
       ∙ ap (λ b. first_some (fault_if b TruncatedBody ∷ [])) short
@@ -156,23 +161,23 @@ module _ (rooted : Bool) (log live_count words allowance : ℕ) (limits : IsWith
       first_some-append (layout_faults whole) (live_list_faults (encoded_image whole) ++ (fault_if (ltb (encoded_length whole) (length whole)) Trailing ∷ [])) TruncatedBody (layout_fault-truncated few)
 
 -- of the text of an image, and what follows it
-module _ (rooted : Bool) (image : HeapImage) (fits : HasFittingNumbers image) (rest : List ℕ) where
+module _ (version : Version) (image : HeapImage) (fits : HasFittingNumbers version image) (rest : List ℕ) where
   abbrev said : List ℕ
-  said = listed_text rooted image ++ rest
+  said = listed_text version image ++ rest
 
   pub layout_faults-None : first_some (layout_faults said) ≡ None
   layout_faults-None =
-      let whole = length-append (listed_text rooted image) rest in
-      let told = length_told rooted image fits rest in
-      first_some_past (front_faults said) (fault_if (ltb (length said) (encoded_length said)) TruncatedBody ∷ []) (front_faults-None rooted image.region_log (length image.live) (heap_words image) image.allowance fits.limits ((numbers image.words ++ numbers image.live) ++ rest))
+      let whole = length-append (listed_text version image) rest in
+      let told = length_told version image fits rest in
+      first_some_past (front_faults said) (fault_if (ltb (length said) (encoded_length said)) TruncatedBody ∷ []) (front_faults-None version image.region_log (length image.live) (heap_words image) image.allowance (front_fits version image fits) ((numbers image.words ++ numbers image.live) ++ rest))
       ∙ first_some-None (fault_if (ltb (length said) (encoded_length said)) TruncatedBody ∷ []) (fault_if-None (ltb (length said) (encoded_length said)) TruncatedBody (le-ltb (length said) (encoded_length said) (omega arith)), tt)
 
   -- what is first wrong is what is wrong with the live list, and else the rest
-  pub first_fault-append : first_fault said ≡ first_some (live_list_faults (from_tail rooted image) ++ (fault_if (ltb (length (listed_text rooted image)) (length said)) Trailing ∷ []))
+  pub first_fault-append : first_fault said ≡ first_some (live_list_faults (from_tail version image) ++ (fault_if (ltb (length (listed_text version image)) (length said)) Trailing ∷ []))
   first_fault-append =
       first_some_past (layout_faults said) (live_list_faults (encoded_image said) ++ (fault_if (ltb (encoded_length said) (length said)) Trailing ∷ [])) layout_faults-None
-      ∙ ap (λ i. first_some (live_list_faults i ++ (fault_if (ltb (encoded_length said) (length said)) Trailing ∷ []))) (encoded_image-append rooted image fits rest)
-      ∙ ap (λ n. first_some (live_list_faults (from_tail rooted image) ++ (fault_if (ltb n (length said)) Trailing ∷ []))) (length_told rooted image fits rest)
+      ∙ ap (λ i. first_some (live_list_faults i ++ (fault_if (ltb (encoded_length said) (length said)) Trailing ∷ []))) (encoded_image-append version image fits rest)
+      ∙ ap (λ n. first_some (live_list_faults (from_tail version image) ++ (fault_if (ltb n (length said)) Trailing ∷ []))) (length_told version image fits rest)
 
 -- sound objects have no fault
 pub first_object_fault-None : (image : HeapImage) → HasLiveList image → first_object_fault image ≡ None
@@ -224,7 +229,7 @@ first_fault-text image valid =
     let none = append-nil (text image) in
     let same : length (text image) ≡ length (text image ++ []) = ap length (sym none) in
     ap first_fault (sym none)
-    ∙ first_fault-append (is_some image.roots) (with_tail image) (valid_numbers image valid) []
+    ∙ first_fault-append image.version (with_tail image) (valid_numbers image valid) []
     ∙ ap (λ i. first_some (live_list_faults i ++ (fault_if (ltb (length (text image)) (length (text image ++ []))) Trailing ∷ []))) (from_tail-with_tail image valid)
     ∙ first_some_past (live_list_faults image) (fault_if (ltb (length (text image)) (length (text image ++ []))) Trailing ∷ []) (live_list_faults-None image valid.live_list (misplaced_root-None image valid))
     ∙ first_some-None (fault_if (ltb (length (text image)) (length (text image ++ []))) Trailing ∷ []) (fault_if-None (ltb (length (text image)) (length (text image ++ []))) Trailing (le-ltb (length (text image)) (length (text image ++ [])) (omega arith)), tt)

@@ -22,7 +22,7 @@ module _ (image : HeapImage) (words a : ℕ) (are : words ≡ heap_words image) 
   pub followed_none : (bits stack : List ℕ) → is_unsound image a ≡ true → IsGrown words (refers_to image a) bits bits stack stack
   followed_none bits stack bad = grown_same words (refers_to image a) bits stack (λ b l h. absurd (true≢false (sym h ∙ ap (λ t. not t && list_any (λ f. leads_to (reference_at image a f) b) (range_with_len 0 (references_at image a))) bad)))
 
-  abbrev first_fields : ℕ → ℕ → Bool
+  abbrev pub first_fields : ℕ → ℕ → Bool
   first_fields n b = list_any (λ f. leads_to (reference_at image a f) b) (range_with_len 0 n)
 
   first_more : (n b : ℕ) → first_fields (n + 1) b ≡ (first_fields n b || leads_to (reference_at image a n) b)
@@ -40,10 +40,10 @@ module _ (image : HeapImage) (words a : ℕ) (are : words ≡ heap_words image) 
       or_false false = refl
 
   -- the references of a row are those of the object from the n-th on
-  abbrev IsRow : ℕ → List ℕ → Type 0
+  abbrev pub IsRow : ℕ → List ℕ → Type 0
   IsRow n row = (i : ℕ) → i < length row → get_or row i 0 ≡ reference_at image a (n + i)
 
-  row_more : (n b : ℕ) (row : List ℕ) → IsRow n row → first_fields (n + length row) b ≡ (first_fields n b || list_any (λ w. leads_to w b) row)
+  pub row_more : (n b : ℕ) (row : List ℕ) → IsRow n row → first_fields (n + length row) b ≡ (first_fields n b || list_any (λ w. leads_to w b) row)
   row_more n b [] are = ap (λ m. first_fields m b) (plus_zero n) ∙ sym (or_false (first_fields n b))
     where
       plus_zero : (k : ℕ) → k + 0 ≡ k
@@ -116,13 +116,13 @@ module _ (image : HeapImage) (words a : ℕ) (are : words ≡ heap_words image) 
   abbrev pub IsRowAt : ℕ → List ℕ → Type 0
   IsRowAt next row = (i : ℕ) → i < length row → get_or row i 0 ≡ get_or image.words (next + i) 0
 
-  row_at : (next : ℕ) (row : List ℕ) → a + 1 ≤ next → IsRowAt next row → IsRow (next - (a + 1)) row
+  pub row_at : (next : ℕ) (row : List ℕ) → a + 1 ≤ next → IsRowAt next row → IsRow (next - (a + 1)) row
   row_at next row low are i l = are i l ∙ ap (λ k. get_or image.words k 0) (same i)
     where
       same : (i : ℕ) → next + i ≡ a + 1 + (next - (a + 1) + i)
       same i = omega (arith, low)
 
-  behind_row : (next len : ℕ) → a + 1 ≤ next → next - (a + 1) + len ≡ next + len - (a + 1)
+  pub behind_row : (next len : ℕ) → a + 1 ≤ next → next - (a + 1) + len ≡ next + len - (a + 1)
   behind_row next len low = omega (arith, low)
 
   pub followed_row : (next : ℕ) (row b0 b1 b2 s0 s1 s2 : List ℕ) → a + 1 ≤ next → IsRowAt next row

@@ -13,6 +13,7 @@ pub mod BlockWords
 pub mod Bodies
 pub mod Spans
 pub mod Parts
+pub mod Versions
 pub mod LiveWords
 pub mod TextLaws
 pub mod Faultless
@@ -43,3 +44,11 @@ pub mod Following
 pub mod FromTail
 pub mod InOrder
 pub mod Upgrades
+pub mod Rows
+pub mod Spreads
+pub mod Running
+pub mod Exchanges
+pub mod Turns
+pub mod Starts
+pub mod Joins
+pub mod Finish

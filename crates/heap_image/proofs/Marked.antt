@@ -6,6 +6,7 @@ use Rattle.std.proofs.lemmas.List.Elements.{All-from_get_or}
 use Rattle.std.specs.Prelude.{All, filter, find, option_map, slice_index}
 use Rattle.std.specs.List.{range_with_len, list_any}
 use Rattle.heap_image.specs.declared.fault.Fault.TheVariants.{LiveOrder, Root}
+use Rattle.heap_image.specs.declared.version.Version.TheVariants.{Two}
 use Rattle.heap_image.specs.HeapImage.{HeapImage, heap_words, with_live, reachable}
 use Rattle.heap_image.specs.ImageText.{object_faults, first_object_fault, first_some, live_list_faults, misplaced_root, misplaced_index, from_tail}
 use Rattle.heap_image.specs.Bits.{MarkBegins, has}
@@ -43,7 +44,7 @@ module _ (image : HeapImage) (roots bits live : List ℕ) (words : ℕ) (are : w
 module _ (heap : HeapImage) (roots live : List ℕ) (words : ℕ) (are : words ≡ heap_words heap) where
   -- the image of these roots
   abbrev image : HeapImage
-  image = from_tail true (with_live heap roots)
+  image = from_tail Two (with_live heap roots)
 
   misplaced_is : find (λ i. ltb words (slice_index roots i)) (range_with_len 0 (length roots)) ≡ misplaced_root image
   misplaced_is = ap (λ n. find (λ i. ltb n (slice_index roots i)) (range_with_len 0 (length roots))) are
@@ -59,7 +60,7 @@ module _ (heap : HeapImage) (roots live : List ℕ) (words : ℕ) (are : words �
   -- where no root is above the number of words, only the objects can be wrong
   pub only_objects : misplaced_root image ≡ None → live ≡ reachable heap roots → first_some (live_list_faults image) ≡ first_object_fault (with_live heap live)
   only_objects none is =
-      let live_here : live ≡ image.live = is ∙ sym (reachable-words heap roots None roots) in
+      let live_here : live ≡ image.live = is ∙ sym (reachable-words heap heap.version roots None roots) in
       ap (λ o. first_some (option_map Root o ∷ option_map LiveOrder (misplaced_index (heap_words image) image.live) ∷ object_faults image)) none
       ∙ ap (λ o. first_some (option_map LiveOrder o ∷ object_faults image)) (reachable-in_order (with_live heap roots) roots)
       ∙ ap (λ xs. first_object_fault (with_live heap xs)) (sym live_here)

@@ -1,34 +1,31 @@
 -- A text without a fault is that of the image that it encodes, and that image is valid.
-use Rattle.std.proofs.Common.{◌≡◌, ℕ, zero, suc, ◌+◌, ◌-◌, ◌*◌, ◌/◌, ◌%◌, ◌≤◌, ◌<◌, ◌^◌, inl, inr, Bool, true, false, ◌||◌, ◌&&◌, List, [], ◌++◌, length, get_or, take, drop, refl, sym, ◌∙◌, ap, subst, arith, ltb, eqb, add-zero, length-take, length-drop}
-use Rattle.std.proofs.lemmas.Bool.{cases_lt, ltb-false, eqb-true, eqb-false, or_parts, or_cases, not-false, true≢false}
+use Rattle.std.proofs.Common.{◌≡◌, ℕ, zero, suc, ◌+◌, ◌-◌, ◌*◌, ◌/◌, ◌%◌, ◌≤◌, ◌<◌, ◌^◌, inl, inr, Bool, false, ◌||◌, List, [], ◌++◌, length, get_or, take, drop, refl, sym, ◌∙◌, ap, subst, arith, ltb, eqb, add-zero, length-take, length-drop}
+use Rattle.std.proofs.lemmas.Bool.{cases_lt, ltb-false, eqb-true, eqb-false, or_parts, not-false}
 use Rattle.std.proofs.lemmas.Nat.{le_bytes_4, le_bytes_8}
 use Rattle.std.proofs.lemmas.List.{append_assoc, append-nil, take-append-drop, get_or_past, drop_all}
 use Rattle.std.proofs.lemmas.List.Elements.{All-get_or, All-take, All-drop, All-map, All-from_get_or}
 use Rattle.std.proofs.lemmas.List.Folds.{drop_split}
 use Rattle.std.proofs.lemmas.List.FromFn.{length-map-range_with_len}
 use Rattle.std.specs.Cmp.Lexicographic.{same_text}
-use Rattle.std.specs.Prelude.{map, All, None, not, slice_range}
+use Rattle.std.specs.Prelude.{map, All, Option, Some, None, not, slice_range}
+use Rattle.std.specs.Option.{is_some}
 use Rattle.std.specs.Str.{bytes_eq}
 use Rattle.std.specs.List.{range_with_len}
 use Rattle.std.specs.Int.{w32, w64, to_le_bytes}
 use Rattle.heap_image.specs.Reading.{HasFittingNumbers}
 use Rattle.heap_image.specs.HeapImage.{HeapImage, IsValid}
-use Rattle.heap_image.specs.ImageText.{numbers, front, text, is_rooted, live_list_faults, first_some, encoded_image, encoded_numbers, encoded_words, encoded_count, encoded_region_log, encoded_length, encoded_region_words, u32_at, u64_at, faults, first_fault, magic}
+use Rattle.heap_image.specs.ImageText.{numbers, front, text, encoded_version, live_list_faults, first_some, encoded_image, encoded_numbers, encoded_words, encoded_count, encoded_region_log, encoded_length, encoded_region_words, u32_at, u64_at, faults, first_fault, magic}
 use Rattle.heap_image.specs.declared.fault.Fault.TheVariants.{TruncatedHeader, Magic, RegionLog, Length, TruncatedBody, Trailing}
+use Rattle.heap_image.specs.Version.{max_region_log, max_regions, max_words}
+use Rattle.heap_image.specs.declared.version.Version.{Version}
+use Rattle.heap_image.proofs.Versions.{log_few, regions_few, words_few}
 use Rattle.heap_image.proofs.Faultless.{AllNone, first_some-None}
 use Rattle.heap_image.proofs.FromTail.{text-from_tail, from_tail-IsValid}
 use Rattle.heap_image.proofs.LiveListFaults.{AllNone-from_first_some, no_fault}
 
--- one of the two magics
-either_magic : (bytes : List ℕ) → not (bytes_eq (take 8 bytes) (magic false) || is_rooted bytes) ≡ false → take 8 bytes ≡ magic (is_rooted bytes)
-either_magic bytes h = by (is_rooted bytes) refl
-  where
-    by : (b : Bool) → is_rooted bytes ≡ b → take 8 bytes ≡ magic b
-    by true e = same_text (take 8 bytes) (magic true) (sym e)
-    by false e = elim (or_cases (bytes_eq (take 8 bytes) (magic false)) (is_rooted bytes) (not-false (bytes_eq (take 8 bytes) (magic false) || is_rooted bytes) h)) [
-      | inl plain ↦ same_text (take 8 bytes) (magic false) (sym plain)
-      | inr rooted ↦ absurd (true≢false (sym rooted ∙ e))
-    ]
+-- the magic that is known
+known : (bytes : List ℕ) → not (bytes_eq (take 8 bytes) (magic (encoded_version bytes))) ≡ false → take 8 bytes ≡ magic (encoded_version bytes)
+known bytes h = same_text (take 8 bytes) (magic (encoded_version bytes)) (sym (not-false (bytes_eq (take 8 bytes) (magic (encoded_version bytes))) h))
 
 module _ (bytes : List ℕ) (fit : All (λ b. b < 256) bytes) where
   byte_fits : (xs : List ℕ) → All (λ b. b < 256) xs → (i : ℕ) → get_or xs i 0 < 256
@@ -49,6 +46,9 @@ module _ (bytes : List ℕ) (fit : All (λ b. b < 256) bytes) where
   u64_fits : (o : ℕ) → u64_at bytes o < 2 ^ 64
   u64_fits o = let f = part_fits o (o + 8) in omega (arith, f 0, f 1, f 2, f 3, f 4, f 5, f 6, f 7)
 
+  u32_fits : (o : ℕ) → u32_at bytes o < 2 ^ 32
+  u32_fits o = let f = part_fits o (o + 4) in omega (arith, f 0, f 1, f 2, f 3)
+
   numbers_back : (o b n : ℕ) → o + 8 * (b + n) ≤ length bytes → numbers (map (λ a. u64_at bytes (o + 8 * a)) (range_with_len b n)) ++ drop (o + 8 * (b + n)) bytes ≡ drop (o + 8 * b) bytes
   numbers_back o b zero l = ap (λ c. drop (o + 8 * c) bytes) (add-zero b)
   numbers_back o b (suc n) l =
@@ -62,24 +62,24 @@ module _ (bytes : List ℕ) (fit : All (λ b. b < 256) bytes) where
       ∙ sym (drop_split bytes (o + 8 * b) (o + 8 * b + 8) (omega arith))
 
   -- the front that the first 32 bytes encode, and the bytes after it
-  pub front-back : (rooted : Bool) → 32 ≤ length bytes → take 8 bytes ≡ magic rooted → front rooted (u32_at bytes 8) (u32_at bytes 12) (u64_at bytes 16) (u64_at bytes 24) ++ drop 32 bytes ≡ bytes
-  front-back rooted long magic_is =
+  pub front-back : (version : Version) → 32 ≤ length bytes → take 8 bytes ≡ magic version → front version (u32_at bytes 8) (u32_at bytes 12) (u64_at bytes 16) (u64_at bytes 24) ++ drop 32 bytes ≡ bytes
+  front-back version long magic_is =
       let from_24 : to_le_bytes w64 (u64_at bytes 24) ++ drop 32 bytes ≡ drop 24 bytes = ap (λ xs. xs ++ drop 32 bytes) (u64_back 24 (omega arith)) ∙ sym (drop_split bytes 24 32 (omega arith)) in
       let from_16 : to_le_bytes w64 (u64_at bytes 16) ++ drop 24 bytes ≡ drop 16 bytes = ap (λ xs. xs ++ drop 24 bytes) (u64_back 16 (omega arith)) ∙ sym (drop_split bytes 16 24 (omega arith)) in
       let from_12 : to_le_bytes w32 (u32_at bytes 12) ++ drop 16 bytes ≡ drop 12 bytes = ap (λ xs. xs ++ drop 16 bytes) (u32_back 12 (omega arith)) ∙ sym (drop_split bytes 12 16 (omega arith)) in
       let from_8 : to_le_bytes w32 (u32_at bytes 8) ++ drop 12 bytes ≡ drop 8 bytes = ap (λ xs. xs ++ drop 12 bytes) (u32_back 8 (omega arith)) ∙ sym (drop_split bytes 8 12 (omega arith)) in
-      let grouped : front rooted (u32_at bytes 8) (u32_at bytes 12) (u64_at bytes 16) (u64_at bytes 24) ++ drop 32 bytes ≡ magic rooted ++ (to_le_bytes w32 (u32_at bytes 8) ++ (to_le_bytes w32 (u32_at bytes 12) ++ (to_le_bytes w64 (u64_at bytes 16) ++ (to_le_bytes w64 (u64_at bytes 24) ++ drop 32 bytes)))) = refl in
+      let grouped : front version (u32_at bytes 8) (u32_at bytes 12) (u64_at bytes 16) (u64_at bytes 24) ++ drop 32 bytes ≡ magic version ++ (to_le_bytes w32 (u32_at bytes 8) ++ (to_le_bytes w32 (u32_at bytes 12) ++ (to_le_bytes w64 (u64_at bytes 16) ++ (to_le_bytes w64 (u64_at bytes 24) ++ drop 32 bytes)))) = refl in
       grouped
-      ∙ ap (λ xs. magic rooted ++ (to_le_bytes w32 (u32_at bytes 8) ++ (to_le_bytes w32 (u32_at bytes 12) ++ (to_le_bytes w64 (u64_at bytes 16) ++ xs)))) from_24
-      ∙ ap (λ xs. magic rooted ++ (to_le_bytes w32 (u32_at bytes 8) ++ (to_le_bytes w32 (u32_at bytes 12) ++ xs))) from_16
-      ∙ ap (λ xs. magic rooted ++ (to_le_bytes w32 (u32_at bytes 8) ++ xs)) from_12
-      ∙ ap (λ xs. magic rooted ++ xs) from_8
+      ∙ ap (λ xs. magic version ++ (to_le_bytes w32 (u32_at bytes 8) ++ (to_le_bytes w32 (u32_at bytes 12) ++ (to_le_bytes w64 (u64_at bytes 16) ++ xs)))) from_24
+      ∙ ap (λ xs. magic version ++ (to_le_bytes w32 (u32_at bytes 8) ++ (to_le_bytes w32 (u32_at bytes 12) ++ xs))) from_16
+      ∙ ap (λ xs. magic version ++ (to_le_bytes w32 (u32_at bytes 8) ++ xs)) from_12
+      ∙ ap (λ xs. magic version ++ xs) from_8
       ∙ ap (λ xs. xs ++ drop 8 bytes) (sym magic_is)
       ∙ take-append-drop 8 bytes
 
   module _ (none : first_fault bytes ≡ None) where
-    abbrev rooted : Bool
-    rooted = is_rooted bytes
+    abbrev version : Version
+    version = encoded_version bytes
 
     -- with the numbers after the words for its live list
     abbrev image : HeapImage
@@ -91,8 +91,8 @@ module _ (bytes : List ℕ) (fit : All (λ b. b < 256) bytes) where
     header : 32 ≤ length bytes
     header = ltb-false (length bytes) 32 (no_fault (ltb (length bytes) 32) TruncatedHeader ok.0)
 
-    magic_is : take 8 bytes ≡ magic rooted
-    magic_is = either_magic bytes (no_fault (not (bytes_eq (take 8 bytes) (magic false) || is_rooted bytes)) Magic ok.1.0)
+    magic_is : take 8 bytes ≡ magic version
+    magic_is = known bytes (no_fault (not (bytes_eq (take 8 bytes) (magic version))) Magic ok.1.0)
 
     body : encoded_length bytes ≤ length bytes
     body = ltb-false (length bytes) (encoded_length bytes) (no_fault (ltb (length bytes) (encoded_length bytes)) TruncatedBody ok.1.1.1.1.0)
@@ -124,15 +124,15 @@ module _ (bytes : List ℕ) (fit : All (λ b. b < 256) bytes) where
         ap (λ xs. numbers image.words ++ xs) (live_back ∙ ap (λ c. drop c bytes) e) ∙ numbers_back 32 0 n (omega arith)
 
     pub text-told : text (encoded_image bytes) ≡ bytes
-    text-told = text-from_tail rooted image refl ∙ joined (length image.live) (encoded_count bytes) (length image.words) (encoded_words bytes) count_of words_of ∙ ap (λ xs. front rooted (u32_at bytes 8) (u32_at bytes 12) (u64_at bytes 16) (u64_at bytes 24) ++ xs) numbers_are ∙ front-back rooted header magic_is
+    text-told = text-from_tail version image refl refl ∙ joined (length image.live) (encoded_count bytes) (length image.words) (encoded_words bytes) count_of words_of ∙ ap (λ xs. front version (u32_at bytes 8) (u32_at bytes 12) (u64_at bytes 16) (u64_at bytes 24) ++ xs) numbers_are ∙ front-back version header magic_is
       where
         joined : (l l' n n' : ℕ) → l ≡ l' → n ≡ n'
-            → front rooted (u32_at bytes 8) l n (u64_at bytes 24) ++ numbers image.words ++ numbers image.live
-            ≡ front rooted (u32_at bytes 8) l' n' (u64_at bytes 24) ++ (numbers image.words ++ numbers image.live)
+            → front version (u32_at bytes 8) l n (u64_at bytes 24) ++ numbers image.words ++ numbers image.live
+            ≡ front version (u32_at bytes 8) l' n' (u64_at bytes 24) ++ (numbers image.words ++ numbers image.live)
         joined l l' n n' e h = rw (e, h) refl
 
-    logs : (ltb (encoded_region_log bytes) 3 ≡ false) × (ltb 16 (encoded_region_log bytes) ≡ false)
-    logs = or_parts (ltb (encoded_region_log bytes) 3) (ltb 16 (encoded_region_log bytes)) (no_fault (ltb (encoded_region_log bytes) 3 || ltb 16 (encoded_region_log bytes)) RegionLog ok.1.1.0)
+    logs : (ltb (encoded_region_log bytes) 3 ≡ false) × (ltb (max_region_log version) (encoded_region_log bytes) ≡ false)
+    logs = or_parts (ltb (encoded_region_log bytes) 3) (ltb (max_region_log version) (encoded_region_log bytes)) (no_fault (ltb (encoded_region_log bytes) 3 || ltb (max_region_log version) (encoded_region_log bytes)) RegionLog ok.1.1.0)
 
     abbrev n : ℕ
     n = encoded_words bytes
@@ -140,12 +140,12 @@ module _ (bytes : List ℕ) (fit : All (λ b. b < 256) bytes) where
     abbrev r : ℕ
     r = encoded_region_words bytes
 
-    lengths : (((((eqb n 0 ≡ false) × (not (eqb (n % r) 0) ≡ false)) × (ltb 4194304 n ≡ false)) × (ltb 16384 (n / r) ≡ false)) × (ltb n (encoded_count bytes) ≡ false))
+    lengths : (((((eqb n 0 ≡ false) × (not (eqb (n % r) 0) ≡ false)) × (ltb (max_words version) n ≡ false)) × (ltb (max_regions version) (n / r) ≡ false)) × (ltb n (encoded_count bytes) ≡ false))
     lengths =
         let a : Bool = eqb n 0 in
         let b : Bool = not (eqb (n % r) 0) in
-        let c : Bool = ltb 4194304 n in
-        let d : Bool = ltb 16384 (n / r) in
+        let c : Bool = ltb (max_words version) n in
+        let d : Bool = ltb (max_regions version) (n / r) in
         let e : Bool = ltb n (encoded_count bytes) in
         let five = or_parts (a || b || c || d) e (no_fault (a || b || c || d || e) Length ok.1.1.1.0) in
         let four = or_parts (a || b || c) d five.0 in
@@ -157,51 +157,61 @@ module _ (bytes : List ℕ) (fit : All (λ b. b < 256) bytes) where
         let objects = ok.1.1.1.1.1 in
         first_some-None (live_list_faults (encoded_image bytes)) (objects.0, (objects.1.0, (objects.1.1.0, (objects.1.1.1.0, (objects.1.1.1.1.0, tt)))))
 
-    numbers_fit : HasFittingNumbers image
+    numbers_fit : HasFittingNumbers version image
     numbers_fit =
         let some : (n ≡ 0 → ⊥) = eqb-false n 0 lengths.0.0.0.0 in
         let whole : n % r ≡ 0 = eqb-true (n % r) 0 (not-false (eqb (n % r) 0) lengths.0.0.0.1) in
-        let few : n ≤ 4194304 = ltb-false 4194304 n lengths.0.0.1 in
-        let regions : n / r ≤ 16384 = ltb-false 16384 (n / r) lengths.0.1 in
+        let allowed : n ≤ max_words version = ltb-false (max_words version) n lengths.0.0.1 in
+        let regions : n / r ≤ max_regions version = ltb-false (max_regions version) (n / r) lengths.0.1 in
+        let log : encoded_region_log bytes ≤ max_region_log version = ltb-false (max_region_log version) (encoded_region_log bytes) logs.1 in
         let live : encoded_count bytes ≤ n = ltb-false n (encoded_count bytes) lengths.1 in
         let words = words_of in
         let counted = count_of in
+        let fitting = u32_fits 12 in
+        let few_words : n ≤ 68719476736 = words_few version n allowed in
+        let few_regions : n / r ≤ 1048576 = regions_few version (n / r) regions in
+        let few_log : encoded_region_log bytes ≤ 20 = log_few version (encoded_region_log bytes) log in
         record {
           limits = record {
             region_log_low = ltb-false (encoded_region_log bytes) 3 logs.0;
-            region_log_high = ltb-false 16 (encoded_region_log bytes) logs.1;
+            region_log_high = few_log;
             not_empty = omega arith;
             whole_regions = subst (λ m. m % r ≡ 0) (sym words_of) whole;
             few_words = omega arith;
-            few_regions = subst (λ m. m / r ≤ 16384) (sym words_of) regions;
+            few_regions = subst (λ m. m / r ≤ 1048576) (sym words_of) few_regions;
             few_live = omega arith;
           };
+          allowed = record {
+            region_log_high = log;
+            few_words = subst (λ m. m ≤ max_words version) (sym words_of) allowed;
+            few_regions = subst (λ m. m / r ≤ max_regions version) (sym words_of) regions;
+          };
+          counted = omega arith;
           allowance = u64_fits 24;
           words = All-map (λ w. w < 2 ^ 64) (λ a. u64_at bytes (32 + 8 * a)) (range_with_len 0 n) (λ k d l. u64_fits (32 + 8 * get_or (range_with_len 0 n) k d));
           live = All-map (λ w. w < 2 ^ 64) (λ i. u64_at bytes (32 + 8 * n + 8 * i)) (range_with_len 0 (encoded_count bytes)) (λ k d l. u64_fits (32 + 8 * n + 8 * get_or (range_with_len 0 (encoded_count bytes)) k d));
           plain = refl;
+          listed = refl;
         }
 
     pub told-IsValid : IsValid (encoded_image bytes)
-    told-IsValid = from_tail-IsValid rooted image numbers_fit nothing_wrong
+    told-IsValid = from_tail-IsValid version image numbers_fit nothing_wrong
 
 -- 32 bytes that begin with the magic are the front that they tell
-pub front_of_bytes : (rooted : Bool) (bytes : List ℕ) → ((i : ℕ) → get_or bytes i 0 < 256) → length bytes ≡ 32 → take 8 bytes ≡ magic rooted → (log count words allowance : ℕ)
+pub front_of_bytes : (version : Version) (bytes : List ℕ) → ((i : ℕ) → get_or bytes i 0 < 256) → length bytes ≡ 32 → take 8 bytes ≡ magic version → (log count words allowance : ℕ)
     → log ≡ u32_at bytes 8 → count ≡ u32_at bytes 12 → words ≡ u64_at bytes 16 → allowance ≡ u64_at bytes 24
-    → bytes ≡ front rooted log count words allowance
-front_of_bytes rooted bytes fit long magic_is log count words allowance a b c d =
+    → bytes ≡ front version log count words allowance
+front_of_bytes version bytes fit long magic_is log count words allowance a b c d =
     let all : All (λ b. b < 256) bytes = All-from_get_or (λ b. b < 256) bytes 0 (λ i l. fit i) in
     let none : drop 32 bytes ≡ [] = drop_all 32 bytes (omega arith) in
-    sym (front-back bytes all rooted (omega arith) magic_is)
-    ∙ ap (λ xs. front rooted (u32_at bytes 8) (u32_at bytes 12) (u64_at bytes 16) (u64_at bytes 24) ++ xs) none
-    ∙ append-nil (front rooted (u32_at bytes 8) (u32_at bytes 12) (u64_at bytes 16) (u64_at bytes 24))
-    ∙ ap (λ l. front rooted l (u32_at bytes 12) (u64_at bytes 16) (u64_at bytes 24)) (sym a)
-    ∙ ap (λ n. front rooted log n (u64_at bytes 16) (u64_at bytes 24)) (sym b)
-    ∙ ap (λ n. front rooted log count n (u64_at bytes 24)) (sym c)
-    ∙ ap (λ n. front rooted log count words n) (sym d)
+    sym (front-back bytes all version (omega arith) magic_is)
+    ∙ ap (λ xs. front version (u32_at bytes 8) (u32_at bytes 12) (u64_at bytes 16) (u64_at bytes 24) ++ xs) none
+    ∙ append-nil (front version (u32_at bytes 8) (u32_at bytes 12) (u64_at bytes 16) (u64_at bytes 24))
+    ∙ ap (λ l. front version l (u32_at bytes 12) (u64_at bytes 16) (u64_at bytes 24)) (sym a)
+    ∙ ap (λ n. front version log n (u64_at bytes 16) (u64_at bytes 24)) (sym b)
+    ∙ ap (λ n. front version log count n (u64_at bytes 24)) (sym c)
+    ∙ ap (λ n. front version log count words n) (sym d)
 
--- the magic, by the tests of both
-pub magic_by_tests : (bytes : List ℕ) (rooted differs : Bool) → rooted ≡ is_rooted bytes → differs ≡ not (bytes_eq (take 8 bytes) (magic false)) → (differs && not rooted) ≡ false → take 8 bytes ≡ magic rooted
-magic_by_tests bytes true differs r d h = same_text (take 8 bytes) (magic true) r
-magic_by_tests bytes false true r d h = absurd (true≢false h)
-magic_by_tests bytes false false r d h = same_text (take 8 bytes) (magic false) (sym (not-false (bytes_eq (take 8 bytes) (magic false)) (sym d)))
+-- the magic, by the version that was found
+pub magic_found : (bytes : List ℕ) (found : Option Version) (v : Version) → found ≡ Some v → v ≡ encoded_version bytes → is_some found ≡ bytes_eq (take 8 bytes) (magic (encoded_version bytes)) → take 8 bytes ≡ magic v
+magic_found bytes found v is named k = same_text (take 8 bytes) (magic (encoded_version bytes)) (ap is_some (sym is) ∙ k) ∙ ap magic (sym named)

@@ -9,13 +9,17 @@ use Rattle.std.specs.Io.KnownBytes.{Consumes, IsAtEnd}
 use Rattle.heap_image.specs.Reading.{HasFittingNumbers}
 use Rattle.heap_image.specs.declared.fault.Fault.{Fault}
 use Rattle.heap_image.specs.declared.fault.Fault.TheVariants.{TruncatedHeader, Magic, RegionLog, Length, TruncatedBody, LiveOrder, Header, Overlap, Reference, Trailing, Memory, Io, Workers, Schedule, Overwritten, Gate, Root}
-use Rattle.heap_image.specs.ImageText.{magic, fault_if, first_some, first_fault, front_faults, front, numbers, listed_text, from_tail, misplaced_root, encoded_length, live_list_faults, misplaced_index, unsound_header, overlapping, dangling, first_object_fault}
-use Rattle.heap_image.specs.HeapImage.{HeapImage, IsWithinLimits, heap_words, image_of, rooted_image_of, with_live, reachable, roots_or}
+use Rattle.heap_image.specs.ImageText.{magic, version_of_magic, fault_if, first_some, first_fault, front_faults, front, numbers, listed_text, from_tail, misplaced_root, encoded_length, live_list_faults, misplaced_index, unsound_header, overlapping, dangling, first_object_fault}
+use Rattle.heap_image.specs.HeapImage.{HeapImage, IsWithinLimits, heap_words, image_of, versioned_image_of, with_live, reachable, roots_or}
+use Rattle.heap_image.specs.Version.{Allows, max_region_log, max_regions, max_words}
+use Rattle.heap_image.specs.declared.version.Version.{Version}
+use Rattle.heap_image.specs.declared.version.Version.TheVariants.{One, Two, Three}
 use Rattle.heap_image.specs.Device.{is_io}
 use Rattle.heap_image.proofs.Known.{consumes_more}
 use Rattle.std.specs.List.{concat}
 use Rattle.heap_image.proofs.Faultless.{first_some-append, first_some_past, front_faults-None, first_fault-truncated, first_fault-append}
-use Rattle.heap_image.proofs.TextLaws.{length_told, length-numbers}
+use Rattle.heap_image.proofs.TextLaws.{front_fits, length_told, length-numbers}
+use Rattle.heap_image.proofs.Versions.{FitsFront}
 use Rattle.heap_image.specs.Refusals.{IsReason, IsOfReading, LeavesRest, IsOfFront}
 
 -- ---- the front of a longer text
@@ -23,9 +27,9 @@ use Rattle.heap_image.specs.Refusals.{IsReason, IsOfReading, LeavesRest, IsOfFro
 abbrev numbers_faults : Bool → List ℕ → List ℕ → List ℕ → List ℕ → List (Option Fault)
 numbers_faults short first log count words =
     fault_if short TruncatedHeader
-    ∷ fault_if (not (bytes_eq first (magic false) || bytes_eq first (magic true))) Magic
-    ∷ fault_if (ltb (from_le_bytes w32 log) 3 || ltb 16 (from_le_bytes w32 log)) RegionLog
-    ∷ fault_if (eqb (from_le_bytes w64 words) 0 || not (eqb (from_le_bytes w64 words % 2 ^ from_le_bytes w32 log) 0) || ltb 4194304 (from_le_bytes w64 words) || ltb 16384 (from_le_bytes w64 words / 2 ^ from_le_bytes w32 log) || ltb (from_le_bytes w64 words) (from_le_bytes w32 count)) Length
+    ∷ fault_if (not (bytes_eq first (magic (version_of_magic first)))) Magic
+    ∷ fault_if (ltb (from_le_bytes w32 log) 3 || ltb (max_region_log (version_of_magic first)) (from_le_bytes w32 log)) RegionLog
+    ∷ fault_if (eqb (from_le_bytes w64 words) 0 || not (eqb (from_le_bytes w64 words % 2 ^ from_le_bytes w32 log) 0) || ltb (max_words (version_of_magic first)) (from_le_bytes w64 words) || ltb (max_regions (version_of_magic first)) (from_le_bytes w64 words / 2 ^ from_le_bytes w32 log) || ltb (from_le_bytes w64 words) (from_le_bytes w32 count)) Length
     ∷ []
 
 module _ (bytes rest : List ℕ) (long : length bytes ≡ 32) where
@@ -91,11 +95,11 @@ front_leaves bytes long (Some input) after h (Err fault) of = leaves_front fault
 
 -- ---- too few bytes after a front
 
-pub truncated_reason : (rooted : Bool) (log live_count words allowance : ℕ) (limits : IsWithinLimits log words live_count) (before after : Option (List ℕ)) → Consumes before after (front rooted log live_count words allowance) → IfSome after (λ rest. length rest < 8 * (words + live_count)) → IfSome before (λ input. IsReason input TruncatedBody)
-truncated_reason rooted log live_count words allowance limits None after h few = tt
-truncated_reason rooted log live_count words allowance limits (Some input) None h few = absurd h
-truncated_reason rooted log live_count words allowance limits (Some input) (Some rest) h few =
-    inr (inr (ap first_fault h ∙ first_fault-truncated rooted log live_count words allowance limits rest few))
+pub truncated_reason : (version : Version) (log live_count words allowance : ℕ) (limits : FitsFront version log words live_count) (before after : Option (List ℕ)) → Consumes before after (front version log live_count words allowance) → IfSome after (λ rest. length rest < 8 * (words + live_count)) → IfSome before (λ input. IsReason input TruncatedBody)
+truncated_reason version log live_count words allowance limits None after h few = tt
+truncated_reason version log live_count words allowance limits (Some input) None h few = absurd h
+truncated_reason version log live_count words allowance limits (Some input) (Some rest) h few =
+    inr (inr (ap first_fault h ∙ first_fault-truncated version log live_count words allowance limits rest few))
 
 pub nothing_left : (before after : Option (List ℕ)) (came : List ℕ) → Consumes before after came → IsAtEnd after → IfSome before (λ input. after ≡ Some [])
 nothing_left None after came h e = tt
@@ -115,51 +119,51 @@ leaves_live None None None (Some a) reference fault input left h q = let e : Ove
 leaves_live None None None None (Some p) fault input left h q = let e : Reference p.0 p.1 ≡ fault = cc in subst (λ f. LeavesRest f input left) e q
 leaves_live None None None None None fault input left h q = cc
 
-module _ (rooted : Bool) (image : HeapImage) (fits : HasFittingNumbers image) (before after : Option (List ℕ)) (read : Consumes before after (listed_text rooted image)) where
-  pub live_list_reason : (fault : Fault) → first_some (live_list_faults (from_tail rooted image)) ≡ Some fault → IfSome before (λ input. IsReason input fault)
+module _ (version : Version) (image : HeapImage) (fits : HasFittingNumbers version image) (before after : Option (List ℕ)) (read : Consumes before after (listed_text version image)) where
+  pub live_list_reason : (fault : Fault) → first_some (live_list_faults (from_tail version image)) ≡ Some fault → IfSome before (λ input. IsReason input fault)
   live_list_reason fault first = by before after read
     where
-      by : (before after : Option (List ℕ)) → Consumes before after (listed_text rooted image) → IfSome before (λ input. IsReason input fault)
+      by : (before after : Option (List ℕ)) → Consumes before after (listed_text version image) → IfSome before (λ input. IsReason input fault)
       by None after h = tt
       by (Some input) None h = absurd h
-      by (Some input) (Some rest) h = inr (inr (ap first_fault h ∙ first_fault-append rooted image fits rest ∙ first_some-append (live_list_faults (from_tail rooted image)) (fault_if (ltb (length (listed_text rooted image)) (length (listed_text rooted image ++ rest))) Trailing ∷ []) fault first))
+      by (Some input) (Some rest) h = inr (inr (ap first_fault h ∙ first_fault-append version image fits rest ∙ first_some-append (live_list_faults (from_tail version image)) (fault_if (ltb (length (listed_text version image)) (length (listed_text version image ++ rest))) Trailing ∷ []) fault first))
 
-  pub live_list_leaves : (fault : Fault) → first_some (live_list_faults (from_tail rooted image)) ≡ Some fault → IfSome before (λ input. LeavesRest fault input after)
+  pub live_list_leaves : (fault : Fault) → first_some (live_list_faults (from_tail version image)) ≡ Some fault → IfSome before (λ input. LeavesRest fault input after)
   live_list_leaves fault first = by before after read
     where
-      by : (before after : Option (List ℕ)) → Consumes before after (listed_text rooted image) → IfSome before (λ input. LeavesRest fault input after)
+      by : (before after : Option (List ℕ)) → Consumes before after (listed_text version image) → IfSome before (λ input. LeavesRest fault input after)
       by None after h = tt
       by (Some input) None h = absurd h
       by (Some input) (Some rest) h =
-          let told : encoded_length input ≡ length (listed_text rooted image) = ap encoded_length h ∙ length_told rooted image fits rest in
-          let all = from_tail rooted image in leaves_live (misplaced_root all) (misplaced_index (heap_words all) all.live) (unsound_header all) (overlapping all) (dangling all) fault input (Some rest) first (ap Some (sym (drop_at (listed_text rooted image) rest (encoded_length input) (sym told)) ∙ ap (drop (encoded_length input)) (sym h)))
+          let told : encoded_length input ≡ length (listed_text version image) = ap encoded_length h ∙ length_told version image fits rest in
+          let all = from_tail version image in leaves_live (misplaced_root all) (misplaced_index (heap_words all) all.live) (unsound_header all) (overlapping all) (dangling all) fault input (Some rest) first (ap Some (sym (drop_at (listed_text version image) rest (encoded_length input) (sym told)) ∙ ap (drop (encoded_length input)) (sym h)))
 
-  module _ (sound : first_some (live_list_faults (from_tail rooted image)) ≡ None) (more : List ℕ) (last : Option (List ℕ)) (then : Consumes after last more) (one : length more ≡ 1) where
+  module _ (sound : first_some (live_list_faults (from_tail version image)) ≡ None) (more : List ℕ) (last : Option (List ℕ)) (then : Consumes after last more) (one : length more ≡ 1) where
     pub trailing_reason : IfSome before (λ input. IsReason input Trailing)
     trailing_reason = by before after last read then
       where
-        by : (before after last : Option (List ℕ)) → Consumes before after (listed_text rooted image) → Consumes after last more → IfSome before (λ input. IsReason input Trailing)
+        by : (before after last : Option (List ℕ)) → Consumes before after (listed_text version image) → Consumes after last more → IfSome before (λ input. IsReason input Trailing)
         by None after last h k = tt
         by (Some input) None last h k = absurd h
         by (Some input) (Some rest) None h k = absurd k
         by (Some input) (Some rest) (Some end) h k =
-            let longer = length-append (listed_text rooted image) rest in
+            let longer = length-append (listed_text version image) rest in
             let some = ap length k ∙ length-append more end in
-            let behind : ltb (length (listed_text rooted image)) (length (listed_text rooted image ++ rest)) ≡ true = lt-ltb (length (listed_text rooted image)) (length (listed_text rooted image ++ rest)) (omega arith) in
-            inr (inr (ap first_fault h ∙ first_fault-append rooted image fits rest ∙ first_some_past (live_list_faults (from_tail rooted image)) (fault_if (ltb (length (listed_text rooted image)) (length (listed_text rooted image ++ rest))) Trailing ∷ []) sound ∙ ap (λ b. first_some (fault_if b Trailing ∷ [])) behind))
+            let behind : ltb (length (listed_text version image)) (length (listed_text version image ++ rest)) ≡ true = lt-ltb (length (listed_text version image)) (length (listed_text version image ++ rest)) (omega arith) in
+            inr (inr (ap first_fault h ∙ first_fault-append version image fits rest ∙ first_some_past (live_list_faults (from_tail version image)) (fault_if (ltb (length (listed_text version image)) (length (listed_text version image ++ rest))) Trailing ∷ []) sound ∙ ap (λ b. first_some (fault_if b Trailing ∷ [])) behind))
 
     pub trailing_leaves : IfSome before (λ input. last ≡ Some (drop (encoded_length input + 1) input))
     trailing_leaves = by before after last read then
       where
-        by : (before after last : Option (List ℕ)) → Consumes before after (listed_text rooted image) → Consumes after last more → IfSome before (λ input. last ≡ Some (drop (encoded_length input + 1) input))
+        by : (before after last : Option (List ℕ)) → Consumes before after (listed_text version image) → Consumes after last more → IfSome before (λ input. last ≡ Some (drop (encoded_length input + 1) input))
         by None after last h k = tt
         by (Some input) None last h k = absurd h
         by (Some input) (Some rest) None h k = absurd k
         by (Some input) (Some rest) (Some end) h k =
-            let told : encoded_length input ≡ length (listed_text rooted image) = ap encoded_length h ∙ length_told rooted image fits rest in
-            let both = length-append (listed_text rooted image) more in
-            let joined : input ≡ (listed_text rooted image ++ more) ++ end = h ∙ ap (λ l. listed_text rooted image ++ l) k ∙ sym (append_assoc (listed_text rooted image) more end) in
-            ap Some (sym (drop_at (listed_text rooted image ++ more) end (encoded_length input + 1) (omega arith)) ∙ ap (drop (encoded_length input + 1)) (sym joined))
+            let told : encoded_length input ≡ length (listed_text version image) = ap encoded_length h ∙ length_told version image fits rest in
+            let both = length-append (listed_text version image) more in
+            let joined : input ≡ (listed_text version image ++ more) ++ end = h ∙ ap (λ l. listed_text version image ++ l) k ∙ sym (append_assoc (listed_text version image) more end) in
+            ap Some (sym (drop_at (listed_text version image ++ more) end (encoded_length input + 1) (omega arith)) ∙ ap (drop (encoded_length input + 1)) (sym joined))
 
 -- memory was allocated, so some byte after the front had come
 pub memory_behind : (front : List ℕ) (before after : Option (List ℕ)) → length front ≡ 32 → Consumes before after front → IfSome after (λ rest. 0 < length rest) → IfSome before (λ input. 32 < length input)
@@ -168,13 +172,13 @@ memory_behind front (Some input) None l h some = absurd h
 memory_behind front (Some input) (Some rest) l h some = let long = ap length h ∙ length-append front rest in omega arith
 
 -- the same of an input whose front has no fault
-pub memory_behind_front : (rooted : Bool) (log live_count words allowance : ℕ) → IsWithinLimits log words live_count → (before after : Option (List ℕ)) → Consumes before after (front rooted log live_count words allowance)
+pub memory_behind_front : (version : Version) (log live_count words allowance : ℕ) → FitsFront version log words live_count → (before after : Option (List ℕ)) → Consumes before after (front version log live_count words allowance)
     → IfSome after (λ rest. 0 < length rest) → IfSome before (λ input. (32 < length input) × (first_some (front_faults input) ≡ None))
-memory_behind_front rooted log live_count words allowance limits None after h some = tt
-memory_behind_front rooted log live_count words allowance limits (Some input) None h some = absurd h
-memory_behind_front rooted log live_count words allowance limits (Some input) (Some rest) h some = (
-  memory_behind (front rooted log live_count words allowance) (Some input) (Some rest) refl h some,
-  ap (λ b. first_some (front_faults b)) h ∙ front_faults-None rooted log live_count words allowance limits rest,
+memory_behind_front version log live_count words allowance limits None after h some = tt
+memory_behind_front version log live_count words allowance limits (Some input) None h some = absurd h
+memory_behind_front version log live_count words allowance limits (Some input) (Some rest) h some = (
+  memory_behind (front version log live_count words allowance) (Some input) (Some rest) refl h some,
+  ap (λ b. first_some (front_faults b)) h ∙ front_faults-None version log live_count words allowance limits rest,
 )
 
 -- a fault of the live list is one that reading may return, and neither fault 11 nor the device's
@@ -225,22 +229,25 @@ body_kind fault (inr (inr short)) = subst IsOfReading (sym short) tt
 
 -- ---- how the steps of reading an image fit together
 
-pub fitting_parts : (log allowance : ℕ) (blocks : List (List ℕ)) (live : List ℕ) (words live_count : ℕ) → IsWithinLimits log words live_count → length (concat blocks) ≡ words → length live ≡ live_count → allowance < 2 ^ 64 → All (λ w. w < 2 ^ 64) (concat blocks) → All (λ a. a < 2 ^ 64) live → HasFittingNumbers (image_of log allowance blocks live)
-fitting_parts log allowance blocks live words live_count limits w l a fit live_fit = record {
-  limits = subst (λ n. IsWithinLimits log n (length live)) (sym w) (subst (λ n. IsWithinLimits log words n) (sym l) limits);
+pub fitting_parts : (version : Version) (log allowance : ℕ) (blocks : List (List ℕ)) (live : List ℕ) (words live_count : ℕ) → FitsFront version log words live_count → length (concat blocks) ≡ words → length live ≡ live_count → allowance < 2 ^ 64 → All (λ w. w < 2 ^ 64) (concat blocks) → All (λ a. a < 2 ^ 64) live → HasFittingNumbers version (image_of log allowance blocks live)
+fitting_parts version log allowance blocks live words live_count limits w l a fit live_fit = record {
+  limits = subst (λ n. IsWithinLimits log n (length live)) (sym w) (subst (λ n. IsWithinLimits log words n) (sym l) limits.limits);
+  allowed = subst (λ n. Allows version log n) (sym w) limits.allowed;
+  counted = subst (λ n. n < 2 ^ 32) (sym l) limits.counted;
   allowance = a;
   words = fit;
   live = live_fit;
   plain = refl;
+  listed = refl;
 }
 
 -- the front and the numbers after it are the text
-pub read_parts : (rooted : Bool) (log allowance : ℕ) (blocks : List (List ℕ)) (live : List ℕ) (words live_count : ℕ) → length (concat blocks) ≡ words → length live ≡ live_count → (before middle after : Option (List ℕ))
-    → Consumes before middle (front rooted log live_count words allowance) → Consumes middle after (numbers (concat blocks) ++ numbers live) → Consumes before after (listed_text rooted (image_of log allowance blocks live))
-read_parts rooted log allowance blocks live words live_count w l before middle after h k =
-    let same : front rooted log live_count words allowance ++ (numbers (concat blocks) ++ numbers live) ≡ listed_text rooted (image_of log allowance blocks live) =
-    ap (λ n. front rooted log n words allowance ++ (numbers (concat blocks) ++ numbers live)) (sym l) ∙ ap (λ n. front rooted log (length live) n allowance ++ (numbers (concat blocks) ++ numbers live)) (sym w) in
-    subst (λ bytes. Consumes before after bytes) same (consumes_more before middle after (front rooted log live_count words allowance) (numbers (concat blocks) ++ numbers live) h k)
+pub read_parts : (version : Version) (log allowance : ℕ) (blocks : List (List ℕ)) (live : List ℕ) (words live_count : ℕ) → length (concat blocks) ≡ words → length live ≡ live_count → (before middle after : Option (List ℕ))
+    → Consumes before middle (front version log live_count words allowance) → Consumes middle after (numbers (concat blocks) ++ numbers live) → Consumes before after (listed_text version (image_of log allowance blocks live))
+read_parts version log allowance blocks live words live_count w l before middle after h k =
+    let same : front version log live_count words allowance ++ (numbers (concat blocks) ++ numbers live) ≡ listed_text version (image_of log allowance blocks live) =
+    ap (λ n. front version log n words allowance ++ (numbers (concat blocks) ++ numbers live)) (sym l) ∙ ap (λ n. front version log (length live) n allowance ++ (numbers (concat blocks) ++ numbers live)) (sym w) in
+    subst (λ bytes. Consumes before after bytes) same (consumes_more before middle after (front version log live_count words allowance) (numbers (concat blocks) ++ numbers live) h k)
 
 pub body_leaves : (fault : Fault) (before middle after : Option (List ℕ)) (first came : List ℕ) → Consumes before middle first → Consumes middle after came
     → ((fault ≡ Memory) ⊎ ((fault ≡ Io) ⊎ (fault ≡ TruncatedBody))) → (fault ≡ TruncatedBody → IsAtEnd after) → IfSome before (λ input. LeavesRest fault input after)
@@ -248,92 +255,97 @@ body_leaves fault before middle after first came h k (inl memory) end = subst (�
 body_leaves fault before middle after first came h k (inr (inl io)) end = subst (λ f. IfSome before (λ input. LeavesRest f input after)) (sym io) (some_rest before after (first ++ came) (consumes_more before middle after first came h k))
 body_leaves fault before middle after first came h k (inr (inr short)) end = subst (λ f. IfSome before (λ input. LeavesRest f input after)) (sym short) (nothing_left before after (first ++ came) (consumes_more before middle after first came h k) (end short))
 
-pub body_reason : (rooted : Bool) (fault : Fault) (log live_count words allowance : ℕ) (limits : IsWithinLimits log words live_count) (before middle : Option (List ℕ)) → Consumes before middle (front rooted log live_count words allowance)
+pub body_reason : (version : Version) (fault : Fault) (log live_count words allowance : ℕ) (limits : FitsFront version log words live_count) (before middle : Option (List ℕ)) → Consumes before middle (front version log live_count words allowance)
     → ((fault ≡ Memory) ⊎ ((fault ≡ Io) ⊎ (fault ≡ TruncatedBody))) → (fault ≡ TruncatedBody → IfSome middle (λ rest. length rest < 8 * (words + live_count))) → IfSome before (λ input. IsReason input fault)
-body_reason rooted fault log live_count words allowance limits before middle h (inl memory) few = for_all before
+body_reason version fault log live_count words allowance limits before middle h (inl memory) few = for_all before
   where
     for_all : (o : Option (List ℕ)) → IfSome o (λ input. IsReason input fault)
     for_all None = tt
     for_all (Some input) = inl memory
-body_reason rooted fault log live_count words allowance limits before middle h (inr (inl io)) few = for_all before
+body_reason version fault log live_count words allowance limits before middle h (inr (inl io)) few = for_all before
   where
     for_all : (o : Option (List ℕ)) → IfSome o (λ input. IsReason input fault)
     for_all None = tt
     for_all (Some input) = inr (inl io)
-body_reason rooted fault log live_count words allowance limits before middle h (inr (inr short)) few = subst (λ f. IfSome before (λ input. IsReason input f)) (sym short) (truncated_reason rooted log live_count words allowance limits before middle h (few short))
+body_reason version fault log live_count words allowance limits before middle h (inr (inr short)) few = subst (λ f. IfSome before (λ input. IsReason input f)) (sym short) (truncated_reason version log live_count words allowance limits before middle h (few short))
 
-module _ (rooted : Bool) (image : HeapImage) (fits : HasFittingNumbers image) (before after : Option (List ℕ)) (read : Consumes before after (listed_text rooted image)) (fault : Fault) where
-  pub check_reason : ((fault ≡ Memory) ⊎ (first_some (live_list_faults (from_tail rooted image)) ≡ Some fault)) → IfSome before (λ input. IsReason input fault)
+module _ (version : Version) (image : HeapImage) (fits : HasFittingNumbers version image) (before after : Option (List ℕ)) (read : Consumes before after (listed_text version image)) (fault : Fault) where
+  pub check_reason : ((fault ≡ Memory) ⊎ (first_some (live_list_faults (from_tail version image)) ≡ Some fault)) → IfSome before (λ input. IsReason input fault)
   check_reason (inl memory) = for_all before
     where
       for_all : (o : Option (List ℕ)) → IfSome o (λ input. IsReason input fault)
       for_all None = tt
       for_all (Some input) = inl memory
-  check_reason (inr first) = live_list_reason rooted image fits before after read fault first
+  check_reason (inr first) = live_list_reason version image fits before after read fault first
 
-  pub check_leaves : ((fault ≡ Memory) ⊎ (first_some (live_list_faults (from_tail rooted image)) ≡ Some fault)) → IfSome before (λ input. LeavesRest fault input after)
-  check_leaves (inl memory) = subst (λ f. IfSome before (λ input. LeavesRest f input after)) (sym memory) (some_rest before after (listed_text rooted image) read)
-  check_leaves (inr first) = live_list_leaves rooted image fits before after read fault first
+  pub check_leaves : ((fault ≡ Memory) ⊎ (first_some (live_list_faults (from_tail version image)) ≡ Some fault)) → IfSome before (λ input. LeavesRest fault input after)
+  check_leaves (inl memory) = subst (λ f. IfSome before (λ input. LeavesRest f input after)) (sym memory) (some_rest before after (listed_text version image) read)
+  check_leaves (inr first) = live_list_leaves version image fits before after read fault first
 
 -- a text is longer than its front
-pub more_than_front : (rooted : Bool) (image : HeapImage) → HasFittingNumbers image → (before after : Option (List ℕ)) → Consumes before after (listed_text rooted image) → IfSome before (λ input. (32 < length input) × (first_some (front_faults input) ≡ None))
-more_than_front rooted image fits None after h = tt
-more_than_front rooted image fits (Some input) None h = absurd h
-more_than_front rooted image fits (Some input) (Some rest) h =
+pub more_than_front : (version : Version) (image : HeapImage) → HasFittingNumbers version image → (before after : Option (List ℕ)) → Consumes before after (listed_text version image) → IfSome before (λ input. (32 < length input) × (first_some (front_faults input) ≡ None))
+more_than_front version image fits None after h = tt
+more_than_front version image fits (Some input) None h = absurd h
+more_than_front version image fits (Some input) (Some rest) h =
     let some = fits.limits.not_empty in
-    let said = ap length h ∙ length-append (listed_text rooted image) rest in
+    let said = ap length h ∙ length-append (listed_text version image) rest in
     let both = length-append (numbers image.words) (numbers image.live) in
     let ws = length-numbers image.words in
-    let first = front rooted image.region_log (length image.live) (heap_words image) image.allowance in
-    let whole : length (listed_text rooted image) ≡ 32 + length (numbers image.words ++ numbers image.live) = length-append first (numbers image.words ++ numbers image.live) in (
+    let first = front version image.region_log (length image.live) (heap_words image) image.allowance in
+    let whole : length (listed_text version image) ≡ 32 + length (numbers image.words ++ numbers image.live) = length-append first (numbers image.words ++ numbers image.live) in (
       omega arith,
       ap (λ b. first_some (front_faults b)) (h ∙ append_assoc first (numbers image.words ++ numbers image.live) rest)
-          ∙ front_faults-None rooted image.region_log (length image.live) (heap_words image) image.allowance fits.limits ((numbers image.words ++ numbers image.live) ++ rest),
+          ∙ front_faults-None version image.region_log (length image.live) (heap_words image) image.allowance (front_fits version image fits) ((numbers image.words ++ numbers image.live) ++ rest),
     )
 
 pub one_taken : (buffer : List ℕ) (n : ℕ) → length buffer ≡ 1 → n ≤ length buffer → 0 < n → length (take n buffer) ≡ 1
 one_taken buffer n l within some = let t = length-take n buffer in omega arith
 
 -- no fault depends on the allowance
-pub faults_same : (rooted : Bool) (log allowance : ℕ) (blocks : List (List ℕ)) (tail : List ℕ) → live_list_faults (from_tail rooted (image_of log allowance blocks tail)) ≡ live_list_faults (from_tail rooted (image_of log 0 blocks tail))
+pub faults_same : (version : Version) (log allowance : ℕ) (blocks : List (List ℕ)) (tail : List ℕ) → live_list_faults (from_tail version (image_of log allowance blocks tail)) ≡ live_list_faults (from_tail version (image_of log 0 blocks tail))
 unfolding reachable
-faults_same true log allowance blocks tail = refl
-faults_same false log allowance blocks tail = refl
+faults_same One log allowance blocks tail = refl
+faults_same Two log allowance blocks tail = refl
+faults_same Three log allowance blocks tail = refl
 
-pub live_same : (rooted : Bool) (log allowance : ℕ) (blocks : List (List ℕ)) (tail : List ℕ) → (from_tail rooted (image_of log allowance blocks tail)).live ≡ (from_tail rooted (image_of log 0 blocks tail)).live
+pub live_same : (version : Version) (log allowance : ℕ) (blocks : List (List ℕ)) (tail : List ℕ) → (from_tail version (image_of log allowance blocks tail)).live ≡ (from_tail version (image_of log 0 blocks tail)).live
 unfolding reachable
-live_same true log allowance blocks tail = refl
-live_same false log allowance blocks tail = refl
+live_same One log allowance blocks tail = refl
+live_same Two log allowance blocks tail = refl
+live_same Three log allowance blocks tail = refl
 
-pub roots_same : (rooted : Bool) (log allowance : ℕ) (blocks : List (List ℕ)) (tail : List ℕ) → (from_tail rooted (image_of log allowance blocks tail)).roots ≡ (from_tail rooted (image_of log 0 blocks tail)).roots
-roots_same true log allowance blocks tail = refl
-roots_same false log allowance blocks tail = refl
+pub roots_same : (version : Version) (log allowance : ℕ) (blocks : List (List ℕ)) (tail : List ℕ) → (from_tail version (image_of log allowance blocks tail)).roots ≡ (from_tail version (image_of log 0 blocks tail)).roots
+roots_same One log allowance blocks tail = refl
+roots_same Two log allowance blocks tail = refl
+roots_same Three log allowance blocks tail = refl
 
 -- the checks speak of the slice of a vector, and the allowance plays no part in them
-pub check_of_parts : (rooted : Bool) (log allowance : ℕ) (blocks blocks' : List (List ℕ)) (tail : List ℕ) → blocks ≡ blocks' → (fault : Fault)
-    → ((fault ≡ Memory) ⊎ (first_some (live_list_faults (from_tail rooted (image_of log 0 blocks tail))) ≡ Some fault)) → ((fault ≡ Memory) ⊎ (first_some (live_list_faults (from_tail rooted (image_of log allowance blocks' tail))) ≡ Some fault))
-check_of_parts rooted log allowance blocks blocks' tail b fault (inl memory) = inl memory
-check_of_parts rooted log allowance blocks blocks' tail b fault (inr first) =
-    inr (ap first_some (faults_same rooted log allowance blocks' tail) ∙ ap (λ xs. first_some (live_list_faults (from_tail rooted (image_of log 0 xs tail)))) (sym b) ∙ first)
+pub check_of_parts : (version : Version) (log allowance : ℕ) (blocks blocks' : List (List ℕ)) (tail : List ℕ) → blocks ≡ blocks' → (fault : Fault)
+    → ((fault ≡ Memory) ⊎ (first_some (live_list_faults (from_tail version (image_of log 0 blocks tail))) ≡ Some fault)) → ((fault ≡ Memory) ⊎ (first_some (live_list_faults (from_tail version (image_of log allowance blocks' tail))) ≡ Some fault))
+check_of_parts version log allowance blocks blocks' tail b fault (inl memory) = inl memory
+check_of_parts version log allowance blocks blocks' tail b fault (inr first) =
+    inr (ap first_some (faults_same version log allowance blocks' tail) ∙ ap (λ xs. first_some (live_list_faults (from_tail version (image_of log 0 xs tail)))) (sym b) ∙ first)
 
-pub no_fault_of_parts : (rooted : Bool) (log allowance : ℕ) (blocks blocks' : List (List ℕ)) (tail : List ℕ) → blocks ≡ blocks' → first_some (live_list_faults (from_tail rooted (image_of log 0 blocks tail))) ≡ None → first_some (live_list_faults (from_tail rooted (image_of log allowance blocks' tail))) ≡ None
-no_fault_of_parts rooted log allowance blocks blocks' tail b none =
-    ap first_some (faults_same rooted log allowance blocks' tail) ∙ ap (λ xs. first_some (live_list_faults (from_tail rooted (image_of log 0 xs tail)))) (sym b) ∙ none
+pub no_fault_of_parts : (version : Version) (log allowance : ℕ) (blocks blocks' : List (List ℕ)) (tail : List ℕ) → blocks ≡ blocks' → first_some (live_list_faults (from_tail version (image_of log 0 blocks tail))) ≡ None → first_some (live_list_faults (from_tail version (image_of log allowance blocks' tail))) ≡ None
+no_fault_of_parts version log allowance blocks blocks' tail b none =
+    ap first_some (faults_same version log allowance blocks' tail) ∙ ap (λ xs. first_some (live_list_faults (from_tail version (image_of log 0 xs tail)))) (sym b) ∙ none
 
 -- the parts that were found are those of the image
-pub parts_are : (rooted : Bool) (log allowance : ℕ) (blocks blocks' : List (List ℕ)) (tail live : List ℕ) (roots : Option (List ℕ)) → blocks ≡ blocks'
-    → live ≡ (from_tail rooted (image_of log 0 blocks tail)).live → roots ≡ (from_tail rooted (image_of log 0 blocks tail)).roots
-    → rooted_image_of log allowance blocks' live roots ≡ from_tail rooted (image_of log allowance blocks' tail)
-parts_are rooted log allowance blocks blocks' tail live roots b l r =
-    let ls : live ≡ (from_tail rooted (image_of log allowance blocks' tail)).live = l ∙ ap (λ xs. (from_tail rooted (image_of log 0 xs tail)).live) b ∙ sym (live_same rooted log allowance blocks' tail) in
-    let rs : roots ≡ (from_tail rooted (image_of log allowance blocks' tail)).roots = r ∙ ap (λ xs. (from_tail rooted (image_of log 0 xs tail)).roots) b ∙ sym (roots_same rooted log allowance blocks' tail) in
-    ap (λ xs. rooted_image_of log allowance blocks' xs roots) ls ∙ ap (λ o. rooted_image_of log allowance blocks' (from_tail rooted (image_of log allowance blocks' tail)).live o) rs ∙ whole rooted
+pub parts_are : (version : Version) (log allowance : ℕ) (blocks blocks' : List (List ℕ)) (tail live : List ℕ) (roots : Option (List ℕ)) → blocks ≡ blocks'
+    → live ≡ (from_tail version (image_of log 0 blocks tail)).live → roots ≡ (from_tail version (image_of log 0 blocks tail)).roots
+    → versioned_image_of version log allowance blocks' live roots ≡ from_tail version (image_of log allowance blocks' tail)
+parts_are version log allowance blocks blocks' tail live roots b l r =
+    let ls : live ≡ (from_tail version (image_of log allowance blocks' tail)).live = l ∙ ap (λ xs. (from_tail version (image_of log 0 xs tail)).live) b ∙ sym (live_same version log allowance blocks' tail) in
+    let rs : roots ≡ (from_tail version (image_of log allowance blocks' tail)).roots = r ∙ ap (λ xs. (from_tail version (image_of log 0 xs tail)).roots) b ∙ sym (roots_same version log allowance blocks' tail) in
+    ap (λ xs. versioned_image_of version log allowance blocks' xs roots) ls ∙ ap (λ o. versioned_image_of version log allowance blocks' (from_tail version (image_of log allowance blocks' tail)).live o) rs ∙ whole version
   where
-    whole : (rooted : Bool) → rooted_image_of log allowance blocks' (from_tail rooted (image_of log allowance blocks' tail)).live (from_tail rooted (image_of log allowance blocks' tail)).roots ≡ from_tail rooted (image_of log allowance blocks' tail)
-    whole true = refl
-    whole false = refl
+    whole : (version : Version) → versioned_image_of version log allowance blocks' (from_tail version (image_of log allowance blocks' tail)).live (from_tail version (image_of log allowance blocks' tail)).roots ≡ from_tail version (image_of log allowance blocks' tail)
+    whole One = refl
+    whole Two = refl
+    whole Three = refl
 
 -- the numbers after the words are the roots, or else the live list
-pub tail_is : (rooted : Bool) (heap : HeapImage) (tail live : List ℕ) (roots : Option (List ℕ)) → live ≡ (from_tail rooted (with_live heap tail)).live → roots ≡ (from_tail rooted (with_live heap tail)).roots → roots_or live roots ≡ tail
-tail_is true heap tail live roots l r = ap (roots_or live) r
-tail_is false heap tail live roots l r = ap (roots_or live) r ∙ l
+pub tail_is : (version : Version) (heap : HeapImage) (tail live : List ℕ) (roots : Option (List ℕ)) → live ≡ (from_tail version (with_live heap tail)).live → roots ≡ (from_tail version (with_live heap tail)).roots → roots_or live roots ≡ tail
+tail_is One heap tail live roots l r = ap (roots_or live) r ∙ l
+tail_is Two heap tail live roots l r = ap (roots_or live) r
+tail_is Three heap tail live roots l r = ap (roots_or live) r

@@ -1,5 +1,5 @@
 -- The roots of an image with roots.
-use Rattle.std.proofs.Common.{◌≡◌, ℕ, ◌+◌, ◌-◌, ◌≤◌, ◌<◌, inl, inr, true, List, [], length, get_or, ◌∙◌, ap, arith, eqb}
+use Rattle.std.proofs.Common.{◌≡◌, ℕ, ◌+◌, ◌-◌, ◌^◌, ◌≤◌, ◌<◌, inl, inr, true, List, [], length, get_or, ◌∙◌, ap, arith, eqb}
 use Rattle.std.proofs.lemmas.Bool.{cases_eq, eq-eqb, or_left, or_right}
 use Rattle.std.proofs.lemmas.List.Elements.{All-from_get_or}
 use Rattle.std.specs.Prelude.{All, IsTrue, Option, None, Some, IfSome}
@@ -28,3 +28,10 @@ roots-live image valid = All-from_get_or (λ w. IsTrue (is_null_or_live image w)
     each : (roots : Option (List ℕ)) → IfSome roots (AreRoots image) → (i : ℕ) → i < length (roots_or [] roots) → is_null_or_live image (get_or (roots_or [] roots) i 0) ≡ true
     each None h i l = let no : ⊥ = omega arith in absurd no
     each (Some roots) h i l = root_leads image roots h.reached (get_or roots i 0) (h.inside i 0 l) (listed_at roots i l)
+
+pub roots-few : (image : HeapImage) → IsValid image → length (roots_of image) < 2 ^ 32
+roots-few image valid = each image.roots valid.rooted
+  where
+    each : (roots : Option (List ℕ)) → IfSome roots (AreRoots image) → length (roots_or [] roots) < 2 ^ 32
+    each None h = omega arith
+    each (Some roots) h = h.counted

@@ -1,12 +1,12 @@
 -- Bytes that are held and given, over several calls.
-use Rattle.std.proofs.Common.{◌≡◌, ℕ, zero, suc, ◌+◌, ◌*◌, ◌/◌, Bool, true, false, cond, eqb, List, [], ◌++◌, length, take, drop, replicate, refl, sym, ◌∙◌, ap, subst, arith, append_assoc, length-take, Option, Result, Ok, Err}
+use Rattle.std.proofs.Common.{◌≡◌, ℕ, zero, suc, ◌+◌, ◌*◌, ◌/◌, List, [], ◌++◌, length, take, drop, replicate, refl, sym, ◌∙◌, ap, subst, arith, append_assoc, length-take, Option, Result, Ok, Err}
 use Rattle.std.proofs.lemmas.List.{append-nil, replicate-append-replicate, take-append-le, take-append-drop, take-take, take_all}
 use Rattle.std.proofs.lemmas.List.Concat.{flat_map-append}
-use Rattle.std.specs.Option.{is_some}
 use Rattle.std.specs.Result.{OnErr}
 use Rattle.std.specs.Int.{w64, to_le_bytes}
 use Rattle.heap_image.specs.ImageText.{front, numbers, text, with_tail}
-use Rattle.heap_image.specs.HeapImage.{HeapImage, IsValid, heap_words, region_words, region_count, block_of, version_of}
+use Rattle.heap_image.specs.HeapImage.{HeapImage, IsValid, heap_words, region_words, region_count, block_of}
+use Rattle.heap_image.specs.declared.version.Version.{Version}
 use Rattle.std.proofs.Math.Nat.{div-add-mod'}
 use Rattle.std.specs.Io.KnownBytes.{Appends}
 use Rattle.heap_image.specs.Outgoing.{Sends, TakesBeginning}
@@ -78,7 +78,7 @@ module _ (image : HeapImage) where
   tail = (with_tail image).live
 
   abbrev pub first : List ℕ
-  first = front (is_some image.roots) image.region_log (length tail) (heap_words image) image.allowance
+  first = front image.version image.region_log (length tail) (heap_words image) image.allowance
 
   -- the front with the first words, and the others with the live list
   pub text_split : (k : ℕ) → (first ++ numbers (take k image.words)) ++ (numbers (drop k image.words) ++ numbers tail) ≡ text image
@@ -104,15 +104,11 @@ module _ (image : HeapImage) where
       let rows : r * region_words image ≡ heap_words image / region_words image * region_words image = ap (λ n. n * region_words image) e in
       take_all (r * region_words image) image.words (omega arith)
 
-is_two : (b : Bool) → eqb (cond {A = ℕ} b 2 1) 2 ≡ b
-is_two true = refl
-is_two false = refl
-
 -- the front of an image, by the numbers that its calls answer
-pub front_is : (image : HeapImage) (version log : ℕ) (behind : List ℕ) (words allowance : ℕ) (bytes : List ℕ) → version ≡ version_of image → log ≡ image.region_log → behind ≡ (with_tail image).live → words ≡ heap_words image → allowance ≡ image.allowance
-    → bytes ≡ front (eqb version 2) log (length behind) words allowance → bytes ≡ first image
+pub front_is : (image : HeapImage) (version : Version) (log : ℕ) (behind : List ℕ) (words allowance : ℕ) (bytes : List ℕ) → version ≡ image.version → log ≡ image.region_log → behind ≡ (with_tail image).live → words ≡ heap_words image → allowance ≡ image.allowance
+    → bytes ≡ front version log (length behind) words allowance → bytes ≡ first image
 front_is image version log behind words allowance bytes v a b c d e =
-    e ∙ ap (λ n. front (eqb n 2) log (length behind) words allowance) v ∙ ap (λ r. front r log (length behind) words allowance) (is_two (is_some image.roots)) ∙ ap (λ n. front (is_some image.roots) n (length behind) words allowance) a ∙ ap (λ xs. front (is_some image.roots) image.region_log (length xs) words allowance) b ∙ ap (λ n. front (is_some image.roots) image.region_log (length (with_tail image).live) n allowance) c ∙ ap (λ n. front (is_some image.roots) image.region_log (length (with_tail image).live) (heap_words image) n) d
+    e ∙ ap (λ r. front r log (length behind) words allowance) v ∙ ap (λ n. front image.version n (length behind) words allowance) a ∙ ap (λ xs. front image.version image.region_log (length xs) words allowance) b ∙ ap (λ n. front image.version image.region_log (length (with_tail image).live) n allowance) c ∙ ap (λ n. front image.version image.region_log (length (with_tail image).live) (heap_words image) n) d
 
 -- the bytes of zeros are zeros, eight for each
 pub numbers_of_zeros : (n : ℕ) → numbers (replicate n 0) ≡ replicate (8 * n) 0

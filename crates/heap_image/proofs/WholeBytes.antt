@@ -1,5 +1,5 @@
 -- What decoding bytes in memory says of them.
-use Rattle.std.proofs.Common.{◌≡◌, ℕ, ◌+◌, ◌*◌, ◌≤◌, ◌<◌, ◌⊎◌, inl, inr, Bool, false, ltb, List, [], ◌∷◌, ◌++◌, length, take, drop, sym, ◌∙◌, ap, arith, length-take, length-drop, Option, Some, None, Result, Ok, Err}
+use Rattle.std.proofs.Common.{◌≡◌, ℕ, ◌+◌, ◌*◌, ◌≤◌, ◌<◌, ◌⊎◌, inl, inr, false, ltb, List, [], ◌∷◌, ◌++◌, length, take, drop, sym, ◌∙◌, ap, arith, length-take, length-drop, Option, Some, None, Result, Ok, Err}
 use Rattle.std.proofs.lemmas.Bool.{le-ltb, true≢false}
 use Rattle.std.proofs.lemmas.List.{take-append-drop, append-nil}
 use Rattle.std.specs.Prelude.{IfOk, OnOk, IfErr, IfSome}
@@ -7,10 +7,12 @@ use Rattle.std.specs.Io.KnownBytes.{Consumes, IsAtEnd}
 use Rattle.heap_image.specs.declared.fault.Fault.{Fault}
 use Rattle.heap_image.specs.declared.fault.Fault.TheVariants.{TruncatedBody, Memory}
 use Rattle.heap_image.specs.Device.{is_io}
-use Rattle.heap_image.specs.HeapImage.{HeapImage, IsValid, IsWithinLimits}
+use Rattle.heap_image.specs.HeapImage.{HeapImage, IsValid}
+use Rattle.heap_image.specs.declared.version.Version.{Version}
 use Rattle.heap_image.specs.ImageText.{front, text, fault_if, first_some, first_fault, front_faults, layout_faults, encoded_length}
 use Rattle.heap_image.specs.Refusals.{IsReason}
 use Rattle.heap_image.proofs.Faultless.{first_some-append, first_some_past, first_some-None, fault_if-None, front_faults-None, layout_fault-truncated, first_fault-text}
+use Rattle.heap_image.proofs.Versions.{FitsFront}
 use Rattle.heap_image.proofs.Refusing.{front_faults-append}
 use Rattle.heap_image.proofs.TextLaws.{text-injective, front_length}
 
@@ -24,22 +26,22 @@ front_fault_first bytes long fault first =
 pub layout_fault_first : (bytes : List ℕ) (fault : Fault) → first_some (layout_faults bytes) ≡ Some fault → first_fault bytes ≡ Some fault
 layout_fault_first bytes fault first = first_some-append (layout_faults bytes) _ fault first
 
-module _ (bytes : List ℕ) (rooted : Bool) (log live_count words allowance : ℕ) (limits : IsWithinLimits log words live_count) (told : take 32 bytes ≡ front rooted log live_count words allowance) where
-  whole : front rooted log live_count words allowance ++ drop 32 bytes ≡ bytes
+module _ (bytes : List ℕ) (version : Version) (log live_count words allowance : ℕ) (limits : FitsFront version log words live_count) (told : take 32 bytes ≡ front version log live_count words allowance) where
+  whole : front version log live_count words allowance ++ drop 32 bytes ≡ bytes
   whole = ap (λ l. l ++ drop 32 bytes) (sym told) ∙ take-append-drop 32 bytes
 
   pub truncated_layout : 32 ≤ length bytes → length bytes < 32 + 8 * words + 8 * live_count → first_some (layout_faults bytes) ≡ Some TruncatedBody
   truncated_layout long short =
       let d = length-drop 32 bytes in
-      ap (λ b. first_some (layout_faults b)) (sym whole) ∙ layout_fault-truncated rooted log live_count words allowance limits (drop 32 bytes) (omega arith)
+      ap (λ b. first_some (layout_faults b)) (sym whole) ∙ layout_fault-truncated version log live_count words allowance limits (drop 32 bytes) (omega arith)
 
   pub layout_none : 32 + 8 * words + 8 * live_count ≤ length bytes → first_some (layout_faults bytes) ≡ None
   layout_none enough =
-      let said : List ℕ = front rooted log live_count words allowance ++ drop 32 bytes in
+      let said : List ℕ = front version log live_count words allowance ++ drop 32 bytes in
       let long = ap length whole in
-      let tells = front_length rooted log live_count words allowance limits (drop 32 bytes) in
+      let tells = front_length version log live_count words allowance limits (drop 32 bytes) in
       ap (λ b. first_some (layout_faults b)) (sym whole)
-      ∙ first_some_past (front_faults said) (fault_if (ltb (length said) (encoded_length said)) TruncatedBody ∷ []) (front_faults-None rooted log live_count words allowance limits (drop 32 bytes))
+      ∙ first_some_past (front_faults said) (fault_if (ltb (length said) (encoded_length said)) TruncatedBody ∷ []) (front_faults-None version log live_count words allowance limits (drop 32 bytes))
       ∙ first_some-None (fault_if (ltb (length said) (encoded_length said)) TruncatedBody ∷ []) (fault_if-None (ltb (length said) (encoded_length said)) TruncatedBody (le-ltb (length said) (encoded_length said) (omega arith)), tt)
 
 -- a text of a valid image is not refused as such

@@ -14,7 +14,7 @@ extent_end extent = extent.at + 8 * body_words extent.size
 
 -- the regions are not too large, and all offsets fit in 64 bits
 pub record IsExtent (extent : Extent) : Type 0 where
-  pub log : extent.size.region_log ≤ 16
+  pub log : extent.size.region_log ≤ 20
   pub inside : extent_end extent < 2 ^ 64
 
 -- the first regions of an extent, and the others with the numbers

@@ -1,12 +1,17 @@
 -- A heap with its live objects, as contracts see an image.
-use Rattle.std.specs.Prelude.{◌≡◌, ℕ, zero, suc, ◌+◌, ◌-◌, ◌*◌, ◌/◌, ◌%◌, ◌^◌, ◌<◌, ◌≤◌, Bool, not, ◌&&◌, ◌||◌, nat_lt, nat_le, ◌==◌, IsTrue, if◌then◌else◌, List, [], length, take, drop, fold, filter, All, count_by, slice_index, Option, None, Some, IfSome}
+use Rattle.std.specs.Prelude.{◌≡◌, ℕ, zero, suc, ◌+◌, ◌-◌, ◌*◌, ◌/◌, ◌%◌, ◌^◌, ◌<◌, ◌≤◌, Bool, not, ◌&&◌, ◌||◌, nat_lt, nat_le, ◌==◌, IsTrue, List, [], length, take, drop, fold, filter, All, count_by, slice_index, Option, None, Some, IfSome}
 use Rattle.std.specs.List.{concat, list_any, range_with_len, AllAdjacentBelow}
 use Rattle.std.specs.Option.{is_some}
 use Rattle.heap_image.specs.Header.{size_of, references_of, kind_of}
+use Rattle.heap_image.specs.Version.{Allows, has_roots, number_of}
+use Rattle.heap_image.specs.declared.version.Version.{Version}
+use Rattle.heap_image.specs.declared.version.Version.TheVariants.{One}
 
 -- Address a is the a-th word. A region is 2 ^ region_log consecutive words. The allowance is the number of dead words
--- that the dense prefix may keep. The live list has the address of each live object. An image of version 2 has roots.
+-- that the dense prefix may keep. The live list has the address of each live object. An image of version 2 or 3 has
+-- roots.
 pub record HeapImage : Type 0 where
+  pub version : Version
   pub region_log : ℕ
   pub allowance : ℕ
   pub words : List ℕ
@@ -22,7 +27,7 @@ abbrev pub roots_of : HeapImage → List ℕ
 roots_of image = roots_or [] image.roots
 
 abbrev pub version_of : HeapImage → ℕ
-version_of image = if is_some image.roots then 2 else 1
+version_of image = number_of image.version
 
 module _ (image : HeapImage) where
   abbrev pub region_words : ℕ
@@ -133,24 +138,27 @@ module _ (image : HeapImage) where
 -- each root is null or leads into the heap, and the live objects are those reachable from the roots
 pub record AreRoots (image : HeapImage) (roots : List ℕ) : Type 0 where
   pub few : length roots ≤ heap_words image
+  pub counted : length roots < 2 ^ 32
   pub inside : All (λ w. w ≤ heap_words image) roots
   pub reached : image.live ≡ reachable image roots
 
--- the sizes that the format allows
+-- the sizes that the format allows in its largest version
 pub record IsWithinLimits (region_log words live_count : ℕ) : Type 0 where
   pub region_log_low : 3 ≤ region_log
-  pub region_log_high : region_log ≤ 16
+  pub region_log_high : region_log ≤ 20
   pub not_empty : 0 < words
   pub whole_regions : words % 2 ^ region_log ≡ 0
-  pub few_words : words ≤ 4194304
-  pub few_regions : words / 2 ^ region_log ≤ 16384
+  pub few_words : words ≤ 68719476736
+  pub few_regions : words / 2 ^ region_log ≤ 1048576
   pub few_live : live_count ≤ words
 
 pub record IsValid (image : HeapImage) : Type 0 where
   pub limits : IsWithinLimits image.region_log (heap_words image) (length image.live)
+  pub allowed : Allows image.version image.region_log (heap_words image)
   pub allowance_fits : image.allowance < 2 ^ 64
   pub words_fit : All (λ w. w < 2 ^ 64) image.words
   pub live_list : HasLiveList image
+  pub versioned : is_some image.roots ≡ has_roots image.version
   pub rooted : IfSome image.roots (AreRoots image)
 
 -- each of these blocks has the words of one region
@@ -160,7 +168,7 @@ AreBlocks region_log blocks = All (λ block. length block ≡ 2 ^ region_log) bl
 -- the image of the heap whose regions hold these blocks, one after the other
 abbrev pub image_of : ℕ → ℕ → List (List ℕ) → List ℕ → HeapImage
 image_of region_log allowance blocks live =
-    record { region_log = region_log; allowance = allowance; words = concat blocks; live = live; roots = None }
+    record { version = One; region_log = region_log; allowance = allowance; words = concat blocks; live = live; roots = None }
 
 -- the same heap with these live objects, and without roots
 abbrev pub with_live : HeapImage → List ℕ → HeapImage
@@ -168,20 +176,20 @@ with_live heap live = record heap { live = live; roots = None }
 
 -- the heap of an image, without live objects and roots
 abbrev pub words_alone : HeapImage → HeapImage
-words_alone image = record image { allowance = 0; live = []; roots = None }
+words_alone image = record image { version = One; allowance = 0; live = []; roots = None }
 
--- the image of the same blocks, with roots or without
-abbrev pub rooted_image_of : ℕ → ℕ → List (List ℕ) → List ℕ → Option (List ℕ) → HeapImage
-rooted_image_of region_log allowance blocks live roots =
-    record { region_log = region_log; allowance = allowance; words = concat blocks; live = live; roots = roots }
+-- the image of the same blocks in any version, with roots or without
+abbrev pub versioned_image_of : Version → ℕ → ℕ → List (List ℕ) → List ℕ → Option (List ℕ) → HeapImage
+versioned_image_of version region_log allowance blocks live roots =
+    record { version = version; region_log = region_log; allowance = allowance; words = concat blocks; live = live; roots = roots }
 
 -- blocks of this size form a heap that is not too large
 pub record FormHeap (region_log : ℕ) (blocks : List (List ℕ)) : Type 0 where
-  pub log : region_log ≤ 16
+  pub log : region_log ≤ 20
   pub whole : AreBlocks region_log blocks
-  pub few : length (concat blocks) ≤ 4194304
+  pub few : length (concat blocks) ≤ 68719476736
 
 -- these parts are those of a valid image
-pub record AreValidParts (region_log allowance : ℕ) (blocks : List (List ℕ)) (live : List ℕ) (roots : Option (List ℕ)) : Type 0 where
+pub record AreValidParts (version : Version) (region_log allowance : ℕ) (blocks : List (List ℕ)) (live : List ℕ) (roots : Option (List ℕ)) : Type 0 where
   pub whole : AreBlocks region_log blocks
-  pub valid : IsValid (rooted_image_of region_log allowance blocks live roots)
+  pub valid : IsValid (versioned_image_of version region_log allowance blocks live roots)

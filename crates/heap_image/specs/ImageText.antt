@@ -1,20 +1,22 @@
 -- The text of an image, in bytes, and the first fault of a byte list.
 use Rattle.std.specs.Prelude.{◌≡◌, ℕ, ◌+◌, ◌-◌, ◌*◌, ◌/◌, ◌%◌, ◌^◌, ◌<◌, Bool, true, false, not, ◌&&◌, ◌||◌, nat_lt, nat_le, ◌==◌, if◌then◌else◌, List, [], ◌∷◌, ◌++◌, length, map, take, drop, slice_index, slice_range, codes, All, Option, None, Some, option_map, find, flat_map, zip}
 use Rattle.std.specs.List.{range_with_len}
-use Rattle.std.specs.Option.{is_some}
 use Rattle.std.specs.Str.{bytes_eq}
 use Rattle.std.specs.Int.{w32, w64, to_le_bytes, from_le_bytes}
+use Rattle.heap_image.specs.Version.{has_roots, max_region_log, max_regions, max_words, number_of}
+use Rattle.heap_image.specs.declared.version.Version.{Version}
+use Rattle.heap_image.specs.declared.version.Version.TheVariants.{One, Two, Three}
 use Rattle.heap_image.specs.HeapImage.{HeapImage, IsValid, heap_words, references_at, end_of, reference_at, is_null_or_live, is_unsound, reachable, roots_of, roots_or}
 use Rattle.heap_image.specs.declared.fault.Fault.{Fault}
 use Rattle.heap_image.specs.declared.fault.Fault.TheVariants.{TruncatedHeader, Magic, RegionLog, Length, TruncatedBody, LiveOrder, Header, Overlap, Reference, Trailing, Root}
 
--- PCHEAP01 for an image of version 1, and PCHEAP02 for one of version 2, which has roots
-abbrev pub magic : Bool → List ℕ
-magic rooted = codes "PCHEAP0" ++ (if rooted then 50 else 49) ∷ []
+-- PCHEAP0 and the digit of the version
+abbrev pub magic : Version → List ℕ
+magic version = codes "PCHEAP0" ++ (48 + number_of version) ∷ []
 
 -- The first 32 bytes of a text. Numbers are little endian.
-abbrev pub front : (rooted : Bool) (region_log count words allowance : ℕ) → List ℕ
-front rooted region_log count words allowance = magic rooted
+abbrev pub front : Version → (region_log count words allowance : ℕ) → List ℕ
+front version region_log count words allowance = magic version
     ++ to_le_bytes w32 region_log
     ++ to_le_bytes w32 count
     ++ to_le_bytes w64 words
@@ -25,23 +27,30 @@ abbrev pub numbers : List ℕ → List ℕ
 numbers xs = flat_map (to_le_bytes w64) xs
 
 -- the front, the words, and the numbers after them, here those of the live list
-abbrev pub listed_text : Bool → HeapImage → List ℕ
-listed_text rooted image = front rooted image.region_log (length image.live) (heap_words image) image.allowance
+abbrev pub listed_text : Version → HeapImage → List ℕ
+listed_text version image = front version image.region_log (length image.live) (heap_words image) image.allowance
     ++ numbers image.words
     ++ numbers image.live
 
 -- the image whose live list are the numbers after the words of a text: those of the live list, or of the roots
 abbrev pub with_tail : HeapImage → HeapImage
-with_tail image = record image { live = roots_or image.live image.roots; roots = None }
+with_tail image = record image { version = One; live = roots_or image.live image.roots; roots = None }
 
 abbrev pub text : HeapImage → List ℕ
-text image = listed_text (is_some image.roots) (with_tail image)
+text image = listed_text image.version (with_tail image)
 
--- The image of a text of this version with these numbers after the words: in version 2 they are roots, and the live
--- objects are those reachable from them.
-abbrev pub from_tail : Bool → HeapImage → HeapImage
-from_tail false image = image
-from_tail true image = record image { live = reachable image image.live; roots = Some image.live }
+-- The image of a text of this version with these numbers after the words: in a version with roots they are the roots,
+-- and the live objects are those reachable from them.
+abbrev pub from_tail : Version → HeapImage → HeapImage
+from_tail version image =
+    if has_roots version
+    then record image { version = version; live = reachable image image.live; roots = Some image.live }
+    else image
+
+-- the version whose magic these bytes are, or 1 if they are none
+abbrev pub version_of_magic : List ℕ → Version
+version_of_magic bytes =
+    if bytes_eq bytes (magic Three) then Three else if bytes_eq bytes (magic Two) then Two else One
 
 -- The fields of a byte list, whether or not the bytes are an image's text.
 module _ (bytes : List ℕ) where
@@ -57,9 +66,8 @@ module _ (bytes : List ℕ) where
   abbrev pub encoded_count : ℕ
   encoded_count = u32_at 12
 
-  -- the magic is that of version 2
-  abbrev pub is_rooted : Bool
-  is_rooted = bytes_eq (take 8 bytes) (magic true)
+  abbrev pub encoded_version : Version
+  encoded_version = version_of_magic (take 8 bytes)
 
   abbrev pub encoded_words : ℕ
   encoded_words = u64_at 16
@@ -72,6 +80,7 @@ module _ (bytes : List ℕ) where
 
   abbrev pub encoded_numbers : HeapImage
   encoded_numbers = record {
+    version = One;
     region_log = encoded_region_log;
     allowance = u64_at 24;
     words = map (λ a. u64_at (32 + 8 * a)) (range_with_len 0 encoded_words);
@@ -80,7 +89,7 @@ module _ (bytes : List ℕ) where
   }
 
   abbrev pub encoded_image : HeapImage
-  encoded_image = from_tail is_rooted encoded_numbers
+  encoded_image = from_tail encoded_version encoded_numbers
 
 -- the i-th address is outside a heap of this number of words or not above the one before it
 abbrev pub is_misplaced : ℕ → List ℕ → ℕ → Bool
@@ -130,10 +139,11 @@ first_some (Some x ∷ more) = Some x
 abbrev pub front_faults : List ℕ → List (Option Fault)
 front_faults bytes =
     fault_if (nat_lt (length bytes) 32) TruncatedHeader
-    ∷ fault_if (not (bytes_eq (take 8 bytes) (magic false) || is_rooted bytes)) Magic
-    ∷ fault_if (nat_lt (encoded_region_log bytes) 3 || nat_lt 16 (encoded_region_log bytes)) RegionLog
+    ∷ fault_if (not (bytes_eq (take 8 bytes) (magic (encoded_version bytes)))) Magic
+    ∷ fault_if (nat_lt (encoded_region_log bytes) 3 || nat_lt (max_region_log (encoded_version bytes)) (encoded_region_log bytes)) RegionLog
     ∷ fault_if ((encoded_words bytes == 0) || not (encoded_words bytes % encoded_region_words bytes == 0)
-    || nat_lt 4194304 (encoded_words bytes) || nat_lt 16384 (encoded_words bytes / encoded_region_words bytes)
+    || nat_lt (max_words (encoded_version bytes)) (encoded_words bytes)
+    || nat_lt (max_regions (encoded_version bytes)) (encoded_words bytes / encoded_region_words bytes)
     || nat_lt (encoded_words bytes) (encoded_count bytes)) Length
     ∷ []
 
@@ -152,8 +162,8 @@ object_faults image =
 abbrev pub first_object_fault : HeapImage → Option Fault
 first_object_fault image = first_some (object_faults image)
 
--- The faults of the roots and the live list. In version 1 there are no roots, and in version 2 the live list is in
--- order.
+-- The faults of the roots and the live list. In version 1 there are no roots, and in versions 2 and 3 the live list is
+-- in order.
 abbrev pub live_list_faults : HeapImage → List (Option Fault)
 live_list_faults image =
     option_map Root (misplaced_root image)

@@ -1,4 +1,5 @@
 pub mod Header
+pub mod Version
 pub mod HeapImage
 pub mod ImageText
 pub mod LengthCause
@@ -17,3 +18,6 @@ pub mod Reachable
 pub mod Marking
 pub mod Upgrade
 pub mod Extents
+pub mod Boxes
+pub mod Spread
+pub mod Rounds

@@ -3,6 +3,9 @@ use Rattle.std.specs.Prelude.{◌≡◌, ℕ, ◌<◌, ◌^◌, IsTrue, List, Al
 use Rattle.std.specs.List.{concat}
 use Rattle.std.specs.Io.KnownBytes.{Consumes, IsAtEnd}
 use Rattle.heap_image.specs.HeapImage.{HeapImage, IsValid, IsWithinLimits, heap_words, image_of, roots_or}
+use Rattle.heap_image.specs.Version.{Allows}
+use Rattle.heap_image.specs.declared.version.Version.{Version}
+use Rattle.heap_image.specs.declared.version.Version.TheVariants.{One}
 use Rattle.heap_image.specs.ImageText.{text, from_tail, first_some, first_object_fault, live_list_faults}
 use Rattle.heap_image.specs.Bits.{MarkBegins}
 use Rattle.heap_image.specs.Soundness.{AreWellFormed}
@@ -14,13 +17,16 @@ pub record IsRead (image : HeapImage) (before after : Option (List ℕ)) : Type 
   pub text : Consumes before after (Rattle.heap_image.specs.ImageText.text image)
   pub end : IsAtEnd after
 
--- the sizes are allowed, and each number fits its eight bytes
-pub record HasFittingNumbers (image : HeapImage) : Type 0 where
+-- this version allows the sizes, and each number fits its bytes
+pub record HasFittingNumbers (version : Version) (image : HeapImage) : Type 0 where
   pub limits : IsWithinLimits image.region_log (heap_words image) (length image.live)
+  pub allowed : Allows version image.region_log (heap_words image)
+  pub counted : length image.live < 2 ^ 32
   pub allowance : image.allowance < 2 ^ 64
   pub words : All (λ w. w < 2 ^ 64) image.words
   pub live : All (λ a. a < 2 ^ 64) image.live
   pub plain : image.roots ≡ None
+  pub listed : image.version ≡ One
 
 -- the numbers that were read, with those after the words as a live list
 abbrev pub numbers_of : Unchecked → HeapImage
@@ -29,10 +35,10 @@ numbers_of read = image_of read.front.region_log read.front.allowance read.regio
 
 -- the live objects and the roots are those of the numbers, and only faults of the objects are left
 pub record IsFound (read : Unchecked) : Type 0 where
-  pub live : read.found.live.items ≡ (from_tail read.front.rooted (numbers_of read)).live
-  pub roots : option_map (λ v. v.items) read.found.roots ≡ (from_tail read.front.rooted (numbers_of read)).roots
+  pub live : read.found.live.items ≡ (from_tail read.front.version (numbers_of read)).live
+  pub roots : option_map (λ v. v.items) read.found.roots ≡ (from_tail read.front.version (numbers_of read)).roots
   pub inside : All (λ a. a < length (concat read.regions.items)) read.found.live.items
   pub begins : MarkBegins read.found.live.items (length (concat read.regions.items)) read.found.begins
   pub well_formed : IsTrue read.found.well_formed → AreWellFormed (image_of read.front.region_log 0 read.regions.items read.found.live.items)
-  pub ordered : first_some (live_list_faults (from_tail read.front.rooted (numbers_of read)))
+  pub ordered : first_some (live_list_faults (from_tail read.front.version (numbers_of read)))
       ≡ first_object_fault (image_of read.front.region_log 0 read.regions.items read.found.live.items)

@@ -1,13 +1,31 @@
--- An image of version 1 as one of version 2.
+-- An image as one of a later version.
 use Rattle.std.specs.Prelude.{ℕ, ◌+◌, List, map, Option, Some}
 use Rattle.heap_image.specs.HeapImage.{HeapImage, roots_or}
 use Rattle.heap_image.specs.ImageText.{text}
 use Rattle.heap_image.specs.Reading.{IsRead}
 use Rattle.heap_image.specs.Outgoing.{TakesBeginning}
+use Rattle.heap_image.specs.declared.version.Version.{Version}
+use Rattle.heap_image.specs.declared.version.Version.TheVariants.{One, Two, Three}
 
--- If there are no roots, a root to each live object, in their order. All else stays.
+-- version 2 in place of version 1
+abbrev pub upgraded_version : Version → Version
+upgraded_version One = Two
+upgraded_version Two = Two
+upgraded_version Three = Three
+
+-- If there are no roots, version 2 and a root to each live object, in their order. All else stays.
 abbrev pub upgraded : HeapImage → HeapImage
-upgraded image = record image { roots = Some (roots_or (map (λ a. a + 1) image.live) image.roots) }
+upgraded image = record image { version = upgraded_version image.version; roots = Some (roots_or (map (λ a. a + 1) image.live) image.roots) }
+
+-- the same image in version 3
+abbrev pub in_version_three : HeapImage → HeapImage
+in_version_three image = record image { version = Three }
+
+-- the image in this version, or in its own if that is later, with roots where the version has them
+abbrev pub upgraded_to : Version → HeapImage → HeapImage
+upgraded_to One image = image
+upgraded_to Two image = upgraded image
+upgraded_to Three image = in_version_three (upgraded image)
 
 -- the whole input was read, it is the text of some image, and a prefix of the text of the upgraded image was written
 pub record IsUpgradeBegun (left left' took took' : Option (List ℕ)) : Type 0 where

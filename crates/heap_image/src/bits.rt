@@ -167,7 +167,7 @@ impl Bits {
 
     /// The words with the bits of the addresses below `to`.
     #[inline]
-    fn words_below(&self, to: u64) -> &[u64]
+    pub(crate) fn words_below(&self, to: u64) -> &[u64]
         ensures { result.now ≡ take ((to + 63) / 64) self.now }
     {
         let count = self.words.len().min(to.div_ceil(64) as usize);

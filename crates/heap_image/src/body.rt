@@ -30,7 +30,7 @@ impl Body {
         reader: &mut R,
         size: BodySize,
     ) -> Result<Body, Fault>
-        requires log { size.region_log ≤ 16 }
+        requires log { size.region_log ≤ 20 }
         requires in_range { IsInRange incoming.old }
         requires enough { body_words size ≤ expected incoming.old }
         ensures in_range { OnOk result (IsInRange incoming.new) }

@@ -15,7 +15,7 @@ pub struct BodySize {
 impl BodySize {
     /// The size in words of 8 bytes.
     pub(crate) fn words(self) -> usize
-        requires log { self.region_log ≤ 16 }
+        requires log { self.region_log ≤ 20 }
         requires fits { body_words self < 2 ^ 64 }
         ensures { result ≡ body_words self }
     {

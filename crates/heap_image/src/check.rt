@@ -1,5 +1,5 @@
 //! Checks a live list in one thread, and finds its first fault.
-ghost use Rattle.std.specs.Prelude.{◌≡◌, ◌<◌, ◌≤◌, ◌+◌, ◌/◌, ◌||◌, ◌⊎◌, ◌==◌, nat_le, nat_lt, not, ℕ, Option, Some, None, [], ◌∷◌, List, All, option_map, find, map, OnOk, IfErr, IsTrue, length};
+ghost use Rattle.std.specs.Prelude.{◌≡◌, ◌<◌, ◌≤◌, ◌+◌, ◌/◌, ◌^◌, ◌||◌, ◌⊎◌, ◌==◌, nat_le, nat_lt, not, ℕ, Option, Some, None, [], ◌∷◌, List, All, option_map, find, map, OnOk, IfErr, IsTrue, length};
 ghost use Rattle.std.specs.List.{list_any, range_with_len};
 ghost use Rattle.heap_image.specs.Header.{size_of, references_of, kind_of};
 ghost use Rattle.heap_image.specs.HeapImage.{heap_words, with_live, references_at, is_null_or_live};
@@ -14,7 +14,7 @@ use crate::{Fault, header};
 /// The first index of an address that is outside the heap or not above the one before it.
 pub(crate) fn misplaced_index(live: &[u64], words: u64) -> Option<u32>
     requires few { length live.now ≤ words }
-    requires fits { words ≤ 4194304 }
+    requires fits { length live.now < 2 ^ 32 }
     ensures { result ≡ misplaced_index words live.now }
 {
     let mut next = 0;
@@ -30,7 +30,7 @@ pub(crate) fn misplaced_index(live: &[u64], words: u64) -> Option<u32>
 /// Whether this word at address `a` is not the header of an object that fits.
 #[inline]
 pub(crate) fn is_unsound(word: u64, a: u64, words: u64) -> bool
-    requires { a ≤ 4194304 }
+    requires { a ≤ 68719476736 }
     ensures { result ≡ (not (kind_of word == 1) || (size_of word == 0)
         || nat_le (size_of word) (references_of word) || nat_lt words (a + size_of word)) }
 {

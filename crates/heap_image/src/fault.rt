@@ -8,20 +8,20 @@ use thiserror::Error;
 /// An error of an image, of a schedule, or of a collection. Each message begins with the number of the fault.
 ///
 /// Faults 1 to 10 and 17 are faults of an image's bytes, tested in the order 1 to 5, 17, 6 to 10. Fault 6 comes in
-/// version 1 only, and 17 in version 2 only.
+/// version 1 only, and 17 in versions 2 and 3 only.
 #[derive(Debug, Clone, Copy, PartialEq, Eq, Error)]
 pub enum Fault {
     /// There are fewer than 32 bytes.
     #[error("1 truncated header")]
     TruncatedHeader,
-    /// The first 8 bytes are neither `PCHEAP01` nor `PCHEAP02`.
+    /// The first 8 bytes are none of `PCHEAP01`, `PCHEAP02` and `PCHEAP03`.
     #[error("2 magic")]
     Magic,
-    /// The region log is not 3 to 16.
+    /// The region log is not 3 to 16, or in version 3 to 20.
     #[error("3 region log")]
     RegionLog,
-    /// The number of words is 0, not a multiple of the words of a region or above 4,194,304, or there are more than
-    /// 16,384 regions, or more live addresses or roots than words.
+    /// The number of words is 0 or not a multiple of the words of a region, or there are more words or regions than the
+    /// version allows, or more live addresses or roots than words.
     #[error("4 length")]
     Length,
     /// There are fewer bytes than the first 32 call for.
@@ -30,8 +30,8 @@ pub enum Fault {
     /// This is the first index whose live address is outside the heap or not above the one before it.
     #[error("6 live order at index {0}")]
     LiveOrder(u32),
-    /// This is the first live address without the header of an object that fits. In version 2, here and in faults 8 and
-    /// 9, live means reachable from the roots.
+    /// This is the first live address without the header of an object that fits. In versions 2 and 3, here and in faults
+    /// 8 and 9, live means reachable from the roots.
     #[error("7 header at {0}")]
     Header(u64),
     /// This is the address of the first live object that begins before the end of the one before it.

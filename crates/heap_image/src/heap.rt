@@ -43,7 +43,7 @@ impl<'a> Heap<'a> {
     #[inline]
     pub fn len(&self) -> u64
         ensures value { result ≡ heap_words self.now }
-        ensures few { heap_words self.now ≤ 4194304 }
+        ensures few { heap_words self.now ≤ 68719476736 }
     {
         (self.regions.len() as u64) << self.region_log
     }
@@ -94,10 +94,10 @@ impl<'a> Heap<'a> {
     }
 }
 
-/// A heap has at most 4,194,304 words.
+/// A heap has at most 68,719,476,736 words.
 #[inline]
 pub(crate) fn is_small(heap: &Heap<'_>)
-    ensures { heap_words heap.now ≤ 4194304 }
+    ensures { heap_words heap.now ≤ 68719476736 }
 {
     heap.len();
 }

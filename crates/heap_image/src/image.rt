@@ -1,14 +1,16 @@
 //! The image: a heap with its live objects, valid by its type.
-ghost use Rattle.std.specs.Prelude.{◌≡◌, ◌<◌, ◌≤◌, All, IsTrue, Option, Some, None, length, map, option_map, IfSome};
+ghost use Rattle.std.specs.Prelude.{◌≡◌, ◌<◌, ◌≤◌, ◌^◌, All, IsTrue, Option, Some, None, is_some, length, map, option_map, IfSome};
 ghost use Rattle.std.specs.List.{concat, range_with_len};
-ghost use Rattle.heap_image.specs.HeapImage.{HeapImage, IsValid, AreBlocks, AreValidParts, image_of, rooted_image_of, is_null_or_live, roots_of, version_of, heap_words, region_count, region_words, word_at, words_alone, block_of};
+ghost use Rattle.heap_image.specs.HeapImage.{HeapImage, IsValid, AreBlocks, AreValidParts, image_of, versioned_image_of, is_null_or_live, roots_of, heap_words, region_count, region_words, word_at, words_alone, block_of};
 ghost use Rattle.heap_image.specs.ImageText.{with_tail};
 ghost use Rattle.heap_image.specs.Bits.{MarkBegins};
 ghost use Rattle.heap_image.specs.Sizes.{AreSizes};
+ghost use Rattle.heap_image.specs.Version.{has_roots};
 
 use crate::bits::Bits;
 use crate::heap::Heap;
 use crate::soundness::PIECE;
+use crate::version::Version;
 use raw_region::Region;
 use std::marker::Model;
 
@@ -18,6 +20,7 @@ use std::marker::Model;
 /// in a block of their own.
 #[derive(Drop)]
 pub struct Image {
+    version: Version,
     region_log: u32,
     allowance: u64,
     regions: Vec<Region>,
@@ -30,6 +33,7 @@ pub struct Image {
 /// The parts of an [`Image`].
 #[derive(Drop)]
 pub struct ImageParts {
+    pub version: Version,
     /// The logarithm, to base 2, of the number of words of a region.
     pub region_log: u32,
     /// The largest number of dead words that the dense prefix may keep.
@@ -38,20 +42,20 @@ pub struct ImageParts {
     pub regions: Vec<Region>,
     /// The addresses of the live objects, ascending.
     pub live: Vec<u64>,
-    /// The roots, in an image of version 2.
+    /// The roots, in an image of version 2 or 3.
     pub roots: Option<Vec<u64>>,
 }
 
 impl Model for Image {
     ghost use Rattle.std.specs.Prelude.{option_map};
-    ghost use Rattle.heap_image.specs.HeapImage.{HeapImage, rooted_image_of};
+    ghost use Rattle.heap_image.specs.HeapImage.{HeapImage, versioned_image_of};
     ghost use Rattle.heap_image.specs.Kept.{AreKept};
 
     ghost Value = { HeapImage };
 
-    ghost view = { λ i. rooted_image_of i.region_log i.allowance i.regions.items i.live.items (option_map (λ v. v.items) i.roots) };
+    ghost view = { λ i. versioned_image_of i.version i.region_log i.allowance i.regions.items i.live.items (option_map (λ v. v.items) i.roots) };
 
-    ghost invariant = { λ i. AreKept i.region_log i.allowance i.regions.items i.live.items (option_map (λ v. v.items) i.roots) i.begins (option_map (λ v. v.items) i.sizes) };
+    ghost invariant = { λ i. AreKept i.version i.region_log i.allowance i.regions.items i.live.items (option_map (λ v. v.items) i.roots) i.begins (option_map (λ v. v.items) i.sizes) };
 }
 
 impl Image {
@@ -64,6 +68,7 @@ impl Image {
     {
         let roots = None;
         let parts = ImageParts {
+            version: Version::One,
             region_log,
             allowance,
             regions,
@@ -83,11 +88,12 @@ impl Image {
         roots: Vec<u64>,
     ) -> Image
         requires regions { AreBlocks region_log regions.items }
-        requires valid { IsValid (rooted_image_of region_log allowance regions.items live.items (Some roots.items)) }
-        ensures { result ≡ rooted_image_of region_log allowance regions.items live.items (Some roots.items) }
+        requires valid { IsValid (versioned_image_of Version.Two region_log allowance regions.items live.items (Some roots.items)) }
+        ensures { result ≡ versioned_image_of Version.Two region_log allowance regions.items live.items (Some roots.items) }
     {
         let roots = Some(roots);
         let parts = ImageParts {
+            version: Version::Two,
             region_log,
             allowance,
             regions,
@@ -99,11 +105,12 @@ impl Image {
 
     /// The parts of this image, from which [`ImageParts::into_image`] rebuilds it.
     pub fn into_parts(self) -> ImageParts
-        ensures parts { AreValidParts result.region_log result.allowance result.regions.items result.live.items (option_map (λ v. v.items) result.roots) }
-        ensures whole { self ≡ rooted_image_of result.region_log result.allowance result.regions.items result.live.items (option_map (λ v. v.items) result.roots) }
+        ensures parts { AreValidParts result.version result.region_log result.allowance result.regions.items result.live.items (option_map (λ v. v.items) result.roots) }
+        ensures whole { self ≡ versioned_image_of result.version result.region_log result.allowance result.regions.items result.live.items (option_map (λ v. v.items) result.roots) }
         ensures blocks { result.regions.items ≡ map (block_of self) (range_with_len 0 (region_count self)) }
     {
         let Image {
+            version,
             region_log,
             allowance,
             regions,
@@ -112,6 +119,7 @@ impl Image {
             ..
         } = self;
         ImageParts {
+            version,
             region_log,
             allowance,
             regions,
@@ -120,7 +128,7 @@ impl Image {
         }
     }
 
-    /// The logarithm, to base 2, of the number of words of a region; it is 3 to 16.
+    /// The logarithm, to base 2, of the number of words of a region; it is 3 to 20.
     pub fn region_log(&self) -> u32
         ensures value { result ≡ self.now.region_log }
         ensures valid { IsValid self.now }
@@ -132,7 +140,7 @@ impl Image {
     pub fn region_words(&self) -> u64
         ensures value { result ≡ region_words self.now }
         ensures some { 0 < result }
-        ensures few { result ≤ 65536 }
+        ensures few { result ≤ 1048576 }
         ensures valid { IsValid self.now }
     {
         1 << self.region_log
@@ -224,6 +232,7 @@ impl Image {
     /// live object.
     pub fn roots(&self) -> &[u64]
         ensures value { result.now ≡ roots_of self.now }
+        ensures few { length result.now < 2 ^ 32 }
         ensures live { All (λ w. IsTrue (is_null_or_live self.now w)) result.now }
         ensures valid { IsValid self.now }
     {
@@ -233,10 +242,11 @@ impl Image {
         }
     }
 
-    /// The numbers that follow the words in the text: the roots in version 2, and the live list in version 1.
+    /// The numbers that follow the words in the text: the roots, or in version 1 the live list.
     pub(crate) fn tail(&self) -> &[u64]
         ensures value { result.now ≡ (with_tail self.now).live }
         ensures few { length result.now ≤ heap_words self.now }
+        ensures counted { length result.now < 2 ^ 32 }
         ensures valid { IsValid self.now }
     {
         match &self.roots {
@@ -245,11 +255,12 @@ impl Image {
         }
     }
 
-    /// The version: 2 for an image with roots, and otherwise 1.
-    pub fn version(&self) -> u32
-        ensures { result ≡ version_of self.now }
+    /// The version.
+    pub fn version(&self) -> Version
+        ensures value { result ≡ self.now.version }
+        ensures roots { is_some self.now.roots ≡ has_roots result }
     {
-        if self.roots.is_some() { 2 } else { 1 }
+        self.version
     }
 }
 
@@ -257,8 +268,8 @@ impl ImageParts {
     /// Builds the image of these parts.
     pub fn into_image(self) -> Image
         requires regions { AreBlocks self.region_log self.regions.items }
-        requires valid { IsValid (rooted_image_of self.region_log self.allowance self.regions.items self.live.items (option_map (λ v. v.items) self.roots)) }
-        ensures { result ≡ rooted_image_of self.region_log self.allowance self.regions.items self.live.items (option_map (λ v. v.items) self.roots) }
+        requires valid { IsValid (versioned_image_of self.version self.region_log self.allowance self.regions.items self.live.items (option_map (λ v. v.items) self.roots)) }
+        ensures { result ≡ versioned_image_of self.version self.region_log self.allowance self.regions.items self.live.items (option_map (λ v. v.items) self.roots) }
     {
         self.with_seen(None, None)
     }
@@ -267,13 +278,14 @@ impl ImageParts {
     /// are known.
     pub(crate) fn with_seen(self, begins: Option<Bits>, sizes: Option<Vec<[u32; PIECE]>>) -> Image
         requires regions { AreBlocks self.region_log self.regions.items }
-        requires valid { IsValid (rooted_image_of self.region_log self.allowance self.regions.items self.live.items (option_map (λ v. v.items) self.roots)) }
+        requires valid { IsValid (versioned_image_of self.version self.region_log self.allowance self.regions.items self.live.items (option_map (λ v. v.items) self.roots)) }
         requires begins { IfSome begins (MarkBegins self.live.items (length (concat self.regions.items))) }
         requires sizes { IfSome sizes
             (λ sizes. AreSizes (image_of self.region_log 0 self.regions.items self.live.items) sizes.items) }
-        ensures { result ≡ rooted_image_of self.region_log self.allowance self.regions.items self.live.items (option_map (λ v. v.items) self.roots) }
+        ensures { result ≡ versioned_image_of self.version self.region_log self.allowance self.regions.items self.live.items (option_map (λ v. v.items) self.roots) }
     {
         let ImageParts {
+            version,
             region_log,
             allowance,
             regions,
@@ -281,6 +293,7 @@ impl ImageParts {
             roots,
         } = self;
         Image {
+            version,
             region_log,
             allowance,
             regions,

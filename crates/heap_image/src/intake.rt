@@ -49,8 +49,8 @@ pub trait Intake {
     /// Takes a whole body of this size at once, as a file does that several threads read. A device that can't do that,
     /// which is the default, or doesn't succeed, takes nothing and returns `None`.
     fn take_body(&mut self, _alloc: Global, _size: BodySize) -> Option<Body>
-        requires log { _size.region_log ≤ 16 }
-        requires few { body_words _size ≤ 8388608 }
+        requires log { _size.region_log ≤ 20 }
+        requires few { body_words _size ≤ 137438953472 }
         ensures taken { IfSome result (IsBody _size (left self.old) (left self.new)) }
         ensures none { result ≡ None → left self.new ≡ left self.old }
         ensures failed { has_failed self.new ≡ has_failed self.old }

@@ -1,7 +1,10 @@
 //! Laws of images and their texts, for callers' proofs. The functions do nothing: each one's contract is a law.
 ghost use Rattle.std.specs.Prelude.{◌≡◌, ◌+◌, ℕ, List, Bool, true, [], Some, None, All, IsTrue, filter, map};
 ghost use Rattle.std.specs.List.{range_with_len};
-ghost use Rattle.heap_image.specs.HeapImage.{HeapImage, IsValid, HasLiveList, heap_words, image_of, is_null_or_live, reachable, rooted_image_of, roots_of};
+ghost use Rattle.heap_image.specs.Version.{has_roots};
+ghost use Rattle.heap_image.specs.declared.version.Version.{Version};
+ghost use Rattle.heap_image.specs.declared.version.Version.TheVariants.{Two};
+ghost use Rattle.heap_image.specs.HeapImage.{HeapImage, IsValid, HasLiveList, heap_words, image_of, is_null_or_live, reachable, versioned_image_of, roots_of};
 ghost use Rattle.heap_image.specs.ImageText.{text, from_tail, first_some, live_list_faults, misplaced_index, unsound_header, dangling, FaultlessIsText, TextIsFaultless};
 ghost use Rattle.heap_image.specs.Reading.{HasFittingNumbers};
 ghost use Rattle.heap_image.specs.Reachable.{is_listed, beyond, IsClosed};
@@ -44,8 +47,8 @@ pub fn reachable_is_the_least_closed()
 /// null nor to a live object leads out of the heap.
 pub fn faults_of_roots()
     ensures order { (image : HeapImage) (roots : List ℕ) → misplaced_index (heap_words image) (reachable image roots) ≡ None }
-    ensures references { (image : HeapImage) → unsound_header (from_tail true image) ≡ None
-        → dangling (from_tail true image) ≡ beyond (from_tail true image) }
+    ensures references { (image : HeapImage) → unsound_header (from_tail Two image) ≡ None
+        → dangling (from_tail Two image) ≡ beyond (from_tail Two image) }
 {}
 
 /// With a root to each live object, exactly the live objects are reachable.
@@ -58,12 +61,13 @@ pub fn roots_are_null_or_live()
     ensures { (image : HeapImage) → IsValid image → All (λ w. IsTrue (is_null_or_live image w)) (roots_of image) }
 {}
 
-/// Regions and roots within the limits of an image, in which [`mark_from_roots`](crate::mark_from_roots) finds no
-/// fault, are the parts of a valid image with the live objects that it returns, whatever the allowance.
+/// Regions and roots within the limits of a version with roots, in which [`mark_from_roots`](crate::mark_from_roots)
+/// finds no fault, are the parts of a valid image with the live objects that it returns, whatever the allowance.
 pub fn marked_parts_are_valid()
-    ensures { (log allowance : ℕ) (blocks : List (List ℕ)) (roots live : List ℕ)
-        → HasFittingNumbers (image_of log allowance blocks roots)
-        → first_some (live_list_faults (from_tail true (image_of log 0 blocks roots))) ≡ None
+    ensures { (version : Version) (log allowance : ℕ) (blocks : List (List ℕ)) (roots live : List ℕ)
+        → has_roots version ≡ true
+        → HasFittingNumbers version (image_of log allowance blocks roots)
+        → first_some (live_list_faults (from_tail Two (image_of log 0 blocks roots))) ≡ None
         → live ≡ reachable (image_of log 0 blocks []) roots
-        → IsValid (rooted_image_of log allowance blocks live (Some roots)) }
+        → IsValid (versioned_image_of version log allowance blocks live (Some roots)) }
 {}

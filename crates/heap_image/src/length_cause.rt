@@ -16,12 +16,12 @@ pub enum LengthCause {
     /// The words don't fill their last region.
     #[error("the number of words is not a multiple of the words of a region")]
     PartialRegion,
-    /// There are more words than the format allows.
-    #[error("the number of words is above 4194304")]
-    TooManyWords,
-    /// There are more regions than the format allows.
-    #[error("there are more than 16384 regions")]
-    TooManyRegions,
+    /// There are more words than the version allows, which is this number.
+    #[error("the number of words is above {0}")]
+    TooManyWords(u64),
+    /// There are more regions than the version allows, which is this number.
+    #[error("there are more than {0} regions")]
+    TooManyRegions(u64),
     /// The count at offset 12, of live addresses or of roots, is above the number of words.
     #[error("there are more live addresses or roots than words")]
     CountAboveWords,

@@ -3,14 +3,14 @@
 //! An [`Image`] is a heap of words in regions, the addresses of its live objects, and an allowance of dead words. Every
 //! value of the type is valid: its sizes keep the limits of the format, each live address has the header of an object
 //! that fits, no two live objects overlap, and each reference is null or leads to a live object. An image of version 1
-//! lists its live objects. An image of version 2 has roots, and its live objects are those reachable from the roots;
-//! [`mark_from_roots`] finds these, and [`upgrade`] converts version 1 to version 2.
+//! lists its live objects. An image of version 2 or 3 has roots, and its live objects are those reachable from the roots;
+//! [`mark_from_roots`] finds these, and [`upgrade`] converts version 1 to version 2, [`upgrade_to`] to any later one. Version 3 allows larger heaps.
 //!
 //! Each valid image has exactly one encoding, its text. [`decode`] and [`encode`] work in memory; [`read_image`] and
 //! [`write_image`] work on any [`Intake`] and [`Outlet`]; [`FromRead`] and [`ToWrite`] adapt std's readers and writers.
 //! Bytes that encode no valid image are rejected with their first [`Fault`]. [`decode_by_threads`],
-//! [`read_image_by_threads`] and [`read_image_by_workers`] return the same results, and check the live objects in
-//! parallel.
+//! [`read_image_by_threads`], [`read_image_by_workers`] and [`mark_from_roots_by_workers`] return the same results, and
+//! mark and check in parallel.
 //!
 //! A [`Heap`] is the words of a heap alone, and a [`Bits`] is a set of addresses.
 //!
@@ -52,6 +52,7 @@ mod soundness;
 mod store;
 mod unchecked;
 mod upgrading;
+mod version;
 mod write;
 
 pub use bits::Bits;
@@ -71,10 +72,11 @@ pub use laws::{
 };
 pub use length_cause::LengthCause;
 pub use outlet::{Outlet, ToWrite, give_all};
-pub use reach::mark_from_roots;
+pub use reach::{mark_from_roots, mark_from_roots_by_workers};
 pub use read::{read_image, read_image_by_threads, read_image_by_workers};
 pub use side_by_side::{Extent, body_at};
 pub use soundness::PIECE;
 pub use store::{FileStore, Store};
-pub use upgrading::{upgrade, upgrade_stream};
+pub use upgrading::{upgrade, upgrade_stream, upgrade_to};
+pub use version::Version;
 pub use write::{write_image, write_image_buffered};

@@ -1,4 +1,5 @@
-//! The limits of an image. Contracts state them as plain numbers.
+//! The limits of an image of version 1 or 2; those of any version are [`Version`](crate::Version)'s. Contracts state them
+//! as plain numbers.
 
 /// The least logarithm, to base 2, of the number of words of a region.
 pub const MIN_REGION_LOG: u32 = 3;

@@ -13,7 +13,7 @@ pub(crate) fn marked_addresses(
     words: u64,
 ) -> Result<Vec<u64>, AllocError>
     requires room { words / 64 < length bits.now }
-    requires few { words ≤ 4194304 }
+    requires few { words ≤ 68719476736 }
     ensures { IfOk result (λ live. live.items ≡ filter (has bits.now) (range_with_len 0 words)) }
 {
     let whole = (words / 64) as usize;
@@ -39,7 +39,7 @@ fn low_bits(word: u64, n: u64) -> u64
 
 /// Appends the indices of the bits that are set in a word, ascending, each plus `base`.
 fn push_ones(live: &mut Vec<u64>, base: u64, word: u64) -> Result<(), AllocError>
-    requires { base ≤ 4194304 }
+    requires { base ≤ 68719476736 }
     ensures { OnOk result (live.new.items ≡ live.old.items ++ map (λ j. base + j) (ones_of word)) }
 {
     let mut rest = word;

@@ -5,6 +5,7 @@ ghost use Rattle.std.specs.Io.KnownBytes.{Consumes, IsAtEnd};
 ghost use Rattle.heap_image.specs.Body.{IsBody, body_words};
 ghost use Rattle.heap_image.specs.Device.{is_io};
 ghost use Rattle.heap_image.specs.HeapImage.{FormHeap, IsValid, IsWithinLimits, AreBlocks, image_of};
+ghost use Rattle.heap_image.specs.Version.{Allows};
 ghost use Rattle.heap_image.specs.ImageText.{text, listed_text, front, numbers, front_faults, first_object_fault, first_some};
 ghost use Rattle.heap_image.specs.Reading.{HasFittingNumbers, IsFound, numbers_of};
 ghost use Rattle.heap_image.specs.Sizes.{AreSizes};
@@ -18,6 +19,7 @@ use crate::front::{FRONT_BYTES, Front};
 use crate::heap::Heap;
 use crate::incoming::Incoming;
 use crate::intake::{Intake, fill};
+use crate::marking::{Alone, Marker};
 use crate::soundness::PIECE;
 use crate::unchecked::{Found, find_live_objects};
 use crate::{Fault, Image, ImageParts};
@@ -51,12 +53,12 @@ pub fn read_image<R: Intake>(alloc: Global, reader: &mut R) -> Result<Image, Fau
         (λ input. (32 < length input) × (first_some (front_faults input) ≡ None))) }
     ensures io { R.has_failed reader.new ≡ is_io result }
 {
-    let read = read_unchecked(alloc, reader)?;
+    let read = read_unchecked(alloc, reader, &Alone)?;
     let checked = read.found.check(&read.heap());
     read.finish(reader, checked, None)
 }
 
-/// Like [`read_image`], but checks the live objects in as many threads as there are processors. The result does not
+/// Like [`read_image`], but marks and checks the live objects in as many threads as there are processors. The result does not
 /// depend on their number.
 pub fn read_image_by_threads<R: Intake>(
     alloc: Global,
@@ -84,8 +86,8 @@ pub fn read_image_by_threads<R: Intake>(
     read_image_by_workers(alloc, reader, current_num_threads(threads), threads)
 }
 
-/// Like [`read_image`], but checks the live objects in at most `workers` threads, the caller's included; 0 counts as 1.
-/// The result does not depend on their number.
+/// Like [`read_image`], but marks and checks the live objects in at most `workers` threads, the caller's included; 0
+/// counts as 1. The result does not depend on their number.
 pub fn read_image_by_workers<R: Intake>(
     alloc: Global,
     reader: &mut R,
@@ -110,11 +112,11 @@ pub fn read_image_by_workers<R: Intake>(
         (λ input. (32 < length input) × (first_some (front_faults input) ≡ None))) }
     ensures io { R.has_failed reader.new ≡ is_io result }
 {
-    let read = read_unchecked(alloc, reader)?;
     let crowd = Crowd {
         threads,
         most: workers,
     };
+    let read = read_unchecked(alloc, reader, &crowd)?;
     let sizes = read.found.sizes_if_sound(alloc, &read.heap(), &crowd);
     // Most images are sound. Otherwise one thread looks for the first fault.
     let checked = match &sizes {
@@ -133,11 +135,16 @@ struct Unchecked {
 }
 
 /// Reads an image up to the end of its body, and finds its live objects.
-fn read_unchecked<R: Intake>(alloc: Global, reader: &mut R) -> Result<Unchecked, Fault>
-    ensures fits { IfOk result (λ read. HasFittingNumbers (numbers_of read)) }
+fn read_unchecked<R: Intake, M: Marker>(
+    alloc: Global,
+    reader: &mut R,
+    marker: &M,
+) -> Result<Unchecked, Fault>
+    requires { M.may_start }
+    ensures fits { IfOk result (λ read. HasFittingNumbers read.front.version (numbers_of read)) }
     ensures blocks { IfOk result (λ read. AreBlocks read.front.region_log read.regions.items) }
     ensures text { IfOk result
-        (λ read. Consumes (R.left reader.old) (R.left reader.new) (listed_text read.front.rooted (numbers_of read))) }
+        (λ read. Consumes (R.left reader.old) (R.left reader.new) (listed_text read.front.version (numbers_of read))) }
     ensures found { IfOk result IsFound }
     ensures fault { IfErr result
         (λ fault. IfSome (R.left reader.old) (λ input. IsReason input fault)) }
@@ -152,7 +159,7 @@ fn read_unchecked<R: Intake>(alloc: Global, reader: &mut R) -> Result<Unchecked,
     let front = read_front(reader)?;
     let Body { regions, tail } = read_body(alloc, reader, front)?;
     let heap = Heap::new(regions.as_slice(), front.region_log);
-    let found = find_live_objects(alloc, &heap, front.rooted, tail)?;
+    let found = find_live_objects(alloc, &heap, front.version, tail, marker)?;
     Ok(Unchecked {
         front,
         regions,
@@ -179,7 +186,7 @@ impl Unchecked {
         checked: Result<(), Fault>,
         sizes: Option<Vec<[u32; PIECE]>>,
     ) -> Result<Image, Fault>
-        requires fits { HasFittingNumbers (numbers_of self) }
+        requires fits { HasFittingNumbers self.front.version (numbers_of self) }
         requires blocks { AreBlocks self.front.region_log self.regions.items }
         requires found { IsFound self }
         requires ok { OnOk checked
@@ -190,13 +197,13 @@ impl Unchecked {
             (λ sizes. AreSizes (image_of self.front.region_log 0 self.regions.items self.found.live.items) sizes.items) }
         requires works { R.has_failed reader.old ≡ false }
         ensures valid { IfOk result (λ image. IsValid image) }
-        ensures text { (before : Option (List ℕ)) → Consumes before (R.left reader.old) (listed_text self.front.rooted (numbers_of self))
+        ensures text { (before : Option (List ℕ)) → Consumes before (R.left reader.old) (listed_text self.front.version (numbers_of self))
             → IfOk result (λ image. Consumes before (R.left reader.new) (text image)) }
         ensures end { OnOk result (IsAtEnd (R.left reader.new)) }
-        ensures fault { (before : Option (List ℕ)) → Consumes before (R.left reader.old) (listed_text self.front.rooted (numbers_of self))
+        ensures fault { (before : Option (List ℕ)) → Consumes before (R.left reader.old) (listed_text self.front.version (numbers_of self))
             → IfErr result (λ fault. IfSome before (λ input. IsReason input fault)) }
         ensures kind { IfErr result IsOfReading }
-        ensures left { (before : Option (List ℕ)) → Consumes before (R.left reader.old) (listed_text self.front.rooted (numbers_of self))
+        ensures left { (before : Option (List ℕ)) → Consumes before (R.left reader.old) (listed_text self.front.version (numbers_of self))
             → IfErr result (λ fault. IfSome before (λ input. LeavesRest fault input (R.left reader.new))) }
         ensures memory { IfErr result (λ fault. fault ≢ Fault.Memory) }
         ensures io { R.has_failed reader.new ≡ is_io result }
@@ -211,6 +218,7 @@ impl Unchecked {
             found,
         } = self;
         let parts = ImageParts {
+            version: front.version,
             region_log: front.region_log,
             allowance: front.allowance,
             regions,
@@ -225,10 +233,12 @@ impl Unchecked {
 fn read_front<R: Intake>(reader: &mut R) -> Result<Front, Fault>
     ensures bytes { IfOk result
         (λ parsed. Consumes (R.left reader.old) (R.left reader.new)
-        (front parsed.rooted parsed.region_log parsed.count parsed.words parsed.allowance)) }
+        (front parsed.version parsed.region_log parsed.count parsed.words parsed.allowance)) }
     ensures limits { IfOk result
         (λ parsed. IsWithinLimits parsed.region_log parsed.words parsed.count) }
+    ensures allowed { IfOk result (λ parsed. Allows parsed.version parsed.region_log parsed.words) }
     ensures fit { IfOk result (λ parsed. parsed.allowance < 2 ^ 64) }
+    ensures counted { IfOk result (λ parsed. parsed.count < 2 ^ 32) }
     ensures fault { IfErr result
         (λ fault. IfSome (R.left reader.old) (λ input. IsReason input fault)) }
     ensures left { IfErr result (λ fault. IfSome (R.left reader.old)
@@ -277,9 +287,9 @@ fn read_body_in_order<R: Intake>(
     reader: &mut R,
     size: BodySize,
 ) -> Result<Body, Fault>
-    requires log { size.region_log ≤ 16 }
+    requires log { size.region_log ≤ 20 }
     requires some { 0 < body_words size }
-    requires few { body_words size ≤ 8388608 }
+    requires few { body_words size ≤ 137438953472 }
     ensures body { IfOk result (IsBody size (R.left reader.old) (R.left reader.new)) }
     ensures truncated { result ≡ Err Fault.TruncatedBody → FallsShort
         (R.left reader.old) (R.left reader.new) (body_words size) }
@@ -294,7 +304,8 @@ fn read_body_in_order<R: Intake>(
     Body::read(alloc, &mut incoming, reader, size)
 }
 
-/// Reads the words of `count` regions, each into a block of its own.
+/// Reads the words of `count` regions, each into a block of its own. It takes memory as the words come: for at most one
+/// region more than have come, and for twice as many blocks.
 pub(crate) fn read_regions<R: Intake>(
     alloc: Global,
     incoming: &mut Incoming,
@@ -302,7 +313,7 @@ pub(crate) fn read_regions<R: Intake>(
     region_log: u32,
     count: usize,
 ) -> Result<Vec<Region>, Fault>
-    requires log { region_log ≤ 16 }
+    requires log { region_log ≤ 20 }
     requires in_range { IsInRange incoming.old }
     requires enough { count * 2 ^ region_log ≤ expected incoming.old }
     ensures in_range { OnOk result (IsInRange incoming.new) }
@@ -321,7 +332,7 @@ pub(crate) fn read_regions<R: Intake>(
     ensures lost { (came : List ℕ) × Consumes (R.left reader.old) (R.left reader.new) came }
     ensures failed { R.has_failed reader.new ≡ (is_io result || R.has_failed reader.old) }
 {
-    let mut regions = Vec::with_capacity(alloc, count)?;
+    let mut regions = Vec::new(alloc);
     for _r in 0..count {
         regions.push(read_region(alloc, incoming, reader, region_log)?)?;
     }
@@ -334,7 +345,7 @@ fn read_region<R: Intake>(
     reader: &mut R,
     region_log: u32,
 ) -> Result<Region, Fault>
-    requires log { region_log ≤ 16 }
+    requires log { region_log ≤ 20 }
     requires in_range { IsInRange incoming.old }
     requires enough { 2 ^ region_log ≤ expected incoming.old }
     ensures in_range { OnOk result (IsInRange incoming.new) }

@@ -28,8 +28,8 @@ pub struct Extent {
 impl Extent {
     /// The extent of the body that follows this front of a file, if the front is valid.
     pub fn after_front(front: &[u8; FRONT_BYTES]) -> Option<Extent>
-        ensures log { IfSome result (λ extent. extent.size.region_log ≤ 16) }
-        ensures few { IfSome result (λ extent. body_words extent.size ≤ 8388608) }
+        ensures log { IfSome result (λ extent. extent.size.region_log ≤ 20) }
+        ensures few { IfSome result (λ extent. body_words extent.size ≤ 137438953472) }
     {
         let front = Front::parse(front).ok()?;
         Some(Extent {
@@ -40,8 +40,8 @@ impl Extent {
 
     /// The offset after the last byte, if it fits in 64 bits.
     pub fn end(self) -> Option<u64>
-        requires log { self.size.region_log ≤ 16 }
-        requires few { body_words self.size ≤ 8388608 }
+        requires log { self.size.region_log ≤ 20 }
+        requires few { body_words self.size ≤ 137438953472 }
         ensures end { IfSome result (λ end. end ≡ extent_end self) }
         ensures fits { IfSome result (λ end. IsExtent self) }
     {

@@ -1,18 +1,19 @@
 //! The live objects of an image that was read, and their check.
-ghost use Rattle.std.specs.Prelude.{◌≡◌, ◌<◌, ◌≤◌, ◌⊎◌, Some, None, All, length, IfOk, IfSome, OnOk, IfErr, IsTrue, option_map};
+ghost use Rattle.std.specs.Prelude.{◌≡◌, ◌<◌, ◌≤◌, ◌^◌, ◌⊎◌, Some, None, All, length, IfOk, IfSome, OnOk, IfErr, IsTrue, option_map};
 ghost use Rattle.heap_image.specs.Bits.{MarkBegins};
 ghost use Rattle.heap_image.specs.Sizes.{AreSizes};
 ghost use Rattle.heap_image.specs.Soundness.{AreWellFormed};
 ghost use Rattle.heap_image.specs.HeapImage.{heap_words, with_live};
 ghost use Rattle.heap_image.specs.ImageText.{from_tail, first_some, first_object_fault, live_list_faults};
 
-use crate::Fault;
 use crate::bits::Bits;
 use crate::check::{check_live, misplaced_index};
 use crate::crowd::Crowd;
 use crate::heap::Heap;
+use crate::marking::Marker;
 use crate::reach::{Reached, find_reachable};
 use crate::soundness::{PIECE, sizes_if_sound};
+use crate::{Fault, Version};
 use std::alloc::Global;
 use std::thread::Threads;
 
@@ -26,22 +27,25 @@ pub(crate) struct Found {
     /// Whether each of these objects is known to have a sound header and only references that are null or to one of
     /// them.
     pub(crate) well_formed: bool,
-    /// The roots, in an image of version 2.
+    /// The roots, in an image of version 2 or 3.
     pub(crate) roots: Option<Vec<u64>>,
 }
 
-/// Finds the live objects of a heap. `tail` is what follows the words in the text: the live list, or, if `rooted`, the
-/// roots.
-pub(crate) fn find_live_objects(
+/// Finds the live objects of a heap. `tail` is what follows the words in a text of this version: the roots, from which
+/// the marker marks, or the live list.
+pub(crate) fn find_live_objects<M: Marker>(
     alloc: Global,
     heap: &Heap<'_>,
-    rooted: bool,
+    version: Version,
     tail: Vec<u64>,
+    marker: &M,
 ) -> Result<Found, Fault>
+    requires marker { M.may_start }
     requires few { length tail.items ≤ heap_words heap.now }
-    ensures live { let image = from_tail rooted (with_live heap.now tail.items) in
+    requires fits { length tail.items < 2 ^ 32 }
+    ensures live { let image = from_tail version (with_live heap.now tail.items) in
         IfOk result (λ found. found.live.items ≡ image.live) }
-    ensures roots { let image = from_tail rooted (with_live heap.now tail.items) in
+    ensures roots { let image = from_tail version (with_live heap.now tail.items) in
         IfOk result (λ found. option_map (λ v. v.items) found.roots ≡ image.roots) }
     ensures inside { IfOk result (λ found. All (λ a. a < heap_words heap.now) found.live.items) }
     ensures begins { IfOk result
@@ -49,18 +53,18 @@ pub(crate) fn find_live_objects(
     ensures well_formed { IfOk result (λ found. IsTrue found.well_formed
         → AreWellFormed (with_live heap.now found.live.items)) }
     // Only faults of the objects are left.
-    ensures ordered { let image = from_tail rooted (with_live heap.now tail.items) in
+    ensures ordered { let image = from_tail version (with_live heap.now tail.items) in
         IfOk result (λ found. first_some (live_list_faults image)
         ≡ first_object_fault (with_live heap.now found.live.items)) }
-    ensures fault { let image = from_tail rooted (with_live heap.now tail.items) in
+    ensures fault { let image = from_tail version (with_live heap.now tail.items) in
         IfErr result (λ fault. (fault ≡ Fault.Memory) ⊎ (first_some (live_list_faults image) ≡ Some fault)) }
 {
-    if rooted {
+    if version.has_roots() {
         let Reached {
             live,
             begins,
             well_formed,
-        } = find_reachable(alloc, heap, tail.as_slice())?;
+        } = find_reachable(alloc, heap, tail.as_slice(), marker)?;
         let roots = Some(tail);
         return Ok(Found {
             live,

@@ -66,7 +66,7 @@ fn write_through<W: Outlet>(image: &Image, writer: &mut W, room: &mut [u8]) -> R
     ensures io { W.has_failed writer.new ≡ is_io result }
 {
     let front = Front {
-        rooted: image.version() == 2,
+        version: image.version(),
         region_log: image.region_log(),
         count: image.tail().len() as u32,
         words: image.len(),

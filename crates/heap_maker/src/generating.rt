@@ -1,7 +1,7 @@
 //! Generates heaps.
-ghost use Rattle.std.specs.Prelude.{◌≡◌, ◌<◌, ◌≤◌, ◌^◌, All, IfOk, OnOk, length, if◌then◌else◌};
+ghost use Rattle.std.specs.Prelude.{◌≡◌, ◌<◌, ◌≤◌, ◌^◌, All, IfOk, OnOk, length};
 ghost use Rattle.std.specs.List.{concat};
-ghost use Rattle.heap_image.specs.HeapImage.{AreBlocks, IsValid, heap_words, live_words, version_of};
+ghost use Rattle.heap_image.specs.HeapImage.{AreBlocks, IsValid, heap_words, live_words};
 ghost use Rattle.heap_maker.specs.GenerationFigures.{AreFiguresOf};
 ghost use Rattle.heap_maker.specs.Wanted.{IsAsWanted};
 
@@ -14,7 +14,7 @@ use crate::limits::Limits;
 use crate::regions::{all_fit, regions_of};
 use crate::room::Room;
 use crate::wanted::Wanted;
-use heap_image::{Fault, Image, mark_from_roots, marked_parts_are_valid};
+use heap_image::{Fault, Image, ImageParts, mark_from_roots, marked_parts_are_valid};
 use mark_bitmap::Marks;
 use raw_region::Region;
 use std::alloc::{AllocError, Global};
@@ -104,10 +104,10 @@ impl UnmarkedHeap {
     }
 
     /// Marks the heap from its roots, and returns the image. In version 1, the image lists the marked objects and has
-    /// no roots.
+    /// no roots. More roots than an image can count are an error.
     fn into_image(self, alloc: Global, wanted: &Wanted) -> Result<Image, GenerationError>
         ensures valid { IfOk result (λ image. IsValid image) }
-        ensures version { IfOk result (λ image. version_of image ≡ (if wanted.now.is_rooted then 2 else 1)) }
+        ensures version { IfOk result (λ image. image.version ≡ self.limits.version) }
         ensures region_log { IfOk result (λ image. image.region_log ≡ self.limits.region_log) }
         ensures words { IfOk result (λ image. heap_words image ≡ self.limits.words) }
         ensures allowance { IfOk result (λ image. image.allowance ≡ wanted.now.allowance) }
@@ -117,18 +117,29 @@ impl UnmarkedHeap {
             regions,
             roots,
         } = self;
-        let (log, allowance) = (limits.region_log, wanted.allowance);
-        let live = match mark_from_roots(alloc, log, regions.as_slice(), roots.as_slice()) {
+        if roots.len() > u32::MAX as usize {
+            return Err(GenerationError::Roots(roots.len() as u64));
+        }
+        let (region_log, allowance) = (limits.region_log, wanted.allowance);
+        let live = match mark_from_roots(alloc, region_log, regions.as_slice(), roots.as_slice()) {
             Ok(live) => live,
             Err(Fault::Memory) => return Err(GenerationError::Memory),
             Err(_) => return Err(GenerationError::Defect),
         };
         all_fit(roots.as_slice());
         marked_parts_are_valid();
-        if wanted.is_rooted {
-            Ok(Image::of_rooted_parts(log, allowance, regions, live, roots))
+        if limits.version.has_roots() {
+            let parts = ImageParts {
+                version: limits.version,
+                region_log,
+                allowance,
+                regions,
+                live,
+                roots: Some(roots),
+            };
+            Ok(parts.into_image())
         } else {
-            Ok(Image::of_parts(log, allowance, regions, live))
+            Ok(Image::of_parts(region_log, allowance, regions, live))
         }
     }
 }

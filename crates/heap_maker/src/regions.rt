@@ -32,7 +32,7 @@ fn region_of(
     region_log: u32,
     words: &mut HeapWords<'_>,
 ) -> Result<Region, AllocError>
-    requires { region_log ≤ 16 }
+    requires { region_log ≤ 20 }
     ensures whole { IfOk result (λ region. length region ≡ 2 ^ region_log) }
     ensures fit { IfOk result (λ region. All (λ w. w < 2 ^ 64) region) }
 {

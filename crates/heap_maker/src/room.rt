@@ -10,7 +10,7 @@ pub(crate) struct Room {
     pub(crate) live: u64,
     /// Those for dead objects.
     pub(crate) dead: u64,
-    ghost few: { live + dead ≤ 4194304 },
+    ghost few: { live + dead ≤ 68719476736 },
 }
 
 /// The size of an object, and whether it is live.
@@ -26,7 +26,7 @@ impl Room {
     /// The number of all these words.
     pub(crate) fn words(&self) -> u64
         ensures value { result ≡ self.now.live + self.now.dead }
-        ensures few { result ≤ 4194304 }
+        ensures few { result ≤ 68719476736 }
     {
         self.live + self.dead
     }

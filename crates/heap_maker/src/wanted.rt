@@ -5,21 +5,22 @@ ghost use Rattle.heap_maker.specs.Wanted.{live_words_wanted};
 use crate::error::GenerationError;
 use crate::limits::Limits;
 use crate::room::Room;
-use heap_image::limits::{MAX_HEAP_WORDS, MAX_REGION_LOG, MAX_REGIONS, MIN_REGION_LOG};
+use heap_image::Version;
+use heap_image::limits::MIN_REGION_LOG;
 
 /// The heap that [`generate`](crate::generate) is to make.
 #[derive(Debug, Clone, Copy, PartialEq, Eq)]
 pub struct Wanted {
-    /// The number of words: 1 to 4,194,304, and a multiple of the words of a region.
+    /// The number of words: at least 1, at most what the version allows, and a multiple of the words of a region.
     pub words: u64,
-    /// The base-2 logarithm of the number of words of a region: 3 to 16.
+    /// The base-2 logarithm of the number of words of a region: at least 3, and at most what the version allows.
     pub region_log: u32,
     /// The percentage of words that belong to live objects: 0 to 100.
     pub live_percent: u32,
     /// The percentage of references among the words of an object, its header not counted: 0 to 100.
     pub reference_percent: u32,
-    /// Whether the image is of version 2, with roots, rather than of version 1, with a live list.
-    pub is_rooted: bool,
+    /// The version of the image, which sets the limits.
+    pub version: Version,
     /// How many dead words the dense prefix may keep.
     pub allowance: u64,
     /// The seed of the random numbers.
@@ -27,19 +28,22 @@ pub struct Wanted {
 }
 
 impl Wanted {
-    /// Checks the sizes against the limits of an image.
+    /// Checks the sizes against the limits of the version.
     pub(crate) fn limits(&self) -> Result<Limits, GenerationError>
+        ensures version { IfOk result (λ limits. limits.version ≡ self.now.version) }
         ensures log { IfOk result (λ limits. limits.region_log ≡ self.now.region_log) }
         ensures words { IfOk result (λ limits. limits.words ≡ self.now.words) }
         ensures no_memory { result ≢ Err GenerationError.Memory }
         ensures no_defect { result ≢ Err GenerationError.Defect }
     {
-        let (words, region_log) = (self.words, self.region_log);
-        if region_log < MIN_REGION_LOG || region_log > MAX_REGION_LOG {
-            return Err(GenerationError::RegionLog(region_log));
+        let (version, words, region_log) = (self.version, self.words, self.region_log);
+        let most = version.max_region_log();
+        if region_log < MIN_REGION_LOG || region_log > most {
+            return Err(GenerationError::RegionLog { region_log, most });
         }
-        if words == 0 || words > MAX_HEAP_WORDS {
-            return Err(GenerationError::Words(words));
+        let most = version.max_words();
+        if words == 0 || words > most {
+            return Err(GenerationError::Words { words, most });
         }
         let region_words = 1u64 << region_log;
         if words % region_words != 0 {
@@ -49,10 +53,16 @@ impl Wanted {
             });
         }
         let regions = words / region_words;
-        if regions > MAX_REGIONS {
-            return Err(GenerationError::Regions { words, regions });
+        let most = version.max_regions();
+        if regions > most {
+            return Err(GenerationError::Regions {
+                words,
+                regions,
+                most,
+            });
         }
         Ok(Limits {
+            version,
             region_log,
             regions,
             words,

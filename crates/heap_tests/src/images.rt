@@ -118,7 +118,7 @@ fn an_image_is_taken_apart_and_rebuilt(rt: HostRuntime) -> Result<(), Fail> {
     let parts = decode_by_threads(rt.alloc(), text.as_slice(), &rt)?.into_parts();
     equal(&rt, (parts.region_log, parts.allowance), (3, 0));
     equal(&rt, (parts.regions.len(), parts.live.len()), (4, 4));
-    let image = Image::of_parts(parts.region_log, parts.allowance, parts.regions, parts.live);
+    let image = parts.into_image();
     equal_bytes(&rt, encode(rt.alloc(), &image)?.as_slice(), text.as_slice());
     Ok(())
 }

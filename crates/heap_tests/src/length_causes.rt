@@ -11,9 +11,9 @@ fn each_cause_of_a_length(rt: HostRuntime) -> Result<(), Fail> {
         (3, 0, 0, LengthCause::NoWords),
         (3, 0, 12, LengthCause::PartialRegion),
         (3, 0, 4_194_305, LengthCause::PartialRegion),
-        (3, 0, 4_194_312, LengthCause::TooManyWords),
-        (3, 0, 131_080, LengthCause::TooManyRegions),
-        (7, 4_194_305, 4_194_304, LengthCause::TooManyRegions),
+        (3, 0, 4_194_312, LengthCause::TooManyWords(4_194_304)),
+        (3, 0, 131_080, LengthCause::TooManyRegions(16_384)),
+        (7, 4_194_305, 4_194_304, LengthCause::TooManyRegions(16_384)),
         (8, 4_194_305, 4_194_304, LengthCause::CountAboveWords),
         (3, 33, 32, LengthCause::CountAboveWords),
     ];
@@ -42,11 +42,11 @@ fn causes_have_their_messages(rt: HostRuntime) -> Result<(), Fail> {
             "the number of words is not a multiple of the words of a region",
         ),
         (
-            LengthCause::TooManyWords,
+            LengthCause::TooManyWords(4_194_304),
             "the number of words is above 4194304",
         ),
         (
-            LengthCause::TooManyRegions,
+            LengthCause::TooManyRegions(16_384),
             "there are more than 16384 regions",
         ),
         (

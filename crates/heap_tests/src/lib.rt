@@ -20,6 +20,8 @@ mod images;
 #[cfg(test)]
 mod length_causes;
 #[cfg(test)]
+mod marking;
+#[cfg(test)]
 mod marks;
 #[cfg(test)]
 mod reached;
@@ -39,3 +41,5 @@ mod stores;
 mod texts;
 #[cfg(test)]
 mod upgrading;
+#[cfg(test)]
+mod versions;

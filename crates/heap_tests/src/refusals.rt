@@ -58,7 +58,7 @@ fn limits_of_the_front(rt: HostRuntime) {
     for (region_log, live_count, fault) in fronts {
         let mut front = front(region_log, live_count, 4_194_304);
         equal(&rt, fault_of(&rt, rt.alloc(), &front), fault);
-        front[7] = 0x33;
+        front[7] = 0x34;
         equal(&rt, fault_of(&rt, rt.alloc(), &front), Fault::Magic);
     }
 }

@@ -4,7 +4,7 @@ use crate::checks::{equal, equal_words, holds, holds_at};
 use crate::devices::Trickle;
 use crate::texts::base_text;
 use heap_image::{
-    Fault, FromRead, decode_by_threads, header, mark_from_roots, read_image_by_threads,
+    Fault, FromRead, Version, decode_by_threads, header, mark_from_roots, read_image_by_threads,
 };
 use heap_samples::{BASE_LIVE, BASE_ROOTS, BASE_WORDS, Base, Settings, rooted_text};
 use std::alloc::{AllocError, Global};
@@ -44,7 +44,7 @@ fn is_read(
     live: &[u64],
 ) -> Result<bool, Fault> {
     let read = read_image_by_threads(alloc, &mut FromRead::new(text), rt)?;
-    Ok(read.live() == live && read.roots() == roots && read.version() == 2)
+    Ok(read.live() == live && read.roots() == roots && read.version() == Version::Two)
 }
 
 fn is_decoded(

@@ -1,11 +1,12 @@
-//! Tests of the upgrade from version 1 to version 2.
+//! Tests of the upgrade to versions 2 and 3.
 use crate::answers::{are_right, is_text};
 use crate::checks::{equal, equal_at, equal_bytes, equal_words, holds};
 use crate::devices::{Full, Trickle};
 use crate::roots::text_with_roots;
 use crate::texts::base_text;
 use heap_image::{
-    Fault, FromRead, Image, Intake, Outlet, ToWrite, decode_by_threads, upgrade, upgrade_stream,
+    Fault, FromRead, Image, Intake, Outlet, ToWrite, Version, decode_by_threads, upgrade,
+    upgrade_stream, upgrade_to,
 };
 use heap_samples::{BASE_LIVE, BASE_WORDS, Base, Settings, image_text, rooted_text};
 use std::alloc::{AllocError, Global};
@@ -17,7 +18,7 @@ use std::thread::Threads;
 const ROOTS: [u64; 4] = [1, 6, 13, 21];
 
 /// Upgrades a stream, and returns the result and the bytes that are written.
-fn upgrade_bytes(alloc: Global, bytes: &[u8]) -> (Result<u32, Fault>, Vec<u8>) {
+pub fn upgrade_bytes(alloc: Global, bytes: &[u8]) -> (Result<u32, Fault>, Vec<u8>) {
     let mut writer = ToWrite::new(Vec::new(alloc));
     let answer = upgrade_stream(alloc, &mut FromRead::new(bytes), &mut writer);
     (answer, writer.into_inner())
@@ -156,6 +157,48 @@ fn is_refused(alloc: Global, back: &Image, text: &[u8], fault: Fault) -> Result<
     }
 }
 
+/// Whether an image is upgraded to this version, which has this text. Returns false also if memory runs out and the image
+/// isn't returned unchanged.
+fn is_upgraded_to(
+    alloc: Global,
+    threads: &(impl Threads + Sync),
+    version: Version,
+    old: &[u8],
+    new: &[u8],
+) -> Result<bool, Fault> {
+    match upgrade_to(alloc, decode_by_threads(alloc, old, threads)?, version) {
+        Ok(image) => is_text(alloc, &image, new),
+        Err((same, fault)) => is_refused(alloc, &same, old, fault),
+    }
+}
+
+/// Whether images of each version are upgraded to version 3, and stay in earlier ones.
+fn are_upgraded_to(
+    alloc: Global,
+    threads: &(impl Threads + Sync),
+    texts: &Texts,
+) -> Result<bool, Fault> {
+    let mut third = Vec::from_iter(alloc, texts.new.iter().copied())?;
+    if let Some(digit) = third.get_mut(7) {
+        *digit = b'3';
+    }
+    let (old, new, third) = (texts.old.as_slice(), texts.new.as_slice(), third.as_slice());
+    for (version, from, to) in [
+        (Version::One, old, old),
+        (Version::One, new, new),
+        (Version::Two, old, new),
+        (Version::Two, third, third),
+        (Version::Three, old, third),
+        (Version::Three, new, third),
+        (Version::Three, third, third),
+    ] {
+        if !is_upgraded_to(alloc, threads, version, from, to)? {
+            return Ok(false);
+        }
+    }
+    Ok(true)
+}
+
 /// Whether an image with roots is upgraded to itself, which allocates no memory.
 fn stays(alloc: Global, threads: &(impl Threads + Sync), texts: &Texts) -> Result<bool, Fault> {
     match upgrade(alloc, decode_by_threads(alloc, &texts.new, threads)?) {
@@ -181,11 +224,12 @@ fn is_written(alloc: Global, texts: &Texts) -> Result<bool, Fault> {
     }
 }
 
-/// Whether all three upgrades are right.
+/// Whether all upgrades are right.
 fn comes_through(alloc: Global, threads: &(impl Threads + Sync)) -> Result<bool, Fault> {
     let texts = both_texts(alloc)?;
     let is_right = is_upgraded(alloc, threads, &texts)? && is_written(alloc, &texts)?;
-    Ok(is_right && stays(alloc, threads, &texts)?)
+    let stays_right = is_right && are_upgraded_to(alloc, threads, &texts)?;
+    Ok(stays_right && stays(alloc, threads, &texts)?)
 }
 
 /// A script runs this with each allocation refused in turn.

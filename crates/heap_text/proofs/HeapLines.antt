@@ -138,6 +138,8 @@ pub record IsObjectLine (image : HeapImage) (here : ℕ) (todo line rest : List 
   pub refs_fit : AllByRecursion (λ w. w ≤ heap_words image) refs
   pub others_fit : AllByRecursion (λ w. w < 2 ^ 64) others
   pub inside : here + (1 + (length refs + length others)) ≤ heap_words image
+  pub size_fits : 1 + (length refs + length others) < 2 ^ 32
+  pub references_fit : length refs < 2 ^ 24
   pub end : end_of image here ≡ here + (1 + (length refs + length others))
   pub words : take (here + (1 + (length refs + length others))) image.words
       ≡ take here image.words ++ (object_header (1 + (length refs + length others)) (length refs) ∷ (refs ++ others))
@@ -162,7 +164,7 @@ module _ (image : HeapImage) (valid : IsValid image) where
       recursion_from_All (λ w. w < 2 ^ 64) (words_between image from n)
       (All-take (λ w. w < 2 ^ 64) n (drop from image.words) (All-drop (λ w. w < 2 ^ 64) from image.words valid.words_fit))
 
-  pub few_words : heap_words image ≤ 4194304
+  pub few_words : heap_words image ≤ 68719476736
   few_words = valid.limits.few_words
 
   -- the object at an address
@@ -256,6 +258,8 @@ module _ (image : HeapImage) (valid : IsValid image) where
         refs_fit = refs_low here sound points;
         others_fit = fits_between (here + 1 + references_at image here) (size_at image here - 1 - references_at image here);
         inside = omega (arith, size, sound.inside);
+        size_fits = omega (arith, size);
+        references_fit = omega (arith, refs_count here sound points);
         end = ap (λ (k : ℕ). here + k) (sym size);
         words = ap (λ (k : ℕ). take (here + k) image.words) size
             ∙ (object_words here sound points

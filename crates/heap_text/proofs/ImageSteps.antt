@@ -3,8 +3,11 @@ use Rattle.std.proofs.Common.{◌≡◌, ℕ, ◌^◌, ◌<◌, ◌≤◌, ◌�
 use Rattle.std.specs.Prelude.{if◌then◌else◌}
 use Rattle.std.proofs.lemmas.List.Concat.{flat_map-append}
 use Rattle.std.specs.Int.{w64, to_le_bytes}
+use Rattle.heap_image.specs.Version.{has_roots}
+use Rattle.heap_image.specs.declared.version.Version.{Version}
 use Rattle.heap_image.specs.HeapImage.{HeapImage, IsValid, AreRoots, heap_words, roots_or}
 use Rattle.heap_image.specs.ImageText.{front, numbers, text}
+use Rattle.heap_image.proofs.TextLaws.{valid_numbers}
 use Rattle.heap_text.specs.Parsing.{HasContents, AcceptsText}
 use Rattle.heap_text.specs.Words.{tail_of, words_of}
 use Rattle.heap_image.specs.declared.fault.Fault.{Fault}
@@ -42,8 +45,8 @@ pub tails_same : (b : Bool) (t r r' l l' : List ℕ) → t ≡ (if b then r else
 tails_same b t r r' l l' e p q = e ∙ (ap (λ (xs : List ℕ). if b then xs else l) p ∙ ap (λ (xs : List ℕ). if b then r' else xs) q)
 
 module _ (image : HeapImage) (heap : ParsedHeap) (p : HasContents image heap) where
-  tail_is : tail_of heap ≡ roots_or image.live image.roots
-  tail_is = go heap.is_rooted image.roots heap.live.items heap.roots.items image.live p.head.is_rooted p.live p.roots
+  tail_is : IsValid image → tail_of heap ≡ roots_or image.live image.roots
+  tail_is valid = go (has_roots heap.version) image.roots heap.live.items heap.roots.items image.live (ap has_roots p.head.version ∙ sym valid.versioned) p.live p.roots
     where
       go : (rooted : Bool) (roots : Option (List ℕ)) (live' roots' live : List ℕ) → rooted ≡ is_some roots → live' ≡ live → roots' ≡ roots_or [] roots
           → (if rooted then roots' else live') ≡ roots_or live roots
@@ -52,25 +55,21 @@ module _ (image : HeapImage) (heap : ParsedHeap) (p : HasContents image heap) wh
 
   pub tail_few : IsValid image → length (tail_of heap) < 2 ^ 32
   tail_few valid =
-      let most : length (roots_or image.live image.roots) ≤ heap_words image = go image.roots valid.rooted in
-      omega (arith, ap (λ (xs : List ℕ). length xs) tail_is, most, valid.limits.few_words)
-    where
-      go : (roots : Option (List ℕ)) → IfSome roots (AreRoots image) → length (roots_or image.live roots) ≤ heap_words image
-      go None r = valid.limits.few_live
-      go (Some roots) r = r.few
+      let most : length (roots_or image.live image.roots) < 2 ^ 32 = (valid_numbers image valid).counted in
+      omega (arith, ap (λ (xs : List ℕ). length xs) (tail_is valid), most)
 
-  pub bytes_are : (bytes array tail : List ℕ) → array ≡ front heap.is_rooted heap.region_log (length (tail_of heap)) heap.words.len heap.allowance
+  pub bytes_are : IsValid image → (bytes array tail : List ℕ) → array ≡ front heap.version heap.region_log (length (tail_of heap)) heap.words.len heap.allowance
       → tail ≡ tail_of heap → bytes ≡ array ++ numbers (words_of heap.words ++ tail) → bytes ≡ text image
-  bytes_are bytes array tail front_is same is =
+  bytes_are valid bytes array tail front_is same is =
       let T : List ℕ = roots_or image.live image.roots in
-      let tails : tail ≡ T = same ∙ tail_is in
-      let F : List ℕ = front (is_some image.roots) image.region_log (length T) (heap_words image) image.allowance in
+      let tails : tail ≡ T = same ∙ tail_is valid in
+      let F : List ℕ = front image.version image.region_log (length T) (heap_words image) image.allowance in
       let fronts : array ≡ F = front_is
-      ∙ (ap (λ (b : Bool). front b heap.region_log (length (tail_of heap)) heap.words.len heap.allowance) p.head.is_rooted
-      ∙ (ap (λ (k : ℕ). front (is_some image.roots) k (length (tail_of heap)) heap.words.len heap.allowance) p.head.region_log
-      ∙ (ap (λ (xs : List ℕ). front (is_some image.roots) image.region_log (length xs) heap.words.len heap.allowance) tail_is
-      ∙ (ap (λ (k : ℕ). front (is_some image.roots) image.region_log (length T) k heap.allowance) p.len
-      ∙ ap (λ (k : ℕ). front (is_some image.roots) image.region_log (length T) (heap_words image) k) p.head.allowance)))) in
+      ∙ (ap (λ (v : Version). front v heap.region_log (length (tail_of heap)) heap.words.len heap.allowance) p.head.version
+      ∙ (ap (λ (k : ℕ). front image.version k (length (tail_of heap)) heap.words.len heap.allowance) p.head.region_log
+      ∙ (ap (λ (xs : List ℕ). front image.version image.region_log (length xs) heap.words.len heap.allowance) (tail_is valid)
+      ∙ (ap (λ (k : ℕ). front image.version image.region_log (length T) k heap.allowance) p.len
+      ∙ ap (λ (k : ℕ). front image.version image.region_log (length T) (heap_words image) k) p.head.allowance)))) in
       let body : numbers (words_of heap.words ++ tail) ≡ numbers image.words ++ numbers T =
       flat_map-append (to_le_bytes w64) (words_of heap.words) tail
       ∙ (ap (λ (xs : List ℕ). numbers xs ++ numbers tail) p.words ∙ ap (λ (xs : List ℕ). numbers image.words ++ numbers xs) tails) in

@@ -63,22 +63,22 @@ numbers_part (w ∷ ws) fits =
     part_within (number_text w ++ flat_map number_text ws) (21 + 21 * length ws) (21 * suc (length ws))
     (part_append (number_text w) (flat_map number_text ws) 21 (21 * length ws) (number_part w fits.0) (numbers_part ws fits.1)) (omega arith)
 
-pub reference_part : (w : ℕ) → w ≤ 4194304 → IsPart (reference_text w) 21
+pub reference_part : (w : ℕ) → w ≤ 68719476736 → IsPart (reference_text w) 21
 reference_part zero few = record { short = omega arith; plain = refl }
 reference_part (suc n) few =
     let is : reference_text (suc n) ≡ codes " @" ++ decimal (suc n - 1) = reference_is (suc n) ∙ ap (λ (t : List ℕ). 32 ∷ t) (some_reference n) in
     subst (λ (t : List ℕ). IsPart t 21) (sym is)
-    (part_within (codes " @" ++ decimal (suc n - 1)) 9 21
-    (part_append (codes " @") (decimal (suc n - 1)) 2 7 (record { short = omega arith; plain = refl }) (decimal_within 7 (suc n - 1) (omega arith) (omega (arith, few)) (omega (arith, few))))
+    (part_within (codes " @" ++ decimal (suc n - 1)) 13 21
+    (part_append (codes " @") (decimal (suc n - 1)) 2 11 (record { short = omega arith; plain = refl }) (decimal_within 11 (suc n - 1) (omega arith) (omega (arith, few)) (omega (arith, few))))
     (omega arith))
 
-pub references_part_is : (len : ℕ) (ws : List ℕ) → len ≤ 4194304 → AllByRecursion (λ w. w ≤ len) ws → IsPart (flat_map reference_text ws) (21 * length ws)
+pub references_part_is : (len : ℕ) (ws : List ℕ) → len ≤ 68719476736 → AllByRecursion (λ w. w ≤ len) ws → IsPart (flat_map reference_text ws) (21 * length ws)
 references_part_is len [] few fits = record { short = omega arith; plain = refl }
 references_part_is len (w ∷ ws) few fits =
     part_within (reference_text w ++ flat_map reference_text ws) (21 + 21 * length ws) (21 * suc (length ws))
     (part_append (reference_text w) (flat_map reference_text ws) 21 (21 * length ws) (reference_part w (omega (arith, few, fits.0))) (references_part_is len ws few fits.1)) (omega arith)
 
-refs_part : (len : ℕ) (ws : List ℕ) → len ≤ 4194304 → AllByRecursion (λ w. w ≤ len) ws → IsPart (references_part ws) (5 + 21 * length ws)
+refs_part : (len : ℕ) (ws : List ℕ) → len ≤ 68719476736 → AllByRecursion (λ w. w ≤ len) ws → IsPart (references_part ws) (5 + 21 * length ws)
 refs_part len [] few fits = record { short = omega arith; plain = refl }
 refs_part len (w ∷ ws) few fits =
     part_append (codes " refs") (flat_map reference_text (w ∷ ws)) 5 (21 * length (w ∷ ws)) (record { short = omega arith; plain = refl }) (references_part_is len (w ∷ ws) few fits)
@@ -102,7 +102,7 @@ run_part ws fits some = elim (cases_Bool (all_equal ws)) [
 place_part : (a : ℕ) → a < 2 ^ 64 → IsPart (64 ∷ decimal a) 21
 place_part a few = part_append (codes "@") (decimal a) 1 20 (record { short = omega arith; plain = refl }) (decimal_part a few)
 
-pub object_line_part : (len a : ℕ) (refs others : List ℕ) → len ≤ 4194304 → AllByRecursion (λ w. w ≤ len) refs → AllByRecursion (λ w. w < 2 ^ 64) others
+pub object_line_part : (len a : ℕ) (refs others : List ℕ) → len ≤ 68719476736 → AllByRecursion (λ w. w ≤ len) refs → AllByRecursion (λ w. w < 2 ^ 64) others
     → a + (1 + (length refs + length others)) ≤ len → IsPart (object_line a refs others) (64 + 21 * len)
 object_line_part len a refs others few fits fits' inside =
     let size : ℕ = 1 + (length refs + length others) in
@@ -114,7 +114,7 @@ object_line_part len a refs others few fits fits' inside =
     (part_append (references_part refs) (data_part others) (5 + 21 * length refs) (5 + 21 * length others) (refs_part len refs few fits) (others_part others fits')))))
     (omega (arith, inside))
 
-pub dead_line_part : (len a : ℕ) (ws : List ℕ) → len ≤ 4194304 → AllByRecursion (λ w. w < 2 ^ 64) ws → a + length ws ≤ len → 0 < length ws → IsPart (dead_line a ws) (64 + 21 * len)
+pub dead_line_part : (len a : ℕ) (ws : List ℕ) → len ≤ 68719476736 → AllByRecursion (λ w. w < 2 ^ 64) ws → a + length ws ≤ len → 0 < length ws → IsPart (dead_line a ws) (64 + 21 * len)
 dead_line_part len a ws few fits inside some =
     part_within (dead_line a ws) (21 + (5 + (21 + (6 + 21 * length ws)))) (64 + 21 * len)
     (part_append (64 ∷ decimal a) (codes " dead" ++ (number_text (length ws) ++ dead_part ws)) 21 (5 + (21 + (6 + 21 * length ws))) (place_part a (omega (arith, inside, few)))
@@ -125,7 +125,7 @@ dead_line_part len a ws few fits inside some =
 pub front_line_part : (label : List ℕ) (n : ℕ) → IsPart label 20 → n < 2 ^ 64 → IsPart (label ++ decimal n) 64
 front_line_part label n p few = part_within (label ++ decimal n) 40 64 (part_append label (decimal n) 20 20 p (decimal_part n few)) (omega arith)
 
-pub roots_line_part : (len : ℕ) (roots : List ℕ) → len ≤ 4194304 → AllByRecursion (λ w. w ≤ len) roots → length roots ≤ len
+pub roots_line_part : (len : ℕ) (roots : List ℕ) → len ≤ 68719476736 → AllByRecursion (λ w. w ≤ len) roots → length roots ≤ len
     → IsPart (codes "roots" ++ flat_map reference_text roots) (64 + 21 * len)
 roots_line_part len roots few fits room =
     part_within (codes "roots" ++ flat_map reference_text roots) (5 + 21 * length roots) (64 + 21 * len)

@@ -67,12 +67,12 @@ reference_lines w few =
     let is : ended_lines (reference_text w) ≡ ended_lines (32 ∷ reference_word w) = ap ended_lines (reference_is w) in
     omega (arith, is, lines_cons 32 (reference_word w), token_lines (reference_word w) (reference_is_word w few))
 
-pub references_lines : (len : ℕ) (ws : List ℕ) → len ≤ 4194304 → AllByRecursion (λ w. w ≤ len) ws → ended_lines (flat_map reference_text ws) ≡ 0
+pub references_lines : (len : ℕ) (ws : List ℕ) → len ≤ 68719476736 → AllByRecursion (λ w. w ≤ len) ws → ended_lines (flat_map reference_text ws) ≡ 0
 references_lines len [] few fits = refl
 references_lines len (w ∷ ws) few fits =
     omega (arith, lines_append (reference_text w) (flat_map reference_text ws), reference_lines w (omega (arith, fits.0, few)), references_lines len ws few fits.1)
 
-pub references_part_lines : (len : ℕ) (ws : List ℕ) → len ≤ 4194304 → AllByRecursion (λ w. w ≤ len) ws → ended_lines (references_part ws) ≡ 0
+pub references_part_lines : (len : ℕ) (ws : List ℕ) → len ≤ 68719476736 → AllByRecursion (λ w. w ≤ len) ws → ended_lines (references_part ws) ≡ 0
 references_part_lines len [] few fits = refl
 references_part_lines len (w ∷ ws) few fits = omega (arith, lines_append (codes " refs") (flat_map reference_text (w ∷ ws)), references_lines len (w ∷ ws) few fits)
 

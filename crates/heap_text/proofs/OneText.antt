@@ -2,10 +2,13 @@
 use Rattle.std.proofs.Common.{◌≡◌, ◌≢◌, ℕ, zero, suc, ◌+◌, ◌-◌, ◌^◌, ◌<◌, ◌≤◌, ◌⊎◌, inl, inr, Bool, true, false, List, [], ◌∷◌, ◌++◌, codes, decimal, get_or, drop, length, refl, sym, ap, ◌∙◌, subst, arith, append_assoc, add-one, All, Option, None, Some, ext_get_or, IfSome, is_some, append-nil}
 use Rattle.std.specs.Prelude.{◌==◌, if◌then◌else◌, flat_map}
 use Rattle.std.specs.List.{range_with_len, list_all, AllAdjacentBelow, AllByRecursion}
-use Rattle.std.proofs.lemmas.Bool.{cases_lt, cases_Bool, and_parts, le-leb, lt-leb, eqb-true}
+use Rattle.std.proofs.lemmas.Bool.{cases_lt, cases_Bool, and_parts, le-leb, lt-leb, eqb-true, true≢false}
 use Rattle.std.proofs.lemmas.List.Elements.{recursion_from_All, All-head, All-tail}
 use Rattle.std.proofs.lemmas.Fmt.{decimal_injective}
 use Rattle.heap_image.specs.Header.{size_of, references_of, kind_of}
+use Rattle.heap_image.specs.Version.{has_roots, number_of}
+use Rattle.heap_image.specs.declared.version.Version.{Version}
+use Rattle.heap_image.specs.declared.version.Version.TheVariants.{One, Two, Three}
 use Rattle.heap_image.specs.HeapImage.{HeapImage, IsValid, AreRoots, roots_or, HasSoundHeader, heap_words, word_at, size_at, references_at, end_of, version_of}
 use Rattle.heap_text.specs.Text.{addresses_between, reference_text, number_text, number_line, roots_text, roots_line, references_text, numbers_text, object_text, are_equal, dead_words_text, dead_text, lines_from, text_of}
 use Rattle.heap_text.specs.Parsing.{LiesAhead}
@@ -383,17 +386,14 @@ number_line_unique name m n X Y few few' e =
     let both = decimal_unique m n (codes "\n" ++ X) (codes "\n" ++ Y) few few' (omega arith) (omega arith) (ap (drop 1) f) in
     (both.0, ap (drop 1) both.1)
 
-abbrev pub version_for : Option (List ℕ) → ℕ
-version_for roots = if is_some roots then 2 else 1
-
 abbrev pub line_of_roots : Option (List ℕ) → List ℕ
-line_of_roots roots = if version_for roots == 2 then roots_text (roots_or [] roots) else []
+line_of_roots roots = if is_some roots then roots_text (roots_or [] roots) else []
 
 roots_unique : (p q : Option (List ℕ)) → IfSome p (AllByRecursion (λ w. w < 2 ^ 64)) → IfSome q (AllByRecursion (λ w. w < 2 ^ 64))
-    → version_for p ≡ version_for q → (X Y : List ℕ) → line_of_roots p ++ X ≡ line_of_roots q ++ Y → (p ≡ q) × (X ≡ Y)
+    → is_some p ≡ is_some q → (X Y : List ℕ) → line_of_roots p ++ X ≡ line_of_roots q ++ Y → (p ≡ q) × (X ≡ Y)
 roots_unique None None f g v X Y e = (refl, e)
-roots_unique None (Some ys) f g v X Y e = absurd (omega (arith, v))
-roots_unique (Some xs) None f g v X Y e = absurd (omega (arith, v))
+roots_unique None (Some ys) f g v X Y e = absurd (true≢false (sym v))
+roots_unique (Some xs) None f g v X Y e = absurd (true≢false v)
 roots_unique (Some xs) (Some ys) f g v X Y e =
     let three : (a b c Z : List ℕ) → (a ++ (b ++ c)) ++ Z ≡ a ++ (b ++ (c ++ Z)) = λ a b c Z. append_assoc a (b ++ c) Z ∙ ap (λ (t : List ℕ). a ++ t) (append_assoc b c Z) in
     let both = cancel (codes "roots") _ _ (sym (three (codes "roots") (flat_map reference_text xs) (codes "\n") X) ∙ (e ∙ three (codes "roots") (flat_map reference_text ys) (codes "\n") Y)) in
@@ -411,18 +411,30 @@ pub ahead_of : (image : HeapImage) → IsValid image → LiesAhead image image.l
 ahead_of image valid = lies_ahead image 0 image.live (λ _. omega arith) (omega arith) valid.live_list.sound valid.live_list.apart
 
 pub version_few : (image : HeapImage) → version_of image < 2 ^ 64
-version_few image = go image.roots
+version_few image = go image.version
   where
-    go : (roots : Option (List ℕ)) → version_for roots < 2 ^ 64
-    go None = omega arith
-    go (Some _) = omega arith
+    go : (version : Version) → number_of version < 2 ^ 64
+    go One = omega arith
+    go Two = omega arith
+    go Three = omega arith
 
-image_same : (A B : HeapImage) → A.region_log ≡ B.region_log → A.allowance ≡ B.allowance → A.words ≡ B.words → A.live ≡ B.live → A.roots ≡ B.roots → A ≡ B
-image_same A B a b c d e = go A.region_log B.region_log A.allowance B.allowance A.words B.words A.live B.live A.roots B.roots a b c d e
+numbers_apart : (v w : Version) → number_of v ≡ number_of w → v ≡ w
+numbers_apart One One e = refl
+numbers_apart One Two e = absurd (omega (arith, e))
+numbers_apart One Three e = absurd (omega (arith, e))
+numbers_apart Two One e = absurd (omega (arith, e))
+numbers_apart Two Two e = refl
+numbers_apart Two Three e = absurd (omega (arith, e))
+numbers_apart Three One e = absurd (omega (arith, e))
+numbers_apart Three Two e = absurd (omega (arith, e))
+numbers_apart Three Three e = refl
+
+image_same : (A B : HeapImage) → A.version ≡ B.version → A.region_log ≡ B.region_log → A.allowance ≡ B.allowance → A.words ≡ B.words → A.live ≡ B.live → A.roots ≡ B.roots → A ≡ B
+image_same A B u a b c d e = go A.version B.version A.region_log B.region_log A.allowance B.allowance A.words B.words A.live B.live A.roots B.roots u a b c d e
   where
-    go : (k l m n : ℕ) (v w x y : List ℕ) (r s : Option (List ℕ)) → k ≡ l → m ≡ n → v ≡ w → x ≡ y → r ≡ s
-        → ◌≡◌ {A = HeapImage} (record { region_log = k; allowance = m; words = v; live = x; roots = r }) (record { region_log = l; allowance = n; words = w; live = y; roots = s })
-    go k l m n v w x y r s a b c d e = cc
+    go : (t t' : Version) (k l m n : ℕ) (v w x y : List ℕ) (r s : Option (List ℕ)) → t ≡ t' → k ≡ l → m ≡ n → v ≡ w → x ≡ y → r ≡ s
+        → ◌≡◌ {A = HeapImage} (record { version = t; region_log = k; allowance = m; words = v; live = x; roots = r }) (record { version = t'; region_log = l; allowance = n; words = w; live = y; roots = s })
+    go t t' k l m n v w x y r s u a b c d e = cc
 
 -- two valid images with one text are equal
 pub one_image : (A B : HeapImage) → IsValid A → IsValid B → text_of A ≡ text_of B → A ≡ B
@@ -442,7 +454,9 @@ one_image A B va vb e =
     let log = number_line_unique (codes "region-log") A.region_log B.region_log (wA ++ (aA ++ RA)) (wB ++ (aB ++ RB)) (omega (arith, va.limits.region_log_high)) (omega (arith, vb.limits.region_log_high)) version.1 in
     let len = number_line_unique (codes "words") (heap_words A) (heap_words B) (aA ++ RA) (aB ++ RB) (omega (arith, va.limits.few_words)) (omega (arith, vb.limits.few_words)) log.1 in
     let allowance = number_line_unique (codes "allowance") A.allowance B.allowance RA RB va.allowance_fits vb.allowance_fits len.1 in
-    let roots = roots_unique A.roots B.roots (roots_fit A va) (roots_fit B vb) version.0 (lines_from A 0 A.live) (lines_from B 0 B.live) allowance.1 in
+    let same : A.version ≡ B.version = numbers_apart A.version B.version version.0 in
+    let rooted : is_some A.roots ≡ is_some B.roots = va.versioned ∙ (ap has_roots same ∙ sym vb.versioned) in
+    let roots = roots_unique A.roots B.roots (roots_fit A va) (roots_fit B vb) rooted (lines_from A 0 A.live) (lines_from B 0 B.live) allowance.1 in
     let all = lines_unique A B va vb len.0 A.live B.live 0 (ahead_of A va) (ahead_of B vb) roots.1 in
     let words : A.words ≡ B.words = ext_get_or 0 A.words B.words len.0 (λ i l. all.1 i (omega arith) l) in
-    image_same A B log.0 allowance.0 words all.0 roots.0
+    image_same A B same log.0 allowance.0 words all.0 roots.0

@@ -6,6 +6,7 @@ use Rattle.std.proofs.lemmas.Bool.{cases_Bool, cases_lt, false≢true}
 use Rattle.std.proofs.lemmas.List.{take_all}
 use Rattle.std.proofs.lemmas.List.Elements.{recursion_from_All}
 use Rattle.heap_image.specs.Header.{object_header}
+use Rattle.heap_image.specs.Version.{has_roots}
 use Rattle.heap_image.specs.HeapImage.{HeapImage, IsValid, AreRoots, heap_words, end_of, size_at, references_at, roots_or, roots_of, version_of}
 use Rattle.heap_text.specs.Text.{number_line, reference_text, roots_text, object_text, dead_text, lines_from, text_of}
 use Rattle.heap_text.specs.TextLines.{ended_lines}
@@ -95,7 +96,7 @@ roots_line_is image line rest valid rooted one is =
 
 -- the words begin
 abbrev pub heap_begins : (image : HeapImage) (parser : LineParser) (text : List ℕ) → IsValid image → IsEmpty parser.heap.words parser.heap.live.items [] parser.follows_dead_run
-    → HasHead image parser.heap.is_rooted parser.heap.region_log parser.heap.allowance → parser.len ≡ heap_words image
+    → HasHead image parser.heap.version parser.heap.region_log parser.heap.allowance → parser.len ≡ heap_words image
     → parser.heap.roots.items ≡ roots_of image → text ≡ lines_from image 0 image.live → IsInHeap image parser text
 heap_begins image parser text valid empty head len roots is =
     record {
@@ -112,7 +113,7 @@ heap_begins image parser text valid empty head len roots is =
 
 -- without roots the words begin after the allowance
 pub plain_begins : (image : HeapImage) (parser : LineParser) (text : List ℕ) → IsValid image → HasNothing parser
-    → HasHead image parser.heap.is_rooted parser.heap.region_log parser.heap.allowance → parser.len ≡ heap_words image
+    → HasHead image parser.heap.version parser.heap.region_log parser.heap.allowance → parser.len ≡ heap_words image
     → is_some image.roots ≡ false → text ≡ after_allowance image → IsInHeap image parser text
 plain_begins image parser text valid empty head len plain is =
     heap_begins image parser text valid (record { words = empty.words; len = empty.len; live = empty.live; roots = refl; follows = empty.follows }) head len
@@ -121,14 +122,14 @@ plain_begins image parser text valid empty head len plain is =
 
 -- what comes after the allowance
 pub front_ends : (image : HeapImage) (parser : LineParser) (next : NextLine) (text : List ℕ) → IsValid image → HasNothing parser
-    → HasHead image parser.heap.is_rooted parser.heap.region_log parser.heap.allowance → parser.len ≡ heap_words image
-    → (parser.heap.is_rooted ≡ true → next ≡ Roots) → (parser.heap.is_rooted ≡ false → next ≡ Heap) → text ≡ after_allowance image → ExpectsAt next image parser text
+    → HasHead image parser.heap.version parser.heap.region_log parser.heap.allowance → parser.len ≡ heap_words image
+    → (has_roots parser.heap.version ≡ true → next ≡ Roots) → (has_roots parser.heap.version ≡ false → next ≡ Heap) → text ≡ after_allowance image → ExpectsAt next image parser text
 front_ends image parser next text valid empty head len rooted plain is = elim (cases_Bool (is_some image.roots)) [
   | inl some ↦
-      subst (λ (n : NextLine). ExpectsAt n image parser text) (sym (rooted (head.is_rooted ∙ some)))
+      subst (λ (n : NextLine). ExpectsAt n image parser text) (sym (rooted (ap has_roots head.version ∙ (sym valid.versioned ∙ some))))
       (record { empty = empty; head = head; len = len; rooted = some; rest = is })
   | inr none ↦
-      subst (λ (n : NextLine). ExpectsAt n image parser text) (sym (plain (head.is_rooted ∙ none)))
+      subst (λ (n : NextLine). ExpectsAt n image parser text) (sym (plain (ap has_roots head.version ∙ (sym valid.versioned ∙ none))))
       (plain_begins image parser text valid empty head len none is)
 ]
 
@@ -149,7 +150,7 @@ object_parsed image old new text line rest p l q len follows =
       words = q.words.words ∙ (ap (λ (t : List ℕ). t ++ ws) p.words ∙ (sym l.words ∙ ap (λ (k : ℕ). take k image.words) (sym at)));
       ahead = subst (LiesAhead image l.live) (sym end) l.ahead;
       follows = λ e. absurd (false≢true (sym follows ∙ e));
-      head = record { is_rooted = q.head.is_rooted ∙ p.head.is_rooted; region_log = q.head.region_log ∙ p.head.region_log; allowance = q.head.allowance ∙ p.head.allowance };
+      head = record { version = q.head.version ∙ p.head.version; region_log = q.head.region_log ∙ p.head.region_log; allowance = q.head.allowance ∙ p.head.allowance };
       len = len ∙ p.len;
       roots = q.head.roots ∙ p.roots;
       rest = l.rest_is ∙ ap (λ (k : ℕ). lines_from image k l.live) (sym end);
@@ -167,7 +168,7 @@ dead_parsed image old new text line rest p l q len =
       words = q.words.words ∙ (ap (λ (t : List ℕ). t ++ l.ws) p.words ∙ (sym l.words ∙ ap (λ (k : ℕ). take k image.words) (sym at)));
       ahead = subst (LiesAhead image p.todo) (sym at) l.ahead;
       follows = λ e. at;
-      head = record { is_rooted = q.head.is_rooted ∙ p.head.is_rooted; region_log = q.head.region_log ∙ p.head.region_log; allowance = q.head.allowance ∙ p.head.allowance };
+      head = record { version = q.head.version ∙ p.head.version; region_log = q.head.region_log ∙ p.head.region_log; allowance = q.head.allowance ∙ p.head.allowance };
       len = len ∙ p.len;
       roots = q.head.roots ∙ p.roots;
       rest = l.rest_is ∙ ap (λ (k : ℕ). lines_from image k p.todo) (sym at);

@@ -237,7 +237,7 @@ pub record IsNextData (left others token new : List ℕ) : Type 0 where
   pub some : has_some others ≡ true
   pub rest_is : new ≡ flat_map number_text others
 
-pub reference_next : (len : ℕ) (left others rest token new : List ℕ) → len ≤ 4194304 → AllByRecursion (λ w. w ≤ len) left
+pub reference_next : (len : ℕ) (left others rest token new : List ℕ) → len ≤ 68719476736 → AllByRecursion (λ w. w ≤ len) left
     → rest ≡ flat_map reference_text left ++ data_part others → (rest ≡ [] → ⊥) → GivesToken rest (Some token) new
     → IsNextReference len left others token new ⊎ IsNextData left others token new
 reference_next len [] [] rest token new few fits is none some = absurd (none is)
@@ -249,7 +249,7 @@ reference_next len (w ∷ more) others rest token new few fits is none some =
     (is ∙ references_front w more (data_part others)) in
     inl (record { word = w; more = more; left_is = refl; token_is = some_same token (reference_word w) both.0; rest_is = both.1; fits = fits.0 })
 
-pub references_step : (len : ℕ) (old now new : WordList) (rest rest' token : List ℕ) (word : ℕ) (refs others : List ℕ) → len ≤ 4194304
+pub references_step : (len : ℕ) (old now new : WordList) (rest rest' token : List ℕ) (word : ℕ) (refs others : List ℕ) → len ≤ 68719476736
     → AreReferences len old now rest refs others → (rest ≡ [] → ⊥) → GivesToken rest (Some token) rest' → ParsesReference len token (Some word)
     → (token ≡ codes "data" → ⊥) → old.len + length refs ≤ len → (now.len < len → HasPushed now new (word ∷ [])) → AreReferences len old new rest' refs others
 references_step len old now new rest rest' token word refs others few a none some parses no_data room push =
@@ -265,7 +265,7 @@ references_step len old now new rest rest' token word refs others few a none som
       | inr next ↦ absurd (no_data next.token_is)
     ]
 
-pub references_data : (len : ℕ) (old now : WordList) (rest rest' token : List ℕ) (refs others : List ℕ) (found : Option ℕ) → len ≤ 4194304
+pub references_data : (len : ℕ) (old now : WordList) (rest rest' token : List ℕ) (refs others : List ℕ) (found : Option ℕ) → len ≤ 68719476736
     → AreReferences len old now rest refs others → (rest ≡ [] → ⊥) → GivesToken rest (Some token) rest' → found ≡ None → ParsesReference len token found
     → HasPushed old now refs × IsNextData [] others token rest'
 references_data len old now rest rest' token refs others found few a none some missing parses =
@@ -278,7 +278,7 @@ references_data len old now rest rest' token refs others found few a none some m
       )
     ]
 
-reference_last : (len : ℕ) (left others rest new : List ℕ) (found : Option (List ℕ)) → len ≤ 4194304 → AllByRecursion (λ w. w ≤ len) left
+reference_last : (len : ℕ) (left others rest new : List ℕ) (found : Option (List ℕ)) → len ≤ 68719476736 → AllByRecursion (λ w. w ≤ len) left
     → rest ≡ flat_map reference_text left ++ data_part others → found ≡ None → GivesToken rest found new → (left ≡ []) × (others ≡ [])
 reference_last len [] [] rest new found few fits is missing some = (refl, refl)
 reference_last len [] (d ∷ ds) rest new found few fits is missing some =
@@ -287,7 +287,7 @@ reference_last len (w ∷ more) others rest new found few fits is missing some =
     absurd (none_some (reference_word w) (sym missing ∙ (some (reference_word w) (flat_map reference_text more ++ data_part others) (reference_is_word w (omega (arith, few, fits.0))) (references_after more others)
     (is ∙ references_front w more (data_part others))).0))
 
-pub references_end : (len : ℕ) (old now : WordList) (rest rest' : List ℕ) (refs others : List ℕ) (found : Option (List ℕ)) → len ≤ 4194304
+pub references_end : (len : ℕ) (old now : WordList) (rest rest' : List ℕ) (refs others : List ℕ) (found : Option (List ℕ)) → len ≤ 68719476736
     → AreReferences len old now rest refs others → found ≡ None → GivesToken rest found rest' → (rest ≡ [] → rest' ≡ [])
     → (false ≡ has_some others) × HasPushed old now refs × (rest' ≡ flat_map number_text others)
 references_end len old now rest rest' refs others found few a missing some stays =
@@ -379,7 +379,7 @@ pub record IsCounting (len : ℕ) (rest refs others : List ℕ) (count : ℕ) : 
   pub remains : rest ≡ flat_map reference_text left ++ data_part others
   pub counted : count + length left ≡ length refs
 
-pub counting_step : (len : ℕ) (rest rest' token refs others : List ℕ) (count : ℕ) → len ≤ 4194304 → IsCounting len rest refs others count
+pub counting_step : (len : ℕ) (rest rest' token refs others : List ℕ) (count : ℕ) → len ≤ 68719476736 → IsCounting len rest refs others count
     → (rest ≡ [] → ⊥) → GivesToken rest (Some token) rest' → (token ≡ codes "data" → ⊥) → IsCounting len rest' refs others (count + 1)
 counting_step len rest rest' token refs others count few i none some no_data =
     elim (reference_next len i.left others rest token rest' few i.fits i.remains none some) [
@@ -394,7 +394,7 @@ counting_step len rest rest' token refs others count few i none some no_data =
       | inr next ↦ absurd (no_data next.token_is)
     ]
 
-pub counting_data : (len : ℕ) (rest rest' token refs others : List ℕ) (count : ℕ) → len ≤ 4194304 → IsCounting len rest refs others count
+pub counting_data : (len : ℕ) (rest rest' token refs others : List ℕ) (count : ℕ) → len ≤ 68719476736 → IsCounting len rest refs others count
     → (rest ≡ [] → ⊥) → GivesToken rest (Some token) rest' → token ≡ codes "data" → count ≡ length refs
 counting_data len rest rest' token refs others count few i none some is_data =
     elim (reference_next len i.left others rest token rest' few i.fits i.remains none some) [
@@ -404,7 +404,7 @@ counting_data len rest rest' token refs others count few i none some is_data =
           omega (arith, empty, i.counted)
     ]
 
-pub counting_end : (len : ℕ) (rest rest' refs others : List ℕ) (count : ℕ) (found : Option (List ℕ)) → len ≤ 4194304 → IsCounting len rest refs others count
+pub counting_end : (len : ℕ) (rest rest' refs others : List ℕ) (count : ℕ) (found : Option (List ℕ)) → len ≤ 68719476736 → IsCounting len rest refs others count
     → found ≡ None → GivesToken rest found rest' → count ≡ length refs
 counting_end len rest rest' refs others count found few i missing some =
     let last = reference_last len i.left others rest rest' found few i.fits i.remains missing some in
@@ -514,7 +514,7 @@ pub roots_begin : (len : ℕ) (now rest roots : List ℕ) → AllByRecursion (λ
 roots_begin len now rest roots fits empty is =
     record { left = roots; fits = fits; remains = is ∙ sym (append-nil (flat_map reference_text roots)); whole = ap (λ (t : List ℕ). t ++ roots) (sym empty) }
 
-pub roots_step : (len : ℕ) (now new rest rest' token roots : List ℕ) (root : ℕ) → len ≤ 4194304 → AreRootsLeft len now rest roots → (rest ≡ [] → ⊥)
+pub roots_step : (len : ℕ) (now new rest rest' token roots : List ℕ) (root : ℕ) → len ≤ 68719476736 → AreRootsLeft len now rest roots → (rest ≡ [] → ⊥)
     → GivesToken rest (Some token) rest' → ParsesReference len token (Some root) → length roots ≤ len → (length now ≤ len → new ≡ now ++ (root ∷ [])) → AreRootsLeft len new rest' roots
 roots_step len now new rest rest' token roots root few p none some parses room push =
     elim (reference_next len p.left [] rest token rest' few p.fits p.remains none some) [
@@ -531,7 +531,7 @@ roots_step len now new rest rest' token roots root few p none some parses room p
       | inr next ↦ let no : false ≡ true = next.some in absurd (true_not_false (sym no))
     ]
 
-pub roots_wrong : (len : ℕ) (now rest rest' token roots : List ℕ) (found : Option ℕ) → len ≤ 4194304 → AreRootsLeft len now rest roots → (rest ≡ [] → ⊥)
+pub roots_wrong : (len : ℕ) (now rest rest' token roots : List ℕ) (found : Option ℕ) → len ≤ 68719476736 → AreRootsLeft len now rest roots → (rest ≡ [] → ⊥)
     → GivesToken rest (Some token) rest' → found ≡ None → ParsesReference len token found → ⊥
 roots_wrong len now rest rest' token roots found few p none some missing parses =
     elim (reference_next len p.left [] rest token rest' few p.fits p.remains none some) [
@@ -539,7 +539,7 @@ roots_wrong len now rest rest' token roots found few p none some missing parses 
       | inr next ↦ let no : false ≡ true = next.some in true_not_false (sym no)
     ]
 
-pub roots_end : (len : ℕ) (now rest rest' roots : List ℕ) (found : Option (List ℕ)) → len ≤ 4194304 → AreRootsLeft len now rest roots → found ≡ None
+pub roots_end : (len : ℕ) (now rest rest' roots : List ℕ) (found : Option (List ℕ)) → len ≤ 68719476736 → AreRootsLeft len now rest roots → found ≡ None
     → GivesToken rest found rest' → now ≡ roots
 roots_end len now rest rest' roots found few p missing some =
     let last = reference_last len p.left [] rest rest' found few p.fits p.remains missing some in

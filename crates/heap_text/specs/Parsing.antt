@@ -2,6 +2,7 @@
 use Rattle.std.specs.Prelude.{◌≡◌, ⊤, ℕ, ◌≤◌, Bool, true, false, List, [], ◌∷◌, ◌++◌, codes, take, drop, Result, Ok, Err}
 use Rattle.std.specs.Option.{is_some}
 use Rattle.heap_image.specs.HeapImage.{HeapImage, HasSoundHeader, heap_words, end_of, roots_of}
+use Rattle.heap_image.specs.declared.version.Version.{Version as ImageVersion}
 use Rattle.heap_text.specs.Text.{number_line, roots_line, lines_from, text_of}
 use Rattle.heap_text.specs.TextLines.{ended_lines}
 use Rattle.heap_text.specs.Words.{words_of}
@@ -71,8 +72,8 @@ abbrev pub HasNothing : LineParser → Type 0
 HasNothing parser = IsEmpty parser.heap.words parser.heap.live.items parser.heap.roots.items parser.follows_dead_run
 
 -- version, region log and allowance are those of the image
-pub record HasHead (image : HeapImage) (rooted : Bool) (log most : ℕ) : Type 0 where
-  pub is_rooted : rooted ≡ is_some image.roots
+pub record HasHead (image : HeapImage) (v : ImageVersion) (log most : ℕ) : Type 0 where
+  pub version : v ≡ image.version
   pub region_log : log ≡ image.region_log
   pub allowance : most ≡ image.allowance
 
@@ -82,25 +83,25 @@ pub record IsAtVersion (image : HeapImage) (parser : LineParser) (text : List �
 
 pub record IsAtRegionLog (image : HeapImage) (parser : LineParser) (text : List ℕ) : Type 0 where
   pub empty : HasNothing parser
-  pub is_rooted : parser.heap.is_rooted ≡ is_some image.roots
+  pub version : parser.heap.version ≡ image.version
   pub rest : text ≡ after_version image
 
 pub record IsAtWords (image : HeapImage) (parser : LineParser) (text : List ℕ) : Type 0 where
   pub empty : HasNothing parser
-  pub is_rooted : parser.heap.is_rooted ≡ is_some image.roots
+  pub version : parser.heap.version ≡ image.version
   pub region_log : parser.heap.region_log ≡ image.region_log
   pub rest : text ≡ after_region_log image
 
 pub record IsAtAllowance (image : HeapImage) (parser : LineParser) (text : List ℕ) : Type 0 where
   pub empty : HasNothing parser
-  pub is_rooted : parser.heap.is_rooted ≡ is_some image.roots
+  pub version : parser.heap.version ≡ image.version
   pub region_log : parser.heap.region_log ≡ image.region_log
   pub len : parser.len ≡ heap_words image
   pub rest : text ≡ after_words image
 
 pub record IsAtRoots (image : HeapImage) (parser : LineParser) (text : List ℕ) : Type 0 where
   pub empty : HasNothing parser
-  pub head : HasHead image parser.heap.is_rooted parser.heap.region_log parser.heap.allowance
+  pub head : HasHead image parser.heap.version parser.heap.region_log parser.heap.allowance
   pub len : parser.len ≡ heap_words image
   pub rooted : is_some image.roots ≡ true
   pub rest : text ≡ after_allowance image
@@ -112,7 +113,7 @@ pub record IsInHeap (image : HeapImage) (parser : LineParser) (text : List ℕ) 
   pub words : words_of parser.heap.words ≡ take parser.heap.words.len image.words
   pub ahead : LiesAhead image todo parser.heap.words.len
   pub follows : parser.follows_dead_run ≡ true → parser.heap.words.len ≡ next_live image todo
-  pub head : HasHead image parser.heap.is_rooted parser.heap.region_log parser.heap.allowance
+  pub head : HasHead image parser.heap.version parser.heap.region_log parser.heap.allowance
   pub len : parser.len ≡ heap_words image
   pub roots : parser.heap.roots.items ≡ roots_of image
   pub rest : text ≡ lines_from image parser.heap.words.len todo
@@ -131,7 +132,7 @@ Expects image parser text = ExpectsAt parser.next image parser text
 
 -- all of an image is parsed
 pub record HasContents (image : HeapImage) (heap : ParsedHeap) : Type 0 where
-  pub head : HasHead image heap.is_rooted heap.region_log heap.allowance
+  pub head : HasHead image heap.version heap.region_log heap.allowance
   pub words : words_of heap.words ≡ image.words
   pub len : heap.words.len ≡ heap_words image
   pub live : heap.live.items ≡ image.live

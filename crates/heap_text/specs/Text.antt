@@ -1,6 +1,7 @@
 -- The text of a heap: a head, and then a line for each live object and each run of dead words.
 use Rattle.std.specs.Prelude.{ℕ, ◌+◌, ◌-◌, nat_le, ◌==◌, Bool, if◌then◌else◌, List, [], ◌∷◌, ◌++◌, codes, decimal, flat_map}
 use Rattle.std.specs.List.{range_with_len, list_all}
+use Rattle.std.specs.Option.{is_some}
 use Rattle.heap_image.specs.HeapImage.{HeapImage, version_of, roots_of, heap_words, word_at, size_at, references_at, end_of}
 
 -- the addresses from one up to another
@@ -23,7 +24,7 @@ abbrev pub roots_text : List ℕ → List ℕ
 roots_text roots = codes "roots" ++ (flat_map reference_text roots ++ codes "\n")
 
 module _ (image : HeapImage) where
-  -- the lines before the words: version, region log, number of words, allowance, and in version 2 the roots
+  -- the lines before the words: version, region log, number of words, allowance, and the roots where the version has them
   abbrev pub front_text : List ℕ
   front_text = number_line (codes "heap version") (version_of image)
       ++ (number_line (codes "region-log") image.region_log
@@ -31,7 +32,7 @@ module _ (image : HeapImage) where
       ++ number_line (codes "allowance") image.allowance))
 
   abbrev pub roots_line : List ℕ
-  roots_line = if version_of image == 2 then roots_text (roots_of image) else []
+  roots_line = if is_some image.roots then roots_text (roots_of image) else []
 
   -- the words from one address up to another as references after their name, if there are any
   abbrev pub references_text : ℕ → ℕ → List ℕ

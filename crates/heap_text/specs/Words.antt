@@ -1,6 +1,7 @@
 -- The words that a parser has so far, and the parts of an object's line.
 use Rattle.std.specs.Prelude.{◌≡◌, ⊤, ℕ, ◌+◌, length, List, [], ◌∷◌, ◌++◌, codes, flat_map, ◌==◌, if◌then◌else◌, slice_index, Result, Ok, Err, Bool, true, false}
 use Rattle.std.specs.List.{list_all}
+use Rattle.heap_image.specs.Version.{has_roots}
 use Rattle.heap_text.specs.Text.{number_text, reference_text}
 use Rattle.heap_text.specs.declared.parsed_heap.ParsedHeap.{ParsedHeap}
 use Rattle.heap_text.specs.declared.word_list.WordList.{WordList}
@@ -38,11 +39,11 @@ pub record HasPushed (old new : WordList) (ws : List ℕ) : Type 0 where
 
 -- the numbers after the words of an image: the roots, or the live objects if it has none
 abbrev pub tail_of : ParsedHeap → List ℕ
-tail_of heap = if heap.is_rooted then heap.roots.items else heap.live.items
+tail_of heap = if has_roots heap.version then heap.roots.items else heap.live.items
 
 -- the head and the roots stay
 pub record HasSameHead (old new : ParsedHeap) : Type 0 where
-  pub is_rooted : new.is_rooted ≡ old.is_rooted
+  pub version : new.version ≡ old.version
   pub region_log : new.region_log ≡ old.region_log
   pub allowance : new.allowance ≡ old.allowance
   pub roots : new.roots.items ≡ old.roots.items

@@ -62,13 +62,13 @@ fn build_image(alloc: Global, heap: ParsedHeap, text: &[u8]) -> Result<Image, Te
 {
     let front = heap.front();
     let ParsedHeap {
-        is_rooted,
+        version,
         words,
         live,
         roots,
         ..
     } = heap;
-    let tail = numbers_after_words(is_rooted, roots.as_slice(), live.as_slice());
+    let tail = numbers_after_words(version, roots.as_slice(), live.as_slice());
     let bytes = ImageBytes::new(alloc, front, words, tail)?;
     let image = decode_heap(alloc, bytes, text)?;
     check_live_objects(text, live.as_slice(), image.live())?;

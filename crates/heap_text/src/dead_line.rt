@@ -14,7 +14,7 @@ impl ParsedHeap {
     /// Pushes the words of the next dead run, in a heap of `len` words.
     pub(crate) fn parse_dead(&mut self, len: u64, mut tokens: Tokens<'_>) -> Result<(), LineError>
         requires left { self.old.words.len < len }
-        requires few { len ≤ 4194304 }
+        requires few { len ≤ 68719476736 }
         ensures accepts { (ws : List ℕ) → AllByRecursion (λ w. w < 2 ^ 64) ws → 0 < length ws
             → tokens.entry.rest.now ≡ number_text (length ws) ++ dead_part ws → self.old.words.len + length ws ≤ len
             → Accepts result (λ _. HasParsed self.old self.new ws []) }
@@ -46,7 +46,7 @@ impl WordList {
         count: u64,
         mut tokens: Tokens<'_>,
     ) -> Result<(), LineError>
-        requires { len ≤ 4194304 }
+        requires { len ≤ 68719476736 }
         ensures accepts { (w : ℕ) → w < 2 ^ 64 → tokens.entry.rest.now ≡ number_text w → self.old.len + count ≤ len
             → Accepts result (λ _. HasPushed self.old self.new (replicate count w)) }
     {
@@ -69,7 +69,7 @@ impl WordList {
         count: u64,
         tokens: Tokens<'_>,
     ) -> Result<(), LineError>
-        requires { len ≤ 4194304 }
+        requires { len ≤ 68719476736 }
         ensures accepts { (ws : List ℕ) → AllByRecursion (λ w. w < 2 ^ 64) ws → 0 < length ws → all_equal ws ≡ false
             → tokens.entry.rest.now ≡ flat_map number_text ws → count ≡ length ws → self.old.len + length ws ≤ len
             → Accepts result (λ _. HasPushed self.old self.new ws) }

@@ -9,18 +9,18 @@ pub enum Expected {
     #[error("a newline at the end of the line")]
     Newline,
     /// `heap version`.
-    #[error("`heap version 1` or `heap version 2`")]
+    #[error("`heap version 1`, `heap version 2` or `heap version 3`")]
     Version,
-    /// `region-log`.
-    #[error("`region-log K`, where K is 3 to 16")]
-    RegionLog,
-    /// `words`.
-    #[error("`words N`, where N is 1 to 4194304 and makes whole regions, 16384 at most")]
-    Words,
+    /// `region-log`, with the greatest that the version allows.
+    #[error("`region-log K`, where K is 3 to {0}")]
+    RegionLog(u32),
+    /// `words`, with the most words and the most regions that the version allows.
+    #[error("`words N`, where N is 1 to {0} and makes whole regions, {1} at most")]
+    Words(u64, u64),
     /// `allowance`.
     #[error("`allowance M`, where M is a number below 2^64")]
     Allowance,
-    /// `roots`, in version 2.
+    /// `roots`, where the version has them.
     #[error("`roots`, and behind it `null` or `@` and an address for each root")]
     Roots,
     /// No more roots than the heap has words.
@@ -35,6 +35,9 @@ pub enum Expected {
     /// The size of an object.
     #[error("the size of the object, header included: 1 to {0}")]
     Size(u64),
+    /// No more references than the header of an object can count.
+    #[error("{0} references at most")]
+    FewReferences(u64),
     /// The words of an object.
     #[error("`refs` or `data` behind the size")]
     Fields,

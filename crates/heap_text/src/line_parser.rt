@@ -1,6 +1,7 @@
 //! Parses a text line by line.
 ghost use Rattle.std.specs.Prelude.{◌≡◌, ◌<◌, ◌≤◌, ◌++◌, ◌∷◌, ℕ, Bool, true, false, Some, IsTrue, if◌then◌else◌, codes, decimal};
-ghost use Rattle.heap_image.specs.HeapImage.{IsWithinLimits};
+ghost use Rattle.heap_image.specs.HeapImage.{HeapImage, IsWithinLimits, version_of};
+ghost use Rattle.heap_image.specs.Version.{Allows, has_roots, max_region_log};
 ghost use Rattle.heap_text.specs.declared.next_line.NextLine.TheVariants.{Roots, Heap};
 
 use crate::expected::Expected;
@@ -9,7 +10,8 @@ use crate::next_line::NextLine;
 use crate::parsed_heap::ParsedHeap;
 use crate::roots_line::parse_roots;
 use crate::tokens::{Tokens, parse_address, parse_labelled};
-use heap_image::limits::{MAX_HEAP_WORDS, MAX_REGION_LOG, MAX_REGIONS, MIN_REGION_LOG};
+use heap_image::Version;
+use heap_image::limits::MIN_REGION_LOG;
 use std::alloc::Global;
 
 /// Parses one line after the other, each without its newline.
@@ -22,7 +24,7 @@ pub(crate) struct LineParser {
     len: u64,
     /// Whether the line before is a dead run.
     follows_dead_run: bool,
-    ghost few: { len ≤ 4194304 },
+    ghost few: { len ≤ 68719476736 },
 }
 
 impl LineParser {
@@ -79,8 +81,8 @@ impl LineParser {
     {
         match self.next {
             NextLine::Version => Err(Expected::Version),
-            NextLine::RegionLog => Err(Expected::RegionLog),
-            NextLine::Words => Err(Expected::Words),
+            NextLine::RegionLog => Err(self.heap.expected_region_log()),
+            NextLine::Words => Err(self.heap.expected_words()),
             NextLine::Allowance => Err(Expected::Allowance),
             NextLine::Roots => Err(Expected::Roots),
             NextLine::Heap => self.finish_heap(),
@@ -102,10 +104,10 @@ impl LineParser {
         ensures { (image : HeapImage) (rest : List ℕ) → IsAtVersion image self.old (line.now ++ (10 ∷ rest)) → ended_lines line.now ≡ 0
             → Accepts result (λ _. Expects image self.new rest) }
     {
-        let Some(is_rooted) = parse_version_line(line) else {
+        let Some(version) = parse_version_line(line) else {
             return Err(LineError::Expected(Expected::Version));
         };
-        self.heap.is_rooted = is_rooted;
+        self.heap.version = version;
         self.next = NextLine::RegionLog;
         Ok(())
     }
@@ -115,10 +117,10 @@ impl LineParser {
             → ended_lines line.now ≡ 0 → Accepts result (λ _. Expects image self.new rest) }
     {
         let Some(log) = parse_labelled(line, b"region-log ".as_slice()) else {
-            return Err(LineError::Expected(Expected::RegionLog));
+            return Err(LineError::Expected(self.heap.expected_region_log()));
         };
-        if !is_region_log(log) {
-            return Err(LineError::Expected(Expected::RegionLog));
+        if !is_region_log(self.heap.version, log) {
+            return Err(LineError::Expected(self.heap.expected_region_log()));
         }
         self.heap.region_log = log as u32;
         self.next = NextLine::Words;
@@ -130,10 +132,10 @@ impl LineParser {
             → ended_lines line.now ≡ 0 → Accepts result (λ _. Expects image self.new rest) }
     {
         let Some(len) = parse_labelled(line, b"words ".as_slice()) else {
-            return Err(LineError::Expected(Expected::Words));
+            return Err(LineError::Expected(self.heap.expected_words()));
         };
-        if !is_heap_size(len, self.heap.region_log) {
-            return Err(LineError::Expected(Expected::Words));
+        if !is_heap_size(self.heap.version, len, self.heap.region_log) {
+            return Err(LineError::Expected(self.heap.expected_words()));
         }
         self.len = len;
         self.next = NextLine::Allowance;
@@ -148,7 +150,7 @@ impl LineParser {
             return Err(LineError::Expected(Expected::Allowance));
         };
         self.heap.allowance = allowance;
-        self.next = line_after_allowance(self.heap.is_rooted);
+        self.next = line_after_allowance(self.heap.version);
         Ok(())
     }
 
@@ -196,6 +198,7 @@ impl LineParser {
         ensures accepts { (refs others : List ℕ) → AllByRecursion (λ w. w ≤ self.old.len) refs → AllByRecursion (λ w. w < 2 ^ 64) others
             → tokens.entry.rest.now ≡ number_text (1 + (length refs + length others)) ++ (references_part refs ++ data_part others)
             → self.old.heap.words.len + (1 + (length refs + length others)) ≤ self.old.len
+            → 1 + (length refs + length others) < 2 ^ 32 → length refs < 2 ^ 24
             → Accepts result (λ _. HasParsed self.old.heap self.new.heap
             (object_header (1 + (length refs + length others)) (length refs) ∷ (refs ++ others)) (self.old.heap.words.len ∷ [])) }
         ensures next { self.new.next ≡ self.old.next }
@@ -226,13 +229,14 @@ impl LineParser {
     }
 }
 
-/// Whether the text has roots, by its first line.
-fn parse_version_line(line: &[u8]) -> Option<bool>
-    ensures { (rooted : Bool) → line.now ≡ codes "heap version " ++ decimal (if rooted then 2 else 1) → result ≡ Some rooted }
+/// The version, by the first line.
+fn parse_version_line(line: &[u8]) -> Option<Version>
+    ensures { (image : HeapImage) → line.now ≡ codes "heap version " ++ decimal (version_of image) → result ≡ Some image.version }
 {
     match parse_labelled(line, b"heap version ".as_slice()) {
-        Some(1) => Some(false),
-        Some(2) => Some(true),
+        Some(1) => Some(Version::One),
+        Some(2) => Some(Version::Two),
+        Some(3) => Some(Version::Three),
         _ => None,
     }
 }
@@ -245,33 +249,33 @@ fn is_address(token: &[u8], address: u64) -> bool
 }
 
 /// The line after that of the allowance.
-fn line_after_allowance(is_rooted: bool) -> NextLine
-    ensures rooted { is_rooted ≡ true → result ≡ Roots }
-    ensures plain { is_rooted ≡ false → result ≡ Heap }
+fn line_after_allowance(version: Version) -> NextLine
+    ensures rooted { has_roots version ≡ true → result ≡ Roots }
+    ensures plain { has_roots version ≡ false → result ≡ Heap }
 {
-    if is_rooted {
+    if version.has_roots() {
         NextLine::Roots
     } else {
         NextLine::Heap
     }
 }
 
-/// Whether regions may have 2 to the power of `log` words.
-fn is_region_log(log: u64) -> bool
-    ensures within { IsTrue result → log ≤ 16 }
-    ensures all { 3 ≤ log → log ≤ 16 → result ≡ true }
+/// Whether regions may have 2 to the power of `log` words in this version.
+fn is_region_log(version: Version, log: u64) -> bool
+    ensures within { IsTrue result → log ≤ 20 }
+    ensures all { 3 ≤ log → log ≤ max_region_log version → result ≡ true }
 {
-    u64::from(MIN_REGION_LOG) <= log && log <= u64::from(MAX_REGION_LOG)
+    u64::from(MIN_REGION_LOG) <= log && log <= u64::from(version.max_region_log())
 }
 
-/// Whether `len` words are whole regions, and their number is allowed.
-fn is_heap_size(len: u64, region_log: u32) -> bool
-    ensures within { IsTrue result → len ≤ 4194304 }
-    ensures all { (count : ℕ) → IsWithinLimits region_log len count → result ≡ true }
+/// Whether `len` words are whole regions, and this version allows their number.
+fn is_heap_size(version: Version, len: u64, region_log: u32) -> bool
+    ensures within { IsTrue result → len ≤ 68719476736 }
+    ensures all { (count : ℕ) → IsWithinLimits region_log len count → Allows version region_log len → result ≡ true }
 {
-    let region_words = 1u64 << region_log.min(MAX_REGION_LOG);
+    let region_words = 1u64 << region_log.min(20);
     1 <= len
-        && len <= MAX_HEAP_WORDS
+        && len <= version.max_words()
         && len % region_words == 0
-        && len / region_words <= MAX_REGIONS
+        && len / region_words <= version.max_regions()
 }

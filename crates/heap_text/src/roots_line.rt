@@ -15,7 +15,7 @@ pub(crate) fn parse_roots(
     len: u64,
     mut tokens: Tokens<'_>,
 ) -> Result<(), LineError>
-    requires few { len ≤ 4194304 }
+    requires few { len ≤ 68719476736 }
     ensures accepts { (all : List ℕ) → AllByRecursion (λ w. w ≤ len) all → length all ≤ len → roots.old.items ≡ []
         → tokens.entry.rest.now ≡ flat_map reference_text all → Accepts result (λ _. roots.new.items ≡ all) }
 {

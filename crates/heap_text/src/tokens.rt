@@ -64,7 +64,7 @@ impl<'a> Tokens<'a> {
 
     /// Returns the reference of the next token in a heap of `len` words, or `None` if that is no reference or there is none.
     pub(crate) fn next_reference(&mut self, len: u64) -> Option<u64>
-        requires { len ≤ 4194304 }
+        requires { len ≤ 68719476736 }
         ensures { (w : ℕ) (rest : List ℕ) → w ≤ len → IsAfterToken rest → self.old.rest.now ≡ reference_text w ++ rest
             → (result ≡ Some w) × (self.new.rest.now ≡ rest) }
     {
@@ -76,7 +76,7 @@ impl<'a> Tokens<'a> {
 
     /// Returns the number of references after `refs`, up to `data` or the end of the line, or 0 if another token comes first.
     pub(crate) fn count_references(&self) -> u64
-        ensures { (len : ℕ) (refs others : List ℕ) → len ≤ 4194304 → AllByRecursion (λ w. w ≤ len) refs
+        ensures { (len : ℕ) (refs others : List ℕ) → len ≤ 68719476736 → AllByRecursion (λ w. w ≤ len) refs
             → self.now.rest.now ≡ references_part refs ++ data_part others → result ≡ length refs }
     {
         let mut tokens = Tokens { rest: self.rest };
@@ -91,7 +91,7 @@ impl<'a> Tokens<'a> {
 
     /// Returns the number of tokens up to `data` or the end of the line.
     fn count_to_data(mut self) -> u64
-        ensures { (len : ℕ) (refs others : List ℕ) → len ≤ 4194304 → AllByRecursion (λ w. w ≤ len) refs
+        ensures { (len : ℕ) (refs others : List ℕ) → len ≤ 68719476736 → AllByRecursion (λ w. w ≤ len) refs
             → self.entry.rest.now ≡ flat_map reference_text refs ++ data_part others → result ≡ length refs }
     {
         let mut count = 0;

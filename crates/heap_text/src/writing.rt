@@ -32,7 +32,7 @@ pub(crate) fn write_text_with_capacity(
 fn write_front(text: &mut String, image: &Image) -> Result<(), AllocError>
     ensures { OnOk result (string_bytes text.new ≡ string_bytes text.old ++ front_text image.now) }
 {
-    write_line(text, "heap version", u64::from(image.version()))?;
+    write_line(text, "heap version", u64::from(image.version().number()))?;
     write_line(text, "region-log", u64::from(image.region_log()))?;
     write_line(text, "words", image.len())?;
     write_line(text, "allowance", image.allowance())?;
@@ -46,11 +46,11 @@ fn write_line(text: &mut String, name: &str, number: u64) -> Result<(), AllocErr
     writeln!(text, "{name} {number}")
 }
 
-/// Appends the line of the roots, in version 2.
+/// Appends the line of the roots, where the version has them.
 fn write_roots_line(text: &mut String, image: &Image) -> Result<(), AllocError>
     ensures { OnOk result (string_bytes text.new ≡ string_bytes text.old ++ roots_line image.now) }
 {
-    if image.version() == 2 {
+    if image.version().has_roots() {
         write_roots(text, image.roots())
     } else {
         Ok(())

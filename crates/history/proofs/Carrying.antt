@@ -3,7 +3,7 @@ use Rattle.std.proofs.Common.{◌≡◌, ℕ, ◌+◌, ◌-◌, ◌<◌, ◌≤�
 use Rattle.std.specs.Prelude.{MatchOption, ◌&&◌, ◌||◌, not, nat_lt, nat_le, slice_index, slice_index_or}
 use Rattle.std.specs.List.{list_any}
 use Rattle.std.specs.Option.{unwrap_or}
-use Rattle.summary.specs.Fillers.{gap_at}
+use Rattle.summary.specs.Fillers.{filler_limit, gap_at}
 use Rattle.summary.proofs.Fillers.{gap_at-run}
 use Rattle.std.proofs.Math.Seq.{take-suc, get_or-append_seam}
 use Rattle.std.proofs.Math.ListN.{length-append}
@@ -206,14 +206,21 @@ module _ (image : HeapImage) (valid : IsValid image) where
       → AreFlagsOf image (late_test image) (number + 1) flags
   late_same number flags inside are early = flags_same (late_test image) number flags inside are (λ q. rw early refl)
 
+  to_limit : (place limit : ℕ) → limit ≡ filler_limit image place → place < limit → ((q : ℕ) → place ≤ q → q < limit → is_live_word image q ≡ false) → gap_at image place ≡ limit - place
+  to_limit place limit is low dead =
+      let whole : limit ≤ limit = omega arith in
+      gap_at-run image place limit (omega arith) (subst (λ n. limit ≤ n) is whole) dead (λ l. let no : limit < limit = subst (λ n. limit < n) (sym is) l in absurd (omega arith))
+
   -- the word of a filler, by the first live word after it
-  pub filler_end : (place : ℕ) (o : Option ℕ) → place < prefix_end image → is_live_word image place ≡ false → MatchOption o (NoneFrom (is_live_word image) place) (IsFirstFrom (is_live_word image) place)
-      → gap_at image place ≡ min (unwrap_or o (prefix_end image)) (prefix_end image) - place
-  filler_end place None low dead none = gap_at-run image place (prefix_end image) (omega arith) (omega arith) (λ q l m. none q l) (λ no. absurd (omega arith)) ∙ omega arith
-  filler_end place (Some q) low dead first =
+  pub filler_end : (place limit : ℕ) (o : Option ℕ) → limit ≡ filler_limit image place → place < limit → is_live_word image place ≡ false → MatchOption o (NoneFrom (is_live_word image) place) (IsFirstFrom (is_live_word image) place)
+      → gap_at image place ≡ min (unwrap_or o limit) limit - place
+  filler_end place limit None is low dead none = to_limit place limit is low (λ q l m. none q l) ∙ omega arith
+  filler_end place limit (Some q) is low dead first =
       let behind = first.behind in
       let apart : place ≢ q = λ e. (let e' : false ≡ true = sym dead ∙ (ap (is_live_word image) e ∙ first.passes) in cc) in
-      elim (cases_lt q (prefix_end image)) [
-        | inl below ↦ gap_at-run image place q (omega arith) (omega arith) first.least (λ l. first.passes) ∙ omega arith
-        | inr above ↦ gap_at-run image place (prefix_end image) (omega arith) (omega arith) (λ r l m. first.least r l (omega arith)) (λ no. absurd (omega arith)) ∙ omega arith
+      elim (cases_lt q limit) [
+        | inl below ↦
+            let inside : q ≤ limit = omega arith in
+            gap_at-run image place q (omega arith) (subst (λ n. q ≤ n) is inside) first.least (λ l. first.passes) ∙ omega arith
+        | inr above ↦ to_limit place limit is low (λ r l m. first.least r l (omega arith)) ∙ omega arith
       ]

@@ -2,7 +2,7 @@
 use Rattle.std.proofs.Common.{◌≡◌, ◌≢◌, ℕ, zero, suc, ◌+◌, ◌*◌, ◌%◌, ◌^◌, ◌<◌, ◌≤◌, true, false, List, length, Option, Some, None, refl, sym, ap, ◌∙◌, subst, inl, inr, ◌⊎◌, arith}
 use Rattle.std.specs.Prelude.{◌==◌, if◌then◌else◌, slice_index, slice_set}
 use Rattle.std.proofs.lemmas.Bool.{eq-eqb, ne_eqb, cases_lt}
-use Rattle.std.proofs.lemmas.Nat.{div-add-mod', mul-le}
+use Rattle.std.proofs.lemmas.Nat.{div-add-mod', mul-le, pow_below}
 use Rattle.std.proofs.lemmas.List.{get_or-set_other}
 use Rattle.std.proofs.lemmas.Grind.{get_or-set_at}
 use Rattle.heap_image.specs.HeapImage.{HeapImage, IsValid, heap_words, region_words, region_count}
@@ -53,7 +53,8 @@ copy_fits image valid d n written some room =
     let whole = div-add-mod' (heap_words image) (region_words image) in
     let none : heap_words image % region_words image ≡ 0 = valid.limits.whole_regions in
     let top = top-le image valid.live_list in
-    let few = valid.limits.few_words in
+    let high = valid.limits.region_log_high in
+    let short : region_words image < 2 ^ 21 = pow_below image.region_log 21 (omega arith) in
     let inside : d < region_count image = elim (cases_lt d (region_count image)) [
       | inl fine ↦ fine
       | inr past ↦

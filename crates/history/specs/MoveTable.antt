@@ -52,10 +52,10 @@ pub record IsFirstPlace (ps : List (ℕ × ℕ)) (d s at : ℕ) : Type 0 where
 abbrev pub Slides : List Bool → ℕ × ℕ → Type 0
 Slides fill pair = (pair.0 < pair.1) × (pair.1 < length fill) × IsTrue (slice_index_or fill pair.0 false)
 
--- 1 to 16,384 regions, strictly ascending pairs that slide, and no source with more than two readers
+-- 1 to 1,048,576 regions, strictly ascending pairs that slide, and no source with more than two readers
 pub record IsMoveTable (m : MoveTable) : Type 0 where
   pub some : 1 ≤ region_count m
-  pub few : region_count m ≤ 16384
+  pub few : region_count m ≤ 1048576
   pub ascending : IsAscending m.pairs
   pub slide : All (Slides m.fill) m.pairs
   pub two : (s : ℕ) → readers_of m s ≤ 2

@@ -25,7 +25,7 @@ pub(crate) struct Carrier<'a> {
     plan: &'a Plan,
     marks: &'a Marks,
     /// The old addresses of the words that go to the new addresses from the prefix end on.
-    origins: Vec<u32>,
+    origins: Vec<u64>,
     /// For each old address, whether its word is redirected as it is moved.
     early: Vec<bool>,
     /// For each new address, whether its word is redirected at the end.
@@ -78,6 +78,7 @@ impl<'a> Carrier<'a> {
         let live = self.new_live(alloc, image)?;
         let roots = self.new_roots(alloc, image)?;
         let parts = ImageParts {
+            version: image.version(),
             region_log: image.region_log(),
             allowance: image.allowance(),
             regions,
@@ -93,7 +94,7 @@ impl<'a> Carrier<'a> {
         requires image { self.now.plan.now ≡ image.now }
         ensures { IfOk result (λ roots. option_map (λ v. v.items) roots ≡ option_map (map (redirected image.now)) image.now.roots) }
     {
-        if image.version() == 1 {
+        if !image.version().has_roots() {
             return Ok(None);
         }
         let mut roots = Vec::new(alloc);
@@ -194,7 +195,7 @@ impl<'a> Carrier<'a> {
     {
         let prefix_end = self.plan.prefix_end();
         if place >= prefix_end {
-            return Some(u64::from(self.origins[(place - prefix_end) as usize]));
+            return Some(self.origins[(place - prefix_end) as usize]);
         }
         if is_live(self.marks, place) {
             Some(place)

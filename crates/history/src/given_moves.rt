@@ -7,7 +7,7 @@ use heap_image::limits;
 use std::alloc::{AllocError, Global};
 use std::marker::Model;
 
-/// The most regions that a table can have.
+/// The most regions of a table that `GivenMoves::new` checks. Its counts of readers are on the stack.
 const MAX_REGIONS: usize = limits::MAX_REGIONS as usize;
 
 /// A table of moves as plain lists, checked when it is made. It has no index: a count goes over all
@@ -32,9 +32,9 @@ impl GivenMoves {
     /// Makes a table from a flag for each region, which says whether it is to be filled, and pairs
     /// (destination, source). `None` unless there are 1 to 16,384 regions, the pairs are strictly
     /// ascending and in range, each leads down to a region to be filled, and no source has more
-    /// than two readers.
+    /// than two readers. A larger table is copied from a plan.
     pub fn new(fill: Vec<bool>, pairs: Vec<(u32, u32)>) -> Option<GivenMoves>
-        ensures { let table = table_of fill.items pairs.items in SomeIff result (IsMoveTable table) table }
+        ensures { let table = table_of fill.items pairs.items in SomeIff result (IsMoveTable table × (region_count table ≤ 16384)) table }
     {
         if !is_move_table(&fill, &pairs) {
             return None;
@@ -116,9 +116,9 @@ fn is_before(one: (u32, u32), other: (u32, u32)) -> bool
     one.0 < other.0 || (one.0 == other.0 && one.1 < other.1)
 }
 
-/// Whether the lists form a table, as `GivenMoves::new` requires.
+/// Whether the lists form a table that is not too large, as `GivenMoves::new` requires.
 fn is_move_table(fill: &[bool], pairs: &[(u32, u32)]) -> bool
-    ensures { IsTrue result ↔ IsMoveTable (table_of fill.now pairs.now) }
+    ensures { let table = table_of fill.now pairs.now in IsTrue result ↔ (IsMoveTable table × (region_count table ≤ 16384)) }
 {
     if fill.is_empty() || fill.len() > MAX_REGIONS {
         return false;

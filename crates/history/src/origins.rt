@@ -1,25 +1,25 @@
 //! The old addresses of the words that go to new addresses.
 
-ghost use Rattle.std.specs.Prelude.{◌≡◌, ◌<◌, false, IfOk};
+ghost use Rattle.std.specs.Prelude.{◌≡◌, ◌<◌, ◌≤◌, false, IfOk};
 ghost use Rattle.heap_image.specs.HeapImage.{heap_words, is_live_word};
 ghost use Rattle.summary.specs.NewAddresses.{prefix_end};
-ghost use Rattle.summary.specs.Fillers.{filler_word};
+ghost use Rattle.summary.specs.Fillers.{filler_word, may_begin_filler};
 ghost use Rattle.history.specs.Carrier.{AreOrigins};
 
 use heap_image::header;
 use mark_bitmap::{Marks, marked_image_is_valid};
 use std::alloc::{AllocError, Global};
-use summary::Plan;
+use summary::{FILLER_STRIDE, Plan, filler_limit};
 
 /// The old addresses of the words that go to the new addresses from the prefix end up to the new top.
-pub(crate) fn origins_of(alloc: Global, plan: &Plan, marks: &Marks) -> Result<Vec<u32>, AllocError>
+pub(crate) fn origins_of(alloc: Global, plan: &Plan, marks: &Marks) -> Result<Vec<u64>, AllocError>
     requires { marks.now ≡ plan.now }
     ensures { IfOk result (λ origins. AreOrigins plan.now origins.items) }
 {
     let mut origins = Vec::new(alloc);
     let mut from = plan.prefix_end();
     while let Some(q) = marks.next_live(from) {
-        origins.push(q as u32)?;
+        origins.push(q)?;
         from = q + 1;
     }
     Ok(origins)
@@ -34,6 +34,14 @@ pub(crate) fn is_live(marks: &Marks, a: u64) -> bool
     marks.live_words(a, a + 1) == 1
 }
 
+/// Whether a filler begins at `a`, if its word is dead.
+fn may_begin_filler(marks: &Marks, a: u64) -> bool
+    requires { a ≤ heap_words marks.now }
+    ensures { result ≡ may_begin_filler marks.now a }
+{
+    a % FILLER_STRIDE == 0 || is_live(marks, a - 1)
+}
+
 /// The word at `place` of a filler of the dense prefix.
 pub(crate) fn filler_word(plan: &Plan, marks: &Marks, place: u64) -> u64
     requires same { marks.now ≡ plan.now }
@@ -42,9 +50,10 @@ pub(crate) fn filler_word(plan: &Plan, marks: &Marks, place: u64) -> u64
     ensures { result ≡ filler_word plan.now place }
 {
     let prefix_end = plan.prefix_end();
-    if place > 0 && !is_live(marks, place - 1) {
+    if !may_begin_filler(marks, place) {
         return 0;
     }
-    let end = marks.next_live(place).unwrap_or(prefix_end).min(prefix_end);
+    let limit = filler_limit(prefix_end, place);
+    let end = marks.next_live(place).unwrap_or(limit).min(limit);
     header::filler((end - place) as u32)
 }

@@ -57,8 +57,8 @@ fn front_of<F: FileExt + Drop>(watched: &Watched<'_, F>) -> Option<[u8; FRONT_BY
 
 /// The extent of the body after this front, if it is the front of a large image.
 fn extent_of(front: &[u8; FRONT_BYTES]) -> Option<Extent>
-    ensures log { IfSome result (λ extent. extent.size.region_log ≤ 16) }
-    ensures few { IfSome result (λ extent. body_words extent.size ≤ 8388608) }
+    ensures log { IfSome result (λ extent. extent.size.region_log ≤ 20) }
+    ensures few { IfSome result (λ extent. body_words extent.size ≤ 137438953472) }
 {
     if heap_words(front)? < LEAST_WORDS {
         return None;

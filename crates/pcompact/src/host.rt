@@ -1,6 +1,6 @@
 //! The system that commands run on, with standard output among its files.
 use crate::standard_output::StandardOutput;
-use command_support::{FileId, FileLock, SystemFile};
+use command_support::{FileId, FileLock, Gauge, Meter, Phase, SystemFile};
 use std::alloc::Allocator;
 use std::fs::{FileTimes, Metadata, OpenFile, OpenOptions, Permissions};
 use std::io;
@@ -15,29 +15,53 @@ use std::time::{Clock, Duration};
 /// The path of standard output's file.
 const STANDARD_OUTPUT: &str = "/proc/self/fd/1";
 
+/// The path of standard error's file.
+const STANDARD_ERROR: &str = "/proc/self/fd/2";
+
 /// The system that commands run on. A file that is opened for writing and is standard output is written through
 /// standard output itself: a second opening would have a file position of its own, and each would overwrite what the
-/// other wrote.
+/// other wrote. What is read and written is shown on a meter, unless standard error is itself a file that is written.
 ///
 /// The methods of `Files` that no command calls are left out.
 #[derive(Drop)]
 pub struct Host<'s, R> {
     rt: R,
     stdout: &'s StandardOutput,
+    meter: &'s Meter,
 }
 
 impl<'s, R> Host<'s, R> {
-    /// This system, with this standard output.
-    pub fn new(rt: R, stdout: &'s StandardOutput) -> Host<'s, R> {
-        Host { rt, stdout }
+    /// This system, with this standard output and this meter.
+    pub fn new(rt: R, stdout: &'s StandardOutput, meter: &'s Meter) -> Host<'s, R> {
+        Host { rt, stdout, meter }
     }
 }
 
-impl<R: Files> Host<'_, R> {
-    fn is_standard_output(&self, file: &R::File) -> bool {
-        match (file.metadata(), self.rt.metadata(STANDARD_OUTPUT)) {
+impl<'s, R: Files> Host<'s, R> {
+    /// Whether it is the file of the standard stream at this path.
+    fn is_stream(&self, file: &R::File, path: &str) -> bool {
+        match (file.metadata(), self.rt.metadata(path)) {
             (Ok(opened), Ok(standard)) => FileId::of(&opened).is_same(FileId::of(&standard)),
             _ => false,
+        }
+    }
+
+    /// The file, which is written.
+    fn written(&self, file: R::File) -> HostFile<'s, R::File> {
+        if self.meter.is_on() && self.is_stream(&file, STANDARD_ERROR) {
+            self.meter.end();
+        }
+        let gauge = self.meter.gauge(Phase::Write, &file);
+        let stdout = if self.is_stream(&file, STANDARD_OUTPUT) {
+            self.stdout.take();
+            Some(self.stdout)
+        } else {
+            None
+        };
+        HostFile {
+            file,
+            stdout,
+            gauge,
         }
     }
 }
@@ -75,13 +99,14 @@ impl<'s, R: Files> Files for Host<'s, R> {
 
     fn open_file(&self, how: &OpenOptions, path: &str) -> io::Result<HostFile<'s, R::File>> {
         let file = self.rt.open_file(how, path)?;
-        if !how.asks_write() || !self.is_standard_output(&file) {
-            return Ok(HostFile { file, stdout: None });
+        if how.asks_write() {
+            return Ok(self.written(file));
         }
-        self.stdout.take();
+        let gauge = self.meter.gauge(Phase::Read, &file);
         Ok(HostFile {
             file,
-            stdout: Some(self.stdout),
+            stdout: None,
+            gauge,
         })
     }
 
@@ -132,20 +157,38 @@ pub struct HostFile<'s, F: Drop> {
     file: F,
     /// Standard output, if the file is standard output and is written.
     stdout: Option<&'s StandardOutput>,
+    /// What shows how far the file is, if it is shown.
+    gauge: Option<Gauge<'s>>,
+}
+
+impl<F: Drop> HostFile<'_, F> {
+    /// Counts bytes that were read or written.
+    fn count(&self, bytes: usize) {
+        if let Some(gauge) = &self.gauge {
+            gauge.count(bytes);
+        }
+    }
 }
 
 impl<F: Read + Drop> Read for HostFile<'_, F> {
     fn read(&mut self, buf: &mut [u8]) -> io::Result<usize> {
-        self.file.read(buf)
+        let n = self.file.read(buf)?;
+        match &self.gauge {
+            Some(gauge) if n == 0 && !buf.is_empty() => gauge.end(),
+            _ => self.count(n),
+        }
+        Ok(n)
     }
 }
 
 impl<F: Write + Drop> Write for HostFile<'_, F> {
     fn write(&mut self, buf: &[u8]) -> io::Result<usize> {
-        match &mut self.stdout {
-            Some(stdout) => stdout.write(buf),
-            None => self.file.write(buf),
-        }
+        let n = match &mut self.stdout {
+            Some(stdout) => stdout.write(buf)?,
+            None => self.file.write(buf)?,
+        };
+        self.count(n);
+        Ok(n)
     }
 
     fn flush(&mut self) -> io::Result<()> {
@@ -158,7 +201,11 @@ impl<F: Write + Drop> Write for HostFile<'_, F> {
 
 impl<F: Seek + Drop> Seek for HostFile<'_, F> {
     fn seek(&mut self, to: SeekFrom) -> io::Result<u64> {
-        self.file.seek(to)
+        let position = self.file.seek(to)?;
+        if let Some(gauge) = &self.gauge {
+            gauge.move_to(position);
+        }
+        Ok(position)
     }
 }
 
@@ -190,7 +237,9 @@ impl<F: OpenFile + Drop> OpenFile for HostFile<'_, F> {
 
 impl<F: FileExt + Drop> FileExt for HostFile<'_, F> {
     fn read_at(&self, buf: &mut [u8], offset: u64) -> io::Result<usize> {
-        self.file.read_at(buf, offset)
+        let n = self.file.read_at(buf, offset)?;
+        self.count(n);
+        Ok(n)
     }
 
     fn write_at(&self, buf: &[u8], offset: u64) -> io::Result<usize> {
@@ -210,24 +259,37 @@ impl<F: SystemFile + Drop> SystemFile for HostFile<'_, F> {
     fn is_standard_output(&self) -> bool {
         self.stdout.is_some()
     }
+
+    fn expect_len(&self, len: u64) {
+        if let Some(gauge) = &self.gauge {
+            gauge.expect_len(len);
+        }
+    }
 }
 
-/// Where a command prints: to standard output, or to standard error if it has written standard output as a file.
+/// Where a command prints: to standard output, or to standard error if it has written standard output as a file. It ends the
+/// meter.
 #[derive(Drop)]
 pub struct Printer<'s> {
     stdout: &'s StandardOutput,
     stderr: Stderr,
+    meter: &'s Meter,
 }
 
 impl<'s> Printer<'s> {
     /// A printer to this standard output, or to this standard error.
-    pub fn new(stdout: &'s StandardOutput, stderr: Stderr) -> Printer<'s> {
-        Printer { stdout, stderr }
+    pub fn new(stdout: &'s StandardOutput, stderr: Stderr, meter: &'s Meter) -> Printer<'s> {
+        Printer {
+            stdout,
+            stderr,
+            meter,
+        }
     }
 }
 
 impl Write for Printer<'_> {
     fn write(&mut self, buf: &[u8]) -> io::Result<usize> {
+        self.meter.end();
         if self.stdout.is_taken() {
             self.stderr.write(buf)
         } else {
@@ -244,22 +306,28 @@ impl Write for Printer<'_> {
     }
 }
 
-/// Where errors are printed: to standard error, but nowhere once standard output was found to have no reader.
+/// Where errors are printed: to standard error, but nowhere once standard output was found to have no reader. It ends the meter.
 #[derive(Drop)]
 pub struct Errors<'s> {
     stdout: &'s StandardOutput,
     stderr: Stderr,
+    meter: &'s Meter,
 }
 
 impl<'s> Errors<'s> {
     /// The errors of commands with this standard output, for this standard error.
-    pub fn new(stdout: &'s StandardOutput, stderr: Stderr) -> Errors<'s> {
-        Errors { stdout, stderr }
+    pub fn new(stdout: &'s StandardOutput, stderr: Stderr, meter: &'s Meter) -> Errors<'s> {
+        Errors {
+            stdout,
+            stderr,
+            meter,
+        }
     }
 }
 
 impl Write for Errors<'_> {
     fn write(&mut self, buf: &[u8]) -> io::Result<usize> {
+        self.meter.end();
         if self.stdout.has_no_reader() {
             Ok(buf.len())
         } else {

@@ -333,6 +333,13 @@ pub fn report<B: Write>(trouble: &Trouble<'_>, verbose: bool, err: &mut B) -> u8
         Failure::Dump(error) => writeln!(err, "pcompact: {error}"),
         Failure::Generation(error) => writeln!(err, "pcompact: {error}"),
         Failure::Text(error) => writeln!(err, "pcompact: TEXT {error}"),
+        Failure::Later { version, wanted } => {
+            let (from, to) = (version.number(), wanted.number());
+            writeln!(
+                err,
+                "pcompact: version {from} can't be upgraded to version {to}"
+            )
+        }
     };
     if verbose {
         let _ = trouble.print_details(err);

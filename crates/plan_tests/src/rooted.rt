@@ -1,7 +1,7 @@
 //! Tests of compactions with roots: reachable objects are kept, and each root follows its object.
 use crate::checks::holds_at;
 use crate::known_heaps::BASE;
-use heap_image::{Image, decode_by_threads};
+use heap_image::{Image, Version, decode_by_threads};
 use heap_samples::{Settings, plain_words, rooted_text};
 use std::alloc::Global;
 use std::test::Fail;
@@ -38,7 +38,7 @@ fn compaction<T: Threads + Sync>(
 fn leads<T: Threads + Sync>(threads: &T, alloc: Global, row: &Row) -> Result<bool, Fail> {
     let (allowance, roots, new_roots, new_live) = *row;
     let new = compaction(threads, alloc, allowance, roots)?;
-    Ok(new.version() == 2 && new.roots() == new_roots && new.live() == new_live)
+    Ok(new.version() == Version::Two && new.roots() == new_roots && new.live() == new_live)
 }
 
 /// Roots to each object of the base heap.

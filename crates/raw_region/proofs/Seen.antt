@@ -1,19 +1,35 @@
 -- The words of a region that may have been cleared.
 --     length-shown_words      they are as many as its block has
---     shown_words-cleared     where it was cleared, they are zeros
-use Rattle.std.proofs.Common.{◌≡◌, length, replicate, ℕ, Bool, true, false, List, refl, ap}
+--     shown_words-cleared     where they are hidden, they are zeros
+use Rattle.std.proofs.Common.{◌≡◌, length, replicate, ℕ, Bool, true, false, List, cond, refl, sym, ◌∙◌, ap}
 use Rattle.std.proofs.lemmas.List.{length-replicate}
-use Rattle.raw_region.specs.Region.{shown_words}
+use Rattle.raw_region.specs.Region.{hides, shown_words}
 
 pub length-shown_words : (b : Bool) (ws : List ℕ) → length (shown_words b ws) ≡ length ws
 unfolding shown_words
-length-shown_words true ws = length-replicate (length ws) 0
-length-shown_words false ws = refl
+length-shown_words b ws = by (hides b ws)
+  where
+    by : (hidden : Bool) → length (cond hidden (replicate (length ws) 0) ws) ≡ length ws
+    by true = length-replicate (length ws) 0
+    by false = refl
 
-pub shown_words-cleared : (b : Bool) (ws : List ℕ) → b ≡ true → shown_words b ws ≡ replicate (length ws) 0
+pub shown_words-cleared : (b : Bool) (ws : List ℕ) → hides b ws ≡ true → shown_words b ws ≡ replicate (length ws) 0
 unfolding shown_words
-shown_words-cleared b ws is = ap (λ b. shown_words b ws) is
+shown_words-cleared b ws is = ap (λ hidden. cond hidden (replicate (length ws) 0) ws) is
 
-pub shown_words-kept : (b : Bool) (ws : List ℕ) → b ≡ false → shown_words b ws ≡ ws
+pub shown_words-kept : (b : Bool) (ws : List ℕ) → hides b ws ≡ false → shown_words b ws ≡ ws
 unfolding shown_words
-shown_words-kept b ws is = ap (λ b. shown_words b ws) is
+shown_words-kept b ws is = ap (λ hidden. cond hidden (replicate (length ws) 0) ws) is
+
+-- a block of zeros shows zeros
+pub shown_words-zeros : (b : Bool) (ws : List ℕ) → ws ≡ replicate (length ws) 0 → shown_words b ws ≡ replicate (length ws) 0
+unfolding shown_words
+shown_words-zeros b ws zeros = by (hides b ws)
+  where
+    by : (hidden : Bool) → cond hidden (replicate (length ws) 0) ws ≡ replicate (length ws) 0
+    by true = refl
+    by false = zeros
+
+-- whether they are hidden, by the words that the block lends
+pub hides-lent : (b : Bool) (ws got : List ℕ) (found value : Bool) → got ≡ ws → found ≡ hides b got → found ≡ value → hides b ws ≡ value
+hides-lent b ws got found value same is e = ap (hides b) (sym same) ∙ (sym is ∙ e)

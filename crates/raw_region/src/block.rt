@@ -8,7 +8,7 @@ use std::marker::{Model, Send, Sync};
 use std::slice;
 
 /// The largest number of words of a region.
-pub const MAX_WORDS: usize = 65_536;
+pub const MAX_WORDS: usize = 1_048_576;
 
 /// An allocation of `len` words.
 ///

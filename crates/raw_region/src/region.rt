@@ -1,20 +1,23 @@
 //! The safe part of the crate: a list of words, built on `Block`.
 ghost use Rattle.std.specs.Prelude.{◌≡◌, ◌+◌, ◌<◌, ◌≤◌, length, replicate, slice_index, slice_set, IfOk, IsTrue};
 ghost use Rattle.std.specs.Borrow.{sem};
-ghost use Rattle.raw_region.specs.Region.{with_words, part};
+ghost use Rattle.raw_region.specs.Region.{with_words, part, hides};
 
 use crate::block::{Block, MAX_WORDS};
 use crate::chunks::move_down;
 use std::alloc::{AllocError, Global};
 use std::marker::Model;
 
+/// The most words of a cleared region whose block still has the old ones.
+const HIDDEN_WORDS: usize = 65_536;
+
 /// The words of a cleared region, whose block still has the old ones.
-static ZEROS: [u64; MAX_WORDS] = [0; MAX_WORDS];
+static ZEROS: [u64; HIDDEN_WORDS] = [0; HIDDEN_WORDS];
 
 /// From 1 to `MAX_WORDS` words of 64 bits. A contract sees the list of them.
 pub struct Region {
     block: Block,
-    /// Whether all words are 0, whatever the block contains.
+    /// Whether all words are 0, whatever the block contains, if it has at most `HIDDEN_WORDS`.
     is_clear: bool,
     alloc: Global,
 }
@@ -62,7 +65,7 @@ impl Region {
         ensures at_most { length self.now ≤ MAX_WORDS }
     {
         let words = self.block.words();
-        if self.is_clear {
+        if hides(self.is_clear, words) {
             &ZEROS[..words.len()]
         } else {
             words
@@ -74,7 +77,7 @@ impl Region {
         ensures* writes_back { sem 𝓛 (LendsRegion self.entry result) }
         ensures value { result.now ≡ self.old }
     {
-        if self.is_clear {
+        if hides(self.is_clear, self.block.words()) {
             zero(self.block.words_mut());
         }
         self.is_clear = false;
@@ -98,20 +101,24 @@ impl Region {
         self.words_mut()[i] = word;
     }
 
-    /// Makes all words 0 without writing them: the next call that writes a word does that.
+    /// Makes all words 0. It writes none of them, which the next call that writes a word does, unless there are more
+    /// than `HIDDEN_WORDS`.
     pub fn clear(&mut self)
         ensures value { self.new ≡ replicate (length self.old) 0 }
         ensures same_length { length self.new ≡ length self.old }
     {
+        if self.block.words().len() > HIDDEN_WORDS {
+            zero(self.block.words_mut());
+        }
         self.is_clear = true;
     }
 
-    /// Whether the region was cleared and not written since. Then all its words are 0.
+    /// Whether the region was cleared and not written since, and has at most `HIDDEN_WORDS` words. Then all of them
+    /// are 0.
     pub fn is_cleared(&self) -> bool
         ensures { IsTrue result → self.now ≡ replicate (length self.now) 0 }
     {
-        let Region { is_clear, .. } = self;
-        *is_clear
+        hides(self.is_clear, self.block.words())
     }
 
     /// Sets each of the `n` words at index `at` to `word`.
@@ -143,6 +150,15 @@ impl Region {
     {
         move_down(self.words_mut(), from, to, n);
     }
+}
+
+/// Whether the words of a block are hidden if its region was cleared.
+#[inline]
+fn hides(is_clear: bool, words: &[u64]) -> bool
+    ensures value { result ≡ hides is_clear words.now }
+    ensures few { IsTrue result → length words.now ≤ 65536 }
+{
+    is_clear && words.len() <= HIDDEN_WORDS
 }
 
 fn zero(words: &mut [u64])

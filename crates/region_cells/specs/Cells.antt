@@ -3,13 +3,14 @@ use Rattle.std.specs.Prelude.{◌≡◌, ℕ, ◌≤◌, List, [], ◌∷◌, ma
 use Rattle.std.specs.List.{range_with_len}
 use Rattle.std.specs.Vec.{vec_capacity}
 use Rattle.heap_image.specs.HeapImage.{HeapImage, IsValid, region_count}
+use Rattle.heap_image.specs.declared.version.Version.TheVariants.{One}
 use Rattle.heap_image.specs.declared.image.ImageParts.{ImageParts}
 use Rattle.summary.specs.RegionData.{fill_count}
 use Rattle.region_cells.specs.Views.{ImageRegion}
 
 -- the image that these places belong to, or an empty image if there are none
 abbrev pub image_in : List ImageRegion → HeapImage
-image_in [] = record { region_log = 0; allowance = 0; words = []; live = []; roots = None }
+image_in [] = record { version = One; region_log = 0; allowance = 0; words = []; live = []; roots = None }
 image_in (place ∷ places) = place.image
 
 module _ (image : HeapImage) where
@@ -22,6 +23,7 @@ module _ (image : HeapImage) where
 
   -- the parts of the image without its regions, for which there is room
   pub record AreOtherParts (parts : ImageParts) : Type 0 where
+    pub version : parts.version ≡ image.version
     pub region_log : parts.region_log ≡ image.region_log
     pub allowance : parts.allowance ≡ image.allowance
     pub live : parts.live.items ≡ image.live

@@ -136,6 +136,7 @@ impl Cells {
         ensures regions { IfOk result (λ parts. parts.regions.items ≡ map (moved_block self) (range_with_len 0 (region_count self))) }
         ensures live { IfOk result (λ parts. parts.live.items ≡ self.live) }
         ensures roots { IfOk result (λ parts. option_map (λ v. v.items) parts.roots ≡ self.roots) }
+        ensures version { IfOk result (λ parts. parts.version ≡ self.version) }
         ensures numbers { IfOk result (λ parts. (parts.region_log ≡ self.region_log) × (parts.allowance ≡ self.allowance)) }
         ensures fault { IfErr result (λ fault. (r : ℕ) × (r < region_count self) × (fault ≡ Overwritten r)) }
     {

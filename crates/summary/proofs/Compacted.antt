@@ -139,9 +139,11 @@ rooted_after image valid (Some roots) h =
     let long = length-compact image valid.live_list in
     let same = length-map roots (redirected image) in
     let few = h.few in
+    let counted = h.counted in
     let leads = new_roots_lead image roots valid.live_list h.inside h.reached in
     record {
       few = omega arith;
+      counted = omega arith;
       inside = All-map (λ w. w ≤ heap_words (compact image)) (redirected image) roots (λ k d l.
           let m : k < length (map (redirected image) roots) = omega arith in
           null_or_live_low (compact image) (compact-HasLiveList image valid.live_list) (redirected image (get_or roots k d)) (subst (λ w. is_null_or_live (compact image) w ≡ true) (get_or-map (redirected image) roots k d d l) (leads k d m)));

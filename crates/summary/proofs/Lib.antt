@@ -2,6 +2,7 @@ mod Rows
 mod TargetRows
 pub mod Graph
 pub mod PlainWords
+mod Nexts
 pub mod Layouts
 pub mod Telling
 pub mod Prefix

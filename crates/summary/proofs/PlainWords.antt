@@ -8,7 +8,8 @@ use Rattle.std.proofs.lemmas.List.Folds.{flat_map-map}
 use Rattle.std.proofs.lemmas.List.FromFn.{fill_by_all, length-map-range_with_len}
 use Rattle.std.specs.Prelude.{count_by, filter, fold, map, Some, None, Option, option_map}
 use Rattle.std.specs.List.{range_with_len, list_any}
-use Rattle.heap_image.specs.HeapImage.{HeapImage, HasLiveList, AreBlocks, rooted_image_of, region_words, heap_words, region_count, start_of, size_at, end_of, is_dead_word}
+use Rattle.heap_image.specs.declared.version.Version.{Version}
+use Rattle.heap_image.specs.HeapImage.{HeapImage, HasLiveList, AreBlocks, versioned_image_of, region_words, heap_words, region_count, start_of, size_at, end_of, is_dead_word}
 use Rattle.heap_image.proofs.LiveWords.{live_end-le}
 use Rattle.summary.specs.LiveObjects.{object_count, object_at}
 use Rattle.summary.specs.NewAddresses.{greatest, dead_words_below, is_allowed, prefix_end, new_address, new_end_of, new_live, next_after, next_at, new_top}
@@ -159,19 +160,20 @@ module _ (image : HeapImage) where
   pub blocks-AreBlocks : AreBlocks image.region_log blocks
   blocks-AreBlocks = All-map (λ (b : List ℕ). length b ≡ 2 ^ image.region_log) block (range_with_len 0 (region_count image)) (λ k d l. length-map-range_with_len (compacted_word image) (start_of image (get_or (range_with_len 0 (region_count image)) k d)) (region_words image))
 
-  pub compact-of_blocks : heap_words image % region_words image ≡ 0 → rooted_image_of image.region_log image.allowance blocks (new_live image) (option_map (map (redirected image)) image.roots) ≡ compact image
-  compact-of_blocks whole = ap (λ (ws : List ℕ). record { region_log = image.region_log; allowance = image.allowance; words = ws; live = new_live image; roots = option_map (map (redirected image)) image.roots }) (concat_is blocks ∙ flat_map-map (λ (b : List ℕ). b) block (range_with_len 0 (region_count image)) ∙ sym (compact-joined image whole))
+  pub compact-of_blocks : heap_words image % region_words image ≡ 0 → versioned_image_of image.version image.region_log image.allowance blocks (new_live image) (option_map (map (redirected image)) image.roots) ≡ compact image
+  compact-of_blocks whole = ap (λ (ws : List ℕ). record { version = image.version; region_log = image.region_log; allowance = image.allowance; words = ws; live = new_live image; roots = option_map (map (redirected image)) image.roots }) (concat_is blocks ∙ flat_map-map (λ (b : List ℕ). b) block (range_with_len 0 (region_count image)) ∙ sym (compact-joined image whole))
 
-  pub parts-of_blocks : (log allowance r : ℕ) (regions : List (List ℕ)) (live : List ℕ) (roots : Option (List ℕ)) → heap_words image % region_words image ≡ 0
-      → log ≡ image.region_log → allowance ≡ image.allowance → regions ≡ map block (range_with_len 0 r) → r ≡ region_count image → live ≡ new_live image → roots ≡ option_map (map (redirected image)) image.roots
-      → AreBlocks log regions × (rooted_image_of log allowance regions live roots ≡ compact image)
-  parts-of_blocks log allowance r regions live roots whole e f g h k m =
+  pub parts-of_blocks : (version : Version) (log allowance r : ℕ) (regions : List (List ℕ)) (live : List ℕ) (roots : Option (List ℕ)) → heap_words image % region_words image ≡ 0
+      → version ≡ image.version → log ≡ image.region_log → allowance ≡ image.allowance → regions ≡ map block (range_with_len 0 r) → r ≡ region_count image → live ≡ new_live image → roots ≡ option_map (map (redirected image)) image.roots
+      → AreBlocks log regions × (versioned_image_of version log allowance regions live roots ≡ compact image)
+  parts-of_blocks version log allowance r regions live roots whole v e f g h k m =
       let all : regions ≡ blocks = g ∙ ap (λ n. map block (range_with_len 0 n)) h in (
         subst (λ bs. AreBlocks log bs) (sym all) (subst (λ n. AreBlocks n blocks) (sym e) blocks-AreBlocks),
-        ap (λ n. rooted_image_of n allowance regions live roots) e
-            ∙ ap (λ n. rooted_image_of image.region_log n regions live roots) f
-            ∙ ap (λ bs. rooted_image_of image.region_log image.allowance bs live roots) all
-            ∙ ap (λ as'. rooted_image_of image.region_log image.allowance blocks as' roots) k
-            ∙ ap (λ o. rooted_image_of image.region_log image.allowance blocks (new_live image) o) m
+        ap (λ w. versioned_image_of w log allowance regions live roots) v
+            ∙ ap (λ n. versioned_image_of image.version n allowance regions live roots) e
+            ∙ ap (λ n. versioned_image_of image.version image.region_log n regions live roots) f
+            ∙ ap (λ bs. versioned_image_of image.version image.region_log image.allowance bs live roots) all
+            ∙ ap (λ as'. versioned_image_of image.version image.region_log image.allowance blocks as' roots) k
+            ∙ ap (λ o. versioned_image_of image.version image.region_log image.allowance blocks (new_live image) o) m
             ∙ compact-of_blocks whole,
       )

@@ -11,7 +11,7 @@ use Rattle.summary.specs.Compaction.{compact, compacted_word, moved, moved_word,
 use Rattle.heap_image.specs.Header.{filler_header}
 use Rattle.summary.specs.Fillers.{IsDeadRun, filler_word}
 use Rattle.summary.proofs.Addresses.{prefix_end-le}
-use Rattle.summary.proofs.Fillers.{filler-first, filler-rest, compacted-dead, moved-dead}
+use Rattle.summary.proofs.Fillers.{filler-first, filler-rest, run_inside, compacted-dead, moved-dead}
 use Rattle.summary.proofs.Moves.{map-shifted}
 use Rattle.summary.proofs.Destinations.{count_by-none}
 use Rattle.summary.proofs.Origin.{origin-slid}
@@ -225,7 +225,7 @@ module _ (image : HeapImage) (sound : HasLiveList image) where
       → slice_range (map f (range_with_len 0 (heap_words image))) a b ≡ filler_header (b - a) ∷ replicate (b - a - 1) 0
   run_slice f a b run same =
       let some : a < b = run.some in
-      let inside : b ≤ prefix_end image = run.inside in
+      let inside : b ≤ prefix_end image = run_inside image a b run in
       let low = prefix_end-le image sound in
       let n : ℕ = b - a - 1 in
       let end : a + suc n ≡ b = omega arith in

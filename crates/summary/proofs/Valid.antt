@@ -7,14 +7,16 @@ use Rattle.std.proofs.lemmas.List.Elements.{All-from_get_or, All-map}
 use Rattle.std.proofs.lemmas.List.Folds.{list_any_none, list_any_at, Any-from_list_any}
 use Rattle.std.proofs.lemmas.List.FromFn.{length-range_with_len}
 use Rattle.std.proofs.lemmas.List.Sums.{count_by-le-length, prefix_len-le-length}
-use Rattle.std.specs.Prelude.{IsTrue, IfSome, Option, Some, None}
+use Rattle.std.specs.Prelude.{IsTrue, IfSome, Option, Some, None, map, option_map}
+use Rattle.heap_image.specs.Version.{max_regions, max_words}
 use Rattle.std.specs.List.{range_with_len, list_any}
+use Rattle.std.specs.Option.{is_some}
 use Rattle.heap_image.specs.HeapImage.{HeapImage, AreRoots, IsValid, region_words, is_dead_word, HasLiveList, HasSoundHeader, heap_words, word_at, size_at, references_at, end_of, reference_at, is_word_of, is_live_word, is_null_or_live, live_words}
 use Rattle.heap_image.proofs.Spans.{is_in_inside}
 use Rattle.heap_image.proofs.LiveWords.{live_apart, live_end-le}
 use Rattle.summary.specs.NewAddresses.{prefix_end, new_address, new_top}
 use Rattle.summary.specs.WordMoves.{slid, origin}
-use Rattle.summary.specs.Fillers.{filler_word, gap_at}
+use Rattle.summary.specs.Fillers.{filler_limit, filler_word, gap_at, may_begin_filler}
 use Rattle.summary.specs.Compaction.{compact, compacted_word, written, carried, redirected, is_reference_of}
 use Rattle.summary.proofs.Addresses.{EndBefore, EndBefore-at, new_address-slid, new_top-live_words, prefix_end-le}
 use Rattle.summary.proofs.Origin.{compact-slid, slid-increasing, live_words-past, length-compact}
@@ -188,6 +190,11 @@ module _ (image : HeapImage) (sound : HasLiveList image) where
             rw (reference_of_moved i f k m') (redirected_is_live (reference_at image (place i) f) (sound.references i 0 k f m'))));
       }
 
+-- there are as many lists of roots as before
+same_roots : (f : List ℕ → List ℕ) (o : Option (List ℕ)) → is_some (option_map f o) ≡ is_some o
+same_roots f None = refl
+same_roots f (Some xs) = refl
+
 module _ (image : HeapImage) (valid : IsValid image) where
   new_fits : (k : ℕ) → k < length image.live → new_address image (place image valid.live_list k) + 1 < 2 ^ 64
   new_fits k l =
@@ -238,11 +245,11 @@ module _ (image : HeapImage) (valid : IsValid image) where
 
   filler_fits : (p : ℕ) → filler_word image p < 2 ^ 64
   filler_fits p =
-      let gap = prefix_len-le-length (is_dead_word image) (range_with_len p (prefix_end image - p)) in
-      let long = length-range_with_len p (prefix_end image - p) in
+      let gap = prefix_len-le-length (is_dead_word image) (range_with_len p (filler_limit image p - p)) in
+      let long = length-range_with_len p (filler_limit image p - p) in
       let low = prefix_end-le image valid.live_list in
       let few = valid.limits.few_words in
-      cond_both (eqb p 0 || is_live_word image (p - 1)) (filler_header (gap_at image p)) 0 (λ w. w < 2 ^ 64) (λ _. omega arith) (λ _. omega arith)
+      cond_both (may_begin_filler image p) (filler_header (gap_at image p)) 0 (λ w. w < 2 ^ 64) (λ _. omega arith) (λ _. omega arith)
 
   compacted_fits : (p : ℕ) → compacted_word image p < 2 ^ 64
   compacted_fits p = cond_both (ltb p (new_top image)) (written image (λ _. true) (origin image p) p) 0 (λ w. w < 2 ^ 64) (λ _. each (origin image p)) (λ _. omega arith)
@@ -265,11 +272,17 @@ module _ (image : HeapImage) (valid : IsValid image) where
           not_empty = omega arith;
           whole_regions = subst (λ n. n % region_words image ≡ 0) (sym long) valid.limits.whole_regions;
           few_words = omega arith;
-          few_regions = subst (λ n. n / region_words image ≤ 16384) (sym long) valid.limits.few_regions;
+          few_regions = subst (λ n. n / region_words image ≤ 1048576) (sym long) valid.limits.few_regions;
           few_live = omega arith;
+        };
+        allowed = record {
+          region_log_high = valid.allowed.region_log_high;
+          few_words = subst (λ n. n ≤ max_words image.version) (sym long) valid.allowed.few_words;
+          few_regions = subst (λ n. n / region_words image ≤ max_regions image.version) (sym long) valid.allowed.few_regions;
         };
         allowance_fits = valid.allowance_fits;
         words_fit = All-map (λ w. w < 2 ^ 64) (compacted_word image) (range_with_len 0 (heap_words image)) (λ k d l. compacted_fits (get_or (range_with_len 0 (heap_words image)) k d));
         live_list = compact-HasLiveList image valid.live_list;
+        versioned = same_roots (map (redirected image)) image.roots ∙ valid.versioned;
         rooted = rooted;
       }

@@ -6,7 +6,7 @@ use Rattle.summary.specs.declared.plainly.Placement.{Placement}
 
 pub record IsPrefix (image : HeapImage) (prefix : ℕ) : Type 0 where
   pub exact : prefix ≡ prefix_end image
-  pub small : prefix < 2 ^ 32
+  pub small : prefix < 2 ^ 37
 
 pub record IsPlacement (image : HeapImage) (places : Placement) : Type 0 where
   pub prefix : IsPrefix image places.prefix_end

@@ -2,7 +2,7 @@
 //! holds and reads.
 //!
 //! [`Plan::of`] makes the plan of an image from its marks. Several threads count the regions. A plan takes memory for
-//! each region and 12 bytes for each 64 words of the heap. Its queries allocate nothing and are look-ups, except
+//! each region and 16 bytes for each 64 words of the heap. Its queries allocate nothing and are look-ups, except
 //! [`Plan::reads`], which steps from region to region. One count of bits redirects a reference, whether it is null,
 //! leads into the dense prefix or leads to an object that slides.
 //!
@@ -37,10 +37,12 @@ mod region_data;
 mod region_table;
 mod report_text;
 mod sources;
+mod stride;
 mod survey;
 
 pub use plainly::compact_plainly;
 pub use plan::{Plan, report};
 pub use reads::Reads;
 pub use region_data::RegionData;
+pub use stride::{FILLER_STRIDE, filler_limit};
 pub use survey::Survey;

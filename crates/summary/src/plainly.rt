@@ -13,6 +13,7 @@ ghost use Rattle.summary.specs.Compaction.{redirected, is_reference_of, carried,
 ghost use Rattle.summary.specs.RegionData.{region_addresses};
 ghost use Rattle.summary.specs.Placement.{IsPrefix, IsPlacement};
 
+use crate::stride::{FILLER_STRIDE, filler_limit};
 use heap_image::{Image, ImageParts, header};
 use raw_region::Region;
 use std::alloc::{AllocError, Global};
@@ -57,6 +58,7 @@ pub fn compact_plainly(alloc: Global, image: &Image) -> Result<Image, AllocError
     let roots = new_roots(alloc, image, places.prefix_end)?;
     let Placement { new_live, .. } = places;
     let parts = ImageParts {
+        version: image.version(),
         region_log: image.region_log(),
         allowance: image.allowance(),
         regions,
@@ -71,7 +73,7 @@ fn new_roots(alloc: Global, image: &Image, prefix: u64) -> Result<Option<Vec<u64
     requires { IsPrefix image.now prefix }
     ensures { IfOk result (λ roots. option_map (λ v. v.items) roots ≡ option_map (map (redirected image.now)) image.now.roots) }
 {
-    if image.version() == 1 {
+    if !image.version().has_roots() {
         return Ok(None);
     }
     let mut roots = Vec::new(alloc);
@@ -159,26 +161,27 @@ fn filler_word(image: &Image, prefix: u64, p: u64) -> u64
     requires inside { p < prefix }
     ensures { result ≡ filler_word image.now p }
 {
-    if p == 0 || is_live_word(image, p - 1) {
+    if p % FILLER_STRIDE == 0 || is_live_word(image, p - 1) {
         header::filler(gap_at(image, prefix, p) as u32)
     } else {
         0
     }
 }
 
-/// The number of consecutive dead words from `p` on, up to the prefix end.
+/// The number of consecutive dead words from `p` on, up to the limit of a filler.
 fn gap_at(image: &Image, prefix: u64, p: u64) -> u64
     requires prefix { IsPrefix image.now prefix }
     requires inside { p < prefix }
     ensures value { result ≡ gap_at image.now p }
     ensures small { result < 2 ^ 32 }
 {
-    for q in p..prefix {
+    let end = filler_limit(prefix, p);
+    for q in p..end {
         if is_live_word(image, q) {
             return q - p;
         }
     }
-    prefix - p
+    end - p
 }
 
 /// An object that begins in the dense prefix stays; any other goes to the next free address.

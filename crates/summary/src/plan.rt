@@ -98,7 +98,7 @@ impl Plan {
     pub fn region_words(&self) -> u64
         ensures value { result ≡ region_words self.now }
         ensures some { 0 < result }
-        ensures few { result ≤ 65536 }
+        ensures few { result ≤ 1048576 }
         ensures valid { IsValid self.now }
     {
         self.table.region_words()

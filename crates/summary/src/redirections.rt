@@ -25,7 +25,7 @@ pub(crate) struct Redirections {
     image: Snapshot<Image>,
     bits: Vec<u64>,
     /// For each word of `bits`, the number of bits set in all words before it.
-    ranks: Vec<u32>,
+    ranks: Vec<u64>,
 }
 
 impl Model for Redirections {
@@ -42,7 +42,7 @@ impl Model for Redirections {
 impl Redirections {
     /// Makes the redirections of an image with these marks, whose dense prefix ends at `prefix`.
     ///
-    /// Allocates 12 bytes for each 64 words of the heap.
+    /// Allocates 16 bytes for each 64 words of the heap.
     pub(crate) fn of(
         alloc: Global,
         image: &Image,
@@ -64,7 +64,7 @@ impl Redirections {
             carried = shifted >> 63;
             bits.push(word)?;
             ranks.push(rank)?;
-            rank += word.count_ones();
+            rank += u64::from(word.count_ones());
         }
         Ok(Redirections {
             image: Snapshot::of(image),
@@ -112,7 +112,7 @@ impl Redirections {
     {
         let i = (x / 64) as usize;
         let below = self.bits[i] & ((1 << (x % 64)) - 1);
-        u64::from(self.ranks[i]) + u64::from(below.count_ones())
+        self.ranks[i] + u64::from(below.count_ones())
     }
 }
 

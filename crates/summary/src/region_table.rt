@@ -74,7 +74,7 @@ impl RegionTable {
     pub(crate) fn region_words(&self) -> u64
         ensures value { result ≡ region_words self.now }
         ensures some { 0 < result }
-        ensures few { result ≤ 65536 }
+        ensures few { result ≤ 1048576 }
         ensures valid { IsValid self.now }
     {
         1 << self.region_log

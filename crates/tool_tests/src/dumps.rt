@@ -1,9 +1,9 @@
-//! Dumps from slow and failing devices, dumps that change between the two readings, and a region size that no command
+//! Dumps from slow and failing devices, dumps that change between the two readings, and region sizes and a version that no command
 //! line can give. `tests/cli/test_import.py` has the words, figures and errors of other dumps.
 use crate::checks::equal;
 use crate::dump_writer::Writer;
 use heap_dump::{ImportError, Imported, Options, Problem, import};
-use heap_image::{FromRead, Image, Intake};
+use heap_image::{FromRead, Image, Intake, Version};
 use std::alloc::{AllocError, Global};
 use std::io;
 use std::io::Read;
@@ -14,6 +14,7 @@ const SMALL: Options = Options {
     region_log: Some(3),
     allowance: 5,
     live_only: false,
+    version: None,
 };
 
 /// The words of the heap of [`sample`].
@@ -214,11 +215,62 @@ fn a_changed_dump_is_reported(rt: HostRuntime) -> Result<(), Fail> {
 fn regions_of_a_size_that_no_image_has_are_refused(rt: HostRuntime) -> Result<(), Fail> {
     let mut dump = Writer::dump(rt.alloc())?;
     dump.record(0x1C, &[])?;
-    let larger = Options {
-        region_log: Some(17),
+    for (version, region_log, most) in [
+        (Some(Version::Two), 17, 16),
+        (Some(Version::Three), 21, 20),
+        (None, 21, 20),
+    ] {
+        let larger = Options {
+            region_log: Some(region_log),
+            version,
+            ..SMALL
+        };
+        let error = refusal(rt.alloc(), dump.as_slice(), dump.as_slice(), larger)?;
+        equal(
+            &rt,
+            error,
+            Some(ImportError::RegionLog { region_log, most }),
+        );
+    }
+    Ok(())
+}
+
+#[test]
+fn an_import_without_roots_is_refused(rt: HostRuntime) -> Result<(), Fail> {
+    let dump = sample(rt.alloc())?;
+    let listed = Options {
+        version: Some(Version::One),
         ..SMALL
     };
-    let error = refusal(rt.alloc(), dump.as_slice(), dump.as_slice(), larger)?;
-    equal(&rt, error, Some(ImportError::RegionLog(17)));
+    let error = refusal(rt.alloc(), dump.as_slice(), dump.as_slice(), listed)?;
+    equal(&rt, error, Some(ImportError::NoRoots));
+    Ok(())
+}
+
+/// The version of the image of the sample with these options.
+fn version_with(alloc: Global, dump: &[u8], options: Options) -> Result<Version, ImportError> {
+    let (mut first, mut second) = (FromRead::new(dump), FromRead::new(dump));
+    let Imported { image, .. } = import(alloc, &mut first, &mut second, options)?;
+    Ok(image.version())
+}
+
+#[test]
+fn an_image_has_the_version_that_is_requested(rt: HostRuntime) -> Result<(), Fail> {
+    let dump = sample(rt.alloc())?;
+    for (version, region_log, wanted) in [
+        (None, 3, Version::Two),
+        (None, 16, Version::Two),
+        (None, 17, Version::Three),
+        (Some(Version::Two), 9, Version::Two),
+        (Some(Version::Three), 3, Version::Three),
+    ] {
+        let options = Options {
+            region_log: Some(region_log),
+            version,
+            ..SMALL
+        };
+        let made = version_with(rt.alloc(), dump.as_slice(), options)?;
+        equal(&rt, made, wanted);
+    }
     Ok(())
 }

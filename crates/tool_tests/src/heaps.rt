@@ -1,7 +1,8 @@
 //! Invalid descriptions of heaps that no command line can give, because the program rejects such arguments earlier.
 //! `tests/cli/test_generate.py` has the others, and the words of seeds.
 use crate::checks::equal;
-use heap_maker::{GenerationError, Wanted, generate};
+use heap_image::Version;
+use heap_maker::{Generated, GenerationError, Wanted, generate};
 use std::alloc::Global;
 use std::test::Fail;
 
@@ -11,13 +12,20 @@ const SMALL: Wanted = Wanted {
     region_log: 3,
     live_percent: 60,
     reference_percent: 50,
-    is_rooted: true,
+    version: Version::Two,
     allowance: 5,
     seed: 35,
 };
 
+/// A heap of a region more than version 3 allows.
+const LARGE: Wanted = Wanted {
+    words: 8_388_616,
+    version: Version::Three,
+    ..SMALL
+};
+
 /// Descriptions of heaps that no image can be, and the error messages.
-const REFUSED: [(Wanted, &str); 6] = [
+const REFUSED: [(Wanted, &str); 11] = [
     (
         Wanted { words: 0, ..SMALL },
         "0 words, where 1 to 4194304 are allowed",
@@ -57,6 +65,39 @@ const REFUSED: [(Wanted, &str); 6] = [
         },
         "102 of a hundred, where 0 to 100 are allowed",
     ),
+    (
+        Wanted {
+            words: 131_080,
+            version: Version::One,
+            ..SMALL
+        },
+        "131080 words are 16385 regions, where 16384 are the most",
+    ),
+    (
+        LARGE,
+        "8388616 words are 1048577 regions, where 1048576 are the most",
+    ),
+    (
+        Wanted {
+            words: 68_719_476_744,
+            ..LARGE
+        },
+        "68719476744 words, where 1 to 68719476736 are allowed",
+    ),
+    (
+        Wanted {
+            region_log: 21,
+            ..LARGE
+        },
+        "region log 21, where 3 to 20 are allowed",
+    ),
+    (
+        Wanted {
+            region_log: 2,
+            ..LARGE
+        },
+        "region log 2, where 3 to 20 are allowed",
+    ),
 ];
 
 fn refusal(alloc: Global, wanted: &Wanted) -> Option<GenerationError> {
@@ -79,6 +120,22 @@ fn wishes_that_no_image_has_are_refused(rt: HostRuntime) -> Result<(), Fail> {
     for (wanted, text) in &REFUSED {
         let said = refusal_text(rt.alloc(), wanted)?;
         equal(&rt, said.as_str(), *text);
+    }
+    Ok(())
+}
+
+/// Whether a heap is generated in this version, with roots exactly if the version has them.
+fn has_version(alloc: Global, version: Version) -> Result<bool, GenerationError> {
+    let wanted = Wanted { version, ..SMALL };
+    let Generated { image, figures } = generate(alloc, &wanted)?;
+    let roots = image.roots().len() as u64;
+    Ok(image.version() == version && figures.roots == roots && version.has_roots() == (roots > 0))
+}
+
+#[test]
+fn a_heap_has_the_version_that_is_wanted(rt: HostRuntime) -> Result<(), Fail> {
+    for version in [Version::One, Version::Two, Version::Three] {
+        equal(&rt, has_version(rt.alloc(), version)?, true);
     }
     Ok(())
 }

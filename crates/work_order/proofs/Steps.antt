@@ -109,7 +109,7 @@ module _ (image : HeapImage) where
 
   -- one more region
   pub one-longer : (s words : ℕ) (chains : List ℕ) → AreLongest image chains → length chains ≡ s → IsLongestFrom image s words
-      → words ≤ (s + 1) * 65536 → AreLongest image (chains ++ words ∷ [])
+      → words ≤ (s + 1) * 1048576 → AreLongest image (chains ++ words ∷ [])
   one-longer s words chains below all from few =
       let long : length (chains ++ words ∷ []) ≡ s + 1 = length-append chains (words ∷ []) ∙ ap (λ n. n + 1) all in
       let at : slice_index (chains ++ words ∷ []) s ≡ words = ap (λ n. slice_index (chains ++ words ∷ []) n) (sym all) ∙ get_or-append_seam chains words [] 0 in
@@ -123,10 +123,10 @@ module _ (image : HeapImage) where
             ];
         few = λ t l.
             elim (eq-or-lt_of_le (let h : t ≤ s = omega arith in h)) [
-              | inl e ↦ subst (λ x. slice_index (chains ++ words ∷ []) x ≤ (x + 1) * 65536) (sym e) (subst (λ w. w ≤ (s + 1) * 65536) (sym at) few)
+              | inl e ↦ subst (λ x. slice_index (chains ++ words ∷ []) x ≤ (x + 1) * 1048576) (sym e) (subst (λ w. w ≤ (s + 1) * 1048576) (sym at) few)
               | inr less ↦
                   let inside : t < length chains = omega arith in
-                  subst (λ w. w ≤ (t + 1) * 65536) (sym (get_or-append chains (words ∷ []) 0 t inside)) (below.few t inside)
+                  subst (λ w. w ≤ (t + 1) * 1048576) (sym (get_or-append chains (words ∷ []) 0 t inside)) (below.few t inside)
             ];
       }
 

@@ -51,4 +51,4 @@ pub record IsLongestAfter (image : HeapImage) (s words : ℕ) : Type 0 where
 -- for each region from 0 on, the words of the longest chain that begins with it
 pub record AreLongest (image : HeapImage) (chains : List ℕ) : Type 0 where
   pub each : (s : ℕ) → s < length chains → IsLongestFrom image s (slice_index chains s)
-  pub few : (s : ℕ) → s < length chains → slice_index chains s ≤ (s + 1) * 65536
+  pub few : (s : ℕ) → s < length chains → slice_index chains s ≤ (s + 1) * 1048576

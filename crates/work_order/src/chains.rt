@@ -33,7 +33,7 @@ fn longest_after(plan: &Plan, chains: &[u64], region: u32) -> u64
     requires below { AreLongest plan.now chains.now }
     requires all { length chains.now ≡ region }
     ensures longest { IsLongestAfter plan.now region result }
-    ensures few { result ≤ region * 65536 }
+    ensures few { result ≤ region * 1048576 }
 {
     reads_by_words();
     reads_by_destination();
@@ -83,7 +83,7 @@ fn chain_from(chains: &[u64], region: u64) -> u64
 /// The number of words of a region below the new top: those that its fill leaves in it.
 fn fill_words(plan: &Plan, region: u32) -> u64
     ensures value { result ≡ fill_words plan.now region }
-    ensures few { result ≤ 65536 }
+    ensures few { result ≤ 1048576 }
 {
     let start = u64::from(region) * plan.region_words();
     plan.new_top()

@@ -23,7 +23,7 @@ pub struct WorkOrder {
     /// The words of all regions to fill: the new top.
     pub words: u64,
     ghost some: { chain ≡ 0 → words ≡ 0 },
-    ghost few: { words ≤ 4194304 },
+    ghost few: { words ≤ 68719476736 },
 }
 
 impl WorkOrder {

@@ -34,6 +34,7 @@ where
 {
     let watch = Stopwatch::start(rt, request.stats);
     let (image, mut out) = image_and_out(rt, request.image, request.out, request.atomic)?;
+    out.file.file().expect_len(image.regular_len());
     let image = ImageFile::read_ahead(rt, image.with_shape(request.shape), request.workers);
     let mut image = TimedIntake::new(rt, watch, image);
     let may_have_holes = out.may_have_holes;

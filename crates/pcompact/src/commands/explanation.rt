@@ -5,8 +5,7 @@ ghost use Rattle.heap_image.specs.HeapImage.{AreBlocks};
 use collector::{
     ExplainedWord, Explanation, Found, Lead, Moved, OtherLive, OtherRoot, Part, explain,
 };
-use heap_image::limits::MAX_HEAP_WORDS;
-use heap_image::{Body, Extent, FRONT_BYTES, Fault, FileStore, Heap, Image, body_at};
+use heap_image::{Body, Extent, FRONT_BYTES, Fault, FileStore, Heap, Image, Version, body_at};
 use std::alloc::Global;
 use std::fmt;
 use std::fmt::Write;
@@ -24,7 +23,7 @@ pub fn explanation_of_images(
 ) -> Result<String, Fault> {
     let sizes = Sizes { was, is };
     let heap = is.heap();
-    let has_roots = is.version() == 2;
+    let has_roots = is.version().has_roots();
     let tail = if has_roots { is.roots() } else { is.live() };
     let found = contents(&heap, tail, has_roots);
     let words = explanation_of_words(alloc, was, found, ignore_free, threads)?;
@@ -49,7 +48,7 @@ pub fn explanation_of_file<R: AllocGlobal + Threads + Sync, F: FileExt + Sync>(
     let heap = heap_of(&body, extent.size.region_log)?;
     let tail = body.tail.as_slice();
     // The last byte of the magic is the version.
-    let has_roots = front[7] == b'2';
+    let has_roots = front[7] != b'1';
     let found = contents(&heap, tail, has_roots);
     let listed = Listed::of(was, has_roots, tail.len());
     let words = explanation_of_words(rt.alloc(), was, found, ignore_free, rt).ok()?;
@@ -58,12 +57,13 @@ pub fn explanation_of_file<R: AllocGlobal + Threads + Sync, F: FileExt + Sync>(
 
 /// The heap of a body, if it isn't too large.
 fn heap_of<'a>(body: &'a Body, region_log: u32) -> Option<Heap<'a>>
-    requires log { region_log ≤ 16 }
+    requires log { region_log ≤ 20 }
     requires blocks { AreBlocks region_log body.now.regions.items }
-    requires few { length body.now.regions.items * 2 ^ region_log ≤ 8388608 }
+    requires few { length body.now.regions.items * 2 ^ region_log ≤ 137438953472 }
 {
     let words = (body.regions.len() as u64) << region_log;
-    if words > MAX_HEAP_WORDS {
+    let most = Version::Three.max_words();
+    if words > most {
         return None;
     }
     Some(Heap::new(body.regions.as_slice(), region_log))
@@ -121,7 +121,7 @@ impl fmt::Display for Sizes<'_> {
         write_size("region-log", log(was), log(is), f)?;
         write_size("words", was.len(), is.len(), f)?;
         write_size("allowance", was.allowance(), is.allowance(), f)?;
-        let version = |image: &Image| u64::from(image.version());
+        let version = |image: &Image| u64::from(image.version().number());
         write_size("version", version(was), version(is), f)?;
         let live = |image: &Image| image.live().len() as u64;
         write_size("live objects", live(was), live(is), f)?;

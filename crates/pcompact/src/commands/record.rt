@@ -36,6 +36,7 @@ where
 {
     let watch = Stopwatch::start(rt, request.stats);
     let (image, mut out, mut schedule) = image_out_and_schedule(rt, &request)?;
+    out.file.file().expect_len(image.regular_len());
     let image = ImageFile::read_ahead(rt, image.with_shape(request.shape), request.workers);
     let mut image = TimedIntake::new(rt, watch, image);
     let may_have_holes = out.may_have_holes;

@@ -17,7 +17,8 @@ returns-clause-app c =
     let step3 = c.in_ok-arg-3.ensures.shape c.atomic.ensures.local ∙ ap₂ with_rule shaped c.atomic.ensures.rule in
     let step4 = c.in_ok-arg-4.ensures.shape c.json.ensures.local ∙ ap₂ with_rule step3 c.json.ensures.rule in
     let step5 = c.in_ok-arg-5.ensures.shape c.stats.ensures.local ∙ ap₂ with_rule step4 c.stats.ensures.rule in
-    IfOk-weaker c.arg-7.result _ _ (λ command added. added.shape c.verbose.ensures.local ∙ ap₂ with_rule step5 c.verbose.ensures.rule) c.arg-7.ensures
+    let step6 = c.in_ok-arg-6.ensures.shape c.progress.ensures.local ∙ ap₂ with_rule step5 c.progress.ensures.rule in
+    IfOk-weaker c.arg-8.result _ _ (λ command added. added.shape c.verbose.ensures.local ∙ ap₂ with_rule step6 c.verbose.ensures.rule) c.arg-8.ensures
 
 pub returns-clause-local : goal.returns-clause-local
 returns-clause-local c =
@@ -29,4 +30,5 @@ returns-clause-local c =
     let step3 = c.in_ok-arg-3.ensures.globals ∙ ap₂ ◌||◌ shaped c.atomic.ensures.local in
     let step4 = c.in_ok-arg-4.ensures.globals ∙ ap₂ ◌||◌ step3 c.json.ensures.local in
     let step5 = c.in_ok-arg-5.ensures.globals ∙ ap₂ ◌||◌ step4 c.stats.ensures.local in
-    IfOk-weaker c.arg-7.result _ _ (λ command added. added.globals ∙ ap₂ ◌||◌ step5 c.verbose.ensures.local) c.arg-7.ensures
+    let step6 = c.in_ok-arg-6.ensures.globals ∙ ap₂ ◌||◌ step5 c.progress.ensures.local in
+    IfOk-weaker c.arg-8.result _ _ (λ command added. added.globals ∙ ap₂ ◌||◌ step6 c.verbose.ensures.local) c.arg-8.ensures

@@ -14,12 +14,14 @@ returns-clause-app c =
     let step1 = c.in_ok-arg-2.ensures.shape c.file-2.ensures.local ∙ ap₂ with_rule step0 c.file-2.ensures.rule in
     let step2 = c.in_ok-arg-3.ensures.shape c.region_log.ensures.local ∙ ap₂ with_rule step1 c.region_log.ensures.rule in
     let step3 = c.in_ok-arg-4.ensures.shape c.allowance.ensures.local ∙ ap₂ with_rule step2 c.allowance.ensures.rule in
-    let step4 = c.in_ok-arg-5.ensures.shape c.flag.ensures.local ∙ ap₂ with_rule step3 c.flag.ensures.rule in
-    let step5 = c.in_ok-arg-6.ensures.shape c.classes.ensures.local ∙ ap₂ with_rule step4 c.classes.ensures.rule in
-    let step6 = c.in_ok-arg-7.ensures.shape c.histogram.ensures.local ∙ ap₂ with_rule step5 c.histogram.ensures.rule in
-    let step7 = c.in_ok-arg-8.ensures.shape c.json.ensures.local ∙ ap₂ with_rule step6 c.json.ensures.rule in
-    let step8 = c.in_ok-command.ensures.shape c.stats.ensures.local ∙ ap₂ with_rule step7 c.stats.ensures.rule in
-    IfOk-weaker c.with_last.result _ _ (λ command is. is ∙ ap with_replacement step8) c.with_last.ensures.app
+    let step4 = c.in_ok-arg-5.ensures.shape c.version.ensures.local ∙ ap₂ with_rule step3 c.version.ensures.rule in
+    let step5 = c.in_ok-arg-6.ensures.shape c.flag.ensures.local ∙ ap₂ with_rule step4 c.flag.ensures.rule in
+    let step6 = c.in_ok-arg-7.ensures.shape c.classes.ensures.local ∙ ap₂ with_rule step5 c.classes.ensures.rule in
+    let step7 = c.in_ok-arg-8.ensures.shape c.histogram.ensures.local ∙ ap₂ with_rule step6 c.histogram.ensures.rule in
+    let step8 = c.in_ok-arg-9.ensures.shape c.json.ensures.local ∙ ap₂ with_rule step7 c.json.ensures.rule in
+    let step9 = c.in_ok-arg-10.ensures.shape c.stats.ensures.local ∙ ap₂ with_rule step8 c.stats.ensures.rule in
+    let step10 = c.in_ok-command.ensures.shape c.progress.ensures.local ∙ ap₂ with_rule step9 c.progress.ensures.rule in
+    IfOk-weaker c.with_last.result _ _ (λ command is. is ∙ ap with_replacement step10) c.with_last.ensures.app
 
 pub returns-clause-local : goal.returns-clause-local
 returns-clause-local c =
@@ -28,9 +30,11 @@ returns-clause-local c =
     let step1 = c.in_ok-arg-2.ensures.globals ∙ ap₂ ◌||◌ step0 c.file-2.ensures.local in
     let step2 = c.in_ok-arg-3.ensures.globals ∙ ap₂ ◌||◌ step1 c.region_log.ensures.local in
     let step3 = c.in_ok-arg-4.ensures.globals ∙ ap₂ ◌||◌ step2 c.allowance.ensures.local in
-    let step4 = c.in_ok-arg-5.ensures.globals ∙ ap₂ ◌||◌ step3 c.flag.ensures.local in
-    let step5 = c.in_ok-arg-6.ensures.globals ∙ ap₂ ◌||◌ step4 c.classes.ensures.local in
-    let step6 = c.in_ok-arg-7.ensures.globals ∙ ap₂ ◌||◌ step5 c.histogram.ensures.local in
-    let step7 = c.in_ok-arg-8.ensures.globals ∙ ap₂ ◌||◌ step6 c.json.ensures.local in
-    let step8 = c.in_ok-command.ensures.globals ∙ ap₂ ◌||◌ step7 c.stats.ensures.local in
-    c.with_last.ensures.local step8
+    let step4 = c.in_ok-arg-5.ensures.globals ∙ ap₂ ◌||◌ step3 c.version.ensures.local in
+    let step5 = c.in_ok-arg-6.ensures.globals ∙ ap₂ ◌||◌ step4 c.flag.ensures.local in
+    let step6 = c.in_ok-arg-7.ensures.globals ∙ ap₂ ◌||◌ step5 c.classes.ensures.local in
+    let step7 = c.in_ok-arg-8.ensures.globals ∙ ap₂ ◌||◌ step6 c.histogram.ensures.local in
+    let step8 = c.in_ok-arg-9.ensures.globals ∙ ap₂ ◌||◌ step7 c.json.ensures.local in
+    let step9 = c.in_ok-arg-10.ensures.globals ∙ ap₂ ◌||◌ step8 c.stats.ensures.local in
+    let step10 = c.in_ok-command.ensures.globals ∙ ap₂ ◌||◌ step9 c.progress.ensures.local in
+    c.with_last.ensures.local step10

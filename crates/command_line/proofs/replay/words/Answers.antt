@@ -13,7 +13,8 @@ returns-clause-app c =
     let step0 = c.in_ok-arg.ensures.shape c.image.ensures.local ∙ ap₂ with_rule start c.image.ensures.rule in
     let step1 = c.in_ok-command.ensures.shape c.file.ensures.local ∙ ap₂ with_rule step0 c.file.ensures.rule in
     let shaped = c.in_ok-with_shape.ensures.app ∙ ap with_shape_rules step1 in
-    IfOk-weaker c.arg-3.result _ _ (λ command added. added.shape c.verbose.ensures.local ∙ ap₂ with_rule shaped c.verbose.ensures.rule) c.arg-3.ensures
+    let step2 = c.in_ok-arg-2.ensures.shape c.progress.ensures.local ∙ ap₂ with_rule shaped c.progress.ensures.rule in
+    IfOk-weaker c.arg-4.result _ _ (λ command added. added.shape c.verbose.ensures.local ∙ ap₂ with_rule step2 c.verbose.ensures.rule) c.arg-4.ensures
 
 pub returns-clause-local : goal.returns-clause-local
 returns-clause-local c =
@@ -21,4 +22,5 @@ returns-clause-local c =
     let step0 = c.in_ok-arg.ensures.globals ∙ ap₂ ◌||◌ start c.image.ensures.local in
     let step1 = c.in_ok-command.ensures.globals ∙ ap₂ ◌||◌ step0 c.file.ensures.local in
     let shaped = c.in_ok-with_shape.ensures.local step1 in
-    IfOk-weaker c.arg-3.result _ _ (λ command added. added.globals ∙ ap₂ ◌||◌ shaped c.verbose.ensures.local) c.arg-3.ensures
+    let step2 = c.in_ok-arg-2.ensures.globals ∙ ap₂ ◌||◌ shaped c.progress.ensures.local in
+    IfOk-weaker c.arg-4.result _ _ (λ command added. added.globals ∙ ap₂ ◌||◌ step2 c.verbose.ensures.local) c.arg-4.ensures

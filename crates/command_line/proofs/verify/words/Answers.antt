@@ -17,7 +17,8 @@ returns-clause-app c =
     let step5 = c.in_ok-arg-6.ensures.shape c.allowance_with.ensures.local ∙ ap₂ with_rule step4 c.allowance_with.ensures.rule in
     let step6 = c.in_ok-arg-7.ensures.shape c.json.ensures.local ∙ ap₂ with_rule step5 c.json.ensures.rule in
     let step7 = c.in_ok-arg-8.ensures.shape c.stats.ensures.local ∙ ap₂ with_rule step6 c.stats.ensures.rule in
-    IfOk-weaker c.arg-9.result _ _ (λ command added. added.shape c.verbose.ensures.local ∙ ap₂ with_rule step7 c.verbose.ensures.rule) c.arg-9.ensures
+    let step8 = c.in_ok-arg-9.ensures.shape c.progress.ensures.local ∙ ap₂ with_rule step7 c.progress.ensures.rule in
+    IfOk-weaker c.arg-10.result _ _ (λ command added. added.shape c.verbose.ensures.local ∙ ap₂ with_rule step8 c.verbose.ensures.rule) c.arg-10.ensures
 
 pub returns-clause-local : goal.returns-clause-local
 returns-clause-local c =
@@ -30,4 +31,5 @@ returns-clause-local c =
     let step5 = c.in_ok-arg-6.ensures.globals ∙ ap₂ ◌||◌ step4 c.allowance_with.ensures.local in
     let step6 = c.in_ok-arg-7.ensures.globals ∙ ap₂ ◌||◌ step5 c.json.ensures.local in
     let step7 = c.in_ok-arg-8.ensures.globals ∙ ap₂ ◌||◌ step6 c.stats.ensures.local in
-    IfOk-weaker c.arg-9.result _ _ (λ command added. added.globals ∙ ap₂ ◌||◌ step7 c.verbose.ensures.local) c.arg-9.ensures
+    let step8 = c.in_ok-arg-9.ensures.globals ∙ ap₂ ◌||◌ step7 c.progress.ensures.local in
+    IfOk-weaker c.arg-10.result _ _ (λ command added. added.globals ∙ ap₂ ◌||◌ step8 c.verbose.ensures.local) c.arg-10.ensures

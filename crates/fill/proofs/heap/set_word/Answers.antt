@@ -49,7 +49,7 @@ returns-clause-heap c =
     record {
       log = c.requires.heap.log;
       whole = same-set r c.args.regions.now c.requires.heap.whole i c.set.new.self (c.set.ensures.same_length ∙ long);
-      few = subst (λ (n : ℕ). n ≤ 4194304) (sym all) c.requires.heap.few;
+      few = subst (λ (n : ℕ). n ≤ 68719476736) (sym all) c.requires.heap.few;
     }
 
 pub returns-clause-value : goal.returns-clause-value

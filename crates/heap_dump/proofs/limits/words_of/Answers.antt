@@ -19,7 +19,7 @@ loop-region-preserved c =
     let grown : length (concat (take (i + 1) regions)) ≡ length (concat (take i regions)) + length row = ap length more ∙ longer in
     let counted = so_far.count in
     let few = so_far.few in
-    let short : length row ≤ 65536 = subst (λ xs. length xs ≤ 65536) (sym c.words.ensures.value) c.words.ensures.at_most in
+    let short : length row ≤ 1048576 = subst (λ xs. length xs ≤ 1048576) (sym c.words.ensures.value) c.words.ensures.at_most in
     let added = c.length_of-words.ensures.count in
     record {
       count = omega arith;

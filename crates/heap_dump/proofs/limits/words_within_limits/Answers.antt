@@ -15,10 +15,10 @@ returns-clause-limits c =
     let some = c.if-words-eq0.false in
     record {
       region_log_low = c.requires.low;
-      region_log_high = c.requires.high;
+      region_log_high = omega (arith, c.requires.high);
       not_empty = omega arith;
       whole_regions = ap (λ n. n % 2 ^ log) long ∙ mul-mod_left (length regions) (2 ^ log);
-      few_words = c.if-words-gt-MAX_HEAP_WORDS.false;
+      few_words = omega (arith, c.if-words-max_words.false);
       few_regions = omega arith;
       few_live = omega arith;
     }

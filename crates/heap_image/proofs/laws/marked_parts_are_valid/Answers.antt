@@ -1,11 +1,25 @@
-use Rattle.std.proofs.Common.{refl, subst, sym, true, Some, []}
+use Rattle.std.proofs.Common.{◌≡◌, ◌∙◌, ap, refl, subst, sym, true, List, ℕ, Some, None, []}
+use Rattle.std.proofs.lemmas.Bool.{true≢false}
 use Rattle.heap_image.specs.HeapImage.{IsValid, image_of}
-use Rattle.heap_image.proofs.FromTail.{from_tail-IsValid, rooted_live}
+use Rattle.heap_image.specs.ImageText.{first_some, from_tail, live_list_faults}
+use Rattle.heap_image.specs.Version.{has_roots}
+use Rattle.heap_image.specs.declared.version.Version.{Version}
+use Rattle.heap_image.specs.declared.version.Version.TheVariants.{One, Two, Three}
+use Rattle.heap_image.proofs.FromTail.{from_tail-IsValid, rooted_faults, rooted_live}
 use Rattle.heap_image.proofs.Refusing.{no_fault_of_parts, parts_are}
 use Rattle.heap_image.proofs.laws.marked_parts_are_valid.Goals as goal
 
+-- in a version with roots the numbers after the words are the roots
+roots_are : (version : Version) (log : ℕ) (blocks : List (List ℕ)) (roots : List ℕ) → has_roots version ≡ true
+    → Some roots ≡ (from_tail version (image_of log 0 blocks roots)).roots
+roots_are One log blocks roots some = absurd (true≢false (sym some))
+roots_are Two log blocks roots some = refl
+roots_are Three log blocks roots some = refl
+
 pub returns : goal.returns
-returns c = λ log allowance blocks roots live fits none found.
-    let tail = rooted_live true (image_of log 0 blocks []) roots live refl found in
-    subst IsValid (sym (parts_are true log allowance blocks blocks roots live (Some roots) refl tail refl))
-    (from_tail-IsValid true (image_of log allowance blocks roots) fits (no_fault_of_parts true log allowance blocks blocks roots refl none))
+returns c = λ version log allowance blocks roots live some fits none found.
+    let tail = rooted_live version (image_of log 0 blocks []) roots live some found in
+    let faultless : first_some (live_list_faults (from_tail version (image_of log 0 blocks roots))) ≡ None =
+    sym (ap first_some (rooted_faults version (image_of log 0 blocks roots) some)) ∙ none in
+    subst IsValid (sym (parts_are version log allowance blocks blocks roots live (Some roots) refl tail (roots_are version log blocks roots some)))
+    (from_tail-IsValid version (image_of log allowance blocks roots) fits (no_fault_of_parts version log allowance blocks blocks roots refl faultless))

@@ -7,11 +7,11 @@ use Rattle.heap_image.proofs.WellFormed.{reached_well}
 use Rattle.heap_image.proofs.reach.find_reachable.Goals as goal
 
 pub returns-in-Some-clause-fault : goal.returns-in-Some-clause-fault
-returns-in-Some-clause-fault c =
+returns-in-Some-clause-fault g c =
     inr (root_fault c.args.heap.now c.args.roots.now [] c.len-words.result c.len-words.ensures.value c.in-Some.index c.misplaced_root.result c.misplaced_root.ensures c.in-Some.is)
 
 pub returns-clause-live : goal.returns-clause-live
-returns-clause-live c =
+returns-clause-live g c =
     let words = c.len-words.result in
     let bits = c.in_ok-marked.marked.bits in
     let live = c.in_ok-live.live.items in
@@ -19,7 +19,7 @@ returns-clause-live c =
     live_is c.args.heap.now c.args.roots.now bits live words c.len-words.ensures.value c.in_ok-marked.ensures.reached is
 
 pub returns-clause-inside : goal.returns-clause-inside
-returns-clause-inside c =
+returns-clause-inside g c =
     let words = c.len-words.result in
     let bits = c.in_ok-marked.marked.bits in
     let live = c.in_ok-live.live.items in
@@ -27,7 +27,7 @@ returns-clause-inside c =
     subst (λ n. All (λ a. a < n) live) c.len-words.ensures.value (live_inside c.args.heap.now c.args.roots.now bits live words c.len-words.ensures.value c.in_ok-marked.ensures.reached is)
 
 pub returns-clause-begins : goal.returns-clause-begins
-returns-clause-begins c =
+returns-clause-begins g c =
     let words = c.len-words.result in
     let bits = c.in_ok-marked.marked.bits in
     let live = c.in_ok-live.live.items in
@@ -35,10 +35,10 @@ returns-clause-begins c =
     subst (λ n. MarkBegins live n bits) c.len-words.ensures.value (live_begins c.args.heap.now c.args.roots.now bits live words c.len-words.ensures.value c.in_ok-marked.ensures.reached is)
 
 pub returns-clause-roots : goal.returns-clause-roots
-returns-clause-roots c = no_root_fault c.args.heap.now c.args.roots.now [] c.len-words.result c.len-words.ensures.value c.misplaced_root.result c.misplaced_root.ensures c.in_default.is
+returns-clause-roots g c = no_root_fault c.args.heap.now c.args.roots.now [] c.len-words.result c.len-words.ensures.value c.misplaced_root.result c.misplaced_root.ensures c.in_default.is
 
 pub returns-clause-well_formed : goal.returns-clause-well_formed
-returns-clause-well_formed c = λ said.
+returns-clause-well_formed g c = λ said.
     let words = c.len-words.result in
     let bits = c.in_ok-marked.marked.bits in
     let live = c.in_ok-live.live.items in

@@ -8,7 +8,7 @@ returns-clause-wanted c =
     let limits = c.in_ok-heap.ensures.limits in
     record {
       valid = made.valid;
-      version = made.version;
+      version = made.version ∙ ap (λ l. l.version) limits ∙ known.version;
       region_log = made.region_log ∙ ap (λ l. l.region_log) limits ∙ known.log;
       words = made.words ∙ ap (λ l. l.words) limits ∙ known.words;
       allowance = made.allowance;

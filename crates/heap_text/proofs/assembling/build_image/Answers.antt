@@ -1,4 +1,5 @@
 use Rattle.std.proofs.Common.{◌≡◌, ◌∙◌, ap, sym}
+use Rattle.heap_image.specs.Version.{has_roots}
 use Rattle.heap_image.specs.HeapImage.{HeapImage}
 use Rattle.heap_text.specs.ImageBytes.{bytes_left, Gives}
 use Rattle.heap_text.specs.Text.{text_of}
@@ -8,9 +9,9 @@ use Rattle.heap_text.proofs.assembling.build_image.Goals as goal
 
 pub returns-in_err-check_live_objects-clause-accepts : goal.returns-in_err-check_live_objects-clause-accepts
 returns-in_err-check_live_objects-clause-accepts c image valid is p =
-    let gives : Gives image c.in_ok-bytes.bytes = bytes_are image c.args.heap p (bytes_left c.in_ok-bytes.bytes) c.front-front.result c.numbers_after_words-tail.result.now
+    let gives : Gives image c.in_ok-bytes.bytes = bytes_are image c.args.heap p valid (bytes_left c.in_ok-bytes.bytes) c.front-front.result c.numbers_after_words-tail.result.now
     (c.front-front.ensures (tail_few image c.args.heap p valid))
-    (tails_same c.args.heap.is_rooted c.numbers_after_words-tail.result.now c.as_slice.result.now c.args.heap.roots.items c.as_slice-2.result.now c.args.heap.live.items
+    (tails_same (has_roots c.args.heap.version) c.numbers_after_words-tail.result.now c.as_slice.result.now c.args.heap.roots.items c.as_slice-2.result.now c.args.heap.live.items
     c.numbers_after_words-tail.ensures c.as_slice.ensures.value c.as_slice-2.ensures.value)
     c.in_ok-bytes.ensures in
     let found : c.in_ok-image.image ≡ image = c.in_ok-image.ensures.accepts image valid gives in
@@ -20,18 +21,18 @@ returns-in_err-check_live_objects-clause-accepts c image valid is p =
 
 pub returns-then-eq-clause-accepts : goal.returns-then-eq-clause-accepts
 returns-then-eq-clause-accepts c image valid is p =
-    let gives : Gives image c.in_ok-bytes.bytes = bytes_are image c.args.heap p (bytes_left c.in_ok-bytes.bytes) c.front-front.result c.numbers_after_words-tail.result.now
+    let gives : Gives image c.in_ok-bytes.bytes = bytes_are image c.args.heap p valid (bytes_left c.in_ok-bytes.bytes) c.front-front.result c.numbers_after_words-tail.result.now
     (c.front-front.ensures (tail_few image c.args.heap p valid))
-    (tails_same c.args.heap.is_rooted c.numbers_after_words-tail.result.now c.as_slice.result.now c.args.heap.roots.items c.as_slice-2.result.now c.args.heap.live.items
+    (tails_same (has_roots c.args.heap.version) c.numbers_after_words-tail.result.now c.as_slice.result.now c.args.heap.roots.items c.as_slice-2.result.now c.args.heap.live.items
     c.numbers_after_words-tail.ensures c.as_slice.ensures.value c.as_slice-2.ensures.value)
     c.in_ok-bytes.ensures in
     c.in_ok-image.ensures.accepts image valid gives
 
 pub returns-clause-accepts : goal.returns-clause-accepts
 returns-clause-accepts c image valid is p =
-    let gives : Gives image c.in_ok-bytes.bytes = bytes_are image c.args.heap p (bytes_left c.in_ok-bytes.bytes) c.front-front.result c.numbers_after_words-tail.result.now
+    let gives : Gives image c.in_ok-bytes.bytes = bytes_are image c.args.heap p valid (bytes_left c.in_ok-bytes.bytes) c.front-front.result c.numbers_after_words-tail.result.now
     (c.front-front.ensures (tail_few image c.args.heap p valid))
-    (tails_same c.args.heap.is_rooted c.numbers_after_words-tail.result.now c.as_slice.result.now c.args.heap.roots.items c.as_slice-2.result.now c.args.heap.live.items
+    (tails_same (has_roots c.args.heap.version) c.numbers_after_words-tail.result.now c.as_slice.result.now c.args.heap.roots.items c.as_slice-2.result.now c.args.heap.live.items
     c.numbers_after_words-tail.ensures c.as_slice.ensures.value c.as_slice-2.ensures.value)
     c.in_ok-bytes.ensures in
     let found : c.in_ok-image.image ≡ image = c.in_ok-image.ensures.accepts image valid gives in

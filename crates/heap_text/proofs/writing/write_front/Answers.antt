@@ -1,5 +1,6 @@
-use Rattle.std.proofs.Common.{ℕ, List, ◌∙◌, codes, string_bytes}
+use Rattle.std.proofs.Common.{ℕ, List, ap, ◌∙◌, codes, string_bytes}
 use Rattle.heap_image.specs.HeapImage.{HeapImage, heap_words, version_of}
+use Rattle.heap_image.specs.Version.{number_of}
 use Rattle.heap_text.specs.Text.{number_line}
 use Rattle.heap_text.proofs.TextSteps.{append_four, same_line}
 use Rattle.heap_text.proofs.writing.write_front.Goals as goal
@@ -14,7 +15,7 @@ returns c =
     let t4 : List ℕ = string_bytes c.write_line-4.new.text in
     append_four t0 t1 t2 t3 t4 (number_line (codes "heap version") (version_of image)) (number_line (codes "region-log") image.region_log)
     (number_line (codes "words") (heap_words image)) (number_line (codes "allowance") image.allowance)
-    (same_line (codes "heap version") t0 t1 c.from.result (version_of image) c.in_ok-write_line.ensures (c.from.ensures ∙ c.version.ensures))
+    (same_line (codes "heap version") t0 t1 c.from.result (version_of image) c.in_ok-write_line.ensures (c.from.ensures ∙ (c.number.ensures ∙ ap number_of c.version.ensures.value)))
     (same_line (codes "region-log") t1 t2 c.from-2.result image.region_log c.in_ok-write_line-2.ensures (c.from-2.ensures ∙ c.region_log.ensures.value))
     (same_line (codes "words") t2 t3 c.len.result (heap_words image) c.in_ok-write_line-3.ensures c.len.ensures.value)
     (same_line (codes "allowance") t3 t4 c.allowance.result image.allowance c.in_ok-write_line-4.ensures c.allowance.ensures)

@@ -5,7 +5,7 @@ use Rattle.history.proofs.given_moves.push_pairs.Goals as goal
 
 pub overflow_add-from : goal.overflow_add-from
 overflow_add-from g c =
-    let few : region_count (g.M.Moves.table c.args.moves.now) ≤ 16384 = c.requires.lawful.few in
+    let few : region_count (g.M.Moves.table c.args.moves.now) ≤ 1048576 = c.requires.lawful.few in
     omega (arith, c.in-Some.ensures.inside)
 
 pub loop-source-smaller : goal.loop-source-smaller

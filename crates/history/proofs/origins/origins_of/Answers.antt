@@ -11,14 +11,6 @@ loop-q-init c =
     subst (λ (n : ℕ). IsListed c.args.plan.now c.new-origins.result.items n) (sym c.prefix_end-from.ensures.value)
     (subst (λ (xs : List ℕ). IsListed c.args.plan.now xs (prefix_end c.args.plan.now)) (sym c.new-origins.ensures.items) (listed_first c.args.plan.now c.prefix_end-from.ensures.valid))
 
-pub overflow_cast-q : goal.overflow_cast-q
-overflow_cast-q c =
-    let valid = c.prefix_end-from.ensures.valid in
-    let first : IsFirstFrom (is_live_word c.args.plan.now) c.loop-q.from c.in-Some.q = (subst (λ (i : HeapImage). IsFirstFrom (is_live_word i) c.loop-q.from c.in-Some.q) c.requires c.in-Some.ensures) in
-    let below = live_below c.args.plan.now valid.live_list c.in-Some.q first.passes in
-    let few = valid.limits.few_words in
-    omega arith
-
 pub overflow_add-from : goal.overflow_add-from
 overflow_add-from c =
     let valid = c.prefix_end-from.ensures.valid in

@@ -14,7 +14,7 @@ loop-region-preserved c =
     let own = c.fill_words.result in
     let from : IsLongestFrom image s (own + after) =
     subst (λ n. IsLongestFrom image s (n + after)) (sym c.fill_words.ensures.value) (longest-from image s after c.longest_after-after.ensures.longest) in
-    let few : own + after ≤ (s + 1) * 65536 = omega (arith, c.fill_words.ensures.few, c.longest_after-after.ensures.few) in
+    let few : own + after ≤ (s + 1) * 1048576 = omega (arith, c.fill_words.ensures.few, c.longest_after-after.ensures.few) in
     let are : c.push.new.self.items ≡ before ++ ((own + after) ∷ []) = c.in_ok-push.ensures.items in
     record {
       longest = subst (λ xs. AreLongest image xs) (sym are) (one-longer image s (own + after) before so_far.longest so_far.all from few);

@@ -1,48 +1,47 @@
-use Rattle.std.proofs.Common.{◌≡◌, ℕ, ◌+◌, ◌-◌, ◌≤◌, ◌<◌, refl, sym, ◌∙◌, subst, arith}
-use Rattle.std.specs.Prelude.{Option, MatchOption}
-use Rattle.heap_image.specs.HeapImage.{HeapImage, word_at}
-use Rattle.collector.specs.Compared.{AreCompacted, IsFirstOther}
-use Rattle.collector.proofs.Joined.{none, single, joined, later, here, alike_words, first_of_words}
-use Rattle.collector.proofs.Placing.{filler_first, filler_zeros}
+use Rattle.std.proofs.Common.{ℕ, ◌<◌, refl, arith}
+use Rattle.heap_image.specs.HeapImage.{HeapImage}
+use Rattle.collector.proofs.Joined.{none, joined, later}
+use Rattle.collector.proofs.Strides.{next_cut, piece}
 use Rattle.collector.proofs.comparison.Comparison.other_in_gap.Goals as goal
 
-apart : (a b : ℕ) → a ≤ b → (a ≡ b → ⊥) → a < b
-apart a b l ne = omega (arith, l, ne)
+pub loop-at-init : goal.loop-at-init
+loop-at-init c = record {
+  low = omega arith;
+  high = c.requires.ordered;
+  cut = λ l h. refl;
+  alike = none c.args.self.now.before.now c.args.self.now.after.now c.args.from c.args.from (omega arith);
+}
 
-pub returns-then-word-filler : goal.returns-then-word-filler
-returns-then-word-filler c =
-    let before : HeapImage = c.args.self.now.before.now in
-    let after : HeapImage = c.args.self.now.after.now in
-    let from : ℕ = c.args.from in
-    let to : ℕ = c.args.to in
-    let some : from < to = apart from to c.requires.ordered c.if-from-to.false in
-    let run = c.fillers_by_runs.ensures.compacted_run before c.image_is_valid.ensures.live_list from to (c.requires.run some) in
-    here before after from to from (omega arith) some (none before after from from (omega arith))
-    (λ same. c.if-word-filler.true (c.word.ensures ∙ same ∙ filler_first before from to some run ∙ sym c.filler.ensures))
+pub other_in_filler-requires-clause-run : goal.other_in_filler-requires-clause-run
+other_in_filler-requires-clause-run c = λ less.
+    let h = c.loop-at.invariant in
+    let low = h.low in
+    let on : c.loop-at.at < c.args.to = c.loop-at-test.true in
+    let some : c.args.from < c.args.to = omega arith in
+    piece c.args.self.now.before.now c.args.from c.args.to c.loop-at.at c.filler_limit-end.result (c.requires.run some) low on (h.cut on) c.filler_limit-end.ensures.value
 
-pub returns-in_err-j : goal.returns-in_err-j
-returns-in_err-j c =
-    let before : HeapImage = c.args.self.now.before.now in
-    let after : HeapImage = c.args.self.now.after.now in
-    let from : ℕ = c.args.from in
-    let to : ℕ = c.args.to in
-    let some : from < to = apart from to c.requires.ordered c.if-from-to.false in
-    let run = c.fillers_by_runs.ensures.compacted_run before c.image_is_valid.ensures.live_list from to (c.requires.run some) in
-    let header : word_at after from ≡ _ = sym c.word.ensures ∙ c.if-word-filler.false ∙ c.filler.ensures ∙ sym (filler_first before from to some run) in
-    let end : to ≡ from + 1 + (to - from - 1) = omega (arith, some) in
-    subst (λ (r : Option ℕ). MatchOption r (AreCompacted before after from to) (IsFirstOther before after from to)) (sym c.from_residual.ensures)
-    (joined before after from (from + 1) to (single before after from (from + 1) refl header)
-    (alike_words before after (λ _. 0) (from + 1) (to - from - 1) to end (filler_zeros before from to some run) c.in_err-j.ensures))
+pub returns-in-Some : goal.returns-in-Some
+returns-in-Some c =
+    let above = c.filler_limit-end.ensures.above c.loop-at-test.true in
+    let is = c.filler_limit-end.ensures.value in
+    later c.args.self.now.before.now c.args.self.now.after.now c.args.from c.loop-at.at c.filler_limit-end.result c.args.to c.in-Some.p c.loop-at.invariant.low (omega arith) c.loop-at.invariant.alike c.in-Some.ensures
 
-pub returns : goal.returns
-returns c =
-    let before : HeapImage = c.args.self.now.before.now in
-    let after : HeapImage = c.args.self.now.after.now in
-    let from : ℕ = c.args.from in
-    let to : ℕ = c.args.to in
-    let some : from < to = apart from to c.requires.ordered c.if-from-to.false in
-    let run = c.fillers_by_runs.ensures.compacted_run before c.image_is_valid.ensures.live_list from to (c.requires.run some) in
-    let header : word_at after from ≡ _ = sym c.word.ensures ∙ c.if-word-filler.false ∙ c.filler.ensures ∙ sym (filler_first before from to some run) in
-    let end : to ≡ from + 1 + (to - from - 1) = omega (arith, some) in
-    later before after from (from + 1) to to (from + 1 + c.in_ok-j.j) (omega arith) (omega arith) (single before after from (from + 1) refl header)
-    (first_of_words before after (λ _. 0) (from + 1) (to - from - 1) to c.in_ok-j.j (from + 1 + c.in_ok-j.j) end refl (filler_zeros before from to some run) c.in_ok-j.ensures)
+pub loop-at-smaller : goal.loop-at-smaller
+loop-at-smaller c =
+    let above = c.filler_limit-end.ensures.above c.loop-at-test.true in
+    let is = c.filler_limit-end.ensures.value in
+    omega arith
+
+pub loop-at-preserved : goal.loop-at-preserved
+loop-at-preserved c =
+    let h = c.loop-at.invariant in
+    let low = h.low in
+    let on : c.loop-at.at < c.args.to = c.loop-at-test.true in
+    let above = c.filler_limit-end.ensures.above on in
+    let is = c.filler_limit-end.ensures.value in
+    record {
+      low = omega arith;
+      high = omega arith;
+      cut = next_cut c.args.from c.args.to c.loop-at.at c.filler_limit-end.result on is;
+      alike = joined c.args.self.now.before.now c.args.self.now.after.now c.args.from c.loop-at.at c.filler_limit-end.result h.alike c.in_default.ensures;
+    }

@@ -2,11 +2,10 @@ use Rattle.std.proofs.Common.{◌≡◌, ℕ, ◌+◌, ◌<◌, ◌≤◌, List,
 use Rattle.heap_image.specs.HeapImage.{HeapImage, heap_words, size_at}
 use Rattle.summary.specs.LiveObjects.{object_count, object_at}
 use Rattle.summary.specs.NewAddresses.{new_address, new_top}
-use Rattle.summary.specs.Fillers.{IsDeadRun}
-use Rattle.collector.specs.Compared.{AreCompacted, IsPlaced, AreKnown, behind}
+use Rattle.collector.specs.Compared.{IsGap, AreCompacted, IsPlaced, AreKnown, behind}
 use Rattle.collector.proofs.Gaps.{behind-zero, behind-next}
 use Rattle.collector.proofs.Joined.{none, joined, later}
-use Rattle.collector.proofs.Placing.{place_end, is_placed, is_dead_run, behind_place, top_reached, end_inside, place_of, end_of_place}
+use Rattle.collector.proofs.Placing.{place_end, is_placed, is_gap, behind_place, top_reached, end_inside, place_of, end_of_place}
 use Rattle.collector.proofs.comparison.Comparison.other_word.Goals as goal
 
 -- one object, as the loop visits it
@@ -18,9 +17,9 @@ module _ (image after : HeapImage) (known : AreKnown image) (items : List ℕ) (
   pub low : next ≤ place
   low = subst (λ n. next ≤ n) (sym place_is) (subst (λ n. n ≤ new_address image (object_at image i)) (sym next_is) (behind_place image known i inside))
 
-  pub run : next < place → IsDeadRun image next place
-  run h = subst (λ n. IsDeadRun image next n) (sym place_is) (subst (λ n. IsDeadRun image n (new_address image (object_at image i))) (sym next_is)
-      (is_dead_run image known i inside (subst (λ n. n < new_address image (object_at image i)) next_is (subst (λ n. next < n) place_is h))))
+  pub run : next < place → IsGap image next place
+  run h = subst (λ n. IsGap image next n) (sym place_is) (subst (λ n. IsGap image n (new_address image (object_at image i))) (sym next_is)
+      (is_gap image known i inside (subst (λ n. n < new_address image (object_at image i)) next_is (subst (λ n. next < n) place_is h))))
 
   pub object : IsPlaced image (get_or items i 0) place
   object = subst (λ (xs : List ℕ). IsPlaced image (get_or xs i 0) place) (sym items_are) (subst (λ n. IsPlaced image (object_at image i) n) (sym place_is) (is_placed image known i inside))

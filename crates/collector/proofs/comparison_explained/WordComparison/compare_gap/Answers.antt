@@ -1,24 +1,38 @@
-use Rattle.std.proofs.Common.{◌≡◌, ℕ, ◌<◌, ◌≤◌, sym, ◌∙◌, ap, arith}
-use Rattle.heap_image.specs.HeapImage.{HeapImage, word_at}
-use Rattle.summary.specs.Compaction.{compact}
-use Rattle.collector.proofs.Comparing.{gap_zero}
-use Rattle.collector.proofs.Placing.{filler_first}
-use Rattle.collector.proofs.comparison_explained.WordComparison.compare_gap.Goals.{then-p-from, else-p-from}
+use Rattle.std.proofs.Common.{◌≡◌, ℕ, ◌<◌, ◌≤◌, refl, subst, arith}
+use Rattle.collector.specs.Explanation.{IsTallyOf}
+use Rattle.collector.proofs.Strides.{next_cut, piece}
 use Rattle.collector.proofs.comparison_explained.WordComparison.compare_gap.Goals as goal
 
-pub loop-p-preserved : goal.loop-p-preserved
-loop-p-preserved c =
-    let before : HeapImage = c.args.self.now.before.now in
-    let after : HeapImage = c.args.self.now.after.now in
-    let from : ℕ = c.args.from in
-    let to : ℕ = c.args.to in
-    let p : ℕ = c.loop-p.p in
-    let low : from ≤ p = c.loop-p.auto.p in
-    let high : p < to = c.loop-p-test.true in
-    let some : from < to = omega (arith, low, high) in
-    let run = c.fillers_by_runs.ensures.compacted_run before c.image_is_valid.ensures.live_list from to (c.requires.run some) in
-    let wanted : word_at (compact before) p ≡ c.if-p-from.expected = elim c.if-p-from.branch [
-      | then-p-from w ↦ ap (word_at (compact before)) w.if-p-from.true ∙ filler_first before from to some run ∙ sym w.filler-expected.ensures ∙ sym w.expected-is
-      | else-p-from w ↦ gap_zero before from to p some run low high w.if-p-from.false ∙ sym w.expected-is
-    ] in
-    c.in_ok-compare.ensures.tally (word_at (compact before)) (word_at after) wanted (sym c.word.ensures) c.loop-p.invariant
+pub loop-at-init : goal.loop-at-init
+loop-at-init c = record { low = omega arith; high = c.requires.ordered; cut = λ l h. refl; tally = c.requires.tally }
+
+pub compare_filler-requires-clause-run : goal.compare_filler-requires-clause-run
+compare_filler-requires-clause-run c = λ less.
+    let h = c.loop-at.invariant in
+    let low = h.low in
+    let on : c.loop-at.at < c.args.to = c.loop-at-test.true in
+    let some : c.args.from < c.args.to = omega arith in
+    piece c.args.self.now.before.now c.args.from c.args.to c.loop-at.at c.filler_limit-end.result (c.requires.run some) low on (h.cut on) c.filler_limit-end.ensures.value
+
+pub loop-at-smaller : goal.loop-at-smaller
+loop-at-smaller c =
+    let above = c.filler_limit-end.ensures.above c.loop-at-test.true in
+    let is = c.filler_limit-end.ensures.value in
+    omega arith
+
+pub loop-at-preserved : goal.loop-at-preserved
+loop-at-preserved c =
+    let h = c.loop-at.invariant in
+    let low = h.low in
+    let on : c.loop-at.at < c.args.to = c.loop-at-test.true in
+    let above = c.filler_limit-end.ensures.above on in
+    let is = c.filler_limit-end.ensures.value in
+    record { low = omega arith; high = omega arith; cut = next_cut c.args.from c.args.to c.loop-at.at c.filler_limit-end.result on is; tally = c.in_ok-compare_filler.ensures }
+
+pub returns : goal.returns
+returns c =
+    let h = c.loop-at.invariant in
+    let high = h.high in
+    let done = c.loop-at-test.false in
+    let end : c.loop-at.at ≡ c.args.to = omega arith in
+    subst (λ n. IsTallyOf c.args.self.now.before.now c.args.self.now.after.now n c.loop-at.tally) end h.tally

@@ -4,7 +4,7 @@ use Rattle.summary.specs.Compaction.{compact}
 use Rattle.collector.proofs.Placing.{header_word}
 use Rattle.collector.proofs.comparison_explained.WordComparison.compare_object.Goals as goal
 
-first_inside : (place s n : ℕ) → 0 < s → place + s ≤ n → n ≤ 4194304 → place < 4194304
+first_inside : (place s n : ℕ) → 0 < s → place + s ≤ n → n ≤ 68719476736 → place < 68719476736
 first_inside place s n some inside few = omega (arith, some, inside, few)
 
 pub compare-requires-clause-few : goal.compare-requires-clause-few

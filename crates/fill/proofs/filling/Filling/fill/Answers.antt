@@ -1,6 +1,7 @@
-use Rattle.std.proofs.Common.{◌≡◌, ℕ, ◌+◌, ◌<◌, ◌≤◌, false, [], refl, sym, ap, ◌∙◌, subst, arith}
+use Rattle.std.proofs.Common.{◌≡◌, ℕ, ◌+◌, ◌^◌, ◌<◌, ◌≤◌, false, [], refl, sym, ap, ◌∙◌, subst, arith}
+use Rattle.std.proofs.lemmas.Nat.{pow_below}
 use Rattle.std.proofs.lemmas.Result.{on_ok_weaker}
-use Rattle.heap_image.specs.HeapImage.{HeapImage, IsValid, region_count}
+use Rattle.heap_image.specs.HeapImage.{HeapImage, IsValid, region_words, region_count}
 use Rattle.summary.specs.WordMoves.{reads as image_reads}
 use Rattle.history.specs.declared.event.Event.{Event}
 use Rattle.history.specs.declared.event.Event.TheVariants.{Drain}
@@ -58,8 +59,9 @@ pub note-requires-clause-few : goal.note-requires-clause-few
 note-requires-clause-few g c =
     let site = c.args.self.now.site in
     let place = (own_copied g (goal.at.note-requires-clause-few g c).After-slide_own-to).now.place in
-    let few = c.prefix_end.ensures.valid.limits.few_words in
-    omega (arith, site.start, site.end, site.in_heap)
+    let high = c.prefix_end.ensures.valid.limits.region_log_high in
+    let short : region_words site.guide.now < 2 ^ 21 = pow_below site.guide.now.region_log 21 (omega arith) in
+    omega (arith, site.start, site.end)
 
 pub drain-requires-clause-ticket : goal.drain-requires-clause-ticket
 drain-requires-clause-ticket g c = λ t. c.in-Some.ensures.stays (g.D.Desk.moves c.args.self.now.desk.now) (g.D.Desk.caller c.loop-opening.seat) (c.loop-opening.invariant.is_ticket t)
@@ -68,7 +70,7 @@ pub overflow_add-from-in-Some : goal.overflow_add-from-in-Some
 overflow_add-from-in-Some g c =
     let image : HeapImage = c.args.self.now.site.guide.now in
     let inside : c.in-Some.opening.source < table_regions (image_table image) = subst (λ (p : HeapImage). c.in-Some.opening.source < table_regions (image_table p)) c.plan.ensures c.in-Some.ensures.inside in
-    let few : table_regions (image_table image) ≤ 16384 = (c.moves_of_images.ensures.lawful image c.prefix_end.ensures.valid).few in
+    let few : table_regions (image_table image) ≤ 1048576 = (c.moves_of_images.ensures.lawful image c.prefix_end.ensures.valid).few in
     let e : c.source-s.result ≡ c.in-Some.opening.source = c.source-s.ensures in
     omega arith
 

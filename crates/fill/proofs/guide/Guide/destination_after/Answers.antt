@@ -27,7 +27,7 @@ overflow_add-result c =
     let r : ℕ = c.args.r in
     let valid : IsValid image = subst IsValid c.self.view_is c.planned_image_is_valid.ensures in
     let fits = region_fits image valid r c.requires.inside in
-    let few : heap_words image ≤ 4194304 = valid.limits.few_words in
+    let few : heap_words image ≤ 68719476736 = valid.limits.few_words in
     let down = slid-le image (start_of image r) in
     let goes : c.destination.result ≡ slid image (start_of image r) = c.destination.ensures in
     let told = c.region-data.ensures ∙ ap (λ i. region_data i r) c.self.view_is in
@@ -41,7 +41,7 @@ overflow_add-result-2 c =
     let image : HeapImage = c.args.self.now in
     let valid : IsValid image = subst IsValid c.self.view_is c.planned_image_is_valid.ensures in
     let fits = region_fits image valid c.args.r c.requires.inside in
-    let few : heap_words image ≤ 4194304 = valid.limits.few_words in
+    let few : heap_words image ≤ 68719476736 = valid.limits.few_words in
     let down = slid-le image (start_of image c.args.r + region_words image) in
     let sum = sum_is c in
     omega arith

@@ -1,9 +1,11 @@
-use Rattle.std.proofs.Common.{◌≡◌, ◌+◌, ◌-◌, ◌≤◌, ◌<◌, ◌||◌, ℕ, List, length, set, replicate, inl, inr, eqb, sym, ◌∙◌, ap, subst, arith, true, false, length-set}
+use Rattle.std.proofs.Common.{◌≡◌, ◌+◌, ◌-◌, ◌*◌, ◌/◌, ◌^◌, ◌≤◌, ◌<◌, ℕ, List, length, set, replicate, inl, inr, refl, sym, ◌∙◌, ap, subst, arith, true, false, length-set}
 use Rattle.std.proofs.lemmas.Bool.{cases_eq, cases_lt}
 use Rattle.heap_image.specs.Header.{filler_header}
 use Rattle.heap_image.specs.HeapImage.{HeapImage, HasLiveList, heap_words, word_at, is_live_word}
 use Rattle.summary.specs.NewAddresses.{prefix_end}
+use Rattle.summary.specs.Fillers.{filler_limit, may_begin_filler}
 use Rattle.summary.proofs.Addresses.{prefix_end-le}
+use Rattle.summary.proofs.Fillers.{region_in_stride}
 use Rattle.summary.proofs.Regions.{prefix_region}
 use Rattle.raw_region.specs.Region.{with_words}
 use Rattle.fill.specs.WordBlocks.{IsSplitAt}
@@ -21,16 +23,19 @@ dead_to_end image at stop end below above q l m = elim (cases_lt q stop) [
   | inr more ↦ above q more m
 ]
 
-pub overflow_cast-end : goal.overflow_cast-end
-overflow_cast-end c =
-    let image : HeapImage = c.args.self.now.site.guide.now in
-    let low = prefix_end-le image c.image_is_valid.ensures.live_list in
-    let few : heap_words image ≤ 4194304 = c.image_is_valid.ensures.limits.few_words in
-    let up : c.gap_end-end.result ≤ prefix_end image = c.gap_end-end.ensures.inside in
+-- a part of a region ends within the stride in which it begins
+near_end : (image : HeapImage) (log r start end at stop : ℕ) → log ≡ image.region_log → log ≤ 20 → start ≡ r * 2 ^ image.region_log → end ≡ r * 2 ^ image.region_log + 2 ^ image.region_log → start ≤ at → at < stop → stop ≤ end → stop ≤ (at / 2147483648 + 1) * 2147483648
+near_end image log r start end at stop e small first last low less high =
+    let near = region_in_stride image.region_log r at (omega arith) (omega arith) (omega arith) in
     omega arith
 
-pub returns-then-begins_gap : goal.returns-then-begins_gap
-returns-then-begins_gap c =
+pub overflow_cast-end : goal.overflow_cast-end
+overflow_cast-end c =
+    let near = c.filler_end-end.ensures.near in
+    omega arith
+
+pub returns-then-may_begin_filler : goal.returns-then-may_begin_filler
+returns-then-may_begin_filler c =
     let image : HeapImage = c.args.self.now.site.guide.now in
     let sound : HasLiveList image = c.image_is_valid.ensures.live_list in
     let r = c.requires in
@@ -41,16 +46,18 @@ returns-then-begins_gap c =
     let w : ℕ = c.filler.result in
     let low : start ≤ at = r.low in
     let less : at < stop = omega arith in
-    let end : ℕ = c.gap_end-end.result in
-    let part : stop ≤ end = c.gap_end-end.ensures.after in
-    let up : end ≤ prefix_end image = c.gap_end-end.ensures.inside in
-    let dead = dead_to_end image at stop end r.dead c.gap_end-end.ensures.dead in
+    let end : ℕ = c.filler_end-end.result in
+    let part : stop ≤ end = c.filler_end-end.ensures.after in
+    let limit : end ≤ filler_limit image at = c.filler_end-end.ensures.inside in
+    let up : end ≤ prefix_end image = omega arith in
+    let near : end ≤ (at / 2147483648 + 1) * 2147483648 = omega arith in
+    let dead = dead_to_end image at stop end r.dead c.filler_end-end.ensures.dead in
     let high : stop ≤ start + length xs = omega (arith, r.high, r.target.long, c.args.self.now.site.start, c.args.self.now.site.end) in
-    let begins : (eqb at 0 || is_live_word image (at - 1)) ≡ true = sym c.begins_gap.ensures ∙ c.if-begins_gap.true in
-    let header : copied_word image at ≡ filler_header (end - at) = copied-first image sound at end (omega arith) up dead c.gap_end-end.ensures.live begins in
+    let begins : may_begin_filler image at ≡ true = sym c.may_begin_filler.ensures ∙ c.if-may_begin_filler.true in
+    let header : copied_word image at ≡ filler_header (end - at) = copied-first image sound at end (omega arith) limit dead c.filler_end-end.ensures.live begins in
     let one = split_set (copied_word image) (word_at image) start xs at w r.split low (omega arith) (c.filler.ensures ∙ sym header) in
     let long = length-set xs (at - start) w in
-    let two = split_zero image sound start (set xs (at - start) w) (at + 1) (stop - at - 1) one (omega arith) (omega arith) (λ q l m. copied-behind image sound at end q up dead (omega arith) (omega arith)) in
+    let two = split_zero image sound start (set xs (at - start) w) (at + 1) (stop - at - 1) one (omega arith) (omega arith) (λ q l m. copied-behind image sound at end q up near dead (omega arith) (omega arith)) in
     let i : at + 1 - start ≡ at - start + 1 = omega arith in
     let p : at + 1 + (stop - at - 1) ≡ stop = omega arith in
     let now = subst (λ (ys : List ℕ). IsSplitAt (copied_word image) (word_at image) start ys stop) (sym (ap (λ t. t.words) c.fill.ensures.value ∙ ap (λ (t : List ℕ). with_words t (c.args.at - c.args.self.now.site.span.start + 1) (replicate (c.args.stop - c.args.at - 1) 0)) (ap (λ t. t.words) c.set.ensures.value)))
@@ -61,8 +68,8 @@ returns-then-begins_gap c =
     let rest_written = target_kept image c.set.new.self c.fill.new.self (with_words c.set.new.self.words (at - start + 1) (replicate (stop - at - 1) 0)) block c.fill.ensures.value c.fill.ensures.length in
     record { same = target_over c.args.target.now c.set.new.self c.fill.new.self header_written rest_written; now = now }
 
-pub returns-else-begins_gap : goal.returns-else-begins_gap
-returns-else-begins_gap c =
+pub returns-else-may_begin_filler : goal.returns-else-may_begin_filler
+returns-else-may_begin_filler c =
     let image : HeapImage = c.args.self.now.site.guide.now in
     let sound : HasLiveList image = c.image_is_valid.ensures.live_list in
     let r = c.requires in
@@ -74,20 +81,21 @@ returns-else-begins_gap c =
     let less : at < stop = omega arith in
     let up : stop ≤ prefix_end image = omega (arith, r.high, c.args.self.now.site.end, prefix_region image c.args.self.now.site.region c.args.self.now.in_prefix) in
     let high : stop ≤ start + length xs = omega (arith, r.high, r.target.long, c.args.self.now.site.start, c.args.self.now.site.end) in
-    let rest : (eqb at 0 || is_live_word image (at - 1)) ≡ false = sym c.begins_gap.ensures ∙ c.if-begins_gap.false in
+    let near = near_end image image.region_log c.args.self.now.site.region start c.args.self.now.site.span.end at stop refl c.image_is_valid.ensures.limits.region_log_high c.args.self.now.site.start c.args.self.now.site.end low less r.high in
+    let rest : may_begin_filler image at ≡ false = sym c.may_begin_filler.ensures ∙ c.if-may_begin_filler.false in
     let zeros = λ (q : ℕ) (l : at ≤ q) (m : q < at + (stop - at)). (
     let out : copied_word image q ≡ 0 = elim (cases_eq q at) [
       | inl same ↦ ap (copied_word image) same ∙ copied-rest image sound at (omega arith) (r.dead at (omega arith) (omega arith)) rest
-      | inr other ↦ copied-behind image sound at stop q up r.dead (omega arith) (omega arith)
+      | inr other ↦ copied-behind image sound at stop q up near r.dead (omega arith) (omega arith)
     ] in out) in
     let two = split_zero image sound start xs at (stop - at) r.split low (omega arith) zeros in
     let p : at + (stop - at) ≡ stop = omega arith in
-    let now = subst (λ (ys : List ℕ). IsSplitAt (copied_word image) (word_at image) start ys stop) (sym (ap (λ t. t.words) c.fill-else-begins_gap.ensures.value))
+    let now = subst (λ (ys : List ℕ). IsSplitAt (copied_word image) (word_at image) start ys stop) (sym (ap (λ t. t.words) c.fill-else-may_begin_filler.ensures.value))
     (subst (IsSplitAt (copied_word image) (word_at image) start (with_words xs (at - start) (replicate (stop - at) 0))) p two) in
-    record { same = target_kept image c.args.target.now c.fill-else-begins_gap.new.self (with_words xs (at - start) (replicate (stop - at) 0)) r.target c.fill-else-begins_gap.ensures.value c.fill-else-begins_gap.ensures.length; now = now }
+    record { same = target_kept image c.args.target.now c.fill-else-may_begin_filler.new.self (with_words xs (at - start) (replicate (stop - at) 0)) r.target c.fill-else-may_begin_filler.ensures.value c.fill-else-may_begin_filler.ensures.length; now = now }
 
-pub begins_gap-requires : goal.begins_gap-requires
-begins_gap-requires c =
+pub may_begin_filler-requires : goal.may_begin_filler-requires
+may_begin_filler-requires c =
     let low = prefix_end-le c.args.self.now.site.guide.now c.image_is_valid.ensures.live_list in
     omega (arith, c.args.self.now.site.end, prefix_region c.args.self.now.site.guide.now c.args.self.now.site.region c.args.self.now.in_prefix, c.requires.ordered, c.requires.high)
 
@@ -97,7 +105,15 @@ returns-then-at-stop c =
     let same : c.args.at ≡ c.args.stop = omega arith in
     record { same = same_target c.args.target.now; now = subst (λ (p : ℕ). IsSplitAt (copied_word image) (word_at image) c.args.self.now.site.span.start c.args.target.now.words p) same c.requires.split }
 
-pub gap_end-end-requires : goal.gap_end-end-requires
-gap_end-end-requires c =
+pub filler_end-end-requires-clause-below : goal.filler_end-end-requires-clause-below
+filler_end-end-requires-clause-below c =
     let site = c.args.self.now.site in
-    omega (arith, site.end, prefix_region site.guide.now site.region c.args.self.now.in_prefix, c.requires.high)
+    omega (arith, site.end, prefix_region site.guide.now site.region c.args.self.now.in_prefix, c.requires.ordered, c.requires.high)
+
+pub filler_end-end-requires-clause-reached : goal.filler_end-end-requires-clause-reached
+filler_end-end-requires-clause-reached c =
+    let site = c.args.self.now.site in
+    let image : HeapImage = site.guide.now in
+    let less : c.args.at < c.args.stop = omega arith in
+    let near = near_end image image.region_log site.region site.span.start site.span.end c.args.at c.args.stop refl c.image_is_valid.ensures.limits.region_log_high site.start site.end c.requires.low less c.requires.high in
+    omega (arith, near, site.end, prefix_region site.guide.now site.region c.args.self.now.in_prefix, c.requires.high)

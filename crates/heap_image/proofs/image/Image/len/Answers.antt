@@ -8,5 +8,5 @@ pub returns-clause-value : goal.returns-clause-value
 returns-clause-value c =
     let i = c.self.inside in
     ap (λ n. n * 2 ^ i.region_log % 18446744073709551616) (c.len.ensures ∙ i.regions.ok.0)
-    ∙ len_fits i.region_log i.allowance i.regions.items i.live.items (option_map (λ v. v.items) i.roots) c.self.invariant.parts
+    ∙ len_fits i.version i.region_log i.allowance i.regions.items i.live.items (option_map (λ v. v.items) i.roots) c.self.invariant.parts
     ∙ ap heap_words c.self.view_is

@@ -8,7 +8,7 @@ use Rattle.heap_image.proofs.image.Image.region.Goals as goal
 pub index-requires : goal.index-requires
 index-requires c =
     let i = c.self.inside in
-    let is = count_by_blocks i.region_log i.allowance i.regions.items i.live.items (option_map (λ v. v.items) i.roots) c.self.invariant.parts in
+    let is = count_by_blocks i.version i.region_log i.allowance i.regions.items i.live.items (option_map (λ v. v.items) i.roots) c.self.invariant.parts in
     let l = subst (λ n. c.args.r < n) (ap region_count (sym c.self.view_is) ∙ is) c.requires in
     let e = i.regions.ok.0 in
     omega arith
@@ -16,9 +16,9 @@ index-requires c =
 pub returns : goal.returns
 returns c =
     let i = c.self.inside in
-    let is = count_by_blocks i.region_log i.allowance i.regions.items i.live.items (option_map (λ v. v.items) i.roots) c.self.invariant.parts in
+    let is = count_by_blocks i.version i.region_log i.allowance i.regions.items i.live.items (option_map (λ v. v.items) i.roots) c.self.invariant.parts in
     let l = subst (λ n. c.args.r < n) (ap region_count (sym c.self.view_is) ∙ is) c.requires in
     c.index.ensures
     ∙ get_or_default i.regions.items c.args.r c.index.result.now [] l
-    ∙ sym (block_by_blocks i.region_log i.allowance i.regions.items i.live.items (option_map (λ v. v.items) i.roots) c.self.invariant.parts c.args.r l)
+    ∙ sym (block_by_blocks i.version i.region_log i.allowance i.regions.items i.live.items (option_map (λ v. v.items) i.roots) c.self.invariant.parts c.args.r l)
     ∙ ap (λ image. block_of image c.args.r) c.self.view_is

@@ -23,15 +23,14 @@ loop-next-preserved c =
     let held = c.loop-next.self in
     let after = c.visit_all.new.self in
     let is = c.row-row.ensures.words in
-    let grown = subst (λ k. IsGrown k (λ b. list_any (λ w. leads_to w b) row) held.bits after.bits held.stack.items after.stack.items) before.words c.visit_all.ensures.grown in
-    let noted = subst (λ k. IsTrue after.well_formed → IsTrue held.well_formed × All (λ w. w ≤ k) row) before.words c.visit_all.ensures.well_formed in
+    let grown = subst (λ k. IsGrown k (λ b. list_any (λ w. leads_to w b) row) held.bits after.bits held.stack.items after.stack.items) before.words c.in_ok-visit_all.ensures.grown in
+    let noted = subst (λ k. IsTrue after.well_formed → IsTrue held.well_formed × All (λ w. w ≤ k) row) before.words c.in_ok-visit_all.ensures.well_formed in
     record {
       grown = followed_row heap words a c.requires.words next row c.args.self.now.bits held.bits after.bits c.args.self.now.stack.items held.stack.items after.stack.items before.low is before.grown grown;
       formed = noted_row heap words a c.requires.words next row c.args.self.now.well_formed held.well_formed after.well_formed before.low is noted before.formed;
       low = let low = before.low in omega arith;
       high = c.row-row.ensures.within;
-      capacity = c.visit_all.ensures.capacity ∙ before.capacity;
-      words = c.visit_all.ensures.words ∙ before.words;
+      words = c.in_ok-visit_all.ensures.words ∙ before.words;
     }
 
 -- all references were visited when the loop ends

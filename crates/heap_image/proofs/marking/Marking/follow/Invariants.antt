@@ -1,6 +1,5 @@
 use Rattle.std.proofs.Common.{◌≡◌, ◌<◌, ◌≤◌, ◌+◌, ◌-◌, ℕ}
 use Rattle.std.specs.Prelude.{IsTrue}
-use Rattle.std.specs.Vec.{vec_capacity}
 use Rattle.std.specs.List.{list_any, range_with_len}
 use Rattle.heap_image.specs.HeapImage.{reference_at, leads_to}
 use Rattle.heap_image.specs.Marking.{IsGrown}
@@ -13,7 +12,6 @@ invariant-loop-next l = record {
   formed : IsTrue l.self.well_formed → IsTrue l.initial.self.well_formed × ((f : ℕ) → f < l.next - (l.fn.object.address + 1) → reference_at l.heap l.fn.object.address f ≤ l.initial.self.words);
   low : l.fn.object.address + 1 ≤ l.next;
   high : l.next ≤ l.end;
-  capacity : vec_capacity l.self.stack ≡ vec_capacity l.initial.self.stack;
   words : l.self.words ≡ l.initial.self.words;
 }
 

@@ -17,7 +17,6 @@ loop-object-init c = record {
   room = refl;
   total = refl;
   words = refl;
-  capacity = refl;
   batch_capacity = refl;
 }
 
@@ -52,16 +51,15 @@ loop-object-preserved c =
     let rest = c.pop.new.self.items in
     let w = c.in-Some.object in
     let popped = c.in-Some.ensures.items in
-    let grown = c.follow.ensures.grown in
+    let grown = c.in_ok-follow.ensures.grown in
     let after = c.follow.new.self in
     record {
-      marking = λ roots m. batch_followed image roots c.loop-object.self.words w.address c.loop-object.self.bits after.bits c.loop-object.self.stack.items after.stack.items (waiting_addresses batch) (waiting_addresses rest) c.loop-object.self.well_formed after.well_formed words (addresses_push batch rest w popped) (before.marking roots m) grown c.follow.ensures.well_formed;
-      inside = subst (λ n. All (λ a. a < n) (waiting_addresses rest)) (sym c.follow.ensures.words) (last_inside c.loop-object.self.words batch rest w popped before.inside).1;
+      marking = λ roots m. batch_followed image roots c.loop-object.self.words w.address c.loop-object.self.bits after.bits c.loop-object.self.stack.items after.stack.items (waiting_addresses batch) (waiting_addresses rest) c.loop-object.self.well_formed after.well_formed words (addresses_push batch rest w popped) (before.marking roots m) grown c.in_ok-follow.ensures.well_formed;
+      inside = subst (λ n. All (λ a. a < n) (waiting_addresses rest)) (sym c.in_ok-follow.ensures.words) (last_inside c.loop-object.self.words batch rest w popped before.inside).1;
       fetched = (last_fetched c.args.heap.now.words batch rest w popped before.fetched).1;
       room = grown.room ∙ before.room;
-      total = ap (λ n. length after.stack.items + unmarked n after.bits) c.follow.ensures.words ∙ grown.total ∙ before.total;
-      words = c.follow.ensures.words ∙ before.words;
-      capacity = c.follow.ensures.capacity ∙ before.capacity;
+      total = ap (λ n. length after.stack.items + unmarked n after.bits) c.in_ok-follow.ensures.words ∙ grown.total ∙ before.total;
+      words = c.in_ok-follow.ensures.words ∙ before.words;
       batch_capacity = c.in-Some.ensures.capacity ∙ before.batch_capacity;
     }
 

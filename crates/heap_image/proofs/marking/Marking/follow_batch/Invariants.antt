@@ -12,7 +12,6 @@ invariant-loop-object l = record {
   room : length l.self.bits ≡ length l.initial.self.bits;
   total : length l.self.stack.items + unmarked l.self.words l.self.bits ≡ length l.initial.self.stack.items + unmarked l.initial.self.words l.initial.self.bits;
   words : l.self.words ≡ l.initial.self.words;
-  capacity : vec_capacity l.self.stack ≡ vec_capacity l.initial.self.stack;
   batch_capacity : vec_capacity l.batch ≡ vec_capacity l.initial.batch;
 }
 

@@ -21,7 +21,6 @@ loop-self-init c =
       total = let empty = ap length c.requires.empty in omega arith;
       bits = refl;
       words = refl;
-      capacity = refl;
       batch_capacity = refl;
     }
 
@@ -63,6 +62,5 @@ loop-self-preserved c =
           omega arith;
       bits = before.bits;
       words = before.words;
-      capacity = c.in-Some.ensures.capacity ∙ before.capacity;
       batch_capacity = c.push_reserved.ensures.capacity ∙ before.batch_capacity;
     }

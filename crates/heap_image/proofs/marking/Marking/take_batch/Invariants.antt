@@ -12,7 +12,6 @@ invariant-loop-self l = record {
   total : length l.self.stack.items + length l.batch.items ≡ length l.initial.self.stack.items;
   bits : l.self.bits ≡ l.initial.self.bits;
   words : l.self.words ≡ l.initial.self.words;
-  capacity : vec_capacity l.self.stack ≡ vec_capacity l.initial.self.stack;
   batch_capacity : vec_capacity l.batch ≡ vec_capacity l.initial.batch;
 }
 

@@ -1,16 +1,7 @@
 use Rattle.std.proofs.Common.{◌≡◌, ℕ, ◌+◌, ◌-◌, ◌<◌, false, sym, ◌∙◌, arith}
 use Rattle.heap_image.specs.Bits.{has}
-use Rattle.heap_image.proofs.Growth.{unmarked_less, grown_push}
+use Rattle.heap_image.proofs.Growth.{grown_push}
 use Rattle.heap_image.proofs.marking.Marking.visit.Goals as goal
-
-pub push_reserved-requires : goal.push_reserved-requires
-push_reserved-requires c =
-    let a : ℕ = c.args.reference - 1 in
-    let l : a < c.args.self.now.words = omega arith in
-    let clear : has c.args.self.now.bits a ≡ false = sym c.has.ensures ∙ c.if-has.false in
-    let less = unmarked_less c.args.self.now.words a c.args.self.now.bits c.insert.new.self l clear c.insert.ensures.bits in
-    let room = c.requires.room in
-    omega (arith, c.args.self.now.stack.ok.0)
 
 pub returns-clause-grown : goal.returns-clause-grown
 returns-clause-grown c =
@@ -18,4 +9,4 @@ returns-clause-grown c =
     let l : a < c.args.self.now.words = omega arith in
     let clear : has c.args.self.now.bits a ≡ false = sym c.has.ensures ∙ c.if-has.false in
     let is : c.args.reference ≡ a + 1 = omega arith in
-    grown_push c.args.self.now.words c.args.reference a c.args.self.now.bits c.insert.new.self c.args.self.now.stack.items c.push_reserved.new.self.items is l clear c.insert.ensures.room c.insert.ensures.bits c.push_reserved.ensures.items
+    grown_push c.args.self.now.words c.args.reference a c.args.self.now.bits c.insert.new.self c.args.self.now.stack.items c.push.new.self.items is l clear c.insert.ensures.room c.insert.ensures.bits c.in_ok-push.ensures.items

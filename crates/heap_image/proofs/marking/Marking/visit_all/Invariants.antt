@@ -1,6 +1,5 @@
 use Rattle.std.proofs.Common.{◌≡◌, ◌≤◌, take, All}
 use Rattle.std.specs.Prelude.{IsTrue}
-use Rattle.std.specs.Vec.{vec_capacity}
 use Rattle.std.specs.List.{list_any}
 use Rattle.heap_image.specs.HeapImage.{leads_to}
 use Rattle.heap_image.specs.Marking.{IsGrown}
@@ -12,6 +11,5 @@ invariant-loop-reference l = record {
   grown : IsGrown l.initial.self.words (λ b. list_any (λ w. leads_to w b) (take l.reference-index l.references)) l.initial.self.bits l.self.bits l.initial.self.stack.items l.self.stack.items;
   inside : IsTrue l.inside → All (λ w. w ≤ l.initial.self.words) (take l.reference-index l.references);
   well_formed : l.self.well_formed ≡ l.initial.self.well_formed;
-  capacity : vec_capacity l.self.stack ≡ vec_capacity l.initial.self.stack;
   words : l.self.words ≡ l.initial.self.words;
 }

@@ -51,7 +51,7 @@ returns-then-eq c image rest valid p one =
           let both = c.in-Some.ensures.some (codes "object") (number_text (1 + (length o.refs + length o.others)) ++ (references_part o.refs ++ data_part o.others)) object_token refl (place_of here c.args.line.now (codes "object") (number_text (1 + (length o.refs + length o.others)) ++ (references_part o.refs ++ data_part o.others)) c.of.result.0.now c.of.result.1.rest.now few o.line_is c.of.ensures.split).1 in
           accepts_with c.parse_object.result _ _ _
           (λ q follows. (c.parse_object.ensures.next, object_parsed image c.args.self.now c.parse_object.new.self (c.args.line.now ++ (10 ∷ rest)) c.args.line.now rest p o q c.parse_object.ensures.len follows))
-          (c.parse_object.ensures.accepts o.refs o.others (subst (λ (n : ℕ). AllByRecursion (λ w. w ≤ n) o.refs) (sym p.len) o.refs_fit) o.others_fit both.1 (omega (arith, o.inside, p.len)))
+          (c.parse_object.ensures.accepts o.refs o.others (subst (λ (n : ℕ). AllByRecursion (λ w. w ≤ n) o.refs) (sym p.len) o.refs_fit) o.others_fit both.1 (omega (arith, o.inside, p.len)) o.size_fits o.references_fit)
           c.parse_object.ensures.follows
     ]
 

@@ -1,4 +1,4 @@
-use Rattle.std.proofs.Common.{sym, ◌∙◌, is_some}
+use Rattle.std.proofs.Common.{sym, ◌∙◌}
 use Rattle.heap_text.proofs.PartSteps.{none_some, some_same}
 use Rattle.heap_text.proofs.ParseSteps.{version_line}
 use Rattle.heap_text.proofs.line_parser.LineParser.parse_version.Goals as goal
@@ -6,13 +6,13 @@ use Rattle.heap_text.proofs.line_parser.LineParser.parse_version.Goals as goal
 pub returns-in_default : goal.returns-in_default
 returns-in_default c image rest p one =
     let line = version_line image c.args.line.now rest one p.rest in
-    absurd (none_some (is_some image.roots) (sym c.in_default.is ∙ c.parse_version_line.ensures (is_some image.roots) line.0))
+    absurd (none_some image.version (sym c.in_default.is ∙ c.parse_version_line.ensures image line.0))
 
 pub returns : goal.returns
 returns c image rest p one =
     let line = version_line image c.args.line.now rest one p.rest in
     record {
       empty = p.empty;
-      is_rooted = some_same c.in-Some.is_rooted (is_some image.roots) (c.in-Some.ensures (is_some image.roots) line.0);
+      version = some_same c.in-Some.version image.version (c.in-Some.ensures image line.0);
       rest = line.1;
     }

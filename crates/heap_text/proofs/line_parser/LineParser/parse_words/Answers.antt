@@ -1,5 +1,6 @@
 use Rattle.std.proofs.Common.{◌≡◌, ℕ, sym, ◌∙◌, subst, length, arith}
 use Rattle.heap_image.specs.HeapImage.{IsWithinLimits, heap_words}
+use Rattle.heap_image.specs.Version.{Allows}
 use Rattle.heap_text.proofs.PartSteps.{none_some, some_same, true_not_false}
 use Rattle.heap_text.proofs.ParseSteps.{words_line}
 use Rattle.heap_text.proofs.line_parser.LineParser.parse_words.Goals as goal
@@ -14,7 +15,7 @@ returns c image rest valid p one =
     let line = words_line image c.args.line.now rest valid one p.rest in
     record {
       empty = p.empty;
-      is_rooted = p.is_rooted;
+      version = p.version;
       region_log = p.region_log;
       len = some_same c.in-Some.len (heap_words image) (c.in-Some.ensures (heap_words image) (omega (arith, valid.limits.few_words)) (line.0 ∙ cc));
       rest = line.1;
@@ -27,4 +28,8 @@ returns-then-not-is_heap_size c image rest valid p one =
     let limits : IsWithinLimits c.args.self.now.heap.region_log c.in-Some.len (length image.live) =
     subst (λ (l : ℕ). IsWithinLimits l c.in-Some.len (length image.live)) (sym p.region_log)
     (subst (λ (n : ℕ). IsWithinLimits image.region_log n (length image.live)) (sym len) valid.limits) in
-    true_not_false (sym (c.is_heap_size.ensures.all (length image.live) limits) ∙ c.if-not-is_heap_size.true)
+    let allowed : Allows c.args.self.now.heap.version c.args.self.now.heap.region_log c.in-Some.len =
+    subst (λ v. Allows v c.args.self.now.heap.region_log c.in-Some.len) (sym p.version)
+    (subst (λ (l : ℕ). Allows image.version l c.in-Some.len) (sym p.region_log)
+    (subst (λ (n : ℕ). Allows image.version image.region_log n) (sym len) valid.allowed)) in
+    true_not_false (sym (c.is_heap_size.ensures.all (length image.live) limits allowed) ∙ c.if-not-is_heap_size.true)

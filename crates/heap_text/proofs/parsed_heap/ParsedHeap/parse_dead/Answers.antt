@@ -32,7 +32,7 @@ returns-then-eq c = record {
             record {
               words = subst (HasPushed c.args.self.now.words c.parse_equal_words.new.self) (ap (λ (n : ℕ). replicate n (get_or ws 0 0)) count ∙ sym b.whole) pushed;
               live = sym (append-nil c.args.self.now.live.items);
-              head = record { is_rooted = refl; region_log = refl; allowance = refl; roots = refl };
+              head = record { version = refl; region_log = refl; allowance = refl; roots = refl };
             }
         | inr b ↦ absurd (of_not_words (sym (named c.in-Some-next_token.name.now c.as_slice.result.now (codes "of") c.if-eq.ensures c.as_slice.ensures) ∙ b.name_is))
       ];
@@ -49,7 +49,7 @@ returns-then-eq-2 c = record {
             record {
               words = c.in_ok-parse_unequal_words.ensures.accepts ws fits some b.unequal b.rest_is count (omega (arith, room));
               live = sym (append-nil c.args.self.now.live.items);
-              head = record { is_rooted = refl; region_log = refl; allowance = refl; roots = refl };
+              head = record { version = refl; region_log = refl; allowance = refl; roots = refl };
             }
       ];
 }

@@ -9,7 +9,7 @@ use Rattle.heap_text.proofs.tokens.Tokens.count_to_data.Given as goal
 abbrev pub invariant-loop-token : goal.invariant-loop-token
 invariant-loop-token l = record {
   few : l.count + length l.self.rest.now ≤ length l.fn.self.rest.now;
-  counting : (len : ℕ) (refs others : List ℕ) → len ≤ 4194304 → AllByRecursion (λ w. w ≤ len) refs
+  counting : (len : ℕ) (refs others : List ℕ) → len ≤ 68719476736 → AllByRecursion (λ w. w ≤ len) refs
       → l.fn.self.rest.now ≡ flat_map reference_text refs ++ data_part others → IsCounting len l.self.rest.now refs others l.count;
 }
 

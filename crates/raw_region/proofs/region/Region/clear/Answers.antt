@@ -1,13 +1,38 @@
-use Rattle.std.proofs.Common.{length, replicate, ℕ, ◌∙◌, ap, sym}
+use Rattle.std.proofs.Common.{◌≡◌, ◌≤◌, length, replicate, ℕ, true, List, ◌∙◌, ap, sym, subst}
+use Rattle.std.proofs.lemmas.Bool.{le-leb}
 use Rattle.std.proofs.lemmas.List.{length-replicate}
 use Rattle.raw_region.specs.Region.{shown_words}
-use Rattle.raw_region.proofs.Seen.{length-shown_words}
+use Rattle.raw_region.proofs.Seen.{length-shown_words, shown_words-cleared, shown_words-zeros}
 use Rattle.raw_region.proofs.region.Region.clear.Goals as goal
+use Rattle.raw_region.proofs.region.Region.clear.Goals.{then-words-gt-HIDDEN_WORDS, else-words-gt-HIDDEN_WORDS}
+
+-- a block that was zeroed
+zeroed : (ws new : List ℕ) → new ≡ replicate (length ws) 0 → shown_words true new ≡ replicate (length ws) 0
+zeroed ws new e =
+    let long : length new ≡ length ws = ap length e ∙ length-replicate (length ws) 0 in
+    shown_words-zeros true new (e ∙ ap (λ n. replicate {A = ℕ} n 0) (sym long)) ∙ ap (λ n. replicate {A = ℕ} n 0) long
+
+-- a block whose words are hidden
+hidden : (ws new got : List ℕ) → new ≡ ws → got ≡ ws → length got ≤ 65536 → shown_words true new ≡ replicate (length ws) 0
+hidden ws new got e same few =
+    shown_words-cleared true new (le-leb (length new) 65536 (subst (λ l. length l ≤ 65536) (same ∙ sym e) few)) ∙ ap (λ l. replicate {A = ℕ} (length l) 0) e
 
 pub returns-clause-value : goal.returns-clause-value
-unfolding shown_words
-returns-clause-value c = ap (λ n. replicate {A = ℕ} n 0) (sym (length-shown_words c.self.inside.is_clear c.self.inside.block.words) ∙ ap length c.self.view_is)
+returns-clause-value c =
+    let ws = c.self.inside.block.words in
+    let new = c.if-words-gt-HIDDEN_WORDS.self-inside.block.words in
+    elim c.if-words-gt-HIDDEN_WORDS.branch [
+      | then-words-gt-HIDDEN_WORDS w ↦ zeroed ws new (ap (λ i. i.block.words) w.self-inside-is ∙ w.zero.ensures ∙ ap (λ l. replicate {A = ℕ} (length l) 0) w.words_mut.ensures.value)
+      | else-words-gt-HIDDEN_WORDS w ↦ hidden ws new c.words.result.now (ap (λ i. i.block.words) w.self-inside-is) c.words.ensures.value w.if-words-gt-HIDDEN_WORDS.false
+    ] ∙ ap (λ n. replicate {A = ℕ} n 0) (sym (length-shown_words c.self.inside.is_clear ws) ∙ ap length c.self.view_is)
 
 pub returns-clause-same_length : goal.returns-clause-same_length
-unfolding shown_words
-returns-clause-same_length c = length-replicate {A = ℕ} (length c.self.inside.block.words) 0 ∙ sym (length-shown_words c.self.inside.is_clear c.self.inside.block.words) ∙ ap length c.self.view_is
+returns-clause-same_length c =
+    let ws = c.self.inside.block.words in
+    let new = c.if-words-gt-HIDDEN_WORDS.self-inside.block.words in
+    length-shown_words true new
+    ∙ elim c.if-words-gt-HIDDEN_WORDS.branch [
+      | then-words-gt-HIDDEN_WORDS w ↦ ap length (ap (λ i. i.block.words) w.self-inside-is ∙ w.zero.ensures ∙ ap (λ l. replicate {A = ℕ} (length l) 0) w.words_mut.ensures.value) ∙ length-replicate (length ws) 0
+      | else-words-gt-HIDDEN_WORDS w ↦ ap (λ i. length i.block.words) w.self-inside-is
+    ]
+    ∙ (sym (length-shown_words c.self.inside.is_clear ws) ∙ ap length c.self.view_is)

@@ -97,6 +97,7 @@ loop-r-preserved c =
       inv.5,
       inv.6,
       inv.7,
+      inv.8,
     )
 
 pub returns-clause-regions : goal.returns-clause-regions

@@ -15,4 +15,5 @@ invariant-loop-r l =
     (l.parts.live ≡ l.initial.parts.live) ×
     (l.parts.region_log ≡ l.initial.parts.region_log) ×
     (l.parts.allowance ≡ l.initial.parts.allowance) ×
-    (l.parts.roots ≡ l.initial.parts.roots)
+    (l.parts.roots ≡ l.initial.parts.roots) ×
+    (l.parts.version ≡ l.initial.parts.version)

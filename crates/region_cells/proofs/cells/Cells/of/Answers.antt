@@ -23,6 +23,7 @@ invariant_of-result c =
       slots_are = slots_are;
       fill = c.fill_regions.ensures ∙ ap fill_count c.requires.same;
       parts_are = record {
+        version = ap (λ i. i.version) (sym whole);
         region_log = ap (λ i. i.region_log) (sym whole);
         allowance = ap (λ i. i.allowance) (sym whole);
         live = ap (λ i. i.live) (sym whole);

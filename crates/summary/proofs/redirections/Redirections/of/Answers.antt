@@ -58,7 +58,7 @@ loop-i-preserved c =
           ∙ sym (map-range_with_len_more (λ k. counted_below m (64 * k)) 0 n n (omega arith));
       carried = last.0;
       first = last.1;
-      rank = next made;
+      rank = ap (λ n. c.loop-i.rank + n) c.from-rank.ensures ∙ next made;
     }
 
 pub invariant_of-result : goal.invariant_of-result

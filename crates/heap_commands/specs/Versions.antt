@@ -1,0 +1,7 @@
+use Rattle.std.specs.Prelude.{ℕ, ◌==◌, if◌then◌else◌}
+use Rattle.heap_image.specs.declared.version.Version.{Version}
+use Rattle.heap_image.specs.declared.version.Version.TheVariants.{One, Two, Three}
+
+-- the version that the command line calls by this number
+abbrev pub version_numbered : ℕ → Version
+version_numbered number = if number == 1 then One else (if number == 3 then Three else Two)

@@ -1,0 +1,5 @@
+use Rattle.heap_image.proofs.Parts.{region_few}
+use Rattle.heap_image.proofs.image.Image.region_words.Goals as goal
+
+pub returns-clause-few : goal.returns-clause-few
+returns-clause-few c = region_few c.self.inside.region_log c.self.invariant.parts.valid.limits.region_log_high
