@@ -1,5 +1,6 @@
 pub mod Joined
 pub mod Gaps
+pub mod FirstPlace
 pub mod Placing
 mod Strides
 pub mod Telling

@@ -39,6 +39,14 @@ unfoldable pub behind : (ℕ → ℕ) → ℕ → ℕ
 behind end zero = 0
 behind end (suc i) = end i
 
+-- where the i-th live object ends after the collection
+abbrev pub new_ends : HeapImage → ℕ → ℕ
+new_ends image i = new_end_of image (object_at image i)
+
+-- the words of the i-th live object's new place, and those between it and the place of the one before, are the compaction's
+abbrev pub IsObjectCompacted : HeapImage → HeapImage → ℕ → Type 0
+IsObjectCompacted before after i = AreCompacted before after (behind (new_ends before) i) (behind (new_ends before) (i + 1))
+
 -- the laws of the new addresses of live objects, for one image
 pub record AreKnown (image : HeapImage) : Type 0 where
   pub valid : IsValid image

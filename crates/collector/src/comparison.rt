@@ -1,16 +1,18 @@
-ghost use Rattle.std.specs.Prelude.{◌≡◌, ◌+◌, ◌<◌, ◌≤◌, ◌↔◌, IsTrue, MatchOption, Contains};
+ghost use Rattle.std.specs.Prelude.{◌≡◌, ◌+◌, ◌<◌, ◌≤◌, ◌↔◌, IsTrue, MatchBool, MatchOption, Contains};
 ghost use Rattle.heap_image.specs.HeapImage.{heap_words, word_at, size_at, references_at, is_null_or_live};
 ghost use Rattle.summary.specs.LiveObjects.{object_count, object_at};
 ghost use Rattle.summary.specs.NewAddresses.{new_address, new_top};
 ghost use Rattle.summary.specs.Fillers.{IsDeadRun};
 ghost use Rattle.summary.specs.Compaction.{redirected, compact};
 ghost use Rattle.collector.specs.Difference.{AreAlike, IsLeastDifference};
-ghost use Rattle.collector.specs.Compared.{IsGap, AreCompacted, IsFirstOther, IsPlaced, AreKnown};
+ghost use Rattle.collector.specs.Compared.{IsGap, AreCompacted, IsObjectCompacted, IsFirstOther, IsPlaced, AreKnown, behind, new_ends};
 ghost use Rattle.collector.specs.Verdict.{IsVerdict, IsVerdictBelow, IsVerdictOnLists, HaveSameShape, root_count, root_at};
 
 use crate::difference::{first_nonzero, first_unlike};
 use crate::verdict::Verdict;
 use heap_image::{Image, header, image_is_valid};
+use rayon::prelude::*;
+use std::thread::Threads;
 use summary::laws::compaction::{blocks_of_regions, compaction_by_objects};
 use summary::laws::dense_prefix::{fillers_by_runs, prefix_end_is_greatest};
 use summary::laws::live_words::words_of_objects;
@@ -32,7 +34,12 @@ pub(crate) struct Comparison<'a> {
 
 impl Comparison<'_> {
     /// The first difference between `after` and the compaction of `before`. `survey` is the survey of `before`.
-    pub(crate) fn verdict(before: &Image, after: &Image, survey: &Survey) -> Verdict
+    pub(crate) fn verdict(
+        before: &Image,
+        after: &Image,
+        survey: &Survey,
+        threads: &(impl Threads + Sync),
+    ) -> Verdict
         requires survey { survey.now ≡ before.now }
         ensures { IsVerdict (compact before.now) after.now result }
     {
@@ -45,14 +52,19 @@ impl Comparison<'_> {
             after,
             survey,
         };
-        match comparison.other_word() {
+        match comparison.other_word(threads) {
             Some(a) => Verdict::Word(a),
-            None => comparison.verdict_on_lists(),
+            None => comparison.verdict_on_lists(threads),
         }
     }
 
     /// The same as [`verdict`](Comparison::verdict), but words at or above the new top count as equal.
-    pub(crate) fn verdict_below_top(before: &Image, after: &Image, survey: &Survey) -> Verdict
+    pub(crate) fn verdict_below_top(
+        before: &Image,
+        after: &Image,
+        survey: &Survey,
+        threads: &(impl Threads + Sync),
+    ) -> Verdict
         requires survey { survey.now ≡ before.now }
         ensures { IsVerdictBelow (new_top before.now) (compact before.now) after.now result }
     {
@@ -65,60 +77,95 @@ impl Comparison<'_> {
             after,
             survey,
         };
-        match comparison.other_below_top() {
+        match comparison.other_below_top(threads) {
             Some(a) => Verdict::Word(a),
-            None => comparison.verdict_on_lists(),
+            None => comparison.verdict_on_lists(threads),
         }
     }
 
     /// The verdict on the live lists and the roots alone.
-    fn verdict_on_lists(&self) -> Verdict
+    fn verdict_on_lists(&self, threads: &(impl Threads + Sync)) -> Verdict
         requires { HaveSameShape self.now.before.now self.now.after.now }
         ensures { IsVerdictOnLists (compact self.now.before.now) self.now.after.now result }
     {
         blocks_of_regions();
-        if let Some(i) = self.other_live() {
+        if let Some(i) = self.other_live(threads) {
             return Verdict::Live(i);
         }
-        match self.other_root() {
+        match self.other_root(threads) {
             Some(i) => Verdict::Root(i),
             None => Verdict::Same,
         }
     }
 
     /// The lowest address below the new top whose word differs from the compaction's.
-    fn other_below_top(&self) -> Option<u64>
+    fn other_below_top(&self, threads: &(impl Threads + Sync)) -> Option<u64>
         ensures { MatchOption result
             (AreCompacted self.now.before.now self.now.after.now 0 (new_top self.now.before.now))
             (IsFirstOther self.now.before.now self.now.after.now 0 (new_top self.now.before.now)) }
     {
         objects_are_placed(self.before);
         let top = self.survey.plan().new_top();
-        match self.other_word() {
+        match self.other_word(threads) {
             Some(a) if a < top => Some(a),
             _ => None,
         }
     }
 
     /// The lowest address whose word differs from the compaction's.
-    fn other_word(&self) -> Option<u64>
+    fn other_word(&self, threads: &(impl Threads + Sync)) -> Option<u64>
         ensures { MatchOption result
             (AreCompacted self.now.before.now self.now.after.now 0 (heap_words self.now.before.now))
             (IsFirstOther self.now.before.now self.now.after.now 0 (heap_words self.now.before.now)) }
     {
         objects_are_placed(self.before);
-        let mut next = 0;
-        for &a in self.before.live() {
-            let place = self.survey.plan().new_address(self.survey.marks(), a);
-            if let Some(p) = self.other_in_gap(next, place) {
-                return Some(p);
-            }
-            if let Some(p) = self.other_in_object(a, place) {
-                return Some(p);
-            }
-            next = place + object_words(self.before, a);
+        let comparison = self;
+        let count = self.before.live().len();
+        let other = (0..count).into_par_iter().position_first(
+            threads,
+            |i: usize| -> bool
+                requires { i < object_count comparison.now.before.now }
+                ensures { MatchBool result
+                    (¬ (IsObjectCompacted comparison.entry.now.before.now comparison.entry.now.after.now i))
+                    (IsObjectCompacted comparison.entry.now.before.now comparison.entry.now.after.now i) }
+            { comparison.other_at(i).is_some() },
+        );
+        match other {
+            Some(i) => self.other_at(i),
+            None => self.other_above(self.end_before(count)),
         }
-        self.other_above(next)
+    }
+
+    /// The same in the `i`-th live object, and in the dead words before it.
+    fn other_at(&self, i: usize) -> Option<u64>
+        requires { i < object_count self.now.before.now }
+        ensures { MatchOption result
+            (IsObjectCompacted self.now.before.now self.now.after.now i)
+            (IsFirstOther self.now.before.now self.now.after.now
+            (behind (new_ends self.now.before.now) i) (behind (new_ends self.now.before.now) (i + 1))) }
+    {
+        objects_are_placed(self.before);
+        let a = self.before.live()[i];
+        let next = self.end_before(i);
+        let place = self.survey.plan().new_address(self.survey.marks(), a);
+        match self.other_in_gap(next, place) {
+            Some(p) => Some(p),
+            None => self.other_in_object(a, place),
+        }
+    }
+
+    /// Where the object before the `i`-th ends after the collection, or 0 for the first.
+    fn end_before(&self, i: usize) -> u64
+        requires { i ≤ object_count self.now.before.now }
+        ensures { result ≡ behind (new_ends self.now.before.now) i }
+    {
+        objects_are_placed(self.before);
+        if i == 0 {
+            return 0;
+        }
+        let a = self.before.live()[i - 1];
+        let place = self.survey.plan().new_address(self.survey.marks(), a);
+        place + object_words(self.before, a)
     }
 
     /// The same in the dead words before an object, which become fillers.
@@ -224,7 +271,7 @@ impl Comparison<'_> {
     }
 
     /// The lowest index at which the live list differs from the compaction's.
-    fn other_live(&self) -> Option<u64>
+    fn other_live(&self, threads: &(impl Threads + Sync)) -> Option<u64>
         requires { object_count self.now.after.now ≡ object_count self.now.before.now }
         ensures { MatchOption result
             (AreAlike (λ i. new_address self.now.before.now (object_at self.now.before.now i))
@@ -232,17 +279,38 @@ impl Comparison<'_> {
             (IsLeastDifference (λ i. new_address self.now.before.now (object_at self.now.before.now i))
             (object_at self.now.after.now) (object_count self.now.before.now)) }
     {
-        let found = self.after.live();
-        for (i, &a) in self.before.live().iter().enumerate() {
-            if found[i] != self.survey.plan().new_address(self.survey.marks(), a) {
-                return Some(i as u64);
-            }
+        let comparison = self;
+        let other = (0..self.before.live().len()).into_par_iter().position_first(
+            threads,
+            |i: usize| -> bool
+                requires same { object_count comparison.now.after.now ≡ object_count comparison.now.before.now }
+                requires inside { i < object_count comparison.now.before.now }
+                ensures { MatchBool result
+                    (object_at comparison.entry.now.after.now i
+                    ≢ new_address comparison.entry.now.before.now (object_at comparison.entry.now.before.now i))
+                    (object_at comparison.entry.now.after.now i
+                    ≡ new_address comparison.entry.now.before.now (object_at comparison.entry.now.before.now i)) }
+            { !comparison.is_live_alike(i) },
+        );
+        match other {
+            Some(i) => Some(i as u64),
+            None => None,
         }
-        None
+    }
+
+    /// Whether the `i`-th live address is the compaction's.
+    fn is_live_alike(&self, i: usize) -> bool
+        requires same { object_count self.now.after.now ≡ object_count self.now.before.now }
+        requires inside { i < object_count self.now.before.now }
+        ensures { IsTrue result ↔ object_at self.now.after.now i
+            ≡ new_address self.now.before.now (object_at self.now.before.now i) }
+    {
+        let a = self.before.live()[i];
+        self.after.live()[i] == self.survey.plan().new_address(self.survey.marks(), a)
     }
 
     /// The lowest index at which the roots differ from the compaction's.
-    fn other_root(&self) -> Option<u64>
+    fn other_root(&self, threads: &(impl Threads + Sync)) -> Option<u64>
         requires { root_count self.now.after.now ≡ root_count self.now.before.now }
         ensures { MatchOption result
             (AreAlike (λ i. redirected self.now.before.now (root_at self.now.before.now i))
@@ -250,13 +318,35 @@ impl Comparison<'_> {
             (IsLeastDifference (λ i. redirected self.now.before.now (root_at self.now.before.now i))
             (root_at self.now.after.now) (root_count self.now.before.now)) }
     {
-        let found = self.after.roots();
-        for (i, &w) in self.before.roots().iter().enumerate() {
-            if found[i] != self.survey.plan().redirected(w) {
-                return Some(i as u64);
-            }
+        let comparison = self;
+        let other = (0..self.before.roots().len())
+            .into_par_iter()
+            .position_first(
+                threads,
+                |i: usize| -> bool
+                    requires same { root_count comparison.now.after.now ≡ root_count comparison.now.before.now }
+                    requires inside { i < root_count comparison.now.before.now }
+                    ensures { MatchBool result
+                        (root_at comparison.entry.now.after.now i
+                        ≢ redirected comparison.entry.now.before.now (root_at comparison.entry.now.before.now i))
+                        (root_at comparison.entry.now.after.now i
+                        ≡ redirected comparison.entry.now.before.now (root_at comparison.entry.now.before.now i)) }
+                { !comparison.is_root_alike(i) },
+            );
+        match other {
+            Some(i) => Some(i as u64),
+            None => None,
         }
-        None
+    }
+
+    /// Whether the `i`-th root is the compaction's.
+    fn is_root_alike(&self, i: usize) -> bool
+        requires same { root_count self.now.after.now ≡ root_count self.now.before.now }
+        requires inside { i < root_count self.now.before.now }
+        ensures { IsTrue result ↔ root_at self.now.after.now i
+            ≡ redirected self.now.before.now (root_at self.now.before.now i) }
+    {
+        self.after.roots()[i] == self.survey.plan().redirected(self.before.roots()[i])
     }
 }
 

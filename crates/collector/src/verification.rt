@@ -28,7 +28,7 @@ pub fn verify(
     ensures fault { IfErr result (λ fault. fault ≡ Memory) }
 {
     let survey = Survey::of(alloc, before, threads)?;
-    Ok(Comparison::verdict(before, after, &survey))
+    Ok(Comparison::verdict(before, after, &survey, threads))
 }
 
 /// Like [`verify`], but words at or above the new top count as equal, whatever they are.
@@ -42,5 +42,5 @@ pub fn verify_below_top(
     ensures fault { IfErr result (λ fault. fault ≡ Memory) }
 {
     let survey = Survey::of(alloc, before, threads)?;
-    Ok(Comparison::verdict_below_top(before, after, &survey))
+    Ok(Comparison::verdict_below_top(before, after, &survey, threads))
 }

@@ -6,11 +6,11 @@ ghost use Rattle.pcompact.specs.Figures.{IsFigures, figures_line};
 
 use crate::collection_times::CollectionTimes;
 use crate::figures::{FiguresLine, LINE_ROOM, with_line};
-use crate::image_file::ImageFile;
 use crate::out_file::OutFile;
 use crate::timed_gate::TimedGate;
 use crate::workers::Workers;
 use collector::{Gate, collect_stream};
+use command_host::ImageFile;
 use command_line::Collect;
 use command_support::{
     Stats, Stopwatch, SystemFile, TimedIntake, TimedOutlet, Trouble, WorkDone, ended,
@@ -35,7 +35,8 @@ where
     let watch = Stopwatch::start(rt, request.stats);
     let (image, mut out) = image_and_out(rt, request.image, request.out, request.atomic)?;
     out.file.file().expect_len(image.regular_len());
-    let image = ImageFile::read_ahead(rt, image.with_shape(request.shape), request.workers);
+    let readers = request.workers as usize;
+    let image = ImageFile::new(rt, image.with_shape(request.shape), readers);
     let mut image = TimedIntake::new(rt, watch, image);
     let may_have_holes = out.may_have_holes;
     let written = OutFile::new(&mut out.file, may_have_holes);

@@ -7,11 +7,11 @@ ghost use Rattle.pcompact.specs.Figures.{IsFigures, figures_line};
 
 use crate::collection_times::CollectionTimes;
 use crate::figures::{FiguresLine, LINE_ROOM, with_line};
-use crate::image_file::ImageFile;
 use crate::out_file::OutFile;
 use crate::timed_gate::TimedGate;
 use crate::workers::Workers;
 use collector::{Gate, record_stream};
+use command_host::ImageFile;
 use command_line::Record;
 use command_support::{
     FileId, FileTarget, FileWord, Output, Phase, Role, Stats, Stopwatch, SystemFile, TimedIntake,
@@ -37,7 +37,8 @@ where
     let watch = Stopwatch::start(rt, request.stats);
     let (image, mut out, mut schedule) = image_out_and_schedule(rt, &request)?;
     out.file.file().expect_len(image.regular_len());
-    let image = ImageFile::read_ahead(rt, image.with_shape(request.shape), request.workers);
+    let readers = request.workers as usize;
+    let image = ImageFile::new(rt, image.with_shape(request.shape), readers);
     let mut image = TimedIntake::new(rt, watch, image);
     let may_have_holes = out.may_have_holes;
     let written = OutFile::new(&mut out.file, may_have_holes);

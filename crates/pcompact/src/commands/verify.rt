@@ -5,13 +5,15 @@ ghost use Rattle.pcompact.specs.Commands.Verify.{IsVerdictOf, IsVerdictOn, IsUnv
 
 use super::explanation::{explanation_of_file, explanation_of_images};
 use collector::{Verdict, verify, verify_below_top};
+use command_host::ImageFile;
 use command_line::Verify;
 use command_support::{
     Difference, Failure, FileWord, Laps, Phase, Role, Stats, Stopwatch, TimedIntake, Trouble,
     Watched, WorkDone, two_inputs,
 };
 use heap_commands::screen::Screen;
-use heap_image::{Fault, FromRead, Image, Intake, read_image_by_threads};
+use heap_image::{Fault, Image, Intake, read_image_by_threads};
+use rayon::current_num_threads;
 use std::alloc::Global;
 use std::os::unix::fs::FileExt;
 use std::rt::Files;
@@ -71,10 +73,12 @@ where
     let watch = Stopwatch::start(rt, request.stats);
     let before = FileWord::new(Role::Before, request.before);
     let after = FileWord::new(Role::After, request.after);
-    let (before, mut after) = two_inputs(rt, before, after)?;
-    let mut before = before.with_shape(request.shape);
-    let mut was = TimedIntake::new(rt, watch, FromRead::new(&mut before));
-    let mut is = TimedIntake::new(rt, watch, FromRead::new(&mut after));
+    let (before, after) = two_inputs(rt, before, after)?;
+    let readers = current_num_threads(rt);
+    let before = ImageFile::new(rt, before.with_shape(request.shape), readers);
+    let after = ImageFile::new(rt, after, readers);
+    let mut was = TimedIntake::new(rt, watch, before);
+    let mut is = TimedIntake::new(rt, watch, after);
     let wishes = Wishes {
         explain: request.explain,
         ignore_free: request.ignore_free,
@@ -89,6 +93,8 @@ where
     match verified {
         Ok(compared) => Ok((compared, Stats::of_comparison(watch, laps))),
         Err(refused) => {
+            let before = was.into_inner().into_inner();
+            let after = is.into_inner().into_inner();
             let lines = match &refused.was {
                 Some(was) if request.explain => {
                     explanation_of_file(rt, was, after.file(), request.ignore_free)

@@ -1,7 +1,0 @@
-use Rattle.std.proofs.Common.{◌≡◌, ℕ, ◌<◌}
-use Rattle.summary.specs.Compaction.{redirected}
-use Rattle.collector.specs.Verdict.{root_at}
-use Rattle.collector.proofs.comparison.Comparison.other_root.Given as goal
-
-abbrev pub invariant-loop-i : goal.invariant-loop-i
-invariant-loop-i l = (k : ℕ) → k < l.i → root_at l.self.after.now k ≡ redirected l.self.before.now (root_at l.self.before.now k)
