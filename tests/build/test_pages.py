@@ -31,7 +31,7 @@ BUDGETS = {
     "docs/COLLECTORS.md": 1450, "docs/TOUR.md": 1000, "docs/USE.md": 1000, "docs/DUMPS.md": 1700, "docs/GENERATE.md": 700,
     "docs/DEFINITIONS.md": 1100, "tests/README.md": 600, "bench/README.md": 300,
 }
-ALL_WORDS = 31_500
+ALL_WORDS = 30_000
 CRATE_WORDS = 200
 CRATES_WORDS = 2_700
 # The pages that aren't as this script wants them yet: it passes them over.
