@@ -12,6 +12,10 @@ pub enum Shape {
     Graph,
     /// Objects of two words, each of which refers to the next one in a random order.
     List,
+    /// The same in the order of addresses.
+    Chain,
+    /// Objects of three words, which are a binary tree in breadth order.
+    Tree,
     /// Objects of one word, to each of which the first object refers.
     Array,
     /// One object, of all words but the first, that refers to itself.
@@ -27,6 +31,8 @@ impl FromStr for Shape {
         match word {
             "graph" => Ok(Shape::Graph),
             "list" => Ok(Shape::List),
+            "chain" => Ok(Shape::Chain),
+            "tree" => Ok(Shape::Tree),
             "array" => Ok(Shape::Array),
             "object" => Ok(Shape::Object),
             "last" => Ok(Shape::Last),
@@ -37,7 +43,7 @@ impl FromStr for Shape {
 
 pub struct Asked {
     pub words: usize,
-    /// How many of a hundred objects live, about. Only graphs and lists ask.
+    /// How many of a hundred objects live, about. Arrays and single objects don't ask.
     pub live: u64,
     pub region_log: u32,
     /// How many of a hundred words behind the headers are references, about. Only graphs and single objects ask.
@@ -130,14 +136,43 @@ fn graph(asked: &Asked, random: &mut Random) -> (Vec<u64>, Vec<u64>) {
     (words, live)
 }
 
-fn list(asked: &Asked, random: &mut Random) -> (Vec<u64>, Vec<u64>) {
+/// The addresses of live objects of so many words.
+fn places(asked: &Asked, size: usize, random: &mut Random) -> Vec<u64> {
+    let all = (0..(asked.words + 1 - size) as u64).step_by(size);
+    all.filter(|_| random.happens(asked.live)).collect()
+}
+
+/// Objects that each refer to the next one in this order.
+fn linked(asked: &Asked, order: &[u64]) -> Vec<u64> {
     let mut words = vec![0; asked.words];
-    let live: Vec<u64> = (0..asked.words as u64).step_by(2).filter(|_| random.happens(asked.live)).collect();
-    let mut order = live.clone();
-    random.shuffle(&mut order);
     for (k, &a) in order.iter().enumerate() {
         words[a as usize] = Header::object(2, 1).0;
         words[a as usize + 1] = order.get(k + 1).map_or(0, |next| 1 + next);
+    }
+    words
+}
+
+fn list(asked: &Asked, random: &mut Random) -> (Vec<u64>, Vec<u64>) {
+    let live = places(asked, 2, random);
+    let mut order = live.clone();
+    random.shuffle(&mut order);
+    (linked(asked, &order), live)
+}
+
+fn chain(asked: &Asked, random: &mut Random) -> (Vec<u64>, Vec<u64>) {
+    let live = places(asked, 2, random);
+    (linked(asked, &live), live)
+}
+
+fn tree(asked: &Asked, random: &mut Random) -> (Vec<u64>, Vec<u64>) {
+    let live = places(asked, 3, random);
+    let mut words = vec![0; asked.words];
+    for (k, &a) in live.iter().enumerate() {
+        let a = a as usize;
+        words[a] = Header::object(3, 2).0;
+        for child in 1..=2 {
+            words[a + child] = live.get(2 * k + child).map_or(0, |next| 1 + next);
+        }
     }
     (words, live)
 }
@@ -199,6 +234,8 @@ pub fn generate(asked: &Asked) -> Image {
     let (words, live) = match asked.shape {
         Shape::Graph => graph(asked, &mut random),
         Shape::List => list(asked, &mut random),
+        Shape::Chain => chain(asked, &mut random),
+        Shape::Tree => tree(asked, &mut random),
         Shape::Array => array(asked),
         Shape::Object => object(asked),
         Shape::Last => last(asked),

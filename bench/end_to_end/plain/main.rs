@@ -18,7 +18,7 @@ use std::time::Instant;
 
 const USAGE: &str = "usage:
   plain generate OUT --mib n --live percent --log n --references percent
-                     [--shape graph|list|array|object|last] [--version 1|2|3]
+                     [--shape graph|list|chain|tree|array|object|last] [--version 1|2|3]
   plain tell IMAGE
   plain collect IMAGE OUT
   plain phases IMAGE OUT

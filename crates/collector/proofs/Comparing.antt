@@ -52,22 +52,6 @@ top_exact image known = exact (object_count image) refl
         let l : m < object_count image = omega (arith, e) in
         subst (λ n. n ≤ new_top image) (sym (behind-suc (place_end image) m)) (known.below m l)
 
--- one object, as a loop visits it
-module _ (image : HeapImage) (known : AreKnown image) (items : List ℕ) (i next place : ℕ)
-    (items_are : items ≡ image.live) (l : i < length items) (next_is : next ≡ behind (place_end image) i) (place_is : place ≡ new_address image (object_at image i)) where
-  inside : i < object_count image
-  inside = subst (λ (xs : List ℕ). i < length xs) items_are l
-
-  pub low : next ≤ place
-  low = subst (λ n. next ≤ n) (sym place_is) (subst (λ n. n ≤ new_address image (object_at image i)) (sym next_is) (behind_place image known i inside))
-
-  pub run : next < place → IsGap image next place
-  run h = subst (λ n. IsGap image next n) (sym place_is) (subst (λ n. IsGap image n (new_address image (object_at image i))) (sym next_is)
-      (is_gap image known i inside (subst (λ n. n < new_address image (object_at image i)) next_is (subst (λ n. next < n) place_is h))))
-
-  pub object : IsPlaced image (get_or items i 0) place
-  object = subst (λ (xs : List ℕ). IsPlaced image (get_or xs i 0) place) (sym items_are) (subst (λ n. IsPlaced image (object_at image i) n) (sym place_is) (is_placed image known i inside))
-
 -- a field of a live object lies in the heap
 pub field_inside : (image : HeapImage) → IsValid image → (a f : ℕ) → Contains image.live a → f < references_at image a → a + 1 + f < heap_words image
 field_inside image valid a f live few =

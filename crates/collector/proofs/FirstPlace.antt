@@ -49,8 +49,10 @@ module _ (A : ℕ → Type 0) where
   pub first_failure : (n : ℕ) (xs : List ℕ) (bs : List Bool) (r : Option ℕ) → n < 2 ^ 64 → xs ≡ nat_range 0 n → AllZip Tests xs bs
       → r ≡ first_true bs → IsFirstFailure n r
   first_failure n xs bs r few range tests is =
+      let all : n - 0 ≡ n = omega arith in
+      let places = range ∙ ap (range_with_len 0) all in
       subst (IsFirstFailure n) (sym is) (from_zero (first_true bs)
-      (first_from 0 n bs (omega (arith, few)) (subst (λ (l : List ℕ). AllZip Tests l bs) range tests)))
+      (first_from 0 n bs (omega (arith, few)) (subst (λ (l : List ℕ). AllZip Tests l bs) places tests)))
     where
       from_zero : (o : Option ℕ) → IsFirst 0 n o → IsFirstFailure n o
       from_zero None all = λ i high. all i (omega arith) (omega (arith, high))

@@ -13,4 +13,5 @@ pub mod Streams
 mod Losses
 mod Upgrades
 mod Tallies
+mod Visits
 mod Comparing

@@ -1,4 +1,4 @@
-ghost use Rattle.std.specs.Prelude.{◌≡◌, ◌+◌, ◌<◌, ◌≤◌, ◌↔◌, IsTrue, MatchBool, MatchOption, Contains};
+ghost use Rattle.std.specs.Prelude.{◌≡◌, ◌≢◌, ◌+◌, ◌<◌, ◌≤◌, ◌↔◌, IsTrue, MatchBool, MatchOption, Contains};
 ghost use Rattle.heap_image.specs.HeapImage.{heap_words, word_at, size_at, references_at, is_null_or_live};
 ghost use Rattle.summary.specs.LiveObjects.{object_count, object_at};
 ghost use Rattle.summary.specs.NewAddresses.{new_address, new_top};
@@ -119,16 +119,25 @@ impl Comparison<'_> {
             (IsFirstOther self.now.before.now self.now.after.now 0 (heap_words self.now.before.now)) }
     {
         objects_are_placed(self.before);
-        let comparison = self;
-        let count = self.before.live().len();
+        let (before, after, survey) = (self.before, self.after, self.survey);
+        let count = before.live().len();
         let other = (0..count).into_par_iter().position_first(
             threads,
             |i: usize| -> bool
-                requires { i < object_count comparison.now.before.now }
+                requires survey { survey.now ≡ before.now }
+                requires room { heap_words after.now ≡ heap_words before.now }
+                requires inside { i < object_count before.now }
                 ensures { MatchBool result
-                    (¬ (IsObjectCompacted comparison.entry.now.before.now comparison.entry.now.after.now i))
-                    (IsObjectCompacted comparison.entry.now.before.now comparison.entry.now.after.now i) }
-            { comparison.other_at(i).is_some() },
+                    (¬ (IsObjectCompacted before.entry.now after.entry.now i))
+                    (IsObjectCompacted before.entry.now after.entry.now i) }
+            {
+                let comparison = Comparison {
+                    before,
+                    after,
+                    survey,
+                };
+                comparison.other_at(i).is_some()
+            },
         );
         match other {
             Some(i) => self.other_at(i),
@@ -279,34 +288,22 @@ impl Comparison<'_> {
             (IsLeastDifference (λ i. new_address self.now.before.now (object_at self.now.before.now i))
             (object_at self.now.after.now) (object_count self.now.before.now)) }
     {
-        let comparison = self;
-        let other = (0..self.before.live().len()).into_par_iter().position_first(
+        let (before, after, survey) = (self.before, self.after, self.survey);
+        let other = (0..before.live().len()).into_par_iter().position_first(
             threads,
             |i: usize| -> bool
-                requires same { object_count comparison.now.after.now ≡ object_count comparison.now.before.now }
-                requires inside { i < object_count comparison.now.before.now }
+                requires survey { survey.now ≡ before.now }
+                requires same { object_count after.now ≡ object_count before.now }
+                requires inside { i < object_count before.now }
                 ensures { MatchBool result
-                    (object_at comparison.entry.now.after.now i
-                    ≢ new_address comparison.entry.now.before.now (object_at comparison.entry.now.before.now i))
-                    (object_at comparison.entry.now.after.now i
-                    ≡ new_address comparison.entry.now.before.now (object_at comparison.entry.now.before.now i)) }
-            { !comparison.is_live_alike(i) },
+                    (object_at after.entry.now i ≢ new_address before.entry.now (object_at before.entry.now i))
+                    (object_at after.entry.now i ≡ new_address before.entry.now (object_at before.entry.now i)) }
+            { !is_live_alike(before, after, survey, i) },
         );
         match other {
             Some(i) => Some(i as u64),
             None => None,
         }
-    }
-
-    /// Whether the `i`-th live address is the compaction's.
-    fn is_live_alike(&self, i: usize) -> bool
-        requires same { object_count self.now.after.now ≡ object_count self.now.before.now }
-        requires inside { i < object_count self.now.before.now }
-        ensures { IsTrue result ↔ object_at self.now.after.now i
-            ≡ new_address self.now.before.now (object_at self.now.before.now i) }
-    {
-        let a = self.before.live()[i];
-        self.after.live()[i] == self.survey.plan().new_address(self.survey.marks(), a)
     }
 
     /// The lowest index at which the roots differ from the compaction's.
@@ -318,36 +315,44 @@ impl Comparison<'_> {
             (IsLeastDifference (λ i. redirected self.now.before.now (root_at self.now.before.now i))
             (root_at self.now.after.now) (root_count self.now.before.now)) }
     {
-        let comparison = self;
-        let other = (0..self.before.roots().len())
-            .into_par_iter()
-            .position_first(
-                threads,
-                |i: usize| -> bool
-                    requires same { root_count comparison.now.after.now ≡ root_count comparison.now.before.now }
-                    requires inside { i < root_count comparison.now.before.now }
-                    ensures { MatchBool result
-                        (root_at comparison.entry.now.after.now i
-                        ≢ redirected comparison.entry.now.before.now (root_at comparison.entry.now.before.now i))
-                        (root_at comparison.entry.now.after.now i
-                        ≡ redirected comparison.entry.now.before.now (root_at comparison.entry.now.before.now i)) }
-                { !comparison.is_root_alike(i) },
-            );
+        let (before, after, survey) = (self.before, self.after, self.survey);
+        let other = (0..before.roots().len()).into_par_iter().position_first(
+            threads,
+            |i: usize| -> bool
+                requires survey { survey.now ≡ before.now }
+                requires same { root_count after.now ≡ root_count before.now }
+                requires inside { i < root_count before.now }
+                ensures { MatchBool result
+                    (root_at after.entry.now i ≢ redirected before.entry.now (root_at before.entry.now i))
+                    (root_at after.entry.now i ≡ redirected before.entry.now (root_at before.entry.now i)) }
+            { !is_root_alike(before, after, survey, i) },
+        );
         match other {
             Some(i) => Some(i as u64),
             None => None,
         }
     }
+}
 
-    /// Whether the `i`-th root is the compaction's.
-    fn is_root_alike(&self, i: usize) -> bool
-        requires same { root_count self.now.after.now ≡ root_count self.now.before.now }
-        requires inside { i < root_count self.now.before.now }
-        ensures { IsTrue result ↔ root_at self.now.after.now i
-            ≡ redirected self.now.before.now (root_at self.now.before.now i) }
-    {
-        self.after.roots()[i] == self.survey.plan().redirected(self.before.roots()[i])
-    }
+/// Whether the `i`-th live address is the compaction's.
+fn is_live_alike(before: &Image, after: &Image, survey: &Survey, i: usize) -> bool
+    requires survey { survey.now ≡ before.now }
+    requires same { object_count after.now ≡ object_count before.now }
+    requires inside { i < object_count before.now }
+    ensures { IsTrue result ↔ object_at after.now i ≡ new_address before.now (object_at before.now i) }
+{
+    let a = before.live()[i];
+    after.live()[i] == survey.plan().new_address(survey.marks(), a)
+}
+
+/// Whether the `i`-th root is the compaction's.
+fn is_root_alike(before: &Image, after: &Image, survey: &Survey, i: usize) -> bool
+    requires survey { survey.now ≡ before.now }
+    requires same { root_count after.now ≡ root_count before.now }
+    requires inside { i < root_count before.now }
+    ensures { IsTrue result ↔ root_at after.now i ≡ redirected before.now (root_at before.now i) }
+{
+    after.roots()[i] == survey.plan().redirected(before.roots()[i])
 }
 
 /// A law: where the live objects of an image go.

@@ -4,7 +4,7 @@ use Rattle.collector.proofs.Telling.{shape, word_other, after_words}
 use Rattle.collector.proofs.comparison.Comparison.verdict.Goals as goal
 
 pub returns-in-Some : goal.returns-in-Some
-returns-in-Some c =
+returns-in-Some g c =
     let before : HeapImage = c.args.before.now in
     let after : HeapImage = c.args.after.now in
     let long = c.blocks_of_regions.ensures.compacted_length before in
@@ -12,7 +12,7 @@ returns-in-Some c =
     (shape before after long same, word_other before after long c.in-Some.a c.in-Some.ensures)
 
 pub returns-in-None : goal.returns-in-None
-returns-in-None c =
+returns-in-None g c =
     let before : HeapImage = c.args.before.now in
     let after : HeapImage = c.args.after.now in
     let long = c.blocks_of_regions.ensures.compacted_length before in

@@ -5,7 +5,7 @@ use Rattle.collector.proofs.Telling.{shape, least_below, after_words_below}
 use Rattle.collector.proofs.comparison.Comparison.verdict_below_top.Goals as goal
 
 pub returns-in-Some : goal.returns-in-Some
-returns-in-Some c =
+returns-in-Some g c =
     let before : HeapImage = c.args.before.now in
     let after : HeapImage = c.args.after.now in
     let long = c.blocks_of_regions.ensures.compacted_length before in
@@ -13,7 +13,7 @@ returns-in-Some c =
     (shape before after long same, least_below before after long (new_top before) c.in-Some.a c.in-Some.ensures)
 
 pub returns-in-None : goal.returns-in-None
-returns-in-None c =
+returns-in-None g c =
     let before : HeapImage = c.args.before.now in
     let after : HeapImage = c.args.after.now in
     let long = c.blocks_of_regions.ensures.compacted_length before in
