@@ -9,6 +9,7 @@ goals of docs/SPEED.md. A heap of n MiB takes about 2.5 n of memory and 5 n of d
 Ends with status 1 where two ways to mark gave different live lists, or where a goal is missed.
 """
 import argparse
+import itertools
 import os
 import pathlib
 import statistics
@@ -33,15 +34,14 @@ def generate(plain: pathlib.Path, folder: pathlib.Path, mib: int) -> None:
 
 
 def mark(program: pathlib.Path, folder: pathlib.Path, rounds: int) -> Times:
-    """Of each shape and number of workers the nanoseconds that it took, in each round."""
+    """Of each shape and number of workers the nanoseconds that it took, in each round, each in a process of its own."""
     times: Times = {}
     lists: dict[str, set[str]] = {}
-    for _ in range(rounds):
-        for shape in SHAPES:
-            done = subprocess.run([program, shape], cwd=folder, check=True, capture_output=True, text=True)
-            for name, workers, nanoseconds, seen in map(str.split, done.stdout.splitlines()):
-                times.setdefault((name, workers), []).append(int(nanoseconds))
-                lists.setdefault(name, set()).add(seen)
+    for _, shape, workers in itertools.product(range(rounds), SHAPES, (ALONE, *WORKERS)):
+        done = subprocess.run([program, shape, workers], cwd=folder, check=True, capture_output=True, text=True)
+        nanoseconds, seen = done.stdout.split()
+        times.setdefault((shape, workers), []).append(int(nanoseconds))
+        lists.setdefault(shape, set()).add(seen)
     if any(len(found) != 1 for found in lists.values()):
         sys.exit(f"the live lists differ: {lists}")
     return times

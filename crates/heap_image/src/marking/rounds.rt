@@ -20,6 +20,9 @@ const MOST_ROUNDS: usize = 65_536;
 /// The most small rounds.
 const MOST_SMALL_ROUNDS: usize = 64;
 
+/// How many small rounds an uneven one counts for.
+const UNEVEN: usize = 32;
+
 /// The least number of references on their way and of addresses that wait that is worth more than one thread.
 const LEAST_LOAD: usize = 4_096;
 
@@ -64,8 +67,8 @@ impl Rounds {
         Ok(Rounds { log, parts, sent })
     }
 
-    /// Runs rounds as long as they pay: until nothing is on its way, many small rounds have run, or the boxes take too
-    /// much memory. What is still to be marked then is on its way or waits.
+    /// Runs rounds as long as they pay: until nothing is on its way, many small rounds or some uneven ones have run, or the
+    /// boxes take too much memory. What is still to be marked then is on its way or waits.
     pub(crate) fn run<T: Threads + Sync>(
         &mut self,
         alloc: Global,
@@ -83,14 +86,14 @@ impl Rounds {
         let mut small: usize = 0;
         for _ in 0..MOST_ROUNDS {
             let load = self.load();
-            if load == 0 || small == MOST_SMALL_ROUNDS || self.is_full(heap) {
+            if load == 0 || small >= MOST_SMALL_ROUNDS || self.is_full(heap) {
                 return Ok(());
             }
-            let is_small = load < LEAST_LOAD && batches_of(self.parts.as_slice()) < LEAST_BATCHES;
-            small = small.wrapping_add(usize::from(is_small));
+            let smallness = smallness_of(load, self.parts.as_slice());
+            small = small.wrapping_add(smallness);
             let crowd = Crowd {
                 threads: crowd.threads,
-                most: threads_of(is_small, crowd.most),
+                most: threads_of(smallness, crowd.most),
             };
             self.turn(alloc, heap, &crowd)?;
         }
@@ -189,10 +192,24 @@ fn exchange(parts: &mut [Part], sent: &mut [Boxes])
 }
 
 /// The number of threads of a round.
-fn threads_of(is_small: bool, most: usize) -> usize
+fn threads_of(smallness: usize, most: usize) -> usize
     ensures { 0 < result }
 {
-    if is_small { 1 } else { most.max(1) }
+    if smallness > 0 { 1 } else { most.max(1) }
+}
+
+/// How many small rounds a round counts for with this load: 0 if much is on its way, 1 if the last round did little, more
+/// if one part alone did it, as along a list in the order of addresses. No contract depends on it.
+fn smallness_of(load: usize, parts: &[Part]) -> usize {
+    if load >= LEAST_LOAD {
+        0
+    } else if batches_of(parts) < LEAST_BATCHES {
+        1
+    } else if busy_parts(parts, most_batches(parts)) < 2 {
+        UNEVEN
+    } else {
+        0
+    }
 }
 
 /// The number of batches of the last round. No contract depends on it.
@@ -202,6 +219,24 @@ fn batches_of(parts: &[Part]) -> u64 {
         batches = batches.saturating_add(part.work);
     }
     batches
+}
+
+/// The number of batches of the part that had most of them in the last round. No contract depends on it.
+fn most_batches(parts: &[Part]) -> u64 {
+    let mut most: u64 = 0;
+    for part in parts {
+        most = most.max(part.work);
+    }
+    most
+}
+
+/// The number of parts that had more than a quarter of this number of batches. No contract depends on it.
+fn busy_parts(parts: &[Part], most: u64) -> usize {
+    let mut busy: usize = 0;
+    for part in parts {
+        busy = busy.wrapping_add(usize::from(part.work > most / 4));
+    }
+    busy
 }
 
 /// The number of addresses that wait. No contract depends on it.
