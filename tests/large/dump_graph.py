@@ -28,8 +28,9 @@ class Layout:
     @classmethod
     def of(cls, codes: list[int]) -> "Layout":
         form = "".join("Q" if code == REFERENCE else f"{DATA_BYTES[code]}s" for code in codes)
-        places = {is_reference: [i for i, code in enumerate(codes) if (code == REFERENCE) == is_reference] for is_reference in (True, False)}
-        return cls(struct.Struct(f">{form}"), places[True], places[False])
+        references = [i for i, code in enumerate(codes) if code == REFERENCE]
+        data = [i for i, code in enumerate(codes) if code != REFERENCE]
+        return cls(struct.Struct(f">{form}"), references, data)
 
 
 @dataclasses.dataclass

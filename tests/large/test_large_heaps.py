@@ -75,7 +75,8 @@ class Heap:
         live = sum(int(partial) + int(begun) for _, partial, begun, *_ in map(str.split, lines[1:]))
         self.expect((lines[0], len(lines), live) == (prefix_and_top, self.regions + 1, self.words // 2), f"summary tells {lines[0]!r}")
         chain = self.run("order heap")
-        self.expect(bool(re.fullmatch(rf"chain \d+ words {self.words // 2} speedup \d+\.\d\d workers \d+\n", chain)), f"order tells {chain!r}")
+        form = rf"chain \d+ words {self.words // 2} speedup \d+\.\d\d workers \d+\n"
+        self.expect(bool(re.fullmatch(form, chain)), f"order tells {chain!r}")
         line = f"words {self.words} live {self.words // 2} dead {self.words - self.words // 2} {self.collected}"
         self.expect(self.run("map heap --after").startswith(line), "map tells another line")
         self.expect(self.run("map heap --after --svg drawing") == line, "map --svg tells another line")
