@@ -274,7 +274,7 @@ CHAINS = [
 
 
 def try_collections(tried: Tried) -> None:
-    """Collections of known heaps, in both versions: with a root to each live object, the last one first."""
+    """Collections of known heaps, in each version: with a root to each live object, the last one first."""
     for words, live, allowance, figures, new_words, new_live in COLLECTIONS:
         try_collected(tried, image(words, live, allowance), figures, image(new_words, new_live, allowance))
         roots, new_roots = ([1 + a for a in reversed(addresses)] for addresses in (live, new_live))

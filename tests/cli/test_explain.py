@@ -1,6 +1,6 @@
 #!/usr/bin/env python3
 """Runs `verify --explain` and `--ignore-free` of the built program on what a collector with seeded bugs makes of images, in
-both versions, and compares all of standard error with a plain model. Without the options the first line alone must come.
+each version, and compares all of standard error with a plain model. Without the options the first line alone must come.
 
 usage: tests/cli/test_explain.py [PROGRAM]
 """
@@ -19,7 +19,7 @@ from tests.support.terminal import on_terminal
 
 COLLECTOR = TOP / "examples" / "collector.py"
 BUGS = ["", "reference", "data", "plan", "null", "filler", "free", "root"]
-HEAPS = [(version, live, allowance) for version in (1, 2) for live, allowance in ((20, 0), (50, 40), (90, 400))]
+HEAPS = [(version, live, allowance) for version in (1, 2, 3) for live, allowance in ((20, 0), (50, 40), (90, 400))]
 
 
 def answer(lines: list[str]) -> Answer:

@@ -1,11 +1,11 @@
 #!/usr/bin/env python3
 """Collects each heap image of a folder with 1, 2, 4 and 64 workers, and verifies what comes out.
 
-The images are the files of the folder that end in `.pcheap`, of either version. For each the table shows what stands
+The images are the files of the folder that end in `.pcheap`, of any version. For each the table shows what stands
 in the image, the line that `pcompact collect` printed, the least seconds of a collection for each number of workers,
 and what `pcompact verify` said. All outputs of an image must be equal byte for byte, and so must the lines. Upgraded and
 then collected it must print the same line and give the same bytes as collected and then upgraded. Two images whose names
-differ in `-v1` and `-v2` alone are one heap in both versions: what comes out of them must have the same words, live list
+differ in `-v1`, `-v2` and `-v3` alone are one heap: what comes out of them must have the same words, live list
 and line. With `--sums` the file gives the sha256 sums of outputs, a line for each as `sha256sum` prints it, under the
 image's name. Ends with status 1 where anything differs, where a command fails, where a sum is given for no image, or
 where there is no image.
@@ -17,6 +17,7 @@ import dataclasses
 import filecmp
 import hashlib
 import pathlib
+import re
 import struct
 import subprocess
 import sys
@@ -112,16 +113,18 @@ def collect(pcompact: pathlib.Path, image: pathlib.Path, workers: int, rounds: i
 def is_upgraded_alike(pcompact: pathlib.Path, image: pathlib.Path, printed: str, room: pathlib.Path) -> bool:
     """Whether an image is the same upgraded and then collected as collected and then upgraded."""
     rooted, rooted_out, out, out_rooted = (room / name for name in ("rooted", "rooted_out", "out", "out_rooted"))
-    lines = [said([pcompact, "upgrade", image, rooted]), said([pcompact, "collect", image, out, "--workers", "2"]),
+    with image.open("rb") as file:
+        to = ["--to", "3"] if file.read(8) == b"PCHEAP03" else []
+    lines = [said([pcompact, "upgrade", image, rooted, *to]), said([pcompact, "collect", image, out, "--workers", "2"]),
              said([pcompact, "collect", rooted, rooted_out, "--workers", "2"]),
-             said([pcompact, "upgrade", out, out_rooted])]
+             said([pcompact, "upgrade", out, out_rooted, *to])]
     return (lines[1] == lines[2] == printed and lines[0] == lines[3] and lines[0].startswith("roots ")
             and filecmp.cmp(rooted_out, out_rooted, shallow=False))
 
 
 def heap_of(image: pathlib.Path) -> str:
     """The name of an image without its version."""
-    return image.stem.removesuffix("-v1").removesuffix("-v2")
+    return re.sub(r"-v[123]$", "", image.stem)
 
 
 def are_alike(pcompact: pathlib.Path, images: list[pathlib.Path], room: pathlib.Path) -> bool:
@@ -185,7 +188,7 @@ def main() -> int:
     pcompact = asked.pcompact.resolve()
     # The script of that name proves and builds the program at its first call.
     subprocess.run([pcompact, "--version"], check=True, stdout=subprocess.DEVNULL)
-    # Of each image, and of each heap in both versions, whether all is right.
+    # Of each image, and of each heap in several versions, whether all is right.
     fine = []
     print("| Image | Version | Region log | Words | Regions | Live objects | Live words | Roots | Allowance | Printed "
           f"| Seconds, workers {' / '.join(map(str, WORKERS))} | Outputs | Sum | Verified | Upgraded |")

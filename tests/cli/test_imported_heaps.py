@@ -27,19 +27,11 @@ sys.dont_write_bytecode = True
 sys.path.insert(0, str(pathlib.Path(__file__).resolve().parents[2]))
 from tests.models import dump as dump_model
 from tests.support import dump_writer
+from tests.support.measured import measured
 from tests.support.program import TOP, built
 
 KEPT = TOP / "examples" / "dumps"
 SECONDS = 120
-# Runs a command and prints what it took. A process of its own does so, since the most memory of one that started another
-# counts as that of the other, too.
-MEASURE = """\
-import os, sys
-nothing = os.open(os.devnull, os.O_WRONLY)
-ways = [(os.POSIX_SPAWN_DUP2, nothing, stream) for stream in (1, 2)]
-_, status, used = os.wait4(os.posix_spawn(sys.argv[1], sys.argv[1:], os.environ, file_actions=ways), 0)
-print(used.ru_utime + used.ru_stime, used.ru_maxrss, status)
-"""
 # What standard error says of each kind of what is wrong.
 TEXTS = {
     "name": "this is no heap dump of version 1.0.1 or 1.0.2",
@@ -105,12 +97,6 @@ class Imports:
         right = done.returncode == 0 and done.stdout == wanted.line + "\n" and done.stderr == ""
         self.note(right and image == wanted.image, name, f"{said}, not {wanted.line}, or another image")
         return image
-
-    def measure(self, dump: pathlib.Path, words: list[str]) -> tuple[float, int, int]:
-        """Imports a dump, and answers the processor time, the bytes of memory, and the status."""
-        call = [sys.executable, "-IS", "-c", MEASURE, self.program, "import", dump, self.folder / "image", *words]
-        time, memory, status = subprocess.run(call, check=True, capture_output=True, timeout=SECONDS).stdout.split()
-        return float(time), int(memory) << 10, os.waitstatus_to_exitcode(int(status))
 
     def try_both(self, name: str, data: bytes, region_log: int = 9, allowance: int = 0) -> bytes | None:
         self.try_dump(f"{name}, live only", data, region_log, allowance, True)
@@ -288,9 +274,11 @@ def try_dear(tried: Imports) -> None:
         dump.write_bytes(dump_writer.Writer(4).record(0x0C, heap).text())
         most = 3 * len(heap) + (64 << 20)
         for words in ([], ["--live-only"]):
-            seconds, memory, status = tried.measure(dump, words)
-            tried.note(status in (0, 1) and seconds < 2 and memory <= most, f"{name} {words}",
-                       f"status {status}, {seconds:.2f} s of processor time, {memory >> 20} MiB, {most >> 20} are the most")
+            taken = measured([tried.program, "import", dump, tried.folder / "image", *words], SECONDS,
+                             stdout=subprocess.DEVNULL, stderr=subprocess.DEVNULL)
+            tried.note(taken.status in (0, 1) and taken.processor < 2 and taken.memory <= most, f"{name} {words}",
+                       f"status {taken.status}, {taken.processor:.2f} s of processor time, {taken.memory >> 20} MiB, "
+                       f"{most >> 20} are the most")
 
 
 def objects_from(image: bytes, described: list[str]) -> str:

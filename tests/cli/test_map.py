@@ -70,13 +70,14 @@ def environment(**names: str) -> dict[str, str]:
 
 
 def try_rows(tried: Tried) -> None:
-    """The rows of docs/COMMANDS.md, in both versions."""
+    """The rows of docs/COMMANDS.md, in each version."""
     for allowance, figures, *strips in ROWS:
         line = f"words 32 live 19 dead 13 {figures}\n"
         shades, areas, new_shades, new_areas = strips
         before = f"before |{shades}|\n       |{areas}|\n"
         after = f"after  |{new_shades}|\n       |{new_areas}|\n"
-        for made in (image(WORDS, LIVE, allowance), rooted(WORDS, [1 + a for a in LIVE], allowance)):
+        roots = [1 + a for a in LIVE]
+        for made in (image(WORDS, LIVE, allowance), *(rooted(WORDS, roots, allowance, version=version) for version in (2, 3))):
             tried.write("image", made)
             tried.run("map image --letters --width 4", Answer(0, line + before + legend(areas)))
             tried.run("map --after image --width 4 --letters --verbose", Answer(0, line + before + after + legend(areas + new_areas)))

@@ -4,7 +4,7 @@
 The images are the files of the folder that end in `.pcheap`. A row shows an image and a number of workers, the lines
 and the bytes of the schedule, how many workers its lines name, the least seconds of `pcompact collect`, `record` and
 `replay`, how the replay ended, and whether what `record` wrote is, byte for byte, what `collect` wrote. Each replay
-must end in `finished`, and show the recorded lines. Two images of one name but for `-v1` and `-v2` at its end are both
+must end in `finished`, and show the recorded lines. Images of one name but for `-v1`, `-v2` and `-v3` at its end are
 versions of one heap: with one worker they must have one schedule. Ends with status 1 where something differs, where a
 command fails, or where there is no image.
 """
@@ -13,6 +13,7 @@ import collections
 import dataclasses
 import filecmp
 import pathlib
+import re
 import subprocess
 import sys
 import tempfile
@@ -81,7 +82,7 @@ def record(pcompact: pathlib.Path, image: pathlib.Path, workers: int, rounds: in
 
 def heap_of(image: pathlib.Path) -> str:
     """The name of an image without its version."""
-    return image.stem.removesuffix("-v1").removesuffix("-v2")
+    return re.sub(r"-v[123]$", "", image.stem)
 
 
 def row(image: pathlib.Path, workers: int, run: Recorded) -> str:
@@ -106,7 +107,7 @@ def main() -> int:
     pcompact = asked.pcompact.resolve()
     # The script of that name proves and builds the program at its first call.
     subprocess.run([pcompact, "--version"], check=True, stdout=subprocess.DEVNULL)
-    # Of each image and number of workers, and of each heap in both versions, whether all is right.
+    # Of each image and number of workers, and of each heap in several versions, whether all is right.
     fine = []
     alone = collections.defaultdict(list)
     print("| Image | Workers | Lines | Bytes | Workers named | collect s | record s | replay s | Replay | OUT |")

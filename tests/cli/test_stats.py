@@ -68,7 +68,7 @@ def is_part(err: str, lines: list[str]) -> bool:
 
 
 def try_lines(tried: Tried) -> None:
-    """Each line, in order, by 1 to 64 workers, of both versions, from files and pipes, with the other options."""
+    """Each line, in order, by 1 to 64 workers, of each version, from files and pipes, with the other options."""
     for words, phases, out, made in COMMANDS:
         told = Answer(0, out, pattern(phases, workers_of(words)), made)
         for more in ("", " --verbose", " --atomic", " --atomic --verbose"):
@@ -78,7 +78,8 @@ def try_lines(tried: Tried) -> None:
     for workers in (1, 2, 4, 64):
         told = pattern(COLLECT, workers)
         tried.run(f"collect base out --workers {workers} --stats", Answer(0, COLLECTED, told, {"out": COMPACTED}))
-        tried.run(f"collect rooted out --workers {workers} --stats", Answer(0, COLLECTED, told))
+        for rooted_in in ("rooted", "third"):
+            tried.run(f"collect {rooted_in} out --workers {workers} --stats", Answer(0, COLLECTED, told))
         tried.run(f"collect /dev/stdin out --workers {workers} --stats", Answer(0, COLLECTED, told, {"out": COMPACTED}),
                   input=BASE)
         tried.run(f"record base out schedule --workers {workers} --stats",
@@ -264,6 +265,7 @@ def main() -> int:
         tried = Tried(pathlib.Path(sys.argv[1]) if len(sys.argv) > 1 else built(), pathlib.Path(folder))
         tried.write("base", BASE)
         tried.write("rooted", rooted(WORDS, [21, 0]))
+        tried.write("third", rooted(WORDS, [21, 0], version=3))
         tried.write("compacted", COMPACTED)
         for group in (try_lines, try_figures, try_peak, try_nothing_filled, try_faults, try_full_error, try_silent_system,
                       try_late_clock, try_failing_calls, try_refused_memory):

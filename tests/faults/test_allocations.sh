@@ -2,7 +2,7 @@
 # Runs the built program on some command lines with each of its allocations refused in turn, and
 # looks at what it answers: the right output, or status 1 and `pcompact: fault 11 memory` alone,
 # with nothing written to the files that the command makes. The image is the base heap with 2 dead
-# words allowed, in both versions.
+# words allowed, in each version; of version 3, which only its limits tell from 2, in a few commands.
 #
 # With two workers the number of allocations and the schedule may vary from run to run. So each
 # number is tried three times there, numbers go up until no run comes that far, and a schedule is
@@ -145,12 +145,14 @@ dump=$top/examples/dumps/four.hprof
 head -c 300 "$dump" >"$room/cut_dump"
 each import "$dump" "$room/made/out" --region-log 3
 each import "$dump" "$room/made/out" --live-only
+each import "$dump" "$room/made/out" --version 3
 each import "$dump" "$room/made/out" --atomic
 each import "$dump" "$room/made/out" --classes "$room/made/list" --histogram 5
 each import "$dump" "$room/made/out" --classes "$room/made/list" --atomic
 each import "$room/cut_dump" "$room/made/out"
 each generate "$room/made/out" --words 64 --live 50 --region-log 3 --seed 1
 each generate "$room/made/out" --words 64 --live 50 --region-log 4 --seed 1 --version 1
+each generate "$room/made/out" --words 64 --live 50 --region-log 4 --seed 1 --version 3
 each generate "$room/made/out" --words 64 --live 50 --region-log 3 --seed 1 --atomic
 each generate "$room/made/out" --words 65 --live 50 --region-log 3 --seed 1
 allowing_two "$top/examples/base.pcheap" >"$room/base"
@@ -158,6 +160,10 @@ over "$room/base"
 "$top/tests/support/rooted_base.sh" >"$room/rooted"
 allowing_two "$room/rooted" >"$room/rooted_base"
 over "$room/rooted_base"
+"$program" upgrade "$room/base" "$room/third" --to 3 >/dev/null || exit 2
+each collect "$room/third" "$room/made/out" --workers 1
+each upgrade "$room/third" "$room/made/out" --to 3
+each upgrade "$room/third" "$room/made/out"
 for root in 4 33; do
     "$top/tests/support/rooted_base.sh" "$root" >"$room/refused"
     each summary "$room/refused"

@@ -55,7 +55,7 @@ UNSOUND = [
     (image(WORDS, [0, 5, 5, 20]), "6 live order at index 2"), (image(WORDS, [0, 3, 12, 20]), "7 header at 3"),
     (image(with_word(WORDS, 0, WORDS[0] + 3), [0, 5, 12, 20]), "8 overlap at 5"),
     (image(with_word(WORDS, 23, 10), [0, 5, 12, 20]), "9 reference at 20 field 2"), (BASE + b"\0", "10 trailing bytes"),
-    (rooted(WORDS, [4, 33]), "17 root at index 1"),
+    *((rooted(WORDS, [4, 33], version=version), "17 root at index 1") for version in (2, 3)),
 ]
 
 

@@ -128,14 +128,20 @@ dump=$top/examples/dumps/four.hprof
 head -c 300 "$dump" >"$room/cut_dump"
 each import "$dump" "$room/made/out" --region-log 3
 each import "$dump" "$room/made/out" --live-only
+each import "$dump" "$room/made/out" --version 3
 each import "$dump" "$room/made/out" --classes "$room/made/list" --histogram 5
 each import "$room/cut_dump" "$room/made/out"
 each generate "$room/made/out" --words 64 --live 50 --region-log 3 --seed 1
 each generate "$room/made/out" --words 64 --live 50 --region-log 4 --seed 1 --version 1
+each generate "$room/made/out" --words 64 --live 50 --region-log 4 --seed 1 --version 3
 each generate "$room/made/out" --words 65 --live 50 --region-log 3 --seed 1
 over "$base"
 "$top/tests/support/rooted_base.sh" >"$room/rooted"
 over "$room/rooted"
+"$program" upgrade "$base" "$room/third" --to 3 >/dev/null || exit 2
+each collect "$room/third" "$room/made/out" --workers 1
+each upgrade "$room/third" "$room/made/out" --to 3
+each upgrade "$room/third" "$room/made/out"
 "$top/tests/support/rooted_base.sh" 4 >"$room/unsound"
 each collect "$room/unsound" "$room/made/out" --workers 1
 exit "$wrong"

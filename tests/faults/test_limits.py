@@ -73,7 +73,7 @@ COMMANDS = [
     Command("assemble lines out --atomic", ("out",)),
     Command("import dump out --atomic", ("out",)),
     Command("generate out --words 4096 --live 50 --region-log 5 --seed 1 --atomic", ("out",)),
-    Command("upgrade heap out --atomic", ("out",)),
+    Command("upgrade heap out --to 3 --atomic", ("out",)),
     Command("collect heap out --workers 1", ("out",)),
     Command("collect heap out --workers 2 --atomic", ("out",)),
     Command("record heap out written --workers 1 --atomic", ("out", "written")),

@@ -23,9 +23,11 @@ sys.path.insert(0, str(pathlib.Path(__file__).resolve().parents[2]))
 from tests.support.program import PRELOAD, built
 
 WORKERS = [1, 2, 3, 4, 8, 64]
+# The region logs of each version.
+SHAPES = {"1": ("3", "9", "16"), "2": ("3", "9", "16"), "3": ("9", "17")}
 # What each command writes and how it is called over a large image, beside `made`, which it makes.
 COMMANDS = ["collect image made --workers 1", "collect image made --workers 4", "record image made schedule --workers 4",
-            "collect image made --workers 4 --region-log 12 --allowance 900", "summary image", "verify image compacted", "upgrade image made", "map image --svg made"]
+            "collect image made --workers 4 --region-log 12 --allowance 900", "summary image", "verify image compacted", "upgrade image made --to 3", "map image --svg made"]
 FAULT_13 = b"pcompact: fault 13 input or output\n"
 CUT_SHORT = (b"pcompact: fault 1 truncated header\n", b"pcompact: fault 5 truncated body\n")
 passed = 0
@@ -175,10 +177,10 @@ def main() -> None:
         room = pathlib.Path(folder)
         shim = room / "fail.so"
         subprocess.run(["cc", "-shared", "-fPIC", "-O2", "-o", shim, PRELOAD / "fail_device.c"], check=True)
-        for version in ("1", "2"):
-            for log in ("3", "9", "16"):
+        for version, logs in SHAPES.items():
+            for log in logs:
                 image = room / "generated"
-                words = "131072" if log != "16" else "262144"
+                words = "131072" if log in ("3", "9") else "262144"
                 subprocess.run([program, "generate", image, "--words", words, "--live", "60", "--region-log", log, "--seed", "7",
                                 "--version", version], check=True, stdout=subprocess.DEVNULL)
                 text = image.read_bytes()

@@ -65,7 +65,7 @@ class Heap:
         words = array.array("Q", bytes(8 * self.words))
         words[self.at:self.at + len(addresses) * self.size] = array.array(
             "Q", [header(self.size, self.references), *[0] * (self.size - 1)] * self.objects)
-        tail = [self.version - 1 + a for a in addresses] * max(1, self.roots // self.objects)
+        tail = [(self.version > 1) + a for a in addresses] * max(1, self.roots // self.objects)
         front = FRONT.pack(b"PCHEAP0%d" % self.version, self.region_log, len(tail), self.words, 0)
         return front + words.tobytes() + array.array("Q", tail).tobytes()
 
@@ -86,6 +86,7 @@ HEAPS = (
     # For 16,384 numbers, of which three have 23,334, 23,334 and 23,332.
     Heap("listed", Phase("redirection of the live list", 4), 1, 9, 70_144, objects=70_000, at=1),
     Heap("rooted", Phase("redirection of roots", 4), 2, 9, 70_144, roots=70_000, at=1),
+    Heap("of_version_3", Phase("redirection of roots", 4), 3, 9, 70_144, roots=70_000, at=1),
 )
 
 

@@ -1,5 +1,5 @@
 #!/usr/bin/env python3
-"""Seeded heaps of both versions and schedules through each command of the built program, beside a slow plain model of
+"""Seeded heaps of all versions and schedules through each command of the built program, beside a slow plain model of
 the pages, in tests/models: image.py for images, schedule.py for schedules, heap_text.py for heaps as texts.
 
 Each case is an image, valid or slightly wrong: a header, a reference, a live address or a root is another one, roots

@@ -6,7 +6,7 @@ import re
 from tests.fuzz.generators import ImageMaker, LimitMaker, ScheduleMaker, as_version_1, chance_of
 from tests.fuzz.mutations import ImageSpoiler, ScheduleSpoiler, TextSpoiler
 from tests.models.heap_text import assembled, text_of
-from tests.models.image import Collection, Fault, Image, decode, encode, upgraded, verdict
+from tests.models.image import Collection, Fault, Image, allows, decode, encode, upgraded, verdict
 from tests.models.schedule import ANY, MAX_WORKERS, Schedule, is_recorded, read, recorded_by_one, replayed
 from tests.models.timeline import Timeline
 from tests.support.program import Answer, Tried, differs, fault
@@ -63,7 +63,7 @@ def try_collected(tried: Tried, collection: Collection, chance: random.Random) -
         tried.run(f"collect image out --workers {workers}{flag}", fault("12 workers", left(flag, "out")))
         tried.run(f"record image out schedule --workers {workers}{flag}",
                   fault("12 workers", left(flag, "out", "schedule")))
-    if image.version != 1:
+    if image.version != 1 and allows(1, image.region_log, len(image.words)):
         try_twin(tried, as_version_1(image), alone)
     try_upgraded(tried, image)
 

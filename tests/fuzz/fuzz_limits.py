@@ -18,9 +18,10 @@ OLD = b"what stood there before" * 100
 TUNABLES = "glibc.malloc.hugetlb=1:glibc.malloc.mmap_max=0:glibc.malloc.arena_max=64:glibc.malloc.top_pad=67108864"
 COMMANDS = ("summary image", "order image", "text image", "map image --after --letters", "map image --svg out", "verify image base",
             "verify base image", "collect image out --workers {workers}", "record image out recorded --workers {workers}",
-            "upgrade image out", "replay image {schedule}", "timeline image {schedule} --letters",
+            "upgrade image out", "upgrade image out --to 3", "replay image {schedule}", "timeline image {schedule} --letters",
             "timeline image {schedule} --html out", "assemble lines out", "import dump out", "import dump out --live-only",
-            "generate out --words 8192 --live 50 --region-log 5 --seed 3", "board", "collect image")
+            "generate out --words 8192 --live 50 --region-log 5 --seed 3", "board", "collect image",
+            "generate out --words 131072 --live 50 --region-log 17 --seed 3")
 
 
 @dataclasses.dataclass(frozen=True)

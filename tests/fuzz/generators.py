@@ -3,13 +3,15 @@ that the word machine allows."""
 import dataclasses
 import random
 
-from tests.models.image import FILLER, MAX_REGIONS, MAX_WORDS, Collection, Image, header, references_of
+from tests.models.image import FILLER, MAX_REGIONS, MAX_WORDS, Collection, Image, allows, header, references_of
 from tests.models.schedule import ANY, LARGEST_NUMBER, MAX_WORKERS, Line, Machine, Schedule
 
 LARGEST = 2 ** 64 - 1
 SHAPES = ("any", "any", "any", "list", "cycle", "array", "none")
 # Region logs and numbers of regions that are as large as they may be, one or both of them.
 LIMITS = (*[(3, MAX_REGIONS)] * 4, *[(16, 1), (16, 2)] * 2, (16, MAX_WORDS >> 16), (8, MAX_REGIONS))
+# The same of heaps that version 3 alone allows.
+LATER_LIMITS = ((3, MAX_REGIONS + 1), (17, 1), (17, 2), (20, 1))
 
 
 def chance_of(chance: random.Random, percent: int, one: object, other: object) -> object:
@@ -89,6 +91,8 @@ class ImageMaker:
     def image(self) -> Image:
         """A valid image. In version 1 the live list is what some roots lead to."""
         rooted = Image(self.chance.choice([2, 2, 3]), self.log, self.allowance(), self.words, self.roots())
+        if not allows(2, self.log, len(self.words)):
+            return dataclasses.replace(rooted, version=3)
         return chance_of(self.chance, 60, rooted, as_version_1(rooted))
 
 
@@ -97,7 +101,7 @@ class LimitMaker(ImageMaker):
 
     def __init__(self, chance: random.Random):
         self.chance = chance
-        self.log, regions = chance.choice(LIMITS)
+        self.log, regions = chance.choice([*LIMITS, *LATER_LIMITS])
         self.words = [chance.choice([0, 999])] * (regions << self.log)
         largest = chance.choice([1, 20, 2_000, len(self.words) if regions < 3 else 20])
         self.objects = self.place(100, len(self.words) // chance.choice([3, 30]), largest)
