@@ -1,7 +1,7 @@
 -- The arguments that several commands share, as `clap` sees them.
 use Rattle.std.specs.Prelude.{pos, true, codes, Some}
 use Rattle.clap.specs.Walk.{Rule, Text}
-use Rattle.clap.specs.Words.{App, new_rule, with_rule}
+use Rattle.clap.specs.Words.{new_rule}
 use Rattle.clap.specs.declared.builder.value_parser.ValueParser.TheVariants.{Signed}
 use Rattle.clap.specs.declared.builder.action.ArgAction.TheVariants.{SetTrue}
 
@@ -41,11 +41,3 @@ json_rule = flag_rule (codes "json")
 -- the option `--atomic`
 abbrev pub atomic_rule : Rule
 atomic_rule = flag_rule (codes "atomic")
-
--- adds the last options of a command that writes files
-abbrev pub with_replacement : App → App
-with_replacement app = with_rule (with_rule app atomic_rule) verbose_rule
-
--- adds the options for how a picture is printed
-abbrev pub with_look : App → App
-with_look app = with_rule (with_rule (with_rule app (flag_rule (codes "letters"))) (flag_rule (codes "color"))) (flag_rule (codes "no-color"))

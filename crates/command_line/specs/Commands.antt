@@ -133,16 +133,6 @@ refs_rule = number_rule (codes "refs") 0 100
 abbrev pub version_rule : Rule
 version_rule = number_rule (codes "version") 1 3
 
--- `generate` with its file and its required options
-abbrev pub generate_needs : App
-generate_needs =
-    with_rule (with_rule (with_rule (with_rule (with_rule (new_app (codes "generate")) (file_rule (codes "IMAGE"))) words_rule) live_rule)
-    (required region_log_rule)) seed_rule
-
--- adds the options about the heap that may be left out, and `--progress`
-abbrev pub with_generate_wishes : App → App
-with_generate_wishes app = with_rule (with_rule (with_rule (with_rule app refs_rule) version_rule) allowance_rule) progress_rule
-
 -- the definition of `generate`
 abbrev pub generate_words : App
 generate_words =
@@ -178,12 +168,6 @@ height_rule = number_rule (codes "height") 1 100
 abbrev pub svg_rule : Rule
 svg_rule = record (new_rule (codes "svg")) { long = Some (codes "svg"); value_names = 1 }
 
--- `map` with its file, and with the options for the content and the file of the picture
-abbrev pub map_cells : App
-map_cells =
-    with_rule (with_rule (with_rule (with_rule (with_rule (new_app (codes "map")) (file_rule (codes "IMAGE"))) (flag_rule (codes "after"))) width_rule)
-    height_rule) svg_rule
-
 -- the definition of `map`
 abbrev pub map_words : App
 map_words =
@@ -194,14 +178,6 @@ map_words =
 -- the option `--html`, with a file name
 abbrev pub html_rule : Rule
 html_rule = record (new_rule (codes "html")) { long = Some (codes "html"); value_names = 1 }
-
--- `timeline` with its files
-abbrev pub timeline_inputs : App
-timeline_inputs = with_rule (with_rule (new_app (codes "timeline")) (file_rule (codes "IMAGE"))) (file_rule (codes "SCHEDULE"))
-
--- adds the options for the width of the picture and for its files
-abbrev pub with_picture_rules : App → App
-with_picture_rules app = with_rule (with_rule (with_rule app width_rule) svg_rule) html_rule
 
 -- the definition of `timeline`
 abbrev pub timeline_words : App

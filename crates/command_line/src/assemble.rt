@@ -1,32 +1,29 @@
 //! The command `assemble`: its arguments, their help, and how they are parsed.
-ghost use Rattle.std.specs.Prelude.{◌≡◌, codes, false, IfErr, IfOk, ◌∷◌, []};
-ghost use Rattle.clap.specs.Words.{app_of};
-ghost use Rattle.clap.specs.declared.builder.command.Command.TheViews.{out-Command as fields_of};
+ghost use Rattle.std.specs.Prelude.{codes, IfSome, ◌∷◌, []};
 ghost use Rattle.command_line.specs.CommandLine.{IsCallOf};
-ghost use Rattle.command_line.specs.Request.{IsNoUsage};
-ghost use Rattle.command_line.specs.Commands.{assemble_words};
+ghost use Rattle.command_line.specs.Request.{IsFor};
 
-use crate::arguments;
-use crate::unread::Unread;
-use clap::{ArgMatches, Command};
-use std::alloc::{AllocError, Global};
+use crate::arguments::{ATOMIC, NEW_IMAGE, VERBOSE};
+use crate::definition::{Argument, Definition};
+use crate::request::Request;
+use clap::ArgMatches;
 
 const EXAMPLE: &str = "\
 Example:
   pcompact assemble heap.txt heap.pcheap";
 
 /// The definition of `assemble`.
-pub fn words<'a>(alloc: Global) -> Result<Command<'a>, AllocError>
-    ensures app { IfOk result (λ command. app_of command ≡ assemble_words) }
-    ensures local { IfOk result (λ command. (fields_of command).has_globals ≡ false) }
-{
-    let command = Command::new(alloc, "assemble")
-        .about("Convert a heap text to a heap image")
-        .after_help(EXAMPLE)
-        .arg(arguments::file(alloc, "TEXT", "A heap text"))?
-        .arg(arguments::file(alloc, "IMAGE", "Where to write the image"))?;
-    arguments::with_last(alloc, command)
-}
+pub const DEFINITION: Definition = Definition {
+    name: "assemble",
+    about: "Convert a heap text to a heap image",
+    example: EXAMPLE,
+    arguments: &[
+        Argument::File("TEXT", "A heap text"),
+        NEW_IMAGE,
+        ATOMIC,
+        VERBOSE,
+    ],
+};
 
 /// The arguments of `assemble`.
 #[derive(Drop)]
@@ -42,15 +39,16 @@ pub struct Assemble<'a> {
 }
 
 impl<'a> Assemble<'a> {
-    pub(crate) fn of(matches: &ArgMatches<'a>) -> Result<Assemble<'a>, Unread>
-        ensures { IfErr result IsNoUsage }
+    /// The request with these arguments.
+    pub(crate) fn request(matches: &ArgMatches<'a>) -> Option<Request<'a>>
+        ensures { IfSome result (IsFor (codes "assemble")) }
     {
-        Ok(Assemble {
-            text: arguments::file_in(matches, "TEXT")?,
-            image: arguments::file_in(matches, "IMAGE")?,
-            atomic: arguments::is_atomic(matches),
-            verbose: arguments::is_verbose(matches),
-        })
+        Some(Request::Assemble(Assemble {
+            text: matches.get_str("TEXT")?,
+            image: matches.get_str("IMAGE")?,
+            atomic: matches.get_flag("atomic"),
+            verbose: matches.get_flag("verbose"),
+        }))
     }
 }
 

@@ -1,39 +1,38 @@
 //! The command `collect`: its arguments, their help, and how they are parsed.
-ghost use Rattle.std.specs.Prelude.{◌≡◌, codes, false, IfErr, IfOk, ◌∷◌, []};
-ghost use Rattle.clap.specs.Words.{app_of};
-ghost use Rattle.clap.specs.declared.builder.command.Command.TheViews.{out-Command as fields_of};
+ghost use Rattle.std.specs.Prelude.{codes, IfSome, ◌∷◌, []};
 ghost use Rattle.command_line.specs.CommandLine.{IsCallOf};
-ghost use Rattle.command_line.specs.Request.{IsNoUsage};
-ghost use Rattle.command_line.specs.Commands.{collect_words};
+ghost use Rattle.command_line.specs.Request.{IsFor};
 
-use crate::arguments;
+use crate::arguments::{
+    ALLOWANCE, ATOMIC, IMAGE, JSON, OUT, PROGRESS, REGION_LOG, STATS, VERBOSE, WORKERS,
+};
+use crate::definition::{Argument, Definition};
+use crate::request::Request;
 use crate::shape::Shape;
-use crate::unread::Unread;
-use clap::{ArgMatches, Command};
-use std::alloc::{AllocError, Global};
+use clap::ArgMatches;
 
 const EXAMPLE: &str = "\
 Example:
   pcompact collect heap.pcheap out.pcheap --workers 4";
 
 /// The definition of `collect`.
-pub fn words<'a>(alloc: Global) -> Result<Command<'a>, AllocError>
-    ensures app { IfOk result (λ command. app_of command ≡ collect_words) }
-    ensures local { IfOk result (λ command. (fields_of command).has_globals ≡ false) }
-{
-    let command = Command::new(alloc, "collect")
-        .about("Collect a heap image and write the compacted one")
-        .after_help(EXAMPLE)
-        .arg(arguments::image(alloc))?
-        .arg(arguments::file(alloc, "OUT", "Where to write the compacted image"))?
-        .arg(arguments::workers(alloc))?;
-    arguments::with_shape(alloc, command)?
-        .arg(arguments::atomic(alloc))?
-        .arg(arguments::json(alloc))?
-        .arg(arguments::stats(alloc))?
-        .arg(arguments::progress(alloc))?
-        .arg(arguments::verbose(alloc))
-}
+pub const DEFINITION: Definition = Definition {
+    name: "collect",
+    about: "Collect a heap image and write the compacted one",
+    example: EXAMPLE,
+    arguments: &[
+        IMAGE,
+        OUT,
+        WORKERS,
+        Argument::Valued(REGION_LOG),
+        Argument::Valued(ALLOWANCE),
+        ATOMIC,
+        JSON,
+        STATS,
+        PROGRESS,
+        VERBOSE,
+    ],
+};
 
 /// The arguments of `collect`.
 #[derive(Drop)]
@@ -57,19 +56,20 @@ pub struct Collect<'a> {
 }
 
 impl<'a> Collect<'a> {
-    pub(crate) fn of(matches: &ArgMatches<'a>) -> Result<Collect<'a>, Unread>
-        ensures { IfErr result IsNoUsage }
+    /// The request with these arguments.
+    pub(crate) fn request(matches: &ArgMatches<'a>) -> Option<Request<'a>>
+        ensures { IfSome result (IsFor (codes "collect")) }
     {
-        Ok(Collect {
-            image: arguments::file_in(matches, "IMAGE")?,
-            out: arguments::file_in(matches, "OUT")?,
-            workers: arguments::workers_in(matches)?,
+        Some(Request::Collect(Collect {
+            image: matches.get_str("IMAGE")?,
+            out: matches.get_str("OUT")?,
+            workers: matches.get_one("workers")?,
             shape: Shape::of(matches),
-            atomic: arguments::is_atomic(matches),
-            json: arguments::asks_json(matches),
-            stats: arguments::asks_stats(matches),
-            verbose: arguments::is_verbose(matches),
-        })
+            atomic: matches.get_flag("atomic"),
+            json: matches.get_flag("json"),
+            stats: matches.get_flag("stats"),
+            verbose: matches.get_flag("verbose"),
+        }))
     }
 }
 

@@ -1,15 +1,12 @@
 //! The command `generate`: its arguments, their help, and how they are parsed.
-ghost use Rattle.std.specs.Prelude.{◌≡◌, codes, false, IfErr, IfOk, ◌∷◌, []};
-ghost use Rattle.clap.specs.Words.{app_of, rule_of};
-ghost use Rattle.clap.specs.declared.builder.command.Command.TheViews.{out-Command as fields_of};
+ghost use Rattle.std.specs.Prelude.{codes, IfSome, ◌∷◌, []};
 ghost use Rattle.command_line.specs.CommandLine.{IsCallOf};
-ghost use Rattle.command_line.specs.Request.{IsNoUsage};
-ghost use Rattle.command_line.specs.Commands.{allowance_rule, generate_needs, generate_words, live_rule, refs_rule, region_log_rule, required, seed_rule, version_rule, with_generate_wishes, words_rule};
+ghost use Rattle.command_line.specs.Request.{IsFor};
 
-use crate::arguments;
-use crate::unread::Unread;
-use clap::{Arg, ArgMatches, Command, value_parser};
-use std::alloc::{AllocError, Global};
+use crate::arguments::{ATOMIC, NEW_ALLOWANCE, NEW_IMAGE, PROGRESS, REGION_LOG, VERBOSE};
+use crate::definition::{Argument, Definition, Valued, Values};
+use crate::request::Request;
+use clap::ArgMatches;
 
 /// The percentage of references without `--refs`.
 const USUAL_REFERENCES: u32 = 25;
@@ -19,116 +16,73 @@ Example:
   pcompact generate heap.pcheap --words 65536 --live 50 --region-log 9 --seed 1";
 
 /// The definition of `generate`.
-pub fn words<'a>(alloc: Global) -> Result<Command<'a>, AllocError>
-    ensures app { IfOk result (λ command. app_of command ≡ generate_words) }
-    ensures local { IfOk result (λ command. (fields_of command).has_globals ≡ false) }
-{
-    let wanted = with_wishes(alloc, with_needs(alloc)?)?;
-    arguments::with_last(alloc, wanted)
-}
-
-/// The command with its file and its required options.
-fn with_needs<'a>(alloc: Global) -> Result<Command<'a>, AllocError>
-    ensures app { IfOk result (λ made. app_of made ≡ generate_needs) }
-    ensures local { IfOk result (λ made. (fields_of made).has_globals ≡ false) }
-{
-    Command::new(alloc, "generate")
-        .about("Generate a heap image from a seed, for benchmarks and experiments")
-        .after_help(EXAMPLE)
-        .arg(arguments::file(alloc, "IMAGE", "Where to write the image"))?
-        .arg(heap_words(alloc))?
-        .arg(live(alloc))?
-        .arg(region_log(alloc))?
-        .arg(seed(alloc))
-}
-
-/// Adds the options about the heap that may be left out, and `--progress`.
-fn with_wishes<'a>(alloc: Global, command: Command<'a>) -> Result<Command<'a>, AllocError>
-    ensures app { IfOk result (λ made. app_of made ≡ with_generate_wishes (app_of command.entry)) }
-    ensures local { (fields_of command.entry).has_globals ≡ false
-        → IfOk result (λ made. (fields_of made).has_globals ≡ false) }
-{
-    command
-        .arg(references(alloc))?
-        .arg(version(alloc))?
-        .arg(arguments::allowance(alloc))?
-        .arg(arguments::progress(alloc))
-}
+pub const DEFINITION: Definition = Definition {
+    name: "generate",
+    about: "Generate a heap image from a seed, for benchmarks and experiments",
+    example: EXAMPLE,
+    arguments: &[
+        NEW_IMAGE,
+        WORDS,
+        LIVE,
+        Argument::Valued(Valued {
+            is_required: true,
+            help: "Regions have 2^k words, k from 3 to 20",
+            ..REGION_LOG
+        }),
+        SEED,
+        REFERENCES,
+        VERSION,
+        NEW_ALLOWANCE,
+        PROGRESS,
+        ATOMIC,
+        VERBOSE,
+    ],
+};
 
 /// The option `--words`, the size of the heap in words.
-fn heap_words<'a>(alloc: Global) -> Arg<'a>
-    ensures rule { rule_of result ≡ words_rule }
-    ensures local { result.global ≡ false }
-{
-    Arg::new(alloc, "words")
-        .long("words")
-        .value_name("n")
-        .value_parser(value_parser!(u64).range(1..=68_719_476_736))
-        .help("Number of words of the heap, a multiple of 2^k and at most 68719476736")
-        .required(true)
-}
+const WORDS: Argument = Argument::Valued(Valued {
+    name: "words",
+    value: "n",
+    values: Values::LargeNumbers(1, 68_719_476_736),
+    is_required: true,
+    help: "Number of words of the heap, a multiple of 2^k and at most 68719476736",
+});
 
 /// The option `--live`, the percentage of live words.
-fn live<'a>(alloc: Global) -> Arg<'a>
-    ensures rule { rule_of result ≡ live_rule }
-    ensures local { result.global ≡ false }
-{
-    Arg::new(alloc, "live")
-        .long("live")
-        .value_name("share")
-        .value_parser(value_parser!(u32).range(0..=100))
-        .help("Percentage of the words that belongs to live objects, 0 to 100")
-        .required(true)
-}
-
-/// The option `--region-log`, which is required here.
-fn region_log<'a>(alloc: Global) -> Arg<'a>
-    ensures rule { rule_of result ≡ required region_log_rule }
-    ensures local { result.global ≡ false }
-{
-    arguments::region_log(alloc, "Regions have 2^k words, k from 3 to 20").required(true)
-}
+const LIVE: Argument = Argument::Valued(Valued {
+    name: "live",
+    value: "share",
+    values: Values::Numbers(0, 100),
+    is_required: true,
+    help: "Percentage of the words that belongs to live objects, 0 to 100",
+});
 
 /// The option `--seed`.
-fn seed<'a>(alloc: Global) -> Arg<'a>
-    ensures rule { rule_of result ≡ seed_rule }
-    ensures local { result.global ≡ false }
-{
-    Arg::new(alloc, "seed")
-        .long("seed")
-        .value_name("s")
-        .value_parser(value_parser!(u64))
-        .help("A number of 64 bits; the same seed gives the same bytes everywhere")
-        .required(true)
-}
+const SEED: Argument = Argument::Valued(Valued {
+    name: "seed",
+    value: "s",
+    values: Values::LargeNumbers(0, u64::MAX),
+    is_required: true,
+    help: "A number of 64 bits; the same seed gives the same bytes everywhere",
+});
 
 /// The option `--refs`, the percentage of references.
-fn references<'a>(alloc: Global) -> Arg<'a>
-    ensures rule { rule_of result ≡ refs_rule }
-    ensures local { result.global ≡ false }
-{
-    Arg::new(alloc, "refs")
-        .long("refs")
-        .value_name("share")
-        .value_parser(value_parser!(u32).range(0..=100))
-        .help(
-            "Percentage of the words after the headers that are references, 0 to 100 (default 25)",
-        )
-}
+const REFERENCES: Argument = Argument::Valued(Valued {
+    name: "refs",
+    value: "share",
+    values: Values::Numbers(0, 100),
+    is_required: false,
+    help: "Percentage of the words after the headers that are references, 0 to 100 (default 25)",
+});
 
 /// The option `--version`, the version of the image.
-fn version<'a>(alloc: Global) -> Arg<'a>
-    ensures rule { rule_of result ≡ version_rule }
-    ensures local { result.global ≡ false }
-{
-    Arg::new(alloc, "version")
-        .long("version")
-        .value_name("v")
-        .value_parser(value_parser!(u32).range(1..=3))
-        .help(
-            "Version of the image, from 1 to 3: 1 lists the live objects (default 2, or 3 for a larger heap)",
-        )
-}
+const VERSION: Argument = Argument::Valued(Valued {
+    name: "version",
+    value: "v",
+    values: Values::Numbers(1, 3),
+    is_required: false,
+    help: "Version of the image, from 1 to 3: 1 lists the live objects (default 2, or 3 for a larger heap)",
+});
 
 /// The arguments of `generate`.
 #[derive(Drop)]
@@ -156,21 +110,22 @@ pub struct Generate<'a> {
 }
 
 impl<'a> Generate<'a> {
-    pub(crate) fn of(matches: &ArgMatches<'a>) -> Result<Generate<'a>, Unread>
-        ensures { IfErr result IsNoUsage }
+    /// The request with these arguments.
+    pub(crate) fn request(matches: &ArgMatches<'a>) -> Option<Request<'a>>
+        ensures { IfSome result (IsFor (codes "generate")) }
     {
-        Ok(Generate {
-            image: arguments::file_in(matches, "IMAGE")?,
-            words: matches.get_one("words").ok_or(Unread::NoCommand)?,
-            live: arguments::number_in(matches, "live")?,
-            region_log: arguments::number_in(matches, "region-log")?,
-            seed: matches.get_one("seed").ok_or(Unread::NoCommand)?,
+        Some(Request::Generate(Generate {
+            image: matches.get_str("IMAGE")?,
+            words: matches.get_one("words")?,
+            live: matches.get_one("live")?,
+            region_log: matches.get_one("region-log")?,
+            seed: matches.get_one("seed")?,
             references: matches.get_one("refs").unwrap_or(USUAL_REFERENCES),
             version: matches.get_one("version"),
             allowance: matches.get_one("allowance").unwrap_or(0),
-            atomic: arguments::is_atomic(matches),
-            verbose: arguments::is_verbose(matches),
-        })
+            atomic: matches.get_flag("atomic"),
+            verbose: matches.get_flag("verbose"),
+        }))
     }
 }
 

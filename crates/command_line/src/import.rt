@@ -1,16 +1,15 @@
 //! The command `import`: its arguments, their help, and how they are parsed.
-ghost use Rattle.std.specs.Prelude.{◌≡◌, ◌≢◌, codes, false, None, IfErr, IfOk, ◌∷◌, []};
-ghost use Rattle.clap.specs.Words.{app_of, rule_of};
-ghost use Rattle.clap.specs.declared.builder.command.Command.TheViews.{out-Command as fields_of};
+ghost use Rattle.std.specs.Prelude.{◌≡◌, ◌≢◌, codes, None, IfSome, ◌∷◌, []};
 ghost use Rattle.command_line.specs.CommandLine.{HaveBeginning, IsCallOf};
-ghost use Rattle.command_line.specs.Request.{IsNoUsage, rows_in};
-ghost use Rattle.command_line.specs.Commands.{classes_rule, histogram_rule, import_words, rooted_version_rule};
+ghost use Rattle.command_line.specs.Request.{IsFor, rows_in};
 
-use crate::arguments;
+use crate::arguments::{
+    ATOMIC, JSON, NEW_ALLOWANCE, NEW_IMAGE, PROGRESS, REGION_LOG, STATS, VERBOSE,
+};
 use crate::beginning::have_beginning;
-use crate::unread::Unread;
-use clap::{Arg, ArgMatches, Command, value_parser};
-use std::alloc::{AllocError, Global};
+use crate::definition::{Argument, Definition, Valued, Values};
+use crate::request::Request;
+use clap::ArgMatches;
 
 const EXAMPLE: &str = "\
 Example:
@@ -18,65 +17,59 @@ Example:
   pcompact import /tmp/heap.hprof heap.pcheap";
 
 /// The definition of `import`.
-pub fn words<'a>(alloc: Global) -> Result<Command<'a>, AllocError>
-    ensures app { IfOk result (λ command. app_of command ≡ import_words) }
-    ensures local { IfOk result (λ command. (fields_of command).has_globals ≡ false) }
-{
-    let command = Command::new(alloc, "import")
-        .about("Convert the heap dump of a Java virtual machine to a heap image")
-        .after_help(EXAMPLE)
-        .arg(arguments::file(alloc, "DUMP", "A heap dump"))?
-        .arg(arguments::file(alloc, "IMAGE", "Where to write the image"))?
-        .arg(arguments::region_log(alloc, "Regions have 2^k words, k from 3 to 20 (default 9)"))?
-        .arg(arguments::allowance(alloc))?
-        .arg(version(alloc))?
-        .arg(arguments::flag(
-            alloc,
+pub const DEFINITION: Definition = Definition {
+    name: "import",
+    about: "Convert the heap dump of a Java virtual machine to a heap image",
+    example: EXAMPLE,
+    arguments: &[
+        Argument::File("DUMP", "A heap dump"),
+        NEW_IMAGE,
+        Argument::Valued(Valued {
+            help: "Regions have 2^k words, k from 3 to 20 (default 9)",
+            ..REGION_LOG
+        }),
+        NEW_ALLOWANCE,
+        VERSION,
+        Argument::Flag(
             "live-only",
             "Keep only objects that are reachable from the roots",
-        ))?
-        .arg(classes(alloc))?
-        .arg(histogram(alloc))?
-        .arg(arguments::json(alloc))?
-        .arg(arguments::stats(alloc))?
-        .arg(arguments::progress(alloc))?;
-    arguments::with_last(alloc, command)
-}
+        ),
+        CLASSES,
+        HISTOGRAM,
+        JSON,
+        STATS,
+        PROGRESS,
+        ATOMIC,
+        VERBOSE,
+    ],
+};
 
 /// The option `--version`, the version of the image.
-fn version<'a>(alloc: Global) -> Arg<'a>
-    ensures rule { rule_of result ≡ rooted_version_rule }
-    ensures local { result.global ≡ false }
-{
-    Arg::new(alloc, "version")
-        .long("version")
-        .value_name("v")
-        .value_parser(value_parser!(u32).range(2..=3))
-        .help("Version of the image, from 2 to 3 (default 2, or 3 for a larger heap)")
-}
+const VERSION: Argument = Argument::Valued(Valued {
+    name: "version",
+    value: "v",
+    values: Values::Numbers(2, 3),
+    is_required: false,
+    help: "Version of the image, from 2 to 3 (default 2, or 3 for a larger heap)",
+});
 
 /// The option `--classes`, the file for a list of objects.
-fn classes<'a>(alloc: Global) -> Arg<'a>
-    ensures rule { rule_of result ≡ classes_rule }
-    ensures local { result.global ≡ false }
-{
-    Arg::new(alloc, "classes")
-        .long("classes")
-        .value_name("FILE")
-        .help("List each object's address, class and bytes, and whether it is live")
-}
+const CLASSES: Argument = Argument::Valued(Valued {
+    name: "classes",
+    value: "FILE",
+    values: Values::Texts,
+    is_required: false,
+    help: "List each object's address, class and bytes, and whether it is live",
+});
 
 /// The option `--histogram`, the number of classes to print.
-fn histogram<'a>(alloc: Global) -> Arg<'a>
-    ensures rule { rule_of result ≡ histogram_rule }
-    ensures local { result.global ≡ false }
-{
-    Arg::new(alloc, "histogram")
-        .long("histogram")
-        .value_name("n")
-        .value_parser(value_parser!(u32).range(1..=1_000_000))
-        .help("Print the n classes with the most bytes, live and dead")
-}
+const HISTOGRAM: Argument = Argument::Valued(Valued {
+    name: "histogram",
+    value: "n",
+    values: Values::Numbers(1, 1_000_000),
+    is_required: false,
+    help: "Print the n classes with the most bytes, live and dead",
+});
 
 /// The arguments of `import`.
 #[derive(Drop)]
@@ -108,23 +101,24 @@ pub struct Import<'a> {
 }
 
 impl<'a> Import<'a> {
-    pub(crate) fn of(matches: &ArgMatches<'a>) -> Result<Import<'a>, Unread>
-        ensures { IfErr result IsNoUsage }
+    /// The request with these arguments.
+    pub(crate) fn request(matches: &ArgMatches<'a>) -> Option<Request<'a>>
+        ensures { IfSome result (IsFor (codes "import")) }
     {
-        Ok(Import {
-            dump: arguments::file_in(matches, "DUMP")?,
-            image: arguments::file_in(matches, "IMAGE")?,
+        Some(Request::Import(Import {
+            dump: matches.get_str("DUMP")?,
+            image: matches.get_str("IMAGE")?,
             region_log: matches.get_one("region-log"),
             allowance: matches.get_one("allowance").unwrap_or(0),
             version: matches.get_one("version"),
             live_only: matches.get_flag("live-only"),
             classes: matches.get_str("classes"),
             histogram: matches.get_one("histogram"),
-            json: arguments::asks_json(matches),
-            stats: arguments::asks_stats(matches),
-            atomic: arguments::is_atomic(matches),
-            verbose: arguments::is_verbose(matches),
-        })
+            json: matches.get_flag("json"),
+            stats: matches.get_flag("stats"),
+            atomic: matches.get_flag("atomic"),
+            verbose: matches.get_flag("verbose"),
+        }))
     }
 
     /// The call without a histogram, if none of these arguments begins with the name of that option.

@@ -1,66 +1,50 @@
 //! The command `map`: its arguments, their help, and how they are parsed.
-ghost use Rattle.std.specs.Prelude.{◌≡◌, codes, false, IfErr, IfOk, ◌∷◌, []};
-ghost use Rattle.clap.specs.Words.{app_of, rule_of};
-ghost use Rattle.clap.specs.declared.builder.command.Command.TheViews.{out-Command as fields_of};
+ghost use Rattle.std.specs.Prelude.{codes, IfSome, ◌∷◌, []};
 ghost use Rattle.command_line.specs.CommandLine.{IsCallOf};
-ghost use Rattle.command_line.specs.Request.{IsNoUsage};
-ghost use Rattle.command_line.specs.Commands.{height_rule, map_cells, map_words};
+ghost use Rattle.command_line.specs.Request.{IsFor};
 
-use crate::arguments;
+use crate::arguments::{
+    ALLOWANCE, ATOMIC, COLOR, IMAGE, LETTERS, NO_COLOR, REGION_LOG, SVG, VERBOSE, WIDTH,
+};
+use crate::definition::{Argument, Definition, Valued, Values};
+use crate::request::Request;
 use crate::respelled::When;
 use crate::shape::Shape;
-use crate::unread::Unread;
-use clap::{Arg, ArgMatches, Command, value_parser};
-use std::alloc::{AllocError, Global};
+use clap::ArgMatches;
 
 const EXAMPLE: &str = "\
 Example:
   pcompact map heap.pcheap --after";
 
 /// The definition of `map`.
-pub fn words<'a>(alloc: Global) -> Result<Command<'a>, AllocError>
-    ensures app { IfOk result (λ command. app_of command ≡ map_words) }
-    ensures local { IfOk result (λ command. (fields_of command).has_globals ≡ false) }
-{
-    let shaped = arguments::with_shape(alloc, with_cells(alloc)?)?;
-    let looking = arguments::with_looks(alloc, shaped)?;
-    arguments::with_last(alloc, looking)
-}
-
-/// The command with its file, and with the options for the content and the file of the picture.
-fn with_cells<'a>(alloc: Global) -> Result<Command<'a>, AllocError>
-    ensures app { IfOk result (λ made. app_of made ≡ map_cells) }
-    ensures local { IfOk result (λ made. (fields_of made).has_globals ≡ false) }
-{
-    Command::new(alloc, "map")
-        .about("Draw a heap image, also as its collection leaves it")
-        .after_help(EXAMPLE)
-        .arg(arguments::image(alloc))?
-        .arg(arguments::flag(alloc, "after", "Also draw the heap after its collection"))?
-        .arg(arguments::width(
-            alloc,
-            "Number of cells of a row, from 1 to 1000 (default: what a terminal has room for, or 64)",
-        ))?
-        .arg(height(alloc))?
-        .arg(arguments::svg(
-            alloc,
-            "Write the picture to this file as SVG, and print only the figures",
-        ))
-}
+pub const DEFINITION: Definition = Definition {
+    name: "map",
+    about: "Draw a heap image, also as its collection leaves it",
+    example: EXAMPLE,
+    arguments: &[
+        IMAGE,
+        Argument::Flag("after", "Also draw the heap after its collection"),
+        Argument::Valued(WIDTH),
+        HEIGHT,
+        Argument::Valued(SVG),
+        Argument::Valued(REGION_LOG),
+        Argument::Valued(ALLOWANCE),
+        LETTERS,
+        COLOR,
+        NO_COLOR,
+        ATOMIC,
+        VERBOSE,
+    ],
+};
 
 /// The option `--height`, the number of rows.
-fn height<'a>(alloc: Global) -> Arg<'a>
-    ensures rule { rule_of result ≡ height_rule }
-    ensures local { result.global ≡ false }
-{
-    Arg::new(alloc, "height")
-        .long("height")
-        .value_name("n")
-        .value_parser(value_parser!(u32).range(1..=100))
-        .help(
-            "Number of rows, from 1 to 100 (default: 1, or what a terminal has room for, or 8 of a drawing)",
-        )
-}
+const HEIGHT: Argument = Argument::Valued(Valued {
+    name: "height",
+    value: "n",
+    values: Values::Numbers(1, 100),
+    is_required: false,
+    help: "Number of rows, from 1 to 100 (default: 1, or what a terminal has room for, or 8 of a drawing)",
+});
 
 /// The arguments of `map`.
 #[derive(Drop)]
@@ -86,7 +70,7 @@ pub struct Map<'a> {
 }
 
 /// How a picture is printed.
-#[derive(Debug, Clone, Copy, PartialEq, Eq)]
+#[derive(Clone, Copy)]
 pub struct Look {
     /// Letters, even if the locale has block characters.
     pub letters: bool,
@@ -116,20 +100,21 @@ impl Look {
 }
 
 impl<'a> Map<'a> {
-    pub(crate) fn of(matches: &ArgMatches<'a>) -> Result<Map<'a>, Unread>
-        ensures { IfErr result IsNoUsage }
+    /// The request with these arguments.
+    pub(crate) fn request(matches: &ArgMatches<'a>) -> Option<Request<'a>>
+        ensures { IfSome result (IsFor (codes "map")) }
     {
-        Ok(Map {
-            image: arguments::file_in(matches, "IMAGE")?,
+        Some(Request::Map(Map {
+            image: matches.get_str("IMAGE")?,
             shape: Shape::of(matches),
             after: matches.get_flag("after"),
             width: matches.get_one("width"),
             height: matches.get_one("height"),
             svg: matches.get_str("svg"),
             look: Look::of(matches),
-            atomic: arguments::is_atomic(matches),
-            verbose: arguments::is_verbose(matches),
-        })
+            atomic: matches.get_flag("atomic"),
+            verbose: matches.get_flag("verbose"),
+        }))
     }
 }
 

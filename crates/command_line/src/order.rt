@@ -1,34 +1,31 @@
 //! The command `order`: its arguments, their help, and how they are parsed.
-ghost use Rattle.std.specs.Prelude.{◌≡◌, codes, false, IfErr, IfOk, ◌∷◌, []};
-ghost use Rattle.clap.specs.Words.{app_of};
-ghost use Rattle.clap.specs.declared.builder.command.Command.TheViews.{out-Command as fields_of};
+ghost use Rattle.std.specs.Prelude.{codes, IfSome, ◌∷◌, []};
 ghost use Rattle.command_line.specs.CommandLine.{IsCallOf};
-ghost use Rattle.command_line.specs.Request.{IsNoUsage};
-ghost use Rattle.command_line.specs.Commands.{order_words};
+ghost use Rattle.command_line.specs.Request.{IsFor};
 
-use crate::arguments;
+use crate::arguments::{ALLOWANCE, IMAGE, JSON, REGION_LOG, VERBOSE};
+use crate::definition::{Argument, Definition};
+use crate::request::Request;
 use crate::shape::Shape;
-use crate::unread::Unread;
-use clap::{ArgMatches, Command};
-use std::alloc::{AllocError, Global};
+use clap::ArgMatches;
 
 const EXAMPLE: &str = "\
 Example:
   pcompact order heap.pcheap";
 
 /// The definition of `order`.
-pub fn words<'a>(alloc: Global) -> Result<Command<'a>, AllocError>
-    ensures app { IfOk result (λ command. app_of command ≡ order_words) }
-    ensures local { IfOk result (λ command. (fields_of command).has_globals ≡ false) }
-{
-    let command = Command::new(alloc, "order")
-        .about("Print how many workers a collection can keep busy")
-        .after_help(EXAMPLE)
-        .arg(arguments::image(alloc))?;
-    arguments::with_shape(alloc, command)?
-        .arg(arguments::json(alloc))?
-        .arg(arguments::verbose(alloc))
-}
+pub const DEFINITION: Definition = Definition {
+    name: "order",
+    about: "Print how many workers a collection can keep busy",
+    example: EXAMPLE,
+    arguments: &[
+        IMAGE,
+        Argument::Valued(REGION_LOG),
+        Argument::Valued(ALLOWANCE),
+        JSON,
+        VERBOSE,
+    ],
+};
 
 /// The arguments of `order`.
 #[derive(Drop)]
@@ -44,15 +41,16 @@ pub struct Order<'a> {
 }
 
 impl<'a> Order<'a> {
-    pub(crate) fn of(matches: &ArgMatches<'a>) -> Result<Order<'a>, Unread>
-        ensures { IfErr result IsNoUsage }
+    /// The request with these arguments.
+    pub(crate) fn request(matches: &ArgMatches<'a>) -> Option<Request<'a>>
+        ensures { IfSome result (IsFor (codes "order")) }
     {
-        Ok(Order {
-            image: arguments::file_in(matches, "IMAGE")?,
+        Some(Request::Order(Order {
+            image: matches.get_str("IMAGE")?,
             shape: Shape::of(matches),
-            json: arguments::asks_json(matches),
-            verbose: arguments::is_verbose(matches),
-        })
+            json: matches.get_flag("json"),
+            verbose: matches.get_flag("verbose"),
+        }))
     }
 }
 

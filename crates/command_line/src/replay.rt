@@ -1,35 +1,32 @@
 //! The command `replay`: its arguments, their help, and how they are parsed.
-ghost use Rattle.std.specs.Prelude.{◌≡◌, codes, false, IfErr, IfOk, ◌∷◌, []};
-ghost use Rattle.clap.specs.Words.{app_of};
-ghost use Rattle.clap.specs.declared.builder.command.Command.TheViews.{out-Command as fields_of};
+ghost use Rattle.std.specs.Prelude.{codes, IfSome, ◌∷◌, []};
 ghost use Rattle.command_line.specs.CommandLine.{IsCallOf};
-ghost use Rattle.command_line.specs.Request.{IsNoUsage};
-ghost use Rattle.command_line.specs.Commands.{replay_words};
+ghost use Rattle.command_line.specs.Request.{IsFor};
 
-use crate::arguments;
+use crate::arguments::{ALLOWANCE, IMAGE, PROGRESS, REGION_LOG, SCHEDULE, VERBOSE};
+use crate::definition::{Argument, Definition};
+use crate::request::Request;
 use crate::shape::Shape;
-use crate::unread::Unread;
-use clap::{ArgMatches, Command};
-use std::alloc::{AllocError, Global};
+use clap::ArgMatches;
 
 const EXAMPLE: &str = "\
 Example:
   pcompact replay heap.pcheap schedule";
 
 /// The definition of `replay`.
-pub fn words<'a>(alloc: Global) -> Result<Command<'a>, AllocError>
-    ensures app { IfOk result (λ command. app_of command ≡ replay_words) }
-    ensures local { IfOk result (λ command. (fields_of command).has_globals ≡ false) }
-{
-    let command = Command::new(alloc, "replay")
-        .about("Replay a schedule word by word and print it with all replies")
-        .after_help(EXAMPLE)
-        .arg(arguments::image(alloc))?
-        .arg(arguments::file(alloc, "SCHEDULE", "A schedule for the image"))?;
-    arguments::with_shape(alloc, command)?
-        .arg(arguments::progress(alloc))?
-        .arg(arguments::verbose(alloc))
-}
+pub const DEFINITION: Definition = Definition {
+    name: "replay",
+    about: "Replay a schedule word by word and print it with all replies",
+    example: EXAMPLE,
+    arguments: &[
+        IMAGE,
+        SCHEDULE,
+        Argument::Valued(REGION_LOG),
+        Argument::Valued(ALLOWANCE),
+        PROGRESS,
+        VERBOSE,
+    ],
+};
 
 /// The arguments of `replay`.
 #[derive(Drop)]
@@ -45,15 +42,16 @@ pub struct Replay<'a> {
 }
 
 impl<'a> Replay<'a> {
-    pub(crate) fn of(matches: &ArgMatches<'a>) -> Result<Replay<'a>, Unread>
-        ensures { IfErr result IsNoUsage }
+    /// The request with these arguments.
+    pub(crate) fn request(matches: &ArgMatches<'a>) -> Option<Request<'a>>
+        ensures { IfSome result (IsFor (codes "replay")) }
     {
-        Ok(Replay {
-            image: arguments::file_in(matches, "IMAGE")?,
-            schedule: arguments::file_in(matches, "SCHEDULE")?,
+        Some(Request::Replay(Replay {
+            image: matches.get_str("IMAGE")?,
+            schedule: matches.get_str("SCHEDULE")?,
             shape: Shape::of(matches),
-            verbose: arguments::is_verbose(matches),
-        })
+            verbose: matches.get_flag("verbose"),
+        }))
     }
 }
 

@@ -6,7 +6,7 @@ ghost use Rattle.command_line.specs.Respelling.{mentions, other_texts};
 use std::alloc::{AllocError, Global};
 
 /// When something is done that a terminal else decides: details of an error are printed, colours are used, or progress is shown.
-#[derive(Debug, Clone, Copy, PartialEq, Eq)]
+#[derive(Clone, Copy, PartialEq, Eq)]
 pub enum When {
     /// On a terminal.
     Auto,
@@ -38,7 +38,7 @@ impl When {
 }
 
 /// A line with plain options in place of those with a value.
-#[derive(Debug, Drop)]
+#[derive(Drop)]
 pub struct Respelled {
     /// The words of the line.
     pub words: Vec<String>,

@@ -4,7 +4,7 @@ ghost use Rattle.std.specs.Prelude.{◌≡◌, None};
 use clap::ArgMatches;
 
 /// What an image is read with, in place of what is in its head.
-#[derive(Debug, Clone, Copy, PartialEq, Eq)]
+#[derive(Clone, Copy)]
 pub struct Shape {
     /// The binary logarithm of the region size in words, if another than the head's.
     pub region_log: Option<u32>,

@@ -1,39 +1,35 @@
 //! The command `summary`: its arguments, their help, and how they are parsed.
-ghost use Rattle.std.specs.Prelude.{◌≡◌, codes, false, IfErr, IfOk, ◌∷◌, []};
-ghost use Rattle.clap.specs.Words.{app_of};
-ghost use Rattle.clap.specs.declared.builder.command.Command.TheViews.{out-Command as fields_of};
+ghost use Rattle.std.specs.Prelude.{codes, IfSome, ◌∷◌, []};
 ghost use Rattle.command_line.specs.CommandLine.{IsCallOf};
-ghost use Rattle.command_line.specs.Request.{IsNoUsage};
-ghost use Rattle.command_line.specs.Commands.{summary_words};
+ghost use Rattle.command_line.specs.Request.{IsFor};
 
-use crate::arguments;
+use crate::arguments::{ALLOWANCE, IMAGE, JSON, REGION_LOG, VERBOSE};
+use crate::definition::{Argument, Definition};
+use crate::request::Request;
 use crate::shape::Shape;
-use crate::unread::Unread;
-use clap::{ArgMatches, Command};
-use std::alloc::{AllocError, Global};
+use clap::ArgMatches;
 
 const EXAMPLE: &str = "\
 Example:
   pcompact summary heap.pcheap";
 
 /// The definition of `summary`.
-pub fn words<'a>(alloc: Global) -> Result<Command<'a>, AllocError>
-    ensures app { IfOk result (λ command. app_of command ≡ summary_words) }
-    ensures local { IfOk result (λ command. (fields_of command).has_globals ≡ false) }
-{
-    let command = Command::new(alloc, "summary")
-        .about("Print the plan of a collection, region by region")
-        .after_help(EXAMPLE)
-        .arg(arguments::image(alloc))?
-        .arg(arguments::flag(
-            alloc,
+pub const DEFINITION: Definition = Definition {
+    name: "summary",
+    about: "Print the plan of a collection, region by region",
+    example: EXAMPLE,
+    arguments: &[
+        IMAGE,
+        Argument::Flag(
             "heading",
             "Print the names of the columns even if standard output is no terminal",
-        ))?;
-    arguments::with_shape(alloc, command)?
-        .arg(arguments::json(alloc))?
-        .arg(arguments::verbose(alloc))
-}
+        ),
+        Argument::Valued(REGION_LOG),
+        Argument::Valued(ALLOWANCE),
+        JSON,
+        VERBOSE,
+    ],
+};
 
 /// The arguments of `summary`.
 #[derive(Drop)]
@@ -51,16 +47,17 @@ pub struct Summary<'a> {
 }
 
 impl<'a> Summary<'a> {
-    pub(crate) fn of(matches: &ArgMatches<'a>) -> Result<Summary<'a>, Unread>
-        ensures { IfErr result IsNoUsage }
+    /// The request with these arguments.
+    pub(crate) fn request(matches: &ArgMatches<'a>) -> Option<Request<'a>>
+        ensures { IfSome result (IsFor (codes "summary")) }
     {
-        Ok(Summary {
-            image: arguments::file_in(matches, "IMAGE")?,
+        Some(Request::Summary(Summary {
+            image: matches.get_str("IMAGE")?,
             heading: matches.get_flag("heading"),
             shape: Shape::of(matches),
-            json: arguments::asks_json(matches),
-            verbose: arguments::is_verbose(matches),
-        })
+            json: matches.get_flag("json"),
+            verbose: matches.get_flag("verbose"),
+        }))
     }
 }
 

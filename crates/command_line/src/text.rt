@@ -1,31 +1,24 @@
 //! The command `text`: its arguments, their help, and how they are parsed.
-ghost use Rattle.std.specs.Prelude.{◌≡◌, codes, false, IfErr, IfOk, ◌∷◌, []};
-ghost use Rattle.clap.specs.Words.{app_of};
-ghost use Rattle.clap.specs.declared.builder.command.Command.TheViews.{out-Command as fields_of};
+ghost use Rattle.std.specs.Prelude.{codes, IfSome, ◌∷◌, []};
 ghost use Rattle.command_line.specs.CommandLine.{IsCallOf};
-ghost use Rattle.command_line.specs.Request.{IsNoUsage};
-ghost use Rattle.command_line.specs.Commands.{text_words};
+ghost use Rattle.command_line.specs.Request.{IsFor};
 
-use crate::arguments;
-use crate::unread::Unread;
-use clap::{ArgMatches, Command};
-use std::alloc::{AllocError, Global};
+use crate::arguments::{IMAGE, VERBOSE};
+use crate::definition::Definition;
+use crate::request::Request;
+use clap::ArgMatches;
 
 const EXAMPLE: &str = "\
 Example:
   pcompact text heap.pcheap";
 
 /// The definition of `text`.
-pub fn words<'a>(alloc: Global) -> Result<Command<'a>, AllocError>
-    ensures app { IfOk result (λ command. app_of command ≡ text_words) }
-    ensures local { IfOk result (λ command. (fields_of command).has_globals ≡ false) }
-{
-    Command::new(alloc, "text")
-        .about("Print a heap image as text")
-        .after_help(EXAMPLE)
-        .arg(arguments::image(alloc))?
-        .arg(arguments::verbose(alloc))
-}
+pub const DEFINITION: Definition = Definition {
+    name: "text",
+    about: "Print a heap image as text",
+    example: EXAMPLE,
+    arguments: &[IMAGE, VERBOSE],
+};
 
 /// The arguments of `text`.
 #[derive(Drop)]
@@ -37,13 +30,14 @@ pub struct Text<'a> {
 }
 
 impl<'a> Text<'a> {
-    pub(crate) fn of(matches: &ArgMatches<'a>) -> Result<Text<'a>, Unread>
-        ensures { IfErr result IsNoUsage }
+    /// The request with these arguments.
+    pub(crate) fn request(matches: &ArgMatches<'a>) -> Option<Request<'a>>
+        ensures { IfSome result (IsFor (codes "text")) }
     {
-        Ok(Text {
-            image: arguments::file_in(matches, "IMAGE")?,
-            verbose: arguments::is_verbose(matches),
-        })
+        Some(Request::Text(Text {
+            image: matches.get_str("IMAGE")?,
+            verbose: matches.get_flag("verbose"),
+        }))
     }
 }
 

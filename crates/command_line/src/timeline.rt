@@ -1,17 +1,16 @@
 //! The command `timeline`: its arguments, their help, and how they are parsed.
-ghost use Rattle.std.specs.Prelude.{◌≡◌, codes, false, IfErr, IfOk, ◌∷◌, []};
-ghost use Rattle.clap.specs.Words.{app_of, rule_of};
-ghost use Rattle.clap.specs.declared.builder.command.Command.TheViews.{out-Command as fields_of};
+ghost use Rattle.std.specs.Prelude.{codes, IfSome, ◌∷◌, []};
 ghost use Rattle.command_line.specs.CommandLine.{IsCallOf};
-ghost use Rattle.command_line.specs.Request.{IsNoUsage};
-ghost use Rattle.command_line.specs.Commands.{html_rule, timeline_inputs, timeline_words, with_picture_rules};
+ghost use Rattle.command_line.specs.Request.{IsFor};
 
-use crate::arguments;
+use crate::arguments::{
+    ALLOWANCE, ATOMIC, COLOR, IMAGE, LETTERS, NO_COLOR, REGION_LOG, SCHEDULE, SVG, VERBOSE, WIDTH,
+};
+use crate::definition::{Argument, Definition, Valued, Values};
 use crate::map::Look;
+use crate::request::Request;
 use crate::shape::Shape;
-use crate::unread::Unread;
-use clap::{Arg, ArgMatches, Command};
-use std::alloc::{AllocError, Global};
+use clap::ArgMatches;
 
 const EXAMPLE: &str = "\
 Example:
@@ -19,55 +18,40 @@ Example:
   pcompact timeline heap.pcheap schedule --html timeline.html";
 
 /// The definition of `timeline`.
-pub fn words<'a>(alloc: Global) -> Result<Command<'a>, AllocError>
-    ensures app { IfOk result (λ command. app_of command ≡ timeline_words) }
-    ensures local { IfOk result (λ command. (fields_of command).has_globals ≡ false) }
-{
-    let pictured = with_pictures(alloc, with_inputs(alloc)?)?;
-    let shaped = arguments::with_shape(alloc, pictured)?;
-    let looking = arguments::with_looks(alloc, shaped)?;
-    arguments::with_last(alloc, looking)
-}
-
-/// The command with the files that it reads.
-fn with_inputs<'a>(alloc: Global) -> Result<Command<'a>, AllocError>
-    ensures app { IfOk result (λ made. app_of made ≡ timeline_inputs) }
-    ensures local { IfOk result (λ made. (fields_of made).has_globals ≡ false) }
-{
-    Command::new(alloc, "timeline")
-        .about("Draw which worker has which region along the lines of a schedule")
-        .after_help(EXAMPLE)
-        .arg(arguments::image(alloc))?
-        .arg(arguments::file(alloc, "SCHEDULE", "A schedule for the image"))
-}
-
-/// Adds the options for the width of the picture and for its files.
-fn with_pictures<'a>(alloc: Global, command: Command<'a>) -> Result<Command<'a>, AllocError>
-    ensures app { IfOk result (λ made. app_of made ≡ with_picture_rules (app_of command.entry)) }
-    ensures local { (fields_of command.entry).has_globals ≡ false
-        → IfOk result (λ made. (fields_of made).has_globals ≡ false) }
-{
-    command
-        .arg(arguments::width(
-            alloc,
-            "Number of cells of a lane, from 1 to 1000 (default: what a terminal has room for, or 64)",
-        ))?
-        .arg(arguments::svg(
-            alloc,
-            "Write the lanes to this file as SVG, and print only the figures",
-        ))?
-        .arg(html(alloc))
-}
+pub const DEFINITION: Definition = Definition {
+    name: "timeline",
+    about: "Draw which worker has which region along the lines of a schedule",
+    example: EXAMPLE,
+    arguments: &[
+        IMAGE,
+        SCHEDULE,
+        Argument::Valued(Valued {
+            help: "Number of cells of a lane, from 1 to 1000 (default: what a terminal has room for, or 64)",
+            ..WIDTH
+        }),
+        Argument::Valued(Valued {
+            help: "Write the lanes to this file as SVG, and print only the figures",
+            ..SVG
+        }),
+        HTML,
+        Argument::Valued(REGION_LOG),
+        Argument::Valued(ALLOWANCE),
+        LETTERS,
+        COLOR,
+        NO_COLOR,
+        ATOMIC,
+        VERBOSE,
+    ],
+};
 
 /// The option `--html`, the file for a page.
-fn html<'a>(alloc: Global) -> Arg<'a>
-    ensures rule { rule_of result ≡ html_rule }
-    ensures local { result.global ≡ false }
-{
-    Arg::new(alloc, "html").long("html").value_name("FILE").help(
-        "Write a page to this file that steps through the schedule, and print only the figures",
-    )
-}
+const HTML: Argument = Argument::Valued(Valued {
+    name: "html",
+    value: "FILE",
+    values: Values::Texts,
+    is_required: false,
+    help: "Write a page to this file that steps through the schedule, and print only the figures",
+});
 
 /// The arguments of `timeline`.
 #[derive(Drop)]
@@ -93,20 +77,21 @@ pub struct Timeline<'a> {
 }
 
 impl<'a> Timeline<'a> {
-    pub(crate) fn of(matches: &ArgMatches<'a>) -> Result<Timeline<'a>, Unread>
-        ensures { IfErr result IsNoUsage }
+    /// The request with these arguments.
+    pub(crate) fn request(matches: &ArgMatches<'a>) -> Option<Request<'a>>
+        ensures { IfSome result (IsFor (codes "timeline")) }
     {
-        Ok(Timeline {
-            image: arguments::file_in(matches, "IMAGE")?,
-            schedule: arguments::file_in(matches, "SCHEDULE")?,
+        Some(Request::Timeline(Timeline {
+            image: matches.get_str("IMAGE")?,
+            schedule: matches.get_str("SCHEDULE")?,
             shape: Shape::of(matches),
             width: matches.get_one("width"),
             svg: matches.get_str("svg"),
             html: matches.get_str("html"),
             look: Look::of(matches),
-            atomic: arguments::is_atomic(matches),
-            verbose: arguments::is_verbose(matches),
-        })
+            atomic: matches.get_flag("atomic"),
+            verbose: matches.get_flag("verbose"),
+        }))
     }
 }
 

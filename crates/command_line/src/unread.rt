@@ -5,7 +5,7 @@ ghost use Rattle.command_line.specs.declared.unread.Unread.TheVariants.{Memory};
 use std::alloc::AllocError;
 
 /// Why words give no request.
-#[derive(Debug, Drop)]
+#[derive(Drop)]
 pub enum Unread {
     /// They are no command. The text, in whole lines, says why.
     Usage(String),

@@ -1,15 +1,12 @@
 //! The command `upgrade`: its arguments, their help, and how they are parsed.
-ghost use Rattle.std.specs.Prelude.{◌≡◌, codes, false, IfErr, IfOk, ◌∷◌, []};
-ghost use Rattle.clap.specs.Words.{app_of, rule_of};
-ghost use Rattle.clap.specs.declared.builder.command.Command.TheViews.{out-Command as fields_of};
+ghost use Rattle.std.specs.Prelude.{codes, IfSome, ◌∷◌, []};
 ghost use Rattle.command_line.specs.CommandLine.{IsCallOf};
-ghost use Rattle.command_line.specs.Request.{IsNoUsage};
-ghost use Rattle.command_line.specs.Commands.{to_rule, upgrade_words};
+ghost use Rattle.command_line.specs.Request.{IsFor};
 
-use crate::arguments;
-use crate::unread::Unread;
-use clap::{Arg, ArgMatches, Command, value_parser};
-use std::alloc::{AllocError, Global};
+use crate::arguments::{ATOMIC, IMAGE, PROGRESS, VERBOSE};
+use crate::definition::{Argument, Definition, Valued, Values};
+use crate::request::Request;
+use clap::ArgMatches;
 
 /// The version of the upgraded image without `--to`.
 const USUAL_VERSION: u32 = 2;
@@ -19,31 +16,28 @@ Example:
   pcompact upgrade heap.pcheap rooted.pcheap";
 
 /// The definition of `upgrade`.
-pub fn words<'a>(alloc: Global) -> Result<Command<'a>, AllocError>
-    ensures app { IfOk result (λ command. app_of command ≡ upgrade_words) }
-    ensures local { IfOk result (λ command. (fields_of command).has_globals ≡ false) }
-{
-    let command = Command::new(alloc, "upgrade")
-        .about("Convert a heap image to version 2, which has roots, or 3, which may be larger")
-        .after_help(EXAMPLE)
-        .arg(arguments::image(alloc))?
-        .arg(arguments::file(alloc, "OUT", "Where to write the upgraded image"))?
-        .arg(to(alloc))?
-        .arg(arguments::progress(alloc))?;
-    arguments::with_last(alloc, command)
-}
+pub const DEFINITION: Definition = Definition {
+    name: "upgrade",
+    about: "Convert a heap image to version 2, which has roots, or 3, which may be larger",
+    example: EXAMPLE,
+    arguments: &[
+        IMAGE,
+        Argument::File("OUT", "Where to write the upgraded image"),
+        TO,
+        PROGRESS,
+        ATOMIC,
+        VERBOSE,
+    ],
+};
 
 /// The option `--to`, the version of the upgraded image.
-fn to<'a>(alloc: Global) -> Arg<'a>
-    ensures rule { rule_of result ≡ to_rule }
-    ensures local { result.global ≡ false }
-{
-    Arg::new(alloc, "to")
-        .long("to")
-        .value_name("v")
-        .value_parser(value_parser!(u32).range(2..=3))
-        .help("Version of the upgraded image, from 2 to 3 (default 2)")
-}
+const TO: Argument = Argument::Valued(Valued {
+    name: "to",
+    value: "v",
+    values: Values::Numbers(2, 3),
+    is_required: false,
+    help: "Version of the upgraded image, from 2 to 3 (default 2)",
+});
 
 /// The arguments of `upgrade`.
 #[derive(Drop)]
@@ -61,16 +55,17 @@ pub struct Upgrade<'a> {
 }
 
 impl<'a> Upgrade<'a> {
-    pub(crate) fn of(matches: &ArgMatches<'a>) -> Result<Upgrade<'a>, Unread>
-        ensures { IfErr result IsNoUsage }
+    /// The request with these arguments.
+    pub(crate) fn request(matches: &ArgMatches<'a>) -> Option<Request<'a>>
+        ensures { IfSome result (IsFor (codes "upgrade")) }
     {
-        Ok(Upgrade {
-            image: arguments::file_in(matches, "IMAGE")?,
-            out: arguments::file_in(matches, "OUT")?,
+        Some(Request::Upgrade(Upgrade {
+            image: matches.get_str("IMAGE")?,
+            out: matches.get_str("OUT")?,
             to: matches.get_one("to").unwrap_or(USUAL_VERSION),
-            atomic: arguments::is_atomic(matches),
-            verbose: arguments::is_verbose(matches),
-        })
+            atomic: matches.get_flag("atomic"),
+            verbose: matches.get_flag("verbose"),
+        }))
     }
 }
 

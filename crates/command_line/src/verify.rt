@@ -1,54 +1,45 @@
 //! The command `verify`: its arguments, their help, and how they are parsed.
-ghost use Rattle.std.specs.Prelude.{◌≡◌, codes, false, IfErr, IfOk, ◌∷◌, []};
-ghost use Rattle.clap.specs.Words.{app_of};
-ghost use Rattle.clap.specs.declared.builder.command.Command.TheViews.{out-Command as fields_of};
+ghost use Rattle.std.specs.Prelude.{codes, IfSome, ◌∷◌, []};
 ghost use Rattle.command_line.specs.CommandLine.{IsCallOf};
-ghost use Rattle.command_line.specs.Request.{IsNoUsage};
-ghost use Rattle.command_line.specs.Commands.{verify_words};
+ghost use Rattle.command_line.specs.Request.{IsFor};
 
-use crate::arguments;
+use crate::arguments::{ALLOWANCE, JSON, PROGRESS, REGION_LOG, STATS, VERBOSE};
+use crate::definition::{Argument, Definition, Valued};
+use crate::request::Request;
 use crate::shape::Shape;
-use crate::unread::Unread;
-use clap::{ArgMatches, Command};
-use std::alloc::{AllocError, Global};
+use clap::ArgMatches;
 
 const EXAMPLE: &str = "\
 Example:
   pcompact verify heap.pcheap out.pcheap";
 
 /// The definition of `verify`.
-pub fn words<'a>(alloc: Global) -> Result<Command<'a>, AllocError>
-    ensures app { IfOk result (λ command. app_of command ≡ verify_words) }
-    ensures local { IfOk result (λ command. (fields_of command).has_globals ≡ false) }
-{
-    Command::new(alloc, "verify")
-        .about("Compare a heap image with the compaction of another")
-        .after_help(EXAMPLE)
-        .arg(arguments::file(alloc, "BEFORE", "The image before its collection"))?
-        .arg(arguments::file(alloc, "AFTER", "The image to compare with its compaction"))?
-        .arg(arguments::flag(
-            alloc,
+pub const DEFINITION: Definition = Definition {
+    name: "verify",
+    about: "Compare a heap image with the compaction of another",
+    example: EXAMPLE,
+    arguments: &[
+        Argument::File("BEFORE", "The image before its collection"),
+        Argument::File("AFTER", "The image to compare with its compaction"),
+        Argument::Flag(
             "explain",
             "Say which words differ, in which objects, and where wrong references lead",
-        ))?
-        .arg(arguments::flag(
-            alloc,
-            "ignore-free",
-            "Don't compare the words above the top",
-        ))?
-        .arg(arguments::region_log(
-            alloc,
-            "Read BEFORE as if its regions had 2^k words, k from 3 to 20",
-        ))?
-        .arg(arguments::allowance_with(
-            alloc,
-            "Read BEFORE as if its dense prefix might keep m dead words",
-        ))?
-        .arg(arguments::json(alloc))?
-        .arg(arguments::stats(alloc))?
-        .arg(arguments::progress(alloc))?
-        .arg(arguments::verbose(alloc))
-}
+        ),
+        Argument::Flag("ignore-free", "Don't compare the words above the top"),
+        Argument::Valued(Valued {
+            help: "Read BEFORE as if its regions had 2^k words, k from 3 to 20",
+            ..REGION_LOG
+        }),
+        Argument::Valued(Valued {
+            help: "Read BEFORE as if its dense prefix might keep m dead words",
+            ..ALLOWANCE
+        }),
+        JSON,
+        STATS,
+        PROGRESS,
+        VERBOSE,
+    ],
+};
 
 /// The arguments of `verify`.
 #[derive(Drop)]
@@ -72,20 +63,21 @@ pub struct Verify<'a> {
 }
 
 impl<'a> Verify<'a> {
-    pub(crate) fn of(matches: &ArgMatches<'a>) -> Result<Verify<'a>, Unread>
-        ensures { IfErr result IsNoUsage }
+    /// The request with these arguments.
+    pub(crate) fn request(matches: &ArgMatches<'a>) -> Option<Request<'a>>
+        ensures { IfSome result (IsFor (codes "verify")) }
     {
         let explain = matches.get_flag("explain");
-        Ok(Verify {
-            before: arguments::file_in(matches, "BEFORE")?,
-            after: arguments::file_in(matches, "AFTER")?,
+        Some(Request::Verify(Verify {
+            before: matches.get_str("BEFORE")?,
+            after: matches.get_str("AFTER")?,
             explain,
             ignore_free: matches.get_flag("ignore-free"),
             shape: Shape::of(matches),
-            json: arguments::asks_json(matches),
-            stats: arguments::asks_stats(matches),
-            verbose: explain || arguments::is_verbose(matches),
-        })
+            json: matches.get_flag("json"),
+            stats: matches.get_flag("stats"),
+            verbose: explain || matches.get_flag("verbose"),
+        }))
     }
 }
 
