@@ -186,4 +186,4 @@ def small_disk(folder: pathlib.Path, size: int) -> Iterator[pathlib.Path | None]
         return
     with subprocess.Popen(words, stdin=subprocess.PIPE, stdout=subprocess.PIPE, stderr=subprocess.DEVNULL) as holder:
         is_there = holder.stdout.readline() == b"mounted\n"
-        yield pathlib.Path(f"/proc/{holder.pid}/root{disk.resolve()}") if is_there else None
+        yield pathlib.Path("/proc", str(holder.pid), "root", *disk.resolve().parts[1:]) if is_there else None
