@@ -79,9 +79,10 @@ def primitive_arrays(code: int, count: int) -> Kind:
 
 
 class LargeDump:
-    """A dump of about so many bytes."""
+    """A dump of about so many bytes, whose arrays mostly have no more elements than the longest."""
 
-    def __init__(self, size: int, seed: int):
+    def __init__(self, size: int, seed: int, longest: int):
+        self.longest = longest
         self.draw = random.Random(seed)
         self.writer = Writer(8)
         # Of each class the one above it and the types of its own fields.
@@ -100,8 +101,9 @@ class LargeDump:
 
     def all_kinds(self) -> list[Kind]:
         made = [instances(class_, self.codes(class_)) for class_ in self.classes]
-        made += [reference_arrays(class_, count) for class_, count in zip(self.classes, (1, 2, 3, 8, 8, 16, 30, 100))]
-        return made + [primitive_arrays(code, count) for code in SIZES for count in (0, 5, 40, 500)]
+        counts = (min(count, self.longest) for count in (1, 2, 3, 8, 8, 16, 30, 100))
+        made += [reference_arrays(class_, count) for class_, count in zip(self.classes, counts)]
+        return made + [primitive_arrays(code, min(count, self.longest)) for code in SIZES for count in (0, 5, 40, self.longest)]
 
     def lay_runs(self, size: int) -> Iterator[Run]:
         """Runs from the first address up, until their records have so many bytes. The first two are one large object each."""

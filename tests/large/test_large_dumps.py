@@ -8,9 +8,10 @@ side in the order of their ids; and `import --live-only` makes the same words wi
 killed, meets a full disk, and gets little memory, and the old file or the whole new one is there. Ends with status 1 where
 something is another way.
 
-usage: tests/large/test_large_dumps.py [PROGRAM] [--mib N] [--seed N]
+usage: tests/large/test_large_dumps.py [PROGRAM] [--mib N] [--seed N] [--longest N]
 
-A dump of N MiB (256) takes about 5 N of disk and 3 N of memory.
+A dump of N MiB (256) takes about 5 N of disk and 3 N of memory. Most arrays are cut to `--longest` elements (500). Objects then
+have 320 bytes on average; with 16 they have 67, and there are so many more that the reader needs most of the time and memory.
 """
 import argparse
 import math
@@ -39,10 +40,10 @@ COLLECT, VERIFY = 1.5, 3
 class Imported:
     """A dump, its image, and what is told of them."""
 
-    def __init__(self, calls: LargeCalls, mib: int, seed: int):
+    def __init__(self, calls: LargeCalls, dump: LargeDump):
         self.calls = calls
         begun = time.monotonic()
-        LargeDump(mib * MIB, seed).write(calls.here / "dump")
+        dump.write(calls.here / "dump")
         seconds = time.monotonic() - begun
         self.dump_mib = calls.size("dump") / MIB
         print(f"a dump of {self.dump_mib:.0f} MiB, written with {self.dump_mib / seconds:.0f} MiB a second", flush=True)
@@ -97,10 +98,11 @@ def main() -> int:
     words.add_argument("program", nargs="?", type=pathlib.Path)
     words.add_argument("--mib", type=int, default=256)
     words.add_argument("--seed", type=int, default=1)
+    words.add_argument("--longest", type=int, default=500)
     given = words.parse_args()
     with tempfile.TemporaryDirectory() as folder:
         calls = LargeCalls(Tried(given.program or built(), pathlib.Path(folder)))
-        imported = Imported(calls, given.mib, given.seed)
+        imported = Imported(calls, LargeDump(given.mib * MIB, given.seed, given.longest))
         imported.try_import()
         imported.try_collections()
         imported.try_live_only()

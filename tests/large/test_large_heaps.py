@@ -9,7 +9,7 @@ and gets little memory, and the old file or the whole new one is there. Ends wit
 
 usage: tests/large/test_large_heaps.py [PROGRAM] [--mib N] [--seed N]
 
-A heap of N MiB (256) takes about 3 N of disk and 5 N of memory.
+A heap of N MiB (256) takes about 3 N of disk and 10 N of memory. What may have no room in memory is left out, and counted.
 """
 import argparse
 import math
@@ -33,7 +33,7 @@ LARGEST_DRAWING = 300_000
 # The most memory of each command in images, besides a fixed part and these bytes for a region.
 REGION = 400
 MOST = {"generate": 1.5, "collect": 1.5, "record": 1.5, "verify": 2.5, "summary": 1.5, "order": 1.5, "map": 1.5, "replay": 5,
-        "timeline": 5, "text": 4, "assemble": 7, "upgrade": 1.5}
+        "timeline": 5, "text": 4, "assemble": 7}
 
 
 class Heap:
