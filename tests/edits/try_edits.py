@@ -22,6 +22,8 @@ import sys
 import tempfile
 
 TOP = pathlib.Path(__file__).resolve().parents[2]
+# The line of a check that judged what it was given.
+VERDICT = re.compile(r"^(logic=not-proved|only=\d+ proved=\d+)", re.MULTILINE)
 # A proof file that names what an edit took away: such a line says nothing of the contract.
 NAMES_WHAT_IS_GONE = re.compile(r"has no field|is not in scope|has no `|was not admitted")
 
@@ -188,15 +190,15 @@ class Trial:
 
     def alone(self, edit):
         """The line by which a check of this edit alone refuses it, or None, or no text where a check ends without a verdict. What
-        its modules pass, others may refuse."""
+        its modules pass, or have no function for, others may refuse."""
         texts = dict(self.sources.texts)
         edit.apply(texts)
         said, status = self.check(texts, sorted({file for file, _, _ in edit.changes}))
-        if status == 0:
+        if status == 0 or not VERDICT.search(said):
             said, status = self.check(texts)
         if status == 0:
             return None
-        if status != 1 or not re.search(r"^(logic=not-proved|only=\d+ proved=\d+)", said, re.MULTILINE):
+        if status != 1 or not VERDICT.search(said):
             return ""
         lines = [it for it in said.split("\n") if re.match(r"(note: )?\S+:\d+:\d+: ", it)]
         own = [it for it in lines if it.startswith("note: src/") or ": error" in it and not NAMES_WHAT_IS_GONE.search(it)]
