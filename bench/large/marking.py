@@ -29,7 +29,7 @@ Times = dict[tuple[str, str], list[int]]
 
 def generate(plain: pathlib.Path, folder: pathlib.Path, mib: int) -> None:
     for shape in SHAPES:
-        words = ["--mib", mib, "--live", 50, "--log", 12, "--references", 5, "--version", 3, "--shape", shape]
+        words = ["--mib", mib, "--live", 50, "--log", 12, "--references", 40, "--version", 3, "--shape", shape]
         subprocess.run([plain, "generate", folder / shape, *map(str, words)], check=True, stdout=subprocess.DEVNULL)
 
 
