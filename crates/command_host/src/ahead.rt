@@ -1,9 +1,9 @@
-//! The body of an image's file, read by several threads at once.
+//! The body of an image's file, read by several threads before the collector reads the image.
 ghost use Rattle.std.specs.Prelude.{◌≤◌, ◌<◌, None, IfSome};
 ghost use Rattle.heap_image.specs.Body.{body_words};
 ghost use Rattle.heap_image.specs.Extents.{IsBodyOf};
 
-use command_support::Watched;
+use command_support::{Watched, reshape};
 use heap_image::{Body, Extent, FRONT_BYTES, FileStore, body_at};
 use std::alloc::Global;
 use std::fs::OpenFile;
@@ -23,8 +23,8 @@ pub struct Ahead {
 }
 
 impl Ahead {
-    /// Reads the body of a regular file, whose front has been read, by at most `readers` threads. None for fewer than two
-    /// readers or another file, if the front isn't that of a large image, or if a thread can't read its part.
+    /// Reads the body of a regular file by at most `readers` threads. None for fewer than two readers or another file, if
+    /// the file doesn't begin as that of a large image, or if a thread can't read its part.
     pub fn read<F: OpenFile + FileExt + Sync + Drop>(
         alloc: Global,
         watched: &Watched<'_, F>,
@@ -35,7 +35,7 @@ impl Ahead {
             return None;
         }
         let len = watched.regular_len();
-        let extent = extent_of(&watched.front())?;
+        let extent = extent_of(&front_of(watched)?)?;
         if extent.end()? > len {
             return None;
         }
@@ -43,6 +43,16 @@ impl Ahead {
         let body = body_at(alloc, &store, extent, readers, threads)?;
         Some(Ahead { extent, body })
     }
+}
+
+/// The front of the image in a file, if it can be read whole.
+fn front_of<F: FileExt + Drop>(watched: &Watched<'_, F>) -> Option<[u8; FRONT_BYTES]> {
+    let mut front = [0; FRONT_BYTES];
+    let Ok(FRONT_BYTES) = watched.file().read_at(&mut front, 0) else {
+        return None;
+    };
+    reshape(watched.shape(), 0, &mut front);
+    Some(front)
 }
 
 /// The extent of the body after this front, if it is the front of a large image.

@@ -9,25 +9,31 @@ use std::thread::Threads;
 
 /// The file of an image. Its bytes are unknown to contracts.
 ///
-/// The body of a large image in a regular file is read by several threads side by side. Any other file, such as a pipe,
-/// is read in order. So is a whole regular file of which a thread can't read its part: what is wrong is then found as
-/// for a pipe.
+/// The body of a large image in a regular file is read ahead by several threads side by side. Any other file, such as
+/// a pipe, is read in order. So is a whole regular file of which a thread can't read its part: what is wrong is then
+/// found as for a pipe.
 #[derive(Drop)]
-pub struct ImageFile<'h, 'a, H, F: Drop> {
+pub struct ImageFile<'a, F: Drop> {
     watched: Watched<'a, F>,
-    host: &'h H,
-    readers: usize,
     failed: bool,
+    ahead: Option<Ahead>,
 }
 
-impl<'h, 'a, H, F: Drop> ImageFile<'h, 'a, H, F> {
-    /// Reads from this file by at most `readers` threads, which this host starts.
-    pub fn new(host: &'h H, watched: Watched<'a, F>, readers: usize) -> ImageFile<'h, 'a, H, F> {
+impl<'a, F: Drop> ImageFile<'a, F> {
+    /// Reads the body ahead by at most `readers` threads, if it is a large one in a regular file.
+    pub fn read_ahead<H: AllocGlobal + Threads + Sync>(
+        host: &H,
+        watched: Watched<'a, F>,
+        readers: usize,
+    ) -> ImageFile<'a, F>
+    where
+        F: OpenFile + FileExt + Sync,
+    {
+        let ahead = Ahead::read(host.alloc(), &watched, readers, host);
         ImageFile {
             watched,
-            host,
-            readers,
             failed: false,
+            ahead,
         }
     }
 
@@ -43,8 +49,7 @@ impl<'h, 'a, H, F: Drop> ImageFile<'h, 'a, H, F> {
     }
 }
 
-impl<H: Threads + Sync, F: OpenFile + Read + Seek + FileExt + Sync + Drop> Intake
-    for ImageFile<'_, '_, H, F> {
+impl<F: Read + Seek + Drop> Intake for ImageFile<'_, F> {
     ghost use Rattle.std.specs.Prelude.{None};
 
     ghost left = { λ _. None };
@@ -68,8 +73,8 @@ impl<H: Threads + Sync, F: OpenFile + Read + Seek + FileExt + Sync + Drop> Intak
         self.failed
     }
 
-    fn take_body(&mut self, alloc: Global, size: BodySize) -> Option<Body> {
-        let Ahead { extent, body } = Ahead::read(alloc, &self.watched, self.readers, self.host)?;
+    fn take_body(&mut self, _alloc: Global, size: BodySize) -> Option<Body> {
+        let Ahead { extent, body } = self.ahead.take()?;
         if extent.size != size {
             return None;
         }

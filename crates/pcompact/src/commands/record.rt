@@ -38,7 +38,7 @@ where
     let (image, mut out, mut schedule) = image_out_and_schedule(rt, &request)?;
     out.file.file().expect_len(image.regular_len());
     let readers = request.workers as usize;
-    let image = ImageFile::new(rt, image.with_shape(request.shape), readers);
+    let image = ImageFile::read_ahead(rt, image.with_shape(request.shape), readers);
     let mut image = TimedIntake::new(rt, watch, image);
     let may_have_holes = out.may_have_holes;
     let written = OutFile::new(&mut out.file, may_have_holes);

@@ -18,7 +18,7 @@ use std::alloc::Global;
 use std::os::unix::fs::FileExt;
 use std::rt::Files;
 use std::thread::Threads;
-use std::time::Clock;
+use std::time::{Clock, Duration};
 
 /// Compares the image in one file with the compaction of another, and returns what `verify` prints if they are equal. A
 /// difference is explained if the request asks for it, or if a person reads standard error.
@@ -75,8 +75,10 @@ where
     let after = FileWord::new(Role::After, request.after);
     let (before, after) = two_inputs(rt, before, after)?;
     let readers = current_num_threads(rt);
-    let before = ImageFile::new(rt, before.with_shape(request.shape), readers);
-    let after = ImageFile::new(rt, after, readers);
+    let before = ImageFile::read_ahead(rt, before.with_shape(request.shape), readers);
+    let first = watch.elapsed(rt);
+    let after = ImageFile::read_ahead(rt, after, readers);
+    let second = watch.elapsed(rt);
     let mut was = TimedIntake::new(rt, watch, before);
     let mut is = TimedIntake::new(rt, watch, after);
     let wishes = Wishes {
@@ -85,8 +87,8 @@ where
     };
     let verified = verify_images(rt.alloc(), &mut was, &mut is, rt, wishes);
     let laps = Laps::new()
-        .then(Phase::ReadBefore, was.came())
-        .then(Phase::CheckBefore, was.ended())
+        .then(Phase::ReadBefore, without(was.came(), first, second))
+        .then(Phase::CheckBefore, without(was.ended(), first, second))
         .then(Phase::ReadAfter, is.came())
         .then(Phase::CheckAfter, is.ended())
         .then(Phase::Compare, watch.elapsed(rt));
@@ -104,6 +106,15 @@ where
             Err(trouble_of(refused.why, &before, &after).explained(lines))
         }
     }
+}
+
+/// A time as if nothing had happened between these two times, in which AFTER was read ahead.
+fn without(
+    time: Option<Duration>,
+    first: Option<Duration>,
+    second: Option<Duration>,
+) -> Option<Duration> {
+    Some(time?.saturating_sub(second?.saturating_sub(first?)))
 }
 
 /// Says which file a fault is about.
