@@ -6,7 +6,8 @@ use Rattle.summary.specs.Compaction.{compact}
 use Rattle.collector.specs.Compared.{behind}
 use Rattle.collector.proofs.Gaps.{behind-zero, behind-next}
 use Rattle.collector.proofs.Placing.{place_end, top_reached, place_of, end_of_place}
-use Rattle.collector.proofs.Comparing.{low, run, object, top_exact, tally_to}
+use Rattle.collector.proofs.Visits.{low, run, object}
+use Rattle.collector.proofs.Comparing.{top_exact, tally_to}
 use Rattle.collector.proofs.comparison_explained.WordComparison.tally.Goals as goal
 
 place_inside : (place s n : ℕ) → place + s ≤ n → place ≤ n
