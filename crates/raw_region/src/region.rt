@@ -25,10 +25,13 @@ pub struct Region {
 impl Model for Region {
     ghost use Rattle.std.specs.Prelude.{List, ℕ};
     ghost use Rattle.raw_region.specs.Region.{shown_words};
+    ghost use Rattle.raw_region.specs.RegionBlock.{IsRegionBlock};
 
     ghost Value = { List ℕ };
 
     ghost view = { λ r. shown_words r.is_clear r.block.words };
+
+    ghost invariant = { λ r. IsRegionBlock r.block };
 }
 
 impl Region {

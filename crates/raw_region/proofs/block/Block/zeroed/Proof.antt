@@ -29,7 +29,7 @@ use denote.Triple.Clauses.{lasts}
 use denote.Triple.Spec.{triple_of}
 use denote.Triple.Table.{framed}
 use Rattle.raw_region.specs.Block.{may_free}
-use Rattle.raw_region.specs.declared.block.TheConstants.{MAX_WORDS}
+use Rattle.core.specs.declared.option.Option.TheVariants.{Some as Just}
 use Rattle.core.specs.Allocator.{HasLayout, array_of, block_if_ok}
 use Rattle.core.specs.contracts.alloc.AllocError as AE
 use Rattle.core.specs.contracts.result.Result as RS
@@ -113,8 +113,8 @@ zeroed_spec 𝓤 𝓛 𝓜 𝓡 wired =
     (λ κs. (shr_vals, (uint_vals w64, tt))) (λ κs. (shr_Tells (named 0) κs.0 G.the_row, (uint_Tells w64, tt))) (λ κs qs bounds a _ are.
     let κ = κs.0 in let q = qs.0 in let heap = a.0 in let n = a.1.0 in let τ = array_of u64 n in let fits = are.1.0.1 in
     let y : W.Ghost = ((κs, qs, bounds, a, (shr_vals heap, (uint_vals w64 n, tt))), tt) in
-    qed 𝓛 (((‵ (flft κ q) ⊛ ‵ ftrue) ⊛ ‵ ((ShrRef (named 0) κ G.the_row).own_val heap (shr_vals heap)) ⊛ ‵ (usize.own_val n (uint_vals w64 n)) ⊛ ‵ ftrue) ∷ (raw (fact 𝓤 (1 ≤ n)) ⊛ raw (fact 𝓤 (n ≤ MAX_WORDS))) ∷ []) ∵
-    move ! (1 ∷ []) $ split ! $ heard ! (1 ≤ n) (λ nonempty. heard ! (n ≤ MAX_WORDS) (λ most. let small : n * 8 < 2 ^ 63 = omega arith in split ! $ split ! $ move ! (2 ∷ []) $ split ! $ keep ! (0 ∷ 2 ∷ []) $
+    qed 𝓛 (((‵ (flft κ q) ⊛ ‵ ftrue) ⊛ ‵ ((ShrRef (named 0) κ G.the_row).own_val heap (shr_vals heap)) ⊛ ‵ (usize.own_val n (uint_vals w64 n)) ⊛ ‵ ftrue) ∷ (raw (fact 𝓤 (1 ≤ n)) ⊛ raw (fact 𝓤 (n < 2 ^ 60))) ∷ []) ∵
+    move ! (1 ∷ []) $ split ! $ heard ! (1 ≤ n) (λ nonempty. heard ! (n < 2 ^ 60) (λ most. let small : n * 8 < 2 ^ 63 = omega arith in split ! $ split ! $ move ! (2 ∷ []) $ split ! $ keep ! (0 ∷ 2 ∷ []) $
     -- [the handle; the token]
     let bytes : n * 8 < 2 ^ 64 = omega arith in
     let D = triple_of 𝓛 g.signature (g.spec 𝓛 𝓜.mem 𝓡.returns) in
@@ -133,7 +133,7 @@ zeroed_spec 𝓤 𝓛 𝓜 𝓡 wired =
     await ! tt $ pick ! (λ r. split ! $ split ! $ split ! $ move ! (3 ∷ []) $ pick ! (λ ws. split ! $ drop ! $ move ! (3 ∷ 0 ∷ []) $
     told ! τ v r
     (λ b o e.
-    let ws : List ℕ = replicate n 0 in let d : B.the_row.Denot = record { at = block_ptr b o; len = n; words = ws } in
+    let ws : List ℕ = replicate n 0 in let d : B.the_row.Denot = record { at = block_ptr b o; len = n; words = ws; deed = Just (block_ptr b o, n) } in
     let cell : Val = vstruct (vcons (vptr b o) (vcons (vint w64 n) vnil)) in let some_block : Val = live 0 (vcons cell vnil) in
     let all : n ≡ n - 0 = omega arith in let here : o ≡ 0 * 8 + o = omega arith in
     lands_as ! e refl (Answer-typed true b o) $ first ! $ switches_on ! (get_tag ! (vrt ! refl (fld ! refl (stop !))) (whole !)) $ exec ! 𝓣.C 𝓣.Λ E made (any_q K) $
@@ -151,10 +151,10 @@ zeroed_spec 𝓤 𝓛 𝓜 𝓡 wired =
     sets ! (of_opd ! (get ! refl)) refl (tt, (record { fits = lit< tt }, ((tt, (record { fits = fits }, tt)), tt))) $
     returns ! (look_at ! 0 refl) $ free_all ! refl $ keep ! (0 ∷ 1 ∷ 2 ∷ []) $
     feq_i ! ℕ (length ws) n (length-replicate n 0) $ fjoin ! $ use1 𝓛 (‵ (lies_at (Array u64 n) full_share (block_ptr b o) ws)) (Array-whole 𝓛 u64 full_share n ws b o) $ fjoin ! $
-    flt_i ! n (MAX_WORDS + 1) (omega arith) $ flt_i ! 0 n (omega arith) $ fjoin ! $ fjoin ! $
+    flt_i ! n (2 ^ 60) most $ fjoin ! $
     pure_i ! (Plain.own_val (plain_of d) (cell ∷ [])) (λ vss. (tt, (tt, ((tt, tt), tt)))) ((vptr b o ∷ [], (vint w64 n ∷ [], tt)), (refl, (refl, ((refl, fits), tt)))) $ fjoin ! $
     use1 𝓛 (‵ ((RS.the_row B.the_row AE.the_row).own_val (Ok d) (some_block ∷ []))) (ok_of 𝓛 B.the_row AE.the_row d cell) $
-    suffices ! _ (ends_at 𝓛 f.ended stayed c y some_block (Ok d) (tt, (tt, tt)) (tt, (tt, tt))) $ says ! refl $
+    suffices ! _ (ends_at 𝓛 f.ended stayed c y some_block (Ok d) (tt, (tt, tt)) (tt, (tt, tt))) $ says ! (refl, refl, refl) $
     nothing ! $ nothing ! $ join ! $ nothing ! $ join ! $ nothing ! $ move ! (3 ∷ 0 ∷ []) $ join ! $ done !))
     (λ e.
     let no_block : Val = live 1 (vcons (vstruct vnil) vnil) in let Refusal = Struct (Declared.shape AE.the_type) in
