@@ -1,5 +1,5 @@
 -- What a block owns, and what a `&` to it lends.
-use Rattle.std.specs.Prelude.{ℕ, ◌^◌, List, Option, Some, None}
+use Rattle.std.specs.Prelude.{ℕ, ◌^◌, List, Bool, true, false, Option, Some, None}
 use Rattle.std.specs.Borrow.{full_share, u64, Array}
 use Rattle.std.specs.Ptr.{Ptr, lies_at}
 use Rattle.std_heap.specs.contracts.GlobalAllocator.TheImpl.{ghosts}
@@ -29,6 +29,11 @@ is_length n = flt n (2 ^ 60)
 -- n words ws at p, and the right to free an allocation, or none
 abbrev pub block_owns : Deed → Ptr → ℕ → List ℕ → Fml
 block_owns deed p n ws = fsep (is_length n) (fsep (lies_at (Array u64 n) full_share p ws) (right deed))
+
+-- the words of a host, where it has some: nobody here may free them
+abbrev pub held_block : Bool → Ptr → ℕ → List ℕ → Fml
+held_block true p n ws = block_owns None p n ws
+held_block false p n ws = ftrue
 
 -- for the lifetime κ, the same words to read
 abbrev pub block_shares : Ptr → ℕ → List ℕ → Lft → Fml
