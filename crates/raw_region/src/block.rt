@@ -70,6 +70,15 @@ impl Block {
         unsafe { slice::from_raw_parts_mut(self.at, self.len) }
     }
 
+    /// The same block, which has as many words as it says.
+    pub(crate) fn counted(self) -> Block
+        ensures same { result ≡ self }
+        ensures length { length result.words ≡ result.len }
+    {
+        let _ = self.words();
+        self
+    }
+
     /// Cuts a block into its first `n` words, which keep its deed, and the others.
     pub(crate) fn cut(self, n: usize) -> (Block, Block)
         requires { n ≤ self.len }

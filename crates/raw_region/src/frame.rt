@@ -1,5 +1,5 @@
 //! One allocation whose words are parts of one size, each of which is in its slot or out.
-ghost use Rattle.std.specs.Prelude.{◌≡◌, ◌+◌, ◌*◌, ◌^◌, ◌<◌, ◌≤◌, ◌∷◌, [], ◌++◌, map, IfSome, IfOk, vec_len};
+ghost use Rattle.std.specs.Prelude.{◌≡◌, ◌+◌, ◌*◌, ◌^◌, ◌<◌, ◌≤◌, ◌∷◌, [], ◌++◌, length, map, IfSome, IfOk, vec_len};
 ghost use Rattle.std.specs.List.{range_with_len};
 ghost use Rattle.std.specs.Vec.{vec_capacity};
 ghost use Rattle.raw_region.specs.Frame.{place_of, part_of, IsPart, IsRest};
@@ -74,7 +74,10 @@ impl Frame {
     /// Takes a part out of its slot. `None` if it is out already.
     pub(crate) fn take(&self, index: usize) -> Option<Block>
         requires { index < self.now.count }
-        ensures { IfSome result (λ b. IsPart (part_of self.now index) b) }
+        ensures part { IfSome result (λ b. IsPart (part_of self.now index) b) }
+        ensures length { IfSome result (λ b. length b.words ≡ b.len) }
+        ensures nonempty { 1 ≤ self.now.size }
+        ensures at_most { self.now.size ≤ MAX_WORDS }
     {
         let (found, claim) = self.slot(index).turn(HERE, TAKEN);
         if found != HERE {
@@ -82,7 +85,7 @@ impl Frame {
             return None;
         }
         let part = claim.put(None, OUT)?;
-        Some(part.into_block())
+        Some(part.into_block().counted())
     }
 
     /// Puts a part back into its slot. No one else turns the slot while the part is out, so the turn wins. No contract
@@ -120,7 +123,9 @@ impl Frame {
 
     fn slot(&self, index: usize) -> &Counted<Option<Part>>
         requires { index < self.now.count }
-        ensures { result.now ≡ part_of self.now index }
+        ensures value { result.now ≡ part_of self.now index }
+        ensures nonempty { 1 ≤ self.now.size }
+        ensures at_most { self.now.size ≤ MAX_WORDS }
     {
         &self.slots[index]
     }

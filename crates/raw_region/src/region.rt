@@ -5,7 +5,7 @@ ghost use Rattle.raw_region.specs.Region.{with_words, part, hides};
 
 use crate::block::{Block, MAX_WORDS};
 use crate::chunks::move_down;
-use crate::home::Home;
+use crate::home::{Home, Lease};
 use std::alloc::{AllocError, Global};
 use std::marker::Model;
 
@@ -38,6 +38,7 @@ impl Model for Region {
 
 impl Region {
     ghost use Rattle.raw_region.specs.RegionLending.{LendsRegion};
+    ghost use Rattle.raw_region.specs.RegionBlock.{IsLeased};
 
     /// Allocates a region of this many words, all 0. The only error is that memory runs out.
     pub fn new(alloc: Global, words: usize) -> Result<Region, AllocError>
@@ -53,6 +54,21 @@ impl Region {
             home: Home::Own,
             alloc,
         })
+    }
+
+    /// A region of a part of a frame.
+    pub(crate) fn of_lease(alloc: Global, lease: Lease, block: Block) -> Region
+        requires lease { IsLeased lease block }
+        requires nonempty { 1 ≤ block.len }
+        requires at_most { block.len ≤ MAX_WORDS }
+        ensures { result ≡ block.words }
+    {
+        Region {
+            block,
+            is_clear: false,
+            home: Home::Leased(lease),
+            alloc,
+        }
     }
 
     /// A region of a host's words.
@@ -225,6 +241,7 @@ impl Drop for Region {
         } = self;
         match home {
             Home::Own => block.release(&alloc),
+            Home::Leased(lease) => lease.end(block, &alloc),
             Home::Host => block.leave(),
         }
     }

@@ -4,8 +4,8 @@ use Rattle.std.proofs.lemmas.List.FromFn.{get_or-map-range_with_len}
 use Rattle.raw_region.specs.Frame.{place_of, part_of}
 use Rattle.raw_region.proofs.frame.Frame.slot.Goals as goal
 
-pub returns : goal.returns
-returns c =
+pub returns-clause-value : goal.returns-clause-value
+returns-clause-value c =
     let s = c.self.inside in
     let i = c.args.index in
     let xs = s.slots.items in
