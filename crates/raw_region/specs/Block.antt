@@ -2,9 +2,10 @@
 use Rattle.std.specs.Prelude.{ℕ, ◌^◌, List, Bool, true, false, Option, Some, None}
 use Rattle.std.specs.Borrow.{full_share, u64, Array}
 use Rattle.std.specs.Ptr.{Ptr, lies_at}
+use denote.RawPtr.{room_for}
 use Rattle.std_heap.specs.contracts.GlobalAllocator.TheImpl.{ghosts}
 use Rattle.core.specs.Allocator.{array_of}
-use mir.Syntax.{Ty}
+use mir.Syntax.{Ty, w64, ty_int, ty_array}
 use base.Fml.{Fml, Lft, ftrue, fsep, flt}
 use denote.Sharing.{said, beside}
 use denote.Struct.Lending.{lent_at}
@@ -29,6 +30,10 @@ is_length n = flt n (2 ^ 60)
 -- n words ws at p, and the right to free an allocation, or none
 abbrev pub block_owns : Deed → Ptr → ℕ → List ℕ → Fml
 block_owns deed p n ws = fsep (is_length n) (fsep (lies_at (Array u64 n) full_share p ws) (right deed))
+
+-- room for n words at p, and the right to free an allocation, or none
+abbrev pub room_owns : Deed → Ptr → ℕ → Fml
+room_owns deed p n = fsep (is_length n) (fsep (room_for (ty_array (ty_int w64) n) p) (right deed))
 
 -- the words of a host, where it has some: nobody here may free them
 abbrev pub held_block : Bool → Ptr → ℕ → List ℕ → Fml

@@ -2,7 +2,7 @@
 use Rattle.std.specs.Prelude.{◌≡◌, ℕ, ◌-◌, ◌*◌, ◌^◌, ◌<◌, ◌≤◌, List, length, map, Some, None}
 use Rattle.std.specs.List.{range_with_len}
 use Rattle.std.specs.Ptr.{Ptr}
-use Rattle.raw_region.specs.declared.block.Block.{Block}
+use Rattle.raw_region.specs.declared.room.Room.{Room}
 use Rattle.raw_region.specs.declared.block.TheConstants.{MAX_WORDS}
 use Rattle.raw_region.specs.Cutting.{end_of}
 
@@ -16,13 +16,13 @@ abbrev pub place_of : Ptr → ℕ → ℕ → Place
 place_of root size index = record { root = root; size = size; index = index }
 
 -- the block has the words of that part, and frees nothing
-pub record IsPart (place : Place) (b : Block) : Type 0 where
+pub record IsPart (place : Place) (b : Room) : Type 0 where
   pub at : b.at ≡ end_of place.root (place.index * place.size)
   pub len : b.len ≡ place.size
   pub deed : b.deed ≡ None
 
 -- the words of the parts from number k on, of n in all
-pub record IsRest (root : Ptr) (size n k : ℕ) (b : Block) : Type 0 where
+pub record IsRest (root : Ptr) (size n k : ℕ) (b : Room) : Type 0 where
   pub at : b.at ≡ end_of root (k * size)
   pub len : b.len ≡ n * size - k * size
   pub deed : b.deed ≡ None
@@ -37,7 +37,7 @@ abbrev pub part_of : FrameView → ℕ → Place
 part_of f index = place_of f.root f.size index
 
 -- the deed has no words, and may free those of all parts; there is a slot for each part, in order
-pub record IsFrame (deed : Block) (size : ℕ) (slots : List Place) : Type 0 where
+pub record IsFrame (deed : Room) (size : ℕ) (slots : List Place) : Type 0 where
   pub some : 1 ≤ size
   pub most : size ≤ MAX_WORDS
   pub fits : length slots * size < 2 ^ 60

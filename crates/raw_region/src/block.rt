@@ -4,7 +4,8 @@ ghost use Rattle.std.specs.Borrow.{sem};
 ghost use Rattle.std.specs.Ptr.{Ptr};
 ghost use Rattle.raw_region.specs.Block.{block_owns, block_shares};
 
-use std::alloc::{AllocError, Allocator, Global};
+use crate::room::Room;
+use std::alloc::{AllocError, Global};
 use std::marker::{Model, Send, Sync};
 use std::slice;
 
@@ -34,7 +35,7 @@ unsafe impl Sync for Block {}
 
 impl Block {
     ghost use Rattle.raw_region.specs.BlockLending.{LendsBlock};
-    ghost use Rattle.raw_region.specs.Cutting.{IsCut, CanJoin, IsJoin};
+    ghost use Rattle.raw_region.specs.Rooms.{room_of};
 
     /// Allocates a block of zeros.
     pub(crate) fn zeroed(alloc: &Global, len: usize) -> Result<Block, AllocError>
@@ -42,18 +43,7 @@ impl Block {
         requires at_most { len < 2 ^ 60 }
         ensures { IfOk result (λ b. (b.words ≡ replicate len 0) × (b.len ≡ len) × (b.deed ≡ Some (b.at, len))) }
     {
-        match alloc.allocate(len * 8, 8) {
-            Ok(start) => {
-                let at = start as *mut u64;
-                let mut i = 0;
-                while i < len {
-                    unsafe { at.add(i).write(0) };
-                    i += 1;
-                }
-                Ok(Block { at, len })
-            }
-            Err(refused) => Err(refused),
-        }
+        Ok(Room::allocate(alloc, len)?.zeroed())
     }
 
     pub(crate) fn words(&self) -> &[u64]
@@ -70,50 +60,19 @@ impl Block {
         unsafe { slice::from_raw_parts_mut(self.at, self.len) }
     }
 
-    /// The same block, which has as many words as it says.
-    pub(crate) fn counted(self) -> Block
-        ensures same { result ≡ self }
-        ensures length { length result.words ≡ result.len }
-    {
-        let _ = self.words();
-        self
-    }
-
-    /// Cuts a block into its first `n` words, which keep its deed, and the others.
-    pub(crate) fn cut(self, n: usize) -> (Block, Block)
-        requires { n ≤ self.len }
-        ensures { IsCut self n result.0 result.1 }
+    /// Gives the words up.
+    pub(crate) fn into_room(self) -> Room
+        ensures { result ≡ room_of self }
     {
         let Block { at, len } = self;
-        let above = unsafe { at.add(n) };
-        (
-            Block { at, len: n },
-            Block {
-                at: above,
-                len: len - n,
-            },
-        )
-    }
-
-    /// Joins the block that begins where this one ends.
-    pub(crate) fn join(self, above: Block) -> Block
-        requires { CanJoin self above }
-        ensures { IsJoin self above result }
-    {
-        let Block { at, len } = self;
-        let Block { at: _, len: more } = above;
-        Block {
-            at,
-            len: len + more,
-        }
+        Room { at, len }
     }
 
     /// Frees the allocation, all of whose words are in the block.
     pub(crate) fn release(self, alloc: &Global)
         requires { self.deed ≡ Some (self.at, self.len) }
     {
-        let Block { at, len } = self;
-        unsafe { alloc.deallocate(at as *mut u8, len * 8, 8) }
+        self.into_room().release(alloc);
     }
 
     /// Lets the words be. Those of an allocation are never freed then.

@@ -1,11 +1,12 @@
 //! One allocation whose words are parts of one size, each of which is in its slot or out.
-ghost use Rattle.std.specs.Prelude.{◌≡◌, ◌+◌, ◌*◌, ◌^◌, ◌<◌, ◌≤◌, ◌∷◌, [], ◌++◌, length, map, IfSome, IfOk, vec_len};
+ghost use Rattle.std.specs.Prelude.{◌≡◌, ◌+◌, ◌*◌, ◌^◌, ◌<◌, ◌≤◌, ◌∷◌, [], ◌++◌, map, IfSome, IfOk, vec_len};
 ghost use Rattle.std.specs.List.{range_with_len};
 ghost use Rattle.std.specs.Vec.{vec_capacity};
 ghost use Rattle.raw_region.specs.Frame.{place_of, part_of, IsPart, IsRest};
 
-use crate::block::{Block, MAX_WORDS};
+use crate::block::MAX_WORDS;
 use crate::part::{Part, Place};
+use crate::room::Room;
 use counted_slot::{Counted, FREE, TAKEN};
 use std::alloc::{AllocError, Global};
 use std::marker::Model;
@@ -20,8 +21,8 @@ const OUT: u64 = 0x1_0000_0000;
 ///
 /// It has no `Drop`: only `end` ends one.
 pub(crate) struct Frame {
-    // No words, and the right to free the allocation.
-    deed: Block,
+    // No room, and the right to free the allocation.
+    deed: Room,
     size: usize,
     slots: Vec<Counted<Option<Part>>>,
 }
@@ -38,7 +39,7 @@ impl Model for Frame {
 }
 
 impl Frame {
-    /// Allocates `count` parts of `size` zeros.
+    /// Allocates `count` parts of `size` words.
     pub(crate) fn new(alloc: Global, count: usize, size: usize) -> Result<Frame, AllocError>
         requires some { 1 ≤ count }
         requires nonempty { 1 ≤ size }
@@ -48,10 +49,9 @@ impl Frame {
         ensures count { IfOk result (λ f. f.count ≡ count) }
     {
         let mut slots = Vec::with_capacity(alloc, count)?;
-        let block = Block::zeroed(&alloc, count * size)?;
-        let (deed, words) = block.cut(0);
+        let (deed, room) = Room::allocate(&alloc, count * size)?.cut(0);
         let first = Place::first(&deed, size);
-        put_all(&mut slots, words, count, first);
+        put_all(&mut slots, room, count, first);
         Ok(Frame { deed, size, slots })
     }
 
@@ -72,10 +72,9 @@ impl Frame {
     }
 
     /// Takes a part out of its slot. `None` if it is out already.
-    pub(crate) fn take(&self, index: usize) -> Option<Block>
+    pub(crate) fn take(&self, index: usize) -> Option<Room>
         requires { index < self.now.count }
-        ensures part { IfSome result (λ b. IsPart (part_of self.now index) b) }
-        ensures length { IfSome result (λ b. length b.words ≡ b.len) }
+        ensures part { IfSome result (λ room. IsPart (part_of self.now index) room) }
         ensures nonempty { 1 ≤ self.now.size }
         ensures at_most { self.now.size ≤ MAX_WORDS }
     {
@@ -85,16 +84,16 @@ impl Frame {
             return None;
         }
         let part = claim.put(None, OUT)?;
-        Some(part.into_block().counted())
+        Some(part.into_room())
     }
 
     /// Puts a part back into its slot. No one else turns the slot while the part is out, so the turn wins. No contract
     /// says so; if it lost, the frame would never be freed.
-    pub(crate) fn put(&self, index: usize, block: Block)
+    pub(crate) fn put(&self, index: usize, room: Room)
         requires inside { index < self.now.count }
-        requires part { IsPart (part_of self.now index) block }
+        requires part { IsPart (part_of self.now index) room }
     {
-        let part = Part { block };
+        let part = Part { room };
         let (found, claim) = self.slot(index).turn(OUT, TAKEN);
         if found == OUT {
             claim.put(Some(part), HERE);
@@ -116,7 +115,7 @@ impl Frame {
                 whole.leave();
                 return;
             };
-            whole = whole.join(part.into_block());
+            whole = whole.join(part.into_room());
         }
         whole.release(alloc);
     }
@@ -131,19 +130,19 @@ impl Frame {
     }
 }
 
-/// Cuts the words into `count` parts, and appends a slot for each.
-fn put_all(slots: &mut Vec<Counted<Option<Part>>>, words: Block, count: usize, first: Place)
+/// Cuts the room into `count` parts, and appends a slot for each.
+fn put_all(slots: &mut Vec<Counted<Option<Part>>>, room: Room, count: usize, first: Place)
     requires first { first.index ≡ 0 }
-    requires words { IsRest first.root first.size count 0 words }
+    requires rest { IsRest first.root first.size count 0 room }
     requires empty { slots.old.items ≡ [] }
-    requires room { count ≤ vec_capacity slots.old }
+    requires capacity { count ≤ vec_capacity slots.old }
     ensures { slots.new.items ≡ map (place_of first.root first.size) (range_with_len 0 count) }
 {
     let mut place = first;
-    let mut rest = words;
+    let mut rest = room;
     for _ in 0..count {
-        let (block, above) = rest.cut(place.size());
-        add(slots, Counted::new(Some(Part { block }), &place));
+        let (room, above) = rest.cut(place.size());
+        add(slots, Counted::new(Some(Part { room }), &place));
         rest = above;
         place.step();
     }

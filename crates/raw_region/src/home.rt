@@ -1,8 +1,8 @@
 //! Where the words of a region lie, and who frees them.
 ghost use Rattle.raw_region.specs.RegionBlock.{IsLeased};
 
-use crate::block::Block;
 use crate::frame::Frame;
+use crate::room::Room;
 use std::alloc::Global;
 use std::sync::Arc;
 
@@ -24,11 +24,11 @@ pub(crate) struct Lease {
 
 impl Lease {
     /// Puts the part back, and gives the share up.
-    pub(crate) fn end(self, block: Block, alloc: &Global)
-        requires { IsLeased self block }
+    pub(crate) fn end(self, room: Room, alloc: &Global)
+        requires { IsLeased self room }
     {
         let Lease { frame, index } = self;
-        frame.put(index, block);
+        frame.put(index, room);
         leave(frame, alloc);
     }
 }

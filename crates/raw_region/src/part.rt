@@ -2,28 +2,28 @@
 ghost use Rattle.std.specs.Prelude.{◌≡◌, ◌+◌, ◌<◌, ◌^◌};
 ghost use Rattle.raw_region.specs.Frame.{place_of};
 
-use crate::block::Block;
+use crate::room::Room;
 use counted_slot::Fits;
 use std::marker::Model;
 use std::snapshot::Snapshot;
 
-/// The words of a region while they are in a frame. If they are dropped, nobody frees them.
+/// The room of a region while it is in a frame. If it is dropped, nobody frees it.
 pub(crate) struct Part {
-    pub(crate) block: Block,
+    pub(crate) room: Room,
 }
 
 impl Part {
-    pub(crate) fn into_block(self) -> Block
-        ensures { result ≡ self.block }
+    pub(crate) fn into_room(self) -> Room
+        ensures { result ≡ self.room }
     {
-        let Part { block } = self;
-        block
+        let Part { room } = self;
+        room
     }
 }
 
 impl Drop for Part {
     fn drop(self) {
-        self.into_block().leave();
+        self.into_room().leave();
     }
 }
 
@@ -32,13 +32,13 @@ impl Fits for Part {
 
     type Tag = Place;
 
-    ghost fits = { λ place part. IsPart place part.block };
+    ghost fits = { λ place part. IsPart place part.room };
 }
 
 /// Which part of a frame.
 #[derive(Drop)]
 pub(crate) struct Place {
-    root: Snapshot<Block>,
+    root: Snapshot<Room>,
     size: usize,
     index: usize,
 }
@@ -52,7 +52,7 @@ impl Model for Place {
 }
 
 impl Place {
-    pub(crate) fn first(root: &Block, size: usize) -> Place
+    pub(crate) fn first(root: &Room, size: usize) -> Place
         ensures { result ≡ place_of root.now.at size 0 }
     {
         Place {

@@ -1,5 +1,5 @@
 //! Regions that share one allocation.
-ghost use Rattle.std.specs.Prelude.{◌≡◌, ◌*◌, ◌^◌, ◌<◌, ◌≤◌, length, IfSome, IfOk};
+ghost use Rattle.std.specs.Prelude.{◌≡◌, ◌*◌, ◌^◌, ◌<◌, ◌≤◌, replicate, IfSome, IfOk};
 
 use crate::block::MAX_WORDS;
 use crate::frame::Frame;
@@ -27,7 +27,7 @@ impl Model for RegionPool {
 }
 
 impl RegionPool {
-    /// Allocates the words of `count` regions of `words` words, all 0. The only error is that memory runs out.
+    /// Allocates the words of `count` regions of `words` words. The only error is that memory runs out.
     pub fn new(alloc: Global, count: usize, words: usize) -> Result<RegionPool, AllocError>
         requires some { 1 ≤ count }
         requires nonempty { 1 ≤ words }
@@ -62,16 +62,19 @@ impl RegionPool {
         self.frame.size()
     }
 
-    /// Takes a region, with the words that it had when it last came back. `None` if it is out already.
+    /// Takes a region, all of whose words are 0. `None` if it is out already.
     pub fn take(&self, index: usize) -> Option<Region>
         requires { index < self.now.count }
-        ensures { IfSome result (λ region. length region ≡ self.now.size) }
+        ensures { IfSome result (λ region. region ≡ replicate self.now.size 0) }
     {
         let Ok(frame) = Arc::try_clone(&self.frame) else {
             return None;
         };
         match self.frame.take(index) {
-            Some(block) => Some(Region::of_lease(self.alloc, Lease { frame, index }, block)),
+            Some(room) => {
+                let lease = Lease { frame, index };
+                Some(Region::of_lease(self.alloc, lease, room.zeroed()))
+            }
             None => {
                 leave(frame, &self.alloc);
                 None

@@ -39,6 +39,7 @@ impl Model for Region {
 impl Region {
     ghost use Rattle.raw_region.specs.RegionLending.{LendsRegion};
     ghost use Rattle.raw_region.specs.RegionBlock.{IsLeased};
+    ghost use Rattle.raw_region.specs.Rooms.{room_of};
 
     /// Allocates a region of this many words, all 0. The only error is that memory runs out.
     pub fn new(alloc: Global, words: usize) -> Result<Region, AllocError>
@@ -58,7 +59,7 @@ impl Region {
 
     /// A region of a part of a frame.
     pub(crate) fn of_lease(alloc: Global, lease: Lease, block: Block) -> Region
-        requires lease { IsLeased lease block }
+        requires lease { IsLeased lease (room_of block) }
         requires nonempty { 1 ≤ block.len }
         requires at_most { block.len ≤ MAX_WORDS }
         ensures { result ≡ block.words }
@@ -241,7 +242,7 @@ impl Drop for Region {
         } = self;
         match home {
             Home::Own => block.release(&alloc),
-            Home::Leased(lease) => lease.end(block, &alloc),
+            Home::Leased(lease) => lease.end(block.into_room(), &alloc),
             Home::Host => block.leave(),
         }
     }

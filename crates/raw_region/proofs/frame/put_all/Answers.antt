@@ -20,9 +20,9 @@ loop-preserved c =
     let k = c.loop.counter in
     let inv = c.loop.invariant in
     let one : suc k ≡ k + 1 = omega arith in
-    let part = c.cut-block.result.0 in
-    let above = c.cut-block.result.1 in
-    let cut : IsCut c.loop.rest size part above = subst (λ m. IsCut c.loop.rest m part above) (c.size.ensures ∙ ap (λ p. p.size) inv.0) c.cut-block.ensures in (
+    let part = c.cut-room.result.0 in
+    let above = c.cut-room.result.1 in
+    let cut : IsCut c.loop.rest size part above = subst (λ m. IsCut c.loop.rest m part above) (c.size.ensures ∙ ap (λ p. p.size) inv.0) c.cut-room.ensures in (
       c.step.ensures ∙ ap (λ p. place_of p.root p.size (p.index + 1)) inv.0,
       subst (λ j. IsRest root size c.args.count j above) one (rest-of-cut root size c.args.count k c.loop.rest part above inv.1 cut),
       c.add.ensures.items

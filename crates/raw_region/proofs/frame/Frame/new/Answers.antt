@@ -23,6 +23,6 @@ invariant_of-result c =
       most = c.requires.at_most;
       fits = subst (λ n. n * size < 2 ^ 60) (sym all) c.requires.fits;
       empty = c.cut-deed.ensures.len;
-      frees = c.cut-deed.ensures.deed ∙ c.in_ok-block.ensures.2 ∙ ap (λ p. Some (p, count * size)) (sym c.cut-deed.ensures.at) ∙ ap (λ n. Some (deed.at, n * size)) (sym all);
+      frees = c.cut-deed.ensures.deed ∙ c.in_ok-allocate.ensures.1 ∙ ap (λ p. Some (p, count * size)) (sym c.cut-deed.ensures.at) ∙ ap (λ n. Some (deed.at, n * size)) (sym all);
       slots_are = c.put_all.ensures ∙ ap (λ p. map (place_of p.root p.size) (range_with_len 0 count)) c.first-first.ensures ∙ ap (λ n. map (place_of deed.at size) (range_with_len 0 n)) (sym all);
     }
