@@ -71,7 +71,7 @@ impl Dump {
             other => {
                 return Err(ImportError::Malformed {
                     offset: at,
-                    problem: Problem::IdSize(other as u32),
+                    problem: Problem::IdSize(as_u32(other)),
                 });
             }
         };
@@ -189,7 +189,7 @@ impl Dump {
         ensures input { result ≡ Err ImportError.Input → IsTrue (R.has_failed source.new) }
     {
         self.at = self.window.offset();
-        let tag = self.window.number(source, 1)? as u8;
+        let tag = as_u8(self.window.number(source, 1)?);
         let Some(head) = head_of(tag, self.ids.bytes()) else {
             return Err(self.problem(Problem::HeapTag(tag)));
         };
@@ -198,13 +198,13 @@ impl Dump {
             0x20 => ObjectKind::Class,
             0x21 => ObjectKind::Instance {
                 class: third,
-                bytes: fourth as u32,
+                bytes: as_u32(fourth),
             },
             0x22 => ObjectKind::Array {
                 elements: Elements::References { class: fourth },
-                contents: Contents::of_references(third as u32),
+                contents: Contents::of_references(as_u32(third)),
             },
-            0x23 => self.primitives(third as u32, fourth as u8)?,
+            0x23 => self.primitives(as_u32(third), as_u8(fourth))?,
             _ => return Ok(Record::Root { id }),
         };
         Ok(Record::Object(ObjectRecord { id, kind }))
@@ -270,7 +270,7 @@ impl Dump {
         ensures input { result ≡ Err ImportError.Input → IsTrue (R.has_failed source.new) }
     {
         let [_, code] = self.window.numbers(source, [name, 1])?;
-        self.type_of(code as u8)
+        self.type_of(as_u8(code))
     }
 
     /// Skips the name of a field, and reads its type.
@@ -355,4 +355,14 @@ fn head_of(tag: u8, id: u8) -> Option<[u8; 4]> {
         0x23 => Some([id, 4, 4, 1]),
         _ => None,
     }
+}
+
+/// A number that was read as one byte.
+fn as_u8(number: u64) -> u8 {
+    (number % 256) as u8
+}
+
+/// A number that was read as four bytes.
+fn as_u32(number: u64) -> u32 {
+    (number % 4_294_967_296) as u32
 }

@@ -1,5 +1,5 @@
 //! Finds the first object of a dump that repeats the id of another.
-ghost use Rattle.std.specs.Prelude.{◌≡◌, ◌≢◌, IsTrue, tt};
+ghost use Rattle.std.specs.Prelude.{◌≡◌, ◌≢◌, IsTrue};
 
 use crate::dump::Dump;
 use crate::error::{ImportError, Problem};
