@@ -41,7 +41,7 @@ pub fn answer<'a, R: Files + AllocGlobal + Threads + Sync>(
 }
 
 /// Why a schedule isn't replayed.
-#[derive(Debug, Clone, Copy, PartialEq, Eq)]
+#[derive(Clone, Copy)]
 pub struct Unreplayed {
     pub fault: Fault,
     /// Of fault 14, why the line is refused. None if memory ran out before the reason was known.
