@@ -3,7 +3,9 @@ ghost use Rattle.std.specs.Prelude.{◌≡◌, IfOk, string_bytes};
 
 use crate::import::ImportMade;
 use crate::object_list::give_list;
-use command_support::{FileTarget, Late, Output, SystemFile, Trouble, WorkDone, ended, failed};
+use command_support::{
+    FileTarget, Late, Output, SystemFile, Trouble, WorkDone, both_ended, ended, failed,
+};
 use heap_dump::ListedImport;
 use heap_image::ToWrite;
 use std::rt::Files;
@@ -73,39 +75,6 @@ where
         Err(fault) => {
             let trouble = Trouble::from(fault).if_failed(&list.file);
             Err(failed(host, trouble, list))
-        }
-    }
-}
-
-/// Finishes both files. The command prints this text.
-fn both_ended<'a, H: Files>(
-    host: &H,
-    text: String,
-    image: Output<'a, H::File>,
-    list: Output<'a, H::File>,
-) -> Result<WorkDone<'a>, Trouble<'a>>
-where
-    H::File: SystemFile,
-    ensures { IfOk result (λ done. done.text.items ≡ string_bytes text) }
-{
-    let out = match image.finish(host) {
-        Ok(out) => out,
-        Err(trouble) => return Err(failed(host, trouble, list)),
-    };
-    let mut done = WorkDone {
-        text: text.into_bytes(),
-        out,
-        schedule: None,
-        stats: None,
-    };
-    match list.finish(host) {
-        Ok(list) => {
-            done.schedule = list;
-            Ok(done)
-        }
-        Err(trouble) => {
-            done.remove(host);
-            Err(trouble)
         }
     }
 }
