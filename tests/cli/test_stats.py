@@ -203,7 +203,9 @@ def try_late_clock(tried: Tried) -> None:
     fills. Readings in a row of which it doesn't matter how many there are stand as 0."""
     library = shim(tried, "fail_stats.c")
     collected = [("read", 0), ("check", 1), ("prepare", 1), ("fills", 5), ("clean-up", 1), ("write", 0)]
-    verified = [("read BEFORE", 0), ("check BEFORE", 1), ("read AFTER", 0), ("check AFTER", 1), ("compare", 1)]
+    # Both bodies are read ahead, if they are large, before the front of BEFORE.
+    verified = [("read BEFORE", 1), ("read AFTER", 1), ("read BEFORE", 0), ("check BEFORE", 1), ("read AFTER", 0),
+                ("check AFTER", 1), ("compare", 1)]
     owed = (collected, [*collected, ("schedule", 0)], verified)
     for (words, phases, *_), rows in zip(COMMANDS, owed):
         late = []
