@@ -1,7 +1,7 @@
 //! What the objects of a class are.
 
 /// What the objects of a class are, as far as it tells how much larger they may be in the machine than in an image.
-#[derive(Debug, Clone, Copy, PartialEq, Eq)]
+#[derive(Clone, Copy)]
 pub(crate) enum ClassKind {
     Arrays,
     Classes,
@@ -14,10 +14,12 @@ impl ClassKind {
 
     /// The kind of a class with this name in the dump.
     pub(crate) fn of_name(name: &[u8]) -> ClassKind {
-        match name {
-            [b'[', ..] => ClassKind::Arrays,
-            b"java/lang/Class" => ClassKind::Classes,
-            _ => ClassKind::Instances,
+        if name.first() == Some(&b'[') {
+            ClassKind::Arrays
+        } else if name == b"java/lang/Class".as_slice() {
+            ClassKind::Classes
+        } else {
+            ClassKind::Instances
         }
     }
 

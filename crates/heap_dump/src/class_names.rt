@@ -31,20 +31,11 @@ impl ClassNames {
     /// The names of the classes of an inventory, if they are wanted.
     pub(crate) fn of(
         alloc: Global,
-        inventory: &mut Inventory,
-        mut texts: Texts,
+        inventory: &Inventory,
+        texts: Texts,
     ) -> Result<ClassNames, AllocError> {
-        let mut classes = Vec::new(alloc);
-        inventory.names.sort_by_class();
-        texts.sort();
-        let count = if inventory.names.wants_classes() {
-            inventory.classes.len()
-        } else {
-            0
-        };
-        for index in 0..count {
-            classes.push(named_class(inventory, &texts, index))?;
-        }
+        let mut classes = unnamed_classes(alloc, inventory)?;
+        name_classes(classes.as_mut_slice(), inventory, &texts);
         Ok(ClassNames {
             bytes: texts.into_bytes(),
             classes,
@@ -56,7 +47,7 @@ impl ClassNames {
         let mut number = CLASS_OBJECTS;
         for class in self.classes.as_slice() {
             number = number.saturating_add(1);
-            if class.kind == ClassKind::Classes {
+            if let ClassKind::Classes = class.kind {
                 return number;
             }
         }
@@ -117,19 +108,36 @@ impl ClassNames {
     }
 }
 
-/// The class at this index in the order of the dump, with its name.
-fn named_class(inventory: &Inventory, texts: &Texts, index: usize) -> NamedClass {
-    let number = u32::try_from(index.saturating_add(1)).unwrap_or(u32::MAX);
-    let id = inventory.classes.id(number).unwrap_or(0);
-    let (start, end) = match inventory.names.text_of(id) {
-        Some(text) => texts.find(text).unwrap_or((0, 0)),
-        None => (0, 0),
-    };
-    NamedClass {
-        id,
-        start,
-        end,
-        kind: ClassKind::of_name(texts.text(start, end)),
+/// The classes in the order of the dump, if they are wanted, without their names.
+fn unnamed_classes(alloc: Global, inventory: &Inventory) -> Result<Vec<NamedClass>, AllocError> {
+    let mut classes = Vec::new(alloc);
+    if !inventory.names.wants_classes() {
+        return Ok(classes);
+    }
+    for class in inventory.classes.as_slice() {
+        classes.push(NamedClass {
+            id: class.id,
+            start: 0,
+            end: 0,
+            kind: ClassKind::Instances,
+        })?;
+    }
+    Ok(classes)
+}
+
+/// Names these classes. Of several names of one class it has any.
+fn name_classes(classes: &mut [NamedClass], inventory: &Inventory, texts: &Texts) {
+    for name in inventory.names.as_slice() {
+        let number = inventory
+            .objects
+            .class_number(&inventory.classes, name.class);
+        let index = inventory.names.index_of_text(name.text);
+        let place = texts.place(index.unwrap_or(usize::MAX));
+        if let Some(class) = classes.get_mut((number as usize).wrapping_sub(1)) {
+            class.start = place.start;
+            class.end = place.end;
+            class.kind = ClassKind::of_name(texts.text(place));
+        }
     }
 }
 

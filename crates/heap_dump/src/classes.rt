@@ -2,7 +2,7 @@
 ghost use Rattle.std.specs.Prelude.{◌≢◌};
 
 use crate::contents::Contents;
-use crate::error::ImportError;
+use crate::error::{ImportError, Problem};
 use crate::field_type::{FieldType, IdSize};
 use crate::objects::Objects;
 use std::alloc::{AllocError, Global};
@@ -19,9 +19,10 @@ enum Ancestry {
     Known { next: u32, all: Contents },
 }
 
+/// A class, and the fields that it declares.
 #[derive(Clone, Copy)]
-struct Class {
-    id: u64,
+pub(crate) struct Class {
+    pub(crate) id: u64,
     /// The id of the superclass.
     parent: u64,
     /// How many instance fields the classes before it declare.
@@ -68,7 +69,10 @@ impl Classes {
             ancestry: Ancestry::Unknown,
         };
         self.list.push(class)?;
-        u32::try_from(self.list.len()).map_err(|_| ImportError::Memory)
+        match u32::try_from(self.list.len()) {
+            Ok(number) => Ok(number),
+            Err(_) => Err(ImportError::Memory),
+        }
     }
 
     /// Adds an instance field of the last class.
@@ -81,13 +85,13 @@ impl Classes {
         self.list.len()
     }
 
-    fn get(&self, number: u32) -> Option<&Class> {
-        self.list.get((number as usize).checked_sub(1)?)
+    /// The classes in the order of the dump.
+    pub(crate) fn as_slice(&self) -> &[Class] {
+        self.list.as_slice()
     }
 
-    /// The id of the class with this number.
-    pub(crate) fn id(&self, number: u32) -> Option<u64> {
-        Some(self.get(number)?.id)
+    fn get(&self, number: u32) -> Option<&Class> {
+        self.list.get((number as usize).checked_sub(1)?)
     }
 
     /// Whether the class with this number has this id.
@@ -100,20 +104,14 @@ impl Classes {
 
     /// The instance fields that the class with this number declares.
     pub(crate) fn fields(&self, number: u32) -> &[FieldType] {
-        let (from, to) = self.fields_range(number);
-        self.fields.get(from..to).unwrap_or(&[])
-    }
-
-    /// The range of the instance fields of the class with this number.
-    fn fields_range(&self, number: u32) -> (usize, usize) {
         let Some(class) = self.get(number) else {
-            return (0, 0);
+            return &[];
         };
         let end = match self.get(number.saturating_add(1)) {
             Some(next) => next.fields_before,
             None => self.fields.len(),
         };
-        (class.fields_before, end)
+        self.fields.get(class.fields_before..end).unwrap_or(&[])
     }
 
     /// The number of the next superclass that has fields, or 0.
@@ -143,30 +141,22 @@ impl Classes {
         })
     }
 
-    /// The contents of an instance of this class, if the dump has the class and all its superclasses.
-    pub(crate) fn instance_contents(&self, number: u32) -> Option<Contents> {
+    /// The contents of an instance of the class with this number whose fields have `bytes` bytes in the dump. It is a
+    /// problem if the dump lacks the class or one of its superclasses, or if their fields have another number of bytes.
+    pub(crate) fn instance_contents(&self, number: u32, bytes: u32) -> Result<Contents, Problem> {
         match self.ancestry(number) {
-            Ancestry::Known { all, .. } => Some(all),
-            _ => None,
+            Ancestry::Known { all, .. } if all.bytes(self.ids) == u64::from(bytes) => Ok(all),
+            Ancestry::Known { .. } => Err(Problem::InstanceSize(bytes)),
+            _ => Err(Problem::NoClass),
         }
     }
 
-    /// As [`instance_contents`](Classes::instance_contents), if the fields have `bytes` bytes in the dump.
-    pub(crate) fn fitting_contents(&self, number: u32, bytes: u32) -> Option<Contents> {
-        let contents = self.instance_contents(number)?;
-        if contents.bytes(self.ids) == u64::from(bytes) {
-            Some(contents)
-        } else {
-            None
-        }
-    }
-
-    /// The number of words in an image of an instance of this class whose fields have `bytes` bytes in the dump. An
-    /// instance that does not fit its class counts as one word; the second reading rejects it.
+    /// The number of words in an image of such an instance. One that does not fit its class counts as one word; the
+    /// second reading rejects it.
     pub(crate) fn instance_words(&self, number: u32, bytes: u32) -> u64 {
-        match self.fitting_contents(number, bytes) {
-            Some(contents) => contents.words(),
-            None => 1,
+        match self.instance_contents(number, bytes) {
+            Ok(contents) => contents.words(),
+            Err(_) => 1,
         }
     }
 
@@ -174,7 +164,8 @@ impl Classes {
     pub(crate) fn resolve(&mut self, objects: &Objects) -> Result<(), AllocError> {
         let mut path = Vec::new(self.alloc);
         for index in 0..self.list.len() {
-            let number = u32::try_from(index.saturating_add(1)).map_err(|_| AllocError)?;
+            // `add` gives no class a higher number than a `u32` has.
+            let number = u32::try_from(index.saturating_add(1)).unwrap_or(u32::MAX);
             self.climb(objects, number, &mut path)?;
             while let Some(below) = path.pop() {
                 let ancestry = self.find_ancestry(objects, below);

@@ -25,7 +25,7 @@ impl Contents {
     /// The contents of an array of `count` primitive values of this type.
     pub(crate) fn of_data(count: u32, element: FieldType) -> Contents {
         Contents {
-            data_bytes: u64::from(count) * element.data_bytes() as u64,
+            data_bytes: u64::from(count) * u64::from(element.data_bytes()),
             ..Contents::EMPTY
         }
     }
@@ -38,7 +38,9 @@ impl Contents {
                 ..self
             },
             _ => Contents {
-                data_bytes: self.data_bytes.saturating_add(field.data_bytes() as u64),
+                data_bytes: self
+                    .data_bytes
+                    .saturating_add(u64::from(field.data_bytes())),
                 ..self
             },
         }
@@ -63,7 +65,7 @@ impl Contents {
     /// The number of bytes of the values in a dump with ids of this size.
     pub(crate) fn bytes(self, ids: IdSize) -> u64 {
         self.references
-            .saturating_mul(ids.bytes() as u64)
+            .saturating_mul(u64::from(ids.bytes()))
             .saturating_add(self.data_bytes)
     }
 }

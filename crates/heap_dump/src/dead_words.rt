@@ -7,7 +7,7 @@ use crate::listing::ListedObject;
 use crate::totals::Totals;
 
 /// What the words of an imported image are that belong to no live object. What a `u64` cannot hold is [`u64::MAX`].
-#[derive(Debug, Clone, Copy, PartialEq, Eq)]
+#[derive(Clone, Copy)]
 pub struct DeadWords {
     /// The words of dead objects.
     pub objects: u64,

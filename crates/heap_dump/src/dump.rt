@@ -1,12 +1,11 @@
 //! Reads a heap dump record by record.
-ghost use Rattle.std.specs.Prelude.{◌≡◌, None, true, OnOk, IsTrue, ◌≢◌};
+ghost use Rattle.std.specs.Prelude.{◌≡◌, true, OnOk, IsTrue, ◌≢◌};
 ghost use Rattle.std.specs.Io.KnownBytes.{IsAtEnd};
 
-use crate::class_head::ClassHead;
 use crate::contents::Contents;
 use crate::error::{ImportError, Problem};
 use crate::field_type::{FieldType, IdSize};
-use crate::record::{Array, Elements, Instance, Record};
+use crate::record::{Elements, ObjectKind, ObjectRecord, Record};
 use crate::record_visitor::RecordVisitor;
 use crate::window::Window;
 use heap_image::Intake;
@@ -18,7 +17,7 @@ const HEAD_BYTES: u64 = 31;
 const RECORD_HEAD_BYTES: u64 = 9;
 
 /// How far the heap of the dump has been read.
-#[derive(Clone, Copy, PartialEq, Eq)]
+#[derive(Clone, Copy)]
 enum Stage {
     /// Before the heap.
     Before,
@@ -30,7 +29,7 @@ enum Stage {
 
 impl Stage {
     /// The stage after a record with this tag. An end record without segments before it changes nothing.
-    fn after(self, tag: u8) -> Stage {
+    fn after(self, tag: u64) -> Stage {
         match (self, tag) {
             (_, 0x1C) => Stage::Segments,
             (Stage::Before, 0x0C) | (Stage::Segments, 0x2C) => Stage::Whole,
@@ -66,13 +65,13 @@ impl Dump {
         }
         window.pass(19);
         let at = window.offset();
-        let ids = match window.u32(source)? {
+        let ids = match window.number(source, 4)? {
             4 => IdSize::Four,
             8 => IdSize::Eight,
             other => {
                 return Err(ImportError::Malformed {
                     offset: at,
-                    problem: Problem::IdSize(other),
+                    problem: Problem::IdSize(as_u32(other)),
                 });
             }
         };
@@ -111,32 +110,19 @@ impl Dump {
         ensures input { result ≡ Err ImportError.Input → IsTrue (R.has_failed source.new) }
     {
         for _ in 0..u64::MAX {
-            let Some(record) = self.next(source)? else {
+            if self.is_at_end(source)? {
                 return Ok(());
-            };
-            visitor.visit(self, source, record)?;
+            }
+            if let Some(record) = self.next(source)? {
+                visitor.visit(self, source, record)?;
+            }
         }
         Err(self.problem(Problem::NoEnd))
     }
 
-    /// Reads the next record of the heap up to its body, or returns None at the end of the dump. The body of the record
-    /// before must have been read.
-    fn next<R: Intake>(&mut self, source: &mut R) -> Result<Option<Record>, ImportError>
-        ensures end { result ≡ Ok None → IsAtEnd (R.left source.new) }
-        ensures input { result ≡ Err ImportError.Input → IsTrue (R.has_failed source.new) }
-    {
-        for _ in 0..u64::MAX {
-            if self.in_heap && self.window.left() > 0 {
-                return Ok(Some(self.heap_record(source)?));
-            }
-            if self.is_at_end(source)? {
-                return Ok(None);
-            }
-            if let Some(record) = self.enter(source)? {
-                return Ok(Some(record));
-            }
-        }
-        Err(self.window.problem(Problem::NoEnd))
+    /// Whether the current heap or segment has another record.
+    fn is_in_heap(&self) -> bool {
+        self.in_heap && self.window.left() > 0
     }
 
     /// Whether the dump ends before the next record. An end that is not allowed here is an error.
@@ -144,6 +130,10 @@ impl Dump {
         ensures end { result ≡ Ok true → IsAtEnd (R.left source.new) }
         ensures input { result ≡ Err ImportError.Input → IsTrue (R.has_failed source.new) }
     {
+        if self.is_in_heap() {
+            return Ok(false);
+        }
+        self.window.skip(source, self.window.left())?;
         if self.window.is_at_end(source)? {
             self.check_end()?;
             return Ok(true);
@@ -162,42 +152,36 @@ impl Dump {
         }
     }
 
-    /// Enters the next heap or segment, or reads a record outside the heap. Returns that record if it has a name.
+    /// Reads the next record up to its body. It is None if it is none of the heap and has no name. What is unread of a
+    /// record outside the heap is skipped before the next one.
+    fn next<R: Intake>(&mut self, source: &mut R) -> Result<Option<Record>, ImportError>
+        ensures input { result ≡ Err ImportError.Input → IsTrue (R.has_failed source.new) }
+    {
+        if self.is_in_heap() {
+            return Ok(Some(self.heap_record(source)?));
+        }
+        self.enter(source)
+    }
+
+    /// Enters the next heap, segment, or record outside the heap. Returns the last one if it has a name.
     fn enter<R: Intake>(&mut self, source: &mut R) -> Result<Option<Record>, ImportError>
         ensures input { result ≡ Err ImportError.Input → IsTrue (R.has_failed source.new) }
     {
         self.window.begin(RECORD_HEAD_BYTES);
-        let tag = self.window.u8(source)?;
-        self.window.skip(source, 4)?;
-        let length = u64::from(self.window.u32(source)?);
+        let [tag, _, length] = self.window.numbers(source, [1, 4, 4])?;
         self.window.begin(length);
         self.in_heap = tag == 0x0C || tag == 0x1C;
         self.stage = self.stage.after(tag);
-        if self.in_heap {
-            return Ok(None);
+        let id = self.ids.bytes();
+        if tag == 0x01 && length >= u64::from(id) {
+            let id = self.id(source)?;
+            return Ok(Some(Record::Text { id }));
         }
-        match tag {
-            0x01 if length >= self.ids.bytes() as u64 => Ok(Some(Record::Text {
-                id: self.id(source)?,
-            })),
-            0x02 if length >= 8 + 2 * self.ids.bytes() as u64 => self.class_name(source),
-            _ => {
-                self.window.skip(source, length)?;
-                Ok(None)
-            }
+        if tag == 0x02 && length >= 8 + 2 * u64::from(id) {
+            let [_, class, _, text] = self.window.numbers(source, [4, id, 4, id])?;
+            return Ok(Some(Record::ClassName { class, text }));
         }
-    }
-
-    /// Reads a record that says which text is the name of a class.
-    fn class_name<R: Intake>(&mut self, source: &mut R) -> Result<Option<Record>, ImportError>
-        ensures input { result ≡ Err ImportError.Input → IsTrue (R.has_failed source.new) }
-    {
-        self.window.skip(source, 4)?;
-        let class = self.id(source)?;
-        self.window.skip(source, 4)?;
-        let text = self.id(source)?;
-        self.skip_rest(source)?;
-        Ok(Some(Record::ClassName { class, text }))
+        Ok(None)
     }
 
     /// Reads a record of the heap up to its body.
@@ -205,187 +189,180 @@ impl Dump {
         ensures input { result ≡ Err ImportError.Input → IsTrue (R.has_failed source.new) }
     {
         self.at = self.window.offset();
-        let tag = self.window.u8(source)?;
-        match tag {
-            0x20 => Ok(Record::Class {
-                id: self.id(source)?,
-            }),
-            0x21 => self.instance(source),
-            0x22 => self.references(source),
-            0x23 => self.primitives(source),
-            _ => self.root(source, tag),
-        }
+        let tag = as_u8(self.window.number(source, 1)?);
+        let Some(head) = head_of(tag, self.ids.bytes()) else {
+            return Err(self.problem(Problem::HeapTag(tag)));
+        };
+        let [id, _, third, fourth] = self.window.numbers(source, head)?;
+        let kind = match tag {
+            0x20 => ObjectKind::Class,
+            0x21 => ObjectKind::Instance {
+                class: third,
+                bytes: as_u32(fourth),
+            },
+            0x22 => ObjectKind::Array {
+                elements: Elements::References { class: fourth },
+                contents: Contents::of_references(as_u32(third)),
+            },
+            0x23 => self.primitives(as_u32(third), as_u8(fourth))?,
+            _ => return Ok(Record::Root { id }),
+        };
+        Ok(Record::Object(ObjectRecord { id, kind }))
     }
 
-    fn instance<R: Intake>(&mut self, source: &mut R) -> Result<Record, ImportError>
-        ensures input { result ≡ Err ImportError.Input → IsTrue (R.has_failed source.new) }
+    /// An array of `count` primitive values, of the type whose code was read last.
+    fn primitives(&self, count: u32, code: u8) -> Result<ObjectKind, ImportError>
+        ensures { result ≢ Err ImportError.Input }
     {
-        let id = self.id(source)?;
-        self.window.skip(source, 4)?;
-        let class = self.id(source)?;
-        let bytes = self.window.u32(source)?;
-        Ok(Record::Instance(Instance { id, class, bytes }))
-    }
-
-    fn references<R: Intake>(&mut self, source: &mut R) -> Result<Record, ImportError>
-        ensures input { result ≡ Err ImportError.Input → IsTrue (R.has_failed source.new) }
-    {
-        let id = self.id(source)?;
-        self.window.skip(source, 4)?;
-        let count = self.window.u32(source)?;
-        let class = self.id(source)?;
-        Ok(Record::Array(Array {
-            id,
-            elements: Elements::References { class },
-            contents: Contents::of_references(count),
-        }))
-    }
-
-    fn primitives<R: Intake>(&mut self, source: &mut R) -> Result<Record, ImportError>
-        ensures input { result ≡ Err ImportError.Input → IsTrue (R.has_failed source.new) }
-    {
-        let id = self.id(source)?;
-        self.window.skip(source, 4)?;
-        let count = self.window.u32(source)?;
-        let (code, element) = self.typed(source)?;
+        let element = self.type_of(code)?;
         if element.data_bytes() == 0 {
             return Err(self.problem(Problem::NotPrimitive));
         }
-        Ok(Record::Array(Array {
-            id,
+        Ok(ObjectKind::Array {
             elements: Elements::Primitive { code },
             contents: Contents::of_data(count, element),
-        }))
+        })
     }
 
-    /// Reads a root of the kind that the tag names.
-    fn root<R: Intake>(&mut self, source: &mut R, tag: u8) -> Result<Record, ImportError>
-        ensures input { result ≡ Err ImportError.Input → IsTrue (R.has_failed source.new) }
+    /// The type whose code was read last. A code of no type is an error at its byte.
+    fn type_of(&self, code: u8) -> Result<FieldType, ImportError>
+        ensures { result ≢ Err ImportError.Input }
     {
-        let more = match tag {
-            0xFF | 0x05 | 0x07 => 0,
-            0x01 => self.ids.bytes() as u64,
-            0x02 | 0x03 | 0x08 => 8,
-            0x04 | 0x06 => 4,
-            _ => return Err(self.problem(Problem::HeapTag(tag))),
-        };
-        let id = self.id(source)?;
-        self.window.skip(source, more)?;
-        Ok(Record::Root { id })
+        match FieldType::of_code(code) {
+            Some(field) => Ok(field),
+            None => Err(ImportError::Malformed {
+                offset: self.window.offset().saturating_sub(1),
+                problem: Problem::Type(code),
+            }),
+        }
     }
 
-    /// Reads the head of the current class, and skips its constants.
-    pub(crate) fn class_head<R: Intake>(&mut self, source: &mut R) -> Result<ClassHead, ImportError>
+    /// Reads the head of the current class, and skips its constants. Returns the ids of its superclass, loader, signers
+    /// and domain.
+    pub(crate) fn class_head<R: Intake>(&mut self, source: &mut R) -> Result<[u64; 4], ImportError>
         ensures input { result ≡ Err ImportError.Input → IsTrue (R.has_failed source.new) }
     {
-        self.skip(source, 4)?;
-        let parent = self.id(source)?;
-        let owners = self.class_owners(source)?;
+        let id = self.ids.bytes();
+        let [_, parent] = self.window.numbers(source, [4, id])?;
+        self.window.need(source, 5 * usize::from(id) + 4)?;
+        // Two reserved ids and the size of instances come last.
+        let [loader, signers, domain, _, _, _] = self
+            .window
+            .numbers(source, [id, id, id, id, id, 4])?;
         self.skip_constants(source)?;
-        Ok(ClassHead { parent, owners })
-    }
-
-    /// Reads the loader, signers and domain of a class, and skips two reserved ids and the size of instances.
-    fn class_owners<R: Intake>(&mut self, source: &mut R) -> Result<[u64; 3], ImportError>
-        ensures input { result ≡ Err ImportError.Input → IsTrue (R.has_failed source.new) }
-    {
-        self.window.need(source, 5 * self.ids.bytes() + 4)?;
-        let loader = self.id(source)?;
-        let signers = self.id(source)?;
-        let domain = self.id(source)?;
-        self.skip(source, 2 * self.ids.bytes() as u64 + 4)?;
-        Ok([loader, signers, domain])
+        Ok([parent, loader, signers, domain])
     }
 
     /// Skips the constants of a class.
     fn skip_constants<R: Intake>(&mut self, source: &mut R) -> Result<(), ImportError>
         ensures input { result ≡ Err ImportError.Input → IsTrue (R.has_failed source.new) }
     {
-        let count = self.u16(source)?;
+        let count = self.window.number(source, 2)?;
         for _ in 0..count {
-            self.skip(source, 2)?;
-            let constant = self.field_type(source)?;
+            let constant = self.named_type(source, 2)?;
             self.skip_value(source, constant)?;
         }
         Ok(())
     }
 
-    pub(crate) fn id<R: Intake>(&mut self, source: &mut R) -> Result<u64, ImportError>
+    /// Skips a name of this many bytes, and reads the type after it.
+    fn named_type<R: Intake>(&mut self, source: &mut R, name: u8) -> Result<FieldType, ImportError>
         ensures input { result ≡ Err ImportError.Input → IsTrue (R.has_failed source.new) }
     {
-        match self.ids {
-            IdSize::Four => Ok(u64::from(self.window.u32(source)?)),
-            IdSize::Eight => self.window.u64(source),
-        }
-    }
-
-    pub(crate) fn u16<R: Intake>(&mut self, source: &mut R) -> Result<u16, ImportError>
-        ensures input { result ≡ Err ImportError.Input → IsTrue (R.has_failed source.new) }
-    {
-        self.window.u16(source)
-    }
-
-    fn field_type<R: Intake>(&mut self, source: &mut R) -> Result<FieldType, ImportError>
-        ensures input { result ≡ Err ImportError.Input → IsTrue (R.has_failed source.new) }
-    {
-        let (_, field) = self.typed(source)?;
-        Ok(field)
-    }
-
-    /// Reads a type, and returns it with its code.
-    fn typed<R: Intake>(&mut self, source: &mut R) -> Result<(u8, FieldType), ImportError>
-        ensures input { result ≡ Err ImportError.Input → IsTrue (R.has_failed source.new) }
-    {
-        let offset = self.window.offset();
-        let code = self.window.u8(source)?;
-        match FieldType::of_code(code) {
-            Some(field) => Ok((code, field)),
-            None => Err(ImportError::Malformed {
-                offset,
-                problem: Problem::Type(code),
-            }),
-        }
+        let [_, code] = self.window.numbers(source, [name, 1])?;
+        self.type_of(as_u8(code))
     }
 
     /// Skips the name of a field, and reads its type.
     pub(crate) fn field<R: Intake>(&mut self, source: &mut R) -> Result<FieldType, ImportError>
         ensures input { result ≡ Err ImportError.Input → IsTrue (R.has_failed source.new) }
     {
-        self.id(source)?;
-        self.field_type(source)
+        self.named_type(source, self.ids.bytes())
+    }
+
+    /// Reads an id.
+    pub(crate) fn id<R: Intake>(&mut self, source: &mut R) -> Result<u64, ImportError>
+        ensures input { result ≡ Err ImportError.Input → IsTrue (R.has_failed source.new) }
+    {
+        self.window.number(source, self.ids.bytes())
     }
 
     /// Skips a value of this type.
-    pub(crate) fn skip_value<R: Intake>(
-        &mut self,
-        source: &mut R,
-        value: FieldType,
-    ) -> Result<(), ImportError>
+    fn skip_value<R: Intake>(&mut self, source: &mut R, value: FieldType) -> Result<(), ImportError>
         ensures input { result ≡ Err ImportError.Input → IsTrue (R.has_failed source.new) }
     {
-        self.skip(source, value.bytes(self.ids) as u64)
+        self.window.skip(source, u64::from(value.bytes(self.ids)))
+    }
+
+    /// Reads the static fields of the current class, and returns the contents of the class object. It also refers to its
+    /// superclass, loader, signers and domain.
+    pub(crate) fn statics<R: Intake>(&mut self, source: &mut R) -> Result<Contents, ImportError>
+        ensures input { result ≡ Err ImportError.Input → IsTrue (R.has_failed source.new) }
+    {
+        let mut contents = Contents::of_references(4);
+        let count = self.window.number(source, 2)?;
+        for _ in 0..count {
+            let field = self.field(source)?;
+            contents = contents.with(field);
+            self.skip_value(source, field)?;
+        }
+        Ok(contents)
     }
 
     /// Skips the instance fields of a class.
     pub(crate) fn skip_fields<R: Intake>(&mut self, source: &mut R) -> Result<(), ImportError>
         ensures input { result ≡ Err ImportError.Input → IsTrue (R.has_failed source.new) }
     {
-        let count = u64::from(self.u16(source)?);
-        self.skip(source, count * (self.ids.bytes() as u64 + 1))
+        let count = self.window.number(source, 2)?;
+        let bytes = u64::from(self.ids.bytes()) + 1;
+        self.window.skip(source, count.saturating_mul(bytes))
     }
 
-    /// Skips `count` bytes of the record.
-    pub(crate) fn skip<R: Intake>(&mut self, source: &mut R, count: u64) -> Result<(), ImportError>
+    /// Skips the body of an object.
+    pub(crate) fn skip_object<R: Intake>(
+        &mut self,
+        source: &mut R,
+        kind: ObjectKind,
+    ) -> Result<(), ImportError>
         ensures input { result ≡ Err ImportError.Input → IsTrue (R.has_failed source.new) }
     {
-        self.window.skip(source, count)
+        match kind {
+            ObjectKind::Class => {
+                self.class_head(source)?;
+                self.statics(source)?;
+                self.skip_fields(source)
+            }
+            ObjectKind::Instance { bytes, .. } => self.window.skip(source, u64::from(bytes)),
+            ObjectKind::Array { contents, .. } => {
+                self.window.skip(source, contents.bytes(self.ids))
+            }
+        }
     }
+}
 
-    /// Skips what is unread of the record.
-    pub(crate) fn skip_rest<R: Intake>(&mut self, source: &mut R) -> Result<(), ImportError>
-        ensures input { result ≡ Err ImportError.Input → IsTrue (R.has_failed source.new) }
-    {
-        let rest = self.window.left();
-        self.window.skip(source, rest)
+/// The numbers of bytes of the fields in the head of a record of the heap with this tag, in a dump with ids of `id` bytes.
+/// It is None for an unknown tag.
+fn head_of(tag: u8, id: u8) -> Option<[u8; 4]> {
+    match tag {
+        // Roots and classes.
+        0xFF | 0x05 | 0x07 | 0x20 => Some([id, 0, 0, 0]),
+        0x01 => Some([id, id, 0, 0]),
+        0x02 | 0x03 | 0x08 => Some([id, 8, 0, 0]),
+        0x04 | 0x06 => Some([id, 4, 0, 0]),
+        // Instances, arrays of references, and arrays of primitive values.
+        0x21 => Some([id, 4, id, 4]),
+        0x22 => Some([id, 4, 4, id]),
+        0x23 => Some([id, 4, 4, 1]),
+        _ => None,
     }
+}
+
+/// A number that was read as one byte.
+fn as_u8(number: u64) -> u8 {
+    (number % 256) as u8
+}
+
+/// A number that was read as four bytes.
+fn as_u32(number: u64) -> u32 {
+    (number % 4_294_967_296) as u32
 }

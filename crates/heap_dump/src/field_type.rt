@@ -9,7 +9,7 @@ pub(crate) enum IdSize {
 }
 
 impl IdSize {
-    pub(crate) fn bytes(self) -> usize
+    pub(crate) fn bytes(self) -> u8
         ensures { result ≤ 8 }
     {
         match self {
@@ -43,7 +43,7 @@ impl FieldType {
     }
 
     /// The number of bytes of primitive data of a value: 0 for a reference.
-    pub(crate) fn data_bytes(self) -> usize
+    pub(crate) fn data_bytes(self) -> u8
         ensures { result ≤ 8 }
     {
         match self {
@@ -56,7 +56,7 @@ impl FieldType {
     }
 
     /// The number of bytes of a value in a dump with ids of this size.
-    pub(crate) fn bytes(self, ids: IdSize) -> usize
+    pub(crate) fn bytes(self, ids: IdSize) -> u8
         ensures { result ≤ 8 }
     {
         match self {

@@ -2,7 +2,7 @@
 use std::fmt;
 
 /// The counts that [`import`](crate::import) returns with an image.
-#[derive(Debug, Clone, Copy, PartialEq, Eq)]
+#[derive(Clone, Copy)]
 pub struct ImportFigures {
     /// Words.
     pub words: u64,

@@ -1,105 +1,58 @@
-//! The new addresses of the survivors of a heap.
+//! Copies the survivors of a heap into a new one, without gaps.
 ghost use Rattle.std.specs.Prelude.{◌≢◌};
 
 use crate::error::ImportError;
 use crate::heap::{UnsealedHeap, header, references, size};
-use std::alloc::{AllocError, Global};
 
-/// The new addresses of the survivors of a heap, without gaps between them.
-#[derive(Drop)]
-pub(crate) struct Forwarding {
-    /// One bit per address: whether a survivor begins there.
-    begins: Vec<u64>,
-    /// For each 64 addresses, how many survivors begin before them.
-    before: Vec<usize>,
-    /// The new address of each survivor, in the order of old addresses.
-    to: Vec<u64>,
+/// Copies the survivors at these addresses, which ascend, to the beginning of a new heap. An object with more references
+/// than a header can count is an error.
+///
+/// In the old heap each first word is replaced by the new reference to the object.
+pub(crate) fn copy_survivors(
+    old: &mut UnsealedHeap,
+    new: &mut UnsealedHeap,
+    survivors: &[u64],
+) -> Result<(), ImportError>
+    ensures { result ≢ Err ImportError.Input }
+{
+    forward(old, new, survivors);
+    for address in survivors {
+        copy(old, new, *address)?;
+    }
+    Ok(())
 }
 
-impl Forwarding {
-    /// Assigns new addresses to the survivors at these addresses, which ascend.
-    pub(crate) fn of(
-        alloc: Global,
-        heap: &UnsealedHeap,
-        survivors: &[u64],
-    ) -> Result<Forwarding, AllocError> {
-        let rows = (heap.len() / 64 + 1) as usize;
-        let mut forwarding = Forwarding {
-            begins: vec![in alloc; 0u64; rows]?,
-            before: vec![in alloc; 0usize; rows]?,
-            to: Vec::with_capacity(alloc, survivors.len())?,
+/// Moves the first word of each survivor to its new address, and puts the new reference in its place.
+fn forward(old: &mut UnsealedHeap, new: &mut UnsealedHeap, survivors: &[u64]) {
+    let mut to = 0u64;
+    for address in survivors {
+        let first = old.word(*address);
+        new.put(to, first);
+        old.put(*address, to.saturating_add(1));
+        to = to.saturating_add(size(first));
+    }
+}
+
+/// The new address of a survivor, once it has one.
+pub(crate) fn new_address(old: &UnsealedHeap, address: u64) -> u64 {
+    old.word(address).saturating_sub(1)
+}
+
+/// Copies the values of a survivor, with its references redirected, and turns its first word into a header.
+fn copy(old: &UnsealedHeap, new: &mut UnsealedHeap, from: u64) -> Result<(), ImportError>
+    ensures { result ≢ Err ImportError.Input }
+{
+    let to = new_address(old, from);
+    let first = new.word(to);
+    new.put(to, header(first)?);
+    for index in 1..size(first) {
+        let word = old.word(from.saturating_add(index));
+        let word = if 0 < word && index <= references(first) {
+            old.word(word - 1)
+        } else {
+            word
         };
-        let mut next = 0u64;
-        for address in survivors {
-            forwarding.add(*address, next)?;
-            next = next.saturating_add(size(heap.word(*address)));
-        }
-        Ok(forwarding)
+        new.put(to.saturating_add(index), word);
     }
-
-    pub(crate) fn addresses(&self) -> &[u64] {
-        self.to.as_slice()
-    }
-
-    /// Adds the next survivor, which moves from `from` to `to`.
-    fn add(&mut self, from: u64, to: u64) -> Result<(), AllocError> {
-        let row = (from / 64) as usize;
-        if row < self.begins.len() && row < self.before.len() {
-            if self.begins[row] == 0 {
-                self.before[row] = self.to.len();
-            }
-            self.begins[row] |= 1u64 << (from % 64);
-        }
-        self.to.push(to)?;
-        Ok(())
-    }
-
-    /// The new address of the object at an address, if it is a survivor.
-    pub(crate) fn find(&self, address: u64) -> Option<u64> {
-        let row = (address / 64) as usize;
-        let begins = *self.begins.get(row)?;
-        let bit = 1u64 << (address % 64);
-        if begins & bit == 0 {
-            return None;
-        }
-        let before = *self.before.get(row)?;
-        let index = before.saturating_add((begins & (bit - 1)).count_ones() as usize);
-        self.to.get(index).copied()
-    }
-
-    /// The reference in the new heap to the same object, or null if that is no survivor.
-    fn redirect(&self, reference: u64) -> u64 {
-        if reference == 0 {
-            return 0;
-        }
-        match self.find(reference - 1) {
-            Some(address) => address.saturating_add(1),
-            None => 0,
-        }
-    }
-
-    /// Copies the object at `from` to `to`, with its references redirected. More references than a header can count are an
-    /// error.
-    pub(crate) fn copy(
-        &self,
-        old: &UnsealedHeap,
-        new: &mut UnsealedHeap,
-        from: u64,
-        to: u64,
-    ) -> Result<(), ImportError>
-        ensures { result ≢ Err ImportError.Input }
-    {
-        let first = old.word(from);
-        new.put(to, header(first)?);
-        for index in 1..size(first) {
-            let word = old.word(from.saturating_add(index));
-            let word = if index <= references(first) {
-                self.redirect(word)
-            } else {
-                word
-            };
-            new.put(to.saturating_add(index), word);
-        }
-        Ok(())
-    }
+    Ok(())
 }

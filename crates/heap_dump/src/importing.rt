@@ -13,12 +13,12 @@ use crate::class_names::ClassNames;
 use crate::dead_words::DeadWords;
 use crate::draft::{Draft, Imported};
 use crate::error::ImportError;
+use crate::heap::UnsealedHeap;
 use crate::inventory::Inventory;
 use crate::listing::{ListedObject, list_objects};
 use crate::object_classes::ObjectClasses;
 use crate::options::{Options, Regions};
 use crate::packed::Packed;
-use crate::survivor_heap::SurvivorHeap;
 use crate::totals::{ClassTotals, Totals, ranking};
 use crate::transcribed::Transcribed;
 use heap_image::Intake;
@@ -138,16 +138,12 @@ fn import_classed<R: Intake>(
 {
     let regions = options.regions()?;
     let inventory = Inventory::of(alloc, first, second, wants_classes)?;
-    let (draft, classes) = if options.live_only {
-        live_heap(alloc, inventory, second, regions)?
+    let built = if options.live_only {
+        live_heap(alloc, inventory, second, regions)
     } else {
-        let words = inventory.measure(true).words();
-        let most = regions.most_words_with_gaps(inventory.measure(false).words());
-        if words > most {
-            return Err(too_many_words(alloc, inventory, second, words, most));
-        }
-        whole_heap(alloc, inventory, second, regions)?
+        whole_heap(alloc, inventory, second, regions)
     };
+    let (draft, classes) = built?;
     let imported = draft.into_image(alloc, regions, options.allowance)?;
     Ok((imported, classes))
 }
@@ -162,22 +158,15 @@ fn whole_heap<R: Intake>(
     ensures end { OnOk result (IsAtEnd (R.left source.new)) }
     ensures input { result ≡ Err ImportError.Input → IsTrue (R.has_failed source.new) }
 {
-    let Transcribed {
-        mut heap,
-        arrangement,
-        unresolved,
-        classes,
-    } = Transcribed::of(alloc, &mut inventory, source, regions.log, true)?;
-    let Inventory { objects, roots, .. } = inventory;
-    objects.seal(&mut heap)?;
-    let draft = Draft {
-        heap,
-        roots,
-        objects: objects.len() as u64,
-        dropped_gaps: arrangement.dropped_gaps(),
-        unresolved,
-    };
-    Ok((draft, classes))
+    let words = inventory.objects.measure(true).words();
+    let most = regions.most_words_with_gaps(inventory.objects.measure(false).words());
+    if words > most {
+        return Err(too_many_words(alloc, inventory, source, words, most));
+    }
+    let mut transcribed = Transcribed::of(alloc, &mut inventory, source, regions.log, true)?;
+    inventory.objects.seal(&mut transcribed.heap)?;
+    let objects = inventory.objects.len() as u64;
+    Ok(transcribed.into_draft(inventory.into_roots(), objects))
 }
 
 /// Builds the heap with the reachable objects of a dump, without gaps.
@@ -191,26 +180,17 @@ fn live_heap<R: Intake>(
     ensures input { result ≡ Err ImportError.Input → IsTrue (R.has_failed source.new) }
 {
     let Packed {
-        heap,
+        mut transcribed,
         survivors,
-        roots,
-        unresolved,
-        classes,
+        mut roots,
     } = Packed::of(alloc, inventory, source)?;
     let (words, most) = (survivors.words, regions.most_words());
     if words > most {
         return Err(ImportError::TooManyLiveWords { words, most });
     }
-    let objects = survivors.addresses.len() as u64;
-    let alone = SurvivorHeap::of(alloc, &heap, &survivors, regions, roots)?;
-    let draft = Draft {
-        heap: alone.heap,
-        roots: alone.roots,
-        objects,
-        dropped_gaps: 0,
-        unresolved,
-    };
-    Ok((draft, classes))
+    let heap = UnsealedHeap::new(alloc, regions.log, words)?;
+    transcribed.evacuate(heap, survivors.addresses.as_slice(), roots.as_mut_slice())?;
+    Ok(transcribed.into_draft(roots, survivors.addresses.len() as u64))
 }
 
 /// Returns the error for a dump with more words than the most. It names the words of the reachable objects, so the dump

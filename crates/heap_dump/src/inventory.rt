@@ -3,16 +3,17 @@ ghost use Rattle.std.specs.Prelude.{◌≤◌, OnOk, ◌≡◌, IsTrue, ◌⊎�
 ghost use Rattle.std.specs.Io.KnownBytes.{IsAtEnd};
 
 use crate::arrangement::Arrangement;
+use crate::class_number::{CLASS_OBJECTS, UNKNOWN_ARRAYS, number_of_class, number_of_code};
 use crate::classes::Classes;
 use crate::contents::Contents;
 use crate::dump::Dump;
-use crate::error::ImportError;
+use crate::error::{ImportError, Problem};
 use crate::heap::UnsealedHeap;
 use crate::name_ids::NameIds;
 use crate::objects::{Object, Objects};
-use crate::record::{Array, Instance, Record};
+use crate::record::{Elements, ObjectKind, ObjectRecord, Record};
 use crate::record_visitor::RecordVisitor;
-use crate::repeats::second_object;
+use crate::repeats::find_repeat;
 use heap_image::Intake;
 use std::alloc::{AllocError, Global};
 
@@ -29,7 +30,8 @@ pub(crate) struct Inventory {
 }
 
 impl Inventory {
-    /// Reads a dump to its end. Names of classes are kept only if they are wanted. If two objects have one id, `again` is read up to the second of them.
+    /// Reads a dump to its end. Names of classes are kept only if they are wanted. If two objects have one id, `again` is
+    /// read up to the second of them.
     pub(crate) fn of<R: Intake>(
         alloc: Global,
         source: &mut R,
@@ -49,7 +51,7 @@ impl Inventory {
         };
         let read = dump.visit_records(source, &mut inventory);
         if inventory.objects.sort() {
-            return Err(second_object(alloc, inventory.objects, again));
+            find_repeat(alloc, &mut inventory.objects, again)?;
         }
         read?;
         inventory.resolve_instances()?;
@@ -61,13 +63,8 @@ impl Inventory {
         self.objects.divide()?;
         self.classes.resolve(&self.objects)?;
         self.objects.size_instances(&self.classes);
-        self.names.sort_by_text();
+        self.names.sort();
         Ok(())
-    }
-
-    /// Computes the layout of the objects without a heap.
-    pub(crate) fn measure(&self, keeps_gaps: bool) -> Arrangement {
-        self.objects.measure(keeps_gaps)
     }
 
     /// Assigns addresses to the objects, in a new heap with regions of `2 ^ region_log` words, and writes their first
@@ -81,7 +78,7 @@ impl Inventory {
         requires low { 3 ≤ region_log }
         requires high { region_log ≤ 20 }
     {
-        let arrangement = self.measure(keeps_gaps);
+        let arrangement = self.objects.measure(keeps_gaps);
         let mut heap = UnsealedHeap::new(alloc, region_log, arrangement.words())?;
         self.objects.place(keeps_gaps, &mut heap);
         Ok((heap, arrangement))
@@ -102,12 +99,39 @@ impl Inventory {
         count.saturating_sub(self.roots.len()) as u64
     }
 
+    /// Returns the roots, and frees the rest.
+    pub(crate) fn into_roots(self) -> Vec<u64> {
+        let Inventory { roots, .. } = self;
+        roots
+    }
+
     /// Adds a root, unless it is null.
     fn add_root(&mut self, id: u64) -> Result<(), AllocError> {
         if id != 0 {
             self.roots.push(id)?;
         }
         Ok(())
+    }
+
+    /// Reads and adds an object.
+    fn add_object<R: Intake>(
+        &mut self,
+        dump: &mut Dump,
+        source: &mut R,
+        record: ObjectRecord,
+    ) -> Result<(), ImportError>
+        ensures input { result ≡ Err ImportError.Input → IsTrue (R.has_failed source.new) }
+    {
+        let object = match record.kind {
+            ObjectKind::Class => return self.add_class(dump, source, record.id),
+            ObjectKind::Instance { class, bytes } => Object::Instance { bytes, class },
+            ObjectKind::Array { contents, .. } => Object::Sized {
+                class: 0,
+                words: contents.words(),
+            },
+        };
+        self.objects.add(dump, record.id, object)?;
+        dump.skip_object(source, record.kind)
     }
 
     /// Reads and adds the current class.
@@ -119,9 +143,9 @@ impl Inventory {
     ) -> Result<(), ImportError>
         ensures input { result ≡ Err ImportError.Input → IsTrue (R.has_failed source.new) }
     {
-        let head = dump.class_head(source)?;
-        let own = contents_of_statics(dump, source)?;
-        let class = self.classes.add(id, head.parent, own)?;
+        let [parent, ..] = dump.class_head(source)?;
+        let own = dump.statics(source)?;
+        let class = self.classes.add(id, parent, own)?;
         let words = own.words();
         self.objects.add(dump, id, Object::Sized { class, words })?;
         self.add_fields(dump, source)
@@ -131,42 +155,61 @@ impl Inventory {
     fn add_fields<R: Intake>(&mut self, dump: &mut Dump, source: &mut R) -> Result<(), ImportError>
         ensures input { result ≡ Err ImportError.Input → IsTrue (R.has_failed source.new) }
     {
-        let count = dump.u16(source)?;
+        let count = dump.window.number(source, 2)?;
         for _ in 0..count {
             self.classes.add_field(dump.field(source)?)?;
         }
         Ok(())
     }
 
-    /// Adds an instance, and skips its fields.
-    fn add_instance<R: Intake>(
-        &mut self,
-        dump: &mut Dump,
-        source: &mut R,
-        instance: Instance,
-    ) -> Result<(), ImportError>
-        ensures input { result ≡ Err ImportError.Input → IsTrue (R.has_failed source.new) }
-    {
-        let Instance { id, class, bytes } = instance;
-        self.objects
-            .add(dump, id, Object::Instance { bytes, class })?;
-        dump.skip(source, u64::from(bytes))
+    /// The contents of the object with this record. `class` is the number of the class itself or of the instance's class,
+    /// unless the dump has changed.
+    pub(crate) fn contents_of(
+        &self,
+        record: ObjectRecord,
+        class: u32,
+    ) -> Result<Contents, Problem> {
+        match record.kind {
+            ObjectKind::Class => match self.classes.own_contents(class, record.id) {
+                Some(contents) => Ok(contents),
+                None => Err(Problem::Changed),
+            },
+            ObjectKind::Instance { class: id, bytes } => self.fields_of(class, id, bytes),
+            ObjectKind::Array { contents, .. } => Ok(contents),
+        }
     }
 
-    /// Adds an array, and skips its elements.
-    fn add_array<R: Intake>(
-        &mut self,
-        dump: &mut Dump,
-        source: &mut R,
-        array: Array,
-    ) -> Result<(), ImportError>
-        ensures input { result ≡ Err ImportError.Input → IsTrue (R.has_failed source.new) }
-    {
-        let Array { id, contents, .. } = array;
-        let words = contents.words();
-        self.objects
-            .add(dump, id, Object::Sized { class: 0, words })?;
-        dump.skip(source, contents.bytes(dump.ids()))
+    /// The contents of the fields of an instance of the class with this id, which have `bytes` bytes in the dump. `class` is
+    /// the number of that class, unless the dump has changed.
+    fn fields_of(&self, class: u32, id: u64, bytes: u32) -> Result<Contents, Problem> {
+        if !self.classes.has_id(class, id) {
+            return Err(if self.objects.class_number(&self.classes, id) > 0 {
+                Problem::Changed
+            } else {
+                Problem::NoClass
+            });
+        }
+        self.classes.instance_contents(class, bytes)
+    }
+
+    /// The number in a list of objects of the class of an object. `class` is the number of an instance's class in the dump.
+    pub(crate) fn number_of(&self, kind: ObjectKind, class: u32) -> u32 {
+        let id = match kind {
+            ObjectKind::Class => return CLASS_OBJECTS,
+            ObjectKind::Instance { .. } => return number_of_class(class),
+            ObjectKind::Array {
+                elements: Elements::Primitive { code },
+                ..
+            } => return number_of_code(code),
+            ObjectKind::Array {
+                elements: Elements::References { class },
+                ..
+            } => class,
+        };
+        match self.objects.class_number(&self.classes, id) {
+            0 => UNKNOWN_ARRAYS,
+            number => number_of_class(number),
+        }
     }
 }
 
@@ -179,32 +222,9 @@ impl RecordVisitor for Inventory {
     ) -> Result<(), ImportError> {
         match record {
             Record::Root { id } => Ok(self.add_root(id)?),
-            Record::Class { id } => self.add_class(dump, source, id),
-            Record::Instance(instance) => self.add_instance(dump, source, instance),
-            Record::Array(array) => self.add_array(dump, source, array),
-            Record::Text { .. } => dump.skip_rest(source),
+            Record::Object(object) => self.add_object(dump, source, object),
+            Record::Text { .. } => Ok(()),
             Record::ClassName { class, text } => Ok(self.names.add(class, text)?),
         }
     }
-}
-
-/// Reads the static fields of the current class, and returns the contents of the class object. It also refers to its
-/// superclass, loader, signers and domain.
-pub(crate) fn contents_of_statics<R: Intake>(
-    dump: &mut Dump,
-    source: &mut R,
-) -> Result<Contents, ImportError>
-    ensures input { result ≡ Err ImportError.Input → IsTrue (R.has_failed source.new) }
-{
-    let mut contents = Contents {
-        references: 4,
-        data_bytes: 0,
-    };
-    let count = dump.u16(source)?;
-    for _ in 0..count {
-        let field = dump.field(source)?;
-        contents = contents.with(field);
-        dump.skip_value(source, field)?;
-    }
-    Ok(contents)
 }

@@ -10,7 +10,6 @@
 #![tactic(auto)]
 
 mod arrangement;
-mod class_head;
 mod class_kind;
 mod class_names;
 mod class_number;
@@ -40,7 +39,6 @@ mod repeats;
 mod roots;
 mod sections;
 mod slots;
-mod survivor_heap;
 mod survivors;
 mod texts;
 mod totals;

@@ -9,7 +9,7 @@ use heap_image::{Fault, Image};
 use std::alloc::Global;
 
 /// An object of an image.
-#[derive(Debug, Clone, Copy, PartialEq, Eq)]
+#[derive(Clone, Copy)]
 pub struct ListedObject {
     /// The address in the image.
     pub address: u64,

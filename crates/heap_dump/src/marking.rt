@@ -42,12 +42,12 @@ impl Marking {
     /// Marks an address.
     fn mark(&mut self, address: u64) -> Result<(), AllocError> {
         let bit = 1u64 << (address % 64);
-        let index = (address / 64) as usize;
-        if index >= self.marks.len() || self.marks[index] & bit != 0 {
-            return Ok(());
+        if let Some(marks) = self.marks.get_mut((address / 64) as usize) {
+            if *marks & bit == 0 {
+                *marks |= bit;
+                self.waiting.push(address)?;
+            }
         }
-        self.marks[index] |= bit;
-        self.waiting.push(address)?;
         Ok(())
     }
 

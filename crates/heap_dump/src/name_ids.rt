@@ -3,9 +3,9 @@ use std::alloc::{AllocError, Global};
 
 /// A class and the text of its name, both by id.
 #[derive(Clone, Copy)]
-struct NameId {
-    class: u64,
-    text: u64,
+pub(crate) struct NameId {
+    pub(crate) class: u64,
+    pub(crate) text: u64,
 }
 
 /// Which text is the name of which class, as records outside the heap say.
@@ -14,7 +14,7 @@ struct NameId {
 #[derive(Drop)]
 pub(crate) struct NameIds {
     wants_classes: bool,
-    /// In the order of the dump while it is read, then of texts, at last of classes.
+    /// In the order of the dump while it is read, then of texts.
     list: Vec<NameId>,
 }
 
@@ -38,29 +38,22 @@ impl NameIds {
         Ok(())
     }
 
-    /// Sorts the names for [`has_text`](NameIds::has_text).
-    pub(crate) fn sort_by_text(&mut self) {
+    pub(crate) fn len(&self) -> usize {
+        self.list.len()
+    }
+
+    pub(crate) fn as_slice(&self) -> &[NameId] {
+        self.list.as_slice()
+    }
+
+    /// Sorts the names for [`index_of_text`](NameIds::index_of_text).
+    pub(crate) fn sort(&mut self) {
         self.list.sort_unstable_by_key(|name| name.text);
     }
 
-    /// Whether this text is the name of a class, once they are sorted by texts.
-    pub(crate) fn has_text(&self, text: u64) -> bool {
-        let found = self
-            .list
-            .as_slice()
-            .binary_search_by_key(&text, |name| name.text);
-        found.is_ok()
-    }
-
-    /// Sorts the names for [`text_of`](NameIds::text_of).
-    pub(crate) fn sort_by_class(&mut self) {
-        self.list.sort_unstable_by_key(|name| name.class);
-    }
-
-    /// The text with the name of a class, once they are sorted by classes. Of several names of one class it is any.
-    pub(crate) fn text_of(&self, class: u64) -> Option<u64> {
+    /// The index of a name that is this text, once they are sorted. For one text it is always the same.
+    pub(crate) fn index_of_text(&self, text: u64) -> Option<usize> {
         let list = self.list.as_slice();
-        let index = list.binary_search_by_key(&class, |name| name.class).ok()?;
-        Some(list.get(index)?.text)
+        list.binary_search_by_key(&text, |name| name.text).ok()
     }
 }

@@ -18,7 +18,7 @@ impl ObjectClasses {
     /// Names the classes with these numbers. Class objects become instances of `java.lang.Class`, if that is loaded.
     pub(crate) fn of(
         alloc: Global,
-        inventory: &mut Inventory,
+        inventory: &Inventory,
         numbers: Vec<u32>,
         texts: Texts,
     ) -> Result<ObjectClasses, AllocError> {

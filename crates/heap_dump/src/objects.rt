@@ -113,13 +113,11 @@ impl Objects {
         let (Some(first), Some(last)) = (entries.first(), entries.last()) else {
             return Ok(());
         };
-        let mut sections = Sections::between(self.alloc, first.id, last.id, entries.len());
+        self.sections = Sections::between(self.alloc, first.id, last.id, entries.len());
         for (index, entry) in entries.iter().enumerate() {
-            sections.add(entry.id, index)?;
+            self.sections.add(entry.id, index)?;
         }
-        sections.end(entries.len())?;
-        self.sections = sections;
-        Ok(())
+        self.sections.end(entries.len())
     }
 
     /// Determines the class and the number of words of each instance.

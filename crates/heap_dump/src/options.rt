@@ -13,7 +13,7 @@ use heap_image::{Fault, Version};
 const USUAL_REGION_LOG: u32 = 9;
 
 /// The options of [`import`](crate::import).
-#[derive(Debug, Clone, Copy, PartialEq, Eq)]
+#[derive(Clone, Copy)]
 pub struct Options {
     /// The base-2 logarithm of the number of words of a region: at least 3, and at most what the version allows. None is
     /// 9, which suits every image of version 2, and images of version 3 of up to 2^29 words.

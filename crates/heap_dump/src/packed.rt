@@ -3,9 +3,7 @@ ghost use Rattle.std.specs.Prelude.{OnOk, ◌≡◌, IsTrue};
 ghost use Rattle.std.specs.Io.KnownBytes.{IsAtEnd};
 
 use crate::error::ImportError;
-use crate::heap::UnsealedHeap;
 use crate::inventory::Inventory;
-use crate::object_classes::ObjectClasses;
 use crate::survivors::Survivors;
 use crate::transcribed::Transcribed;
 use heap_image::Intake;
@@ -15,14 +13,11 @@ use std::alloc::Global;
 /// A heap of any size with all objects of a dump, without gaps, and its survivors.
 #[derive(Drop)]
 pub(crate) struct Packed {
-    pub(crate) heap: UnsealedHeap,
+    /// The heap, with the classes of the survivors.
+    pub(crate) transcribed: Transcribed,
     pub(crate) survivors: Survivors,
     /// The addresses of the objects to which roots lead.
     pub(crate) roots: Vec<u64>,
-    /// How many references and roots lead to objects that are missing from the dump.
-    pub(crate) unresolved: u64,
-    /// The classes of the survivors.
-    pub(crate) classes: ObjectClasses,
 }
 
 impl Packed {
@@ -35,29 +30,27 @@ impl Packed {
         ensures end { OnOk result (IsAtEnd (R.left source.new)) }
         ensures input { result ≡ Err ImportError.Input → IsTrue (R.has_failed source.new) }
     {
+        let mut transcribed = Transcribed::of(
+            alloc,
+            &mut inventory,
+            source,
+            MAX_REGION_LOG,
+            false,
+        )?;
+        // The rest of the inventory is freed before more memory is allocated.
+        let roots = inventory.into_roots();
         let Transcribed {
             heap,
             arrangement,
-            unresolved,
-            classes: mut object_classes,
-        } = Transcribed::of(alloc, &mut inventory, source, MAX_REGION_LOG, false)?;
-        let Inventory {
             classes,
-            objects,
-            roots,
             ..
-        } = inventory;
-        // Freed before more memory is allocated.
-        drop(classes);
-        drop(objects);
-        let survivors = Survivors::of(alloc, &heap, arrangement.words(), roots.as_slice())?;
-        object_classes.keep(&heap, survivors.addresses.as_slice());
+        } = &mut transcribed;
+        let survivors = Survivors::of(alloc, heap, arrangement.words(), roots.as_slice())?;
+        classes.keep(heap, survivors.addresses.as_slice());
         Ok(Packed {
-            heap,
+            transcribed,
             survivors,
             roots,
-            unresolved,
-            classes: object_classes,
         })
     }
 }

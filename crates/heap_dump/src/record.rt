@@ -5,31 +5,33 @@ use crate::contents::Contents;
 pub(crate) enum Record {
     /// A root. The other fields of its record have been skipped.
     Root { id: u64 },
-    Class { id: u64 },
-    Instance(Instance),
-    /// An array of references or of primitive values.
-    Array(Array),
+    Object(ObjectRecord),
     /// A text outside the heap, whose bytes are the rest of its record.
     Text { id: u64 },
     /// A record outside the heap that says which text is the name of a class.
     ClassName { class: u64, text: u64 },
 }
 
-/// The head of an instance.
+/// The head of an object.
 #[derive(Clone, Copy)]
-pub(crate) struct Instance {
+pub(crate) struct ObjectRecord {
     pub(crate) id: u64,
-    pub(crate) class: u64,
-    /// The number of bytes of its fields.
-    pub(crate) bytes: u32,
+    pub(crate) kind: ObjectKind,
 }
 
-/// The head of an array.
+/// What an object is.
 #[derive(Clone, Copy)]
-pub(crate) struct Array {
-    pub(crate) id: u64,
-    pub(crate) elements: Elements,
-    pub(crate) contents: Contents,
+pub(crate) enum ObjectKind {
+    Class,
+    /// An instance of the class with this id, whose fields have this number of bytes.
+    Instance {
+        class: u64,
+        bytes: u32,
+    },
+    Array {
+        elements: Elements,
+        contents: Contents,
+    },
 }
 
 /// What the elements of an array are.

@@ -3,7 +3,6 @@ ghost use Rattle.std.specs.Prelude.{◌≡◌, ◌≢◌, IsTrue};
 
 use crate::dump::Dump;
 use crate::error::{ImportError, Problem};
-use crate::inventory::contents_of_statics;
 use crate::objects::Objects;
 use crate::record::Record;
 use crate::record_visitor::RecordVisitor;
@@ -18,27 +17,14 @@ struct Repeats<'a> {
     is_seen: Vec<bool>,
 }
 
-/// Reads a dump again in which two of these objects have one id, and returns the error at the second of them.
-pub(crate) fn second_object<R: Intake>(
-    alloc: Global,
-    mut objects: Objects,
-    source: &mut R,
-) -> ImportError
-    ensures { result ≡ ImportError.Input → IsTrue (R.has_failed source.new) }
-{
-    match read_again(alloc, &mut objects, source) {
-        Ok(error) => error,
-        Err(error) => error,
-    }
-}
-
-/// Reads a dump up to an object that repeats an id. If none does, the dump has changed.
-fn read_again<R: Intake>(
+/// Reads a dump again in which two of these objects have one id, up to the second of them, which is the error. If none
+/// repeats an id, the dump has changed.
+pub(crate) fn find_repeat<R: Intake>(
     alloc: Global,
     objects: &mut Objects,
     source: &mut R,
-) -> Result<ImportError, ImportError>
-    ensures changed { result ≢ Ok ImportError.Input }
+) -> Result<(), ImportError>
+    ensures error { result ≢ Ok tt }
     ensures input { result ≡ Err ImportError.Input → IsTrue (R.has_failed source.new) }
 {
     objects.divide()?;
@@ -48,7 +34,7 @@ fn read_again<R: Intake>(
     };
     let mut dump = Dump::open(source)?;
     dump.visit_records(source, &mut repeats)?;
-    Ok(dump.problem(Problem::Changed))
+    Err(dump.problem(Problem::Changed))
 }
 
 impl Repeats<'_> {
@@ -77,22 +63,11 @@ impl RecordVisitor for Repeats<'_> {
         record: Record,
     ) -> Result<(), ImportError> {
         match record {
-            Record::Root { .. } => Ok(()),
-            Record::Class { id } => {
-                self.see(dump, id)?;
-                dump.class_head(source)?;
-                contents_of_statics(dump, source)?;
-                dump.skip_fields(source)
+            Record::Object(object) => {
+                self.see(dump, object.id)?;
+                dump.skip_object(source, object.kind)
             }
-            Record::Instance(instance) => {
-                self.see(dump, instance.id)?;
-                dump.skip(source, u64::from(instance.bytes))
-            }
-            Record::Array(array) => {
-                self.see(dump, array.id)?;
-                dump.skip(source, array.contents.bytes(dump.ids()))
-            }
-            Record::Text { .. } | Record::ClassName { .. } => dump.skip_rest(source),
+            _ => Ok(()),
         }
     }
 }

@@ -7,7 +7,7 @@ use byteorder::{ByteOrder, LittleEndian};
 /// The addresses of the next reference and the next primitive data of an object.
 ///
 /// The bytes of an image have the data as the dump has them, padded with zeros up to the end of the last word.
-#[derive(Drop)]
+#[derive(Clone, Copy)]
 pub(crate) struct Slots {
     /// The address of the next reference.
     reference: u64,

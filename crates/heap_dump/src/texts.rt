@@ -4,46 +4,52 @@ ghost use Rattle.std.specs.Prelude.{◌≡◌, IsTrue};
 use crate::dump::Dump;
 use crate::error::ImportError;
 use heap_image::Intake;
-use std::alloc::Global;
+use std::alloc::{AllocError, Global};
 
-/// The place of a text.
+/// The place of a text in the bytes of all.
 #[derive(Clone, Copy)]
-struct TextPlace {
-    id: u64,
-    start: usize,
-    end: usize,
+pub(crate) struct TextPlace {
+    pub(crate) start: usize,
+    pub(crate) end: usize,
 }
 
-/// Texts by their ids.
+impl TextPlace {
+    /// That of a text that the dump lacks.
+    pub(crate) const NONE: TextPlace = TextPlace { start: 0, end: 0 };
+}
+
+/// Texts by their indexes in the list of names.
 #[derive(Drop)]
 pub(crate) struct Texts {
     /// All texts, one after another.
     bytes: Vec<u8>,
-    /// In the order of the dump, then of ids.
     places: Vec<TextPlace>,
 }
 
 impl Texts {
-    pub(crate) fn new(alloc: Global) -> Texts {
-        Texts {
+    /// No texts, with room for those of `count` names.
+    pub(crate) fn new(alloc: Global, count: usize) -> Result<Texts, AllocError> {
+        Ok(Texts {
             bytes: Vec::new(alloc),
-            places: Vec::new(alloc),
-        }
+            places: vec![in alloc; TextPlace::NONE; count]?,
+        })
     }
 
-    /// Reads and keeps the rest of a record, the text with this id.
+    /// Reads and keeps the rest of a record, the text of the name with this index.
     pub(crate) fn read<R: Intake>(
         &mut self,
         dump: &mut Dump,
         source: &mut R,
-        id: u64,
+        index: usize,
     ) -> Result<(), ImportError>
         ensures input { result ≡ Err ImportError.Input → IsTrue (R.has_failed source.new) }
     {
         let start = self.bytes.len();
         self.append_rest(dump, source)?;
-        let end = self.bytes.len();
-        self.places.push(TextPlace { id, start, end })?;
+        if let Some(place) = self.places.get_mut(index) {
+            place.start = start;
+            place.end = self.bytes.len();
+        }
         Ok(())
     }
 
@@ -61,23 +67,17 @@ impl Texts {
         Ok(())
     }
 
-    /// Sorts the texts for [`find`](Texts::find).
-    pub(crate) fn sort(&mut self) {
-        self.places.sort_unstable_by_key(|place| place.id);
+    /// The place of the text of the name with this index. Of several texts with one id it is that of the last.
+    pub(crate) fn place(&self, index: usize) -> TextPlace {
+        match self.places.get(index) {
+            Some(place) => *place,
+            None => TextPlace::NONE,
+        }
     }
 
-    /// The range of the text with this id in [`into_bytes`](Texts::into_bytes), once they are sorted. Of several texts
-    /// with one id it is that of any.
-    pub(crate) fn find(&self, id: u64) -> Option<(usize, usize)> {
-        let places = self.places.as_slice();
-        let index = places.binary_search_by_key(&id, |place| place.id).ok()?;
-        let place = *places.get(index)?;
-        Some((place.start, place.end))
-    }
-
-    /// The bytes of a range of all texts.
-    pub(crate) fn text(&self, start: usize, end: usize) -> &[u8] {
-        self.bytes.get(start..end).unwrap_or(&[])
+    /// The bytes of the text at a place.
+    pub(crate) fn text(&self, place: TextPlace) -> &[u8] {
+        self.bytes.get(place.start..place.end).unwrap_or(&[])
     }
 
     /// Returns all texts, one after another.

@@ -7,7 +7,7 @@ use crate::listing::ListedObject;
 use std::alloc::{AllocError, Global};
 
 /// How many live and dead objects there are, and their words in the image. What a `u64` cannot hold is [`u64::MAX`].
-#[derive(Debug, Clone, Copy, PartialEq, Eq)]
+#[derive(Clone, Copy)]
 pub struct Totals {
     pub live_objects: u64,
     pub live_words: u64,
@@ -77,7 +77,7 @@ impl Totals {
 }
 
 /// The objects of a class.
-#[derive(Debug, Clone, Copy, PartialEq, Eq)]
+#[derive(Clone, Copy)]
 pub struct ClassTotals {
     /// The number of the class.
     pub class: u32,

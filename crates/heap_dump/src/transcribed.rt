@@ -1,9 +1,11 @@
 //! A heap with all objects of a dump.
-ghost use Rattle.std.specs.Prelude.{◌≤◌, OnOk, ◌≡◌, IsTrue};
+ghost use Rattle.std.specs.Prelude.{◌≤◌, OnOk, ◌≡◌, ◌≢◌, IsTrue};
 ghost use Rattle.std.specs.Io.KnownBytes.{IsAtEnd};
 
 use crate::arrangement::Arrangement;
+use crate::draft::Draft;
 use crate::error::ImportError;
+use crate::forwarding::{copy_survivors, new_address};
 use crate::heap::UnsealedHeap;
 use crate::inventory::Inventory;
 use crate::object_classes::ObjectClasses;
@@ -50,5 +52,42 @@ impl Transcribed {
             unresolved: unresolved.saturating_add(missing),
             classes: ObjectClasses::of(alloc, inventory, classes, texts)?,
         })
+    }
+
+    /// Moves the survivors at these addresses, which ascend, into a new heap, which takes the place of the old one. It has no
+    /// gaps. `roots` are addresses of survivors, and become the new ones. An object with more references than a header can
+    /// count is an error.
+    pub(crate) fn evacuate(
+        &mut self,
+        mut new: UnsealedHeap,
+        survivors: &[u64],
+        roots: &mut [u64],
+    ) -> Result<(), ImportError>
+        ensures { result ≢ Err ImportError.Input }
+    {
+        copy_survivors(&mut self.heap, &mut new, survivors)?;
+        for root in roots {
+            *root = new_address(&self.heap, *root);
+        }
+        self.heap = new;
+        Ok(())
+    }
+
+    /// The draft of an image of this heap, once its objects have their headers, and the classes of its objects.
+    pub(crate) fn into_draft(self, roots: Vec<u64>, objects: u64) -> (Draft, ObjectClasses) {
+        let Transcribed {
+            heap,
+            arrangement,
+            unresolved,
+            classes,
+        } = self;
+        let draft = Draft {
+            heap,
+            roots,
+            objects,
+            dropped_gaps: arrangement.dropped_gaps(),
+            unresolved,
+        };
+        (draft, classes)
     }
 }

@@ -2,8 +2,7 @@
 ghost use Rattle.std.specs.Prelude.{◌<◌, ◌≤◌, OnOk, ◌≡◌, IsTrue, ◌≢◌};
 ghost use Rattle.std.specs.Io.KnownBytes.{IsAtEnd};
 
-use crate::class_head::ClassHead;
-use crate::class_number::{CLASS_OBJECTS, UNKNOWN_ARRAYS, number_of_class, number_of_code};
+use crate::class_number::UNKNOWN_ARRAYS;
 use crate::contents::Contents;
 use crate::dump::Dump;
 use crate::error::{ImportError, Problem};
@@ -11,7 +10,7 @@ use crate::field_type::FieldType;
 use crate::heap::{UnsealedHeap, first_word};
 use crate::inventory::Inventory;
 use crate::objects::Place;
-use crate::record::{Array, Elements, Instance, Record};
+use crate::record::{ObjectKind, ObjectRecord, Record};
 use crate::record_visitor::RecordVisitor;
 use crate::slots::Slots;
 use crate::texts::Texts;
@@ -22,15 +21,12 @@ use std::alloc::{AllocError, Global};
 #[derive(Drop)]
 pub(crate) struct Transcription<'a> {
     inventory: &'a Inventory,
-    heap: UnsealedHeap,
     /// The index after the last object in the order of ids, where the next one often is.
     next: usize,
     done: usize,
-    /// How many references lead to objects that are missing from the dump.
-    unresolved: u64,
-    /// The class number of each object in the order of ids, if classes are wanted, else empty.
-    classes: Vec<u32>,
-    texts: Texts,
+    /// Those of the current object.
+    slots: Slots,
+    transcript: Transcript,
 }
 
 /// What the second reading of a dump gives.
@@ -58,12 +54,10 @@ impl Transcription<'_> {
     {
         let mut transcription = Transcription {
             inventory,
-            heap,
             next: 0,
             done: 0,
-            unresolved: 0,
-            classes: room_for_classes(alloc, inventory)?,
-            texts: Texts::new(alloc),
+            slots: Slots::new(0, 0, 0),
+            transcript: Transcript::new(alloc, inventory, heap)?,
         };
         let mut dump = Dump::open(source)?;
         dump.visit_records(source, &mut transcription)?;
@@ -76,29 +70,14 @@ impl Transcription<'_> {
     {
         let Transcription {
             inventory,
-            heap,
             done,
-            unresolved,
-            classes,
-            texts,
+            transcript,
             ..
         } = self;
         if done != inventory.objects.len() {
             return Err(dump.problem(Problem::Changed));
         }
-        Ok(Transcript {
-            heap,
-            unresolved,
-            classes,
-            texts,
-        })
-    }
-
-    /// Keeps the class number of the object at a place, if classes are wanted.
-    fn keep_class(&mut self, place: Place, number: u32) {
-        if let Some(kept) = self.classes.get_mut(place.index) {
-            *kept = number;
-        }
+        Ok(transcript)
     }
 
     /// Keeps a text if it is the name of a class and classes are wanted.
@@ -110,62 +89,72 @@ impl Transcription<'_> {
     ) -> Result<(), ImportError>
         ensures input { result ≡ Err ImportError.Input → IsTrue (R.has_failed source.new) }
     {
-        if self.inventory.names.has_text(id) {
-            self.texts.read(dump, source, id)
-        } else {
-            dump.skip_rest(source)
+        match self.inventory.names.index_of_text(id) {
+            Some(index) => self.transcript.texts.read(dump, source, index),
+            None => Ok(()),
         }
     }
 
-    /// Finds the object with this id.
-    fn find(&mut self, dump: &Dump, id: u64) -> Result<Place, ImportError>
+    /// Reads and copies an object.
+    fn copy_object<R: Intake>(
+        &mut self,
+        dump: &mut Dump,
+        source: &mut R,
+        record: ObjectRecord,
+    ) -> Result<(), ImportError>
+        ensures input { result ≡ Err ImportError.Input → IsTrue (R.has_failed source.new) }
+    {
+        let class = self.begin(dump, record)?;
+        let copied = match record.kind {
+            ObjectKind::Class => self.copy_class(dump, source),
+            ObjectKind::Instance { .. } => self.copy_fields(dump, source, class),
+            ObjectKind::Array { contents, .. } => self.copy_elements(dump, source, contents),
+        };
+        copied?;
+        self.end(dump)
+    }
+
+    /// Begins an object. Returns the number of the class itself or of the instance's class, else 0. It is an error if the
+    /// object has another size than in the first reading.
+    fn begin(&mut self, dump: &Dump, record: ObjectRecord) -> Result<u32, ImportError>
         ensures { result ≢ Err ImportError.Input }
     {
-        let Some(place) = self.inventory.objects.find(id, self.next) else {
+        let Some(place) = self.inventory.objects.find(record.id, self.next) else {
             return Err(dump.problem(Problem::Changed));
         };
         self.next = place.index.saturating_add(1);
-        Ok(place)
-    }
-
-    /// Begins the object at this address. It is an error if it has another size than in the first reading.
-    fn begin(&mut self, dump: &Dump, address: u64, contents: Contents) -> Result<Slots, ImportError>
-        ensures { result ≢ Err ImportError.Input }
-    {
-        if self.heap.word(address) != first_word(contents.words(), 0) {
+        let contents = match self.inventory.contents_of(record, place.class) {
+            Ok(contents) => contents,
+            Err(problem) => return Err(dump.problem(problem)),
+        };
+        if !self.transcript.begin(place.address, contents) {
             return Err(dump.problem(Problem::Changed));
         }
-        let first = first_word(contents.words(), contents.references);
-        self.heap.put(address, first);
-        Ok(Slots::new(address, contents.references, contents.words()))
+        self.slots = Slots::new(place.address, contents.references, contents.words());
+        self.keep_class(place, record.kind);
+        Ok(place.class)
+    }
+
+    /// Keeps the class number of the object at a place, if classes are wanted.
+    fn keep_class(&mut self, place: Place, kind: ObjectKind) {
+        if let Some(kept) = self.transcript.classes.get_mut(place.index) {
+            *kept = self.inventory.number_of(kind, place.class);
+        }
     }
 
     /// Ends an object. It is an error if a value is missing.
-    fn end(&mut self, dump: &Dump, slots: Slots) -> Result<(), ImportError>
+    fn end(&mut self, dump: &Dump) -> Result<(), ImportError>
         ensures { result ≢ Err ImportError.Input }
     {
-        if !slots.close(&mut self.heap) {
+        if !self.slots.close(&mut self.transcript.heap) {
             return Err(dump.problem(Problem::Changed));
         }
         self.done = self.done.saturating_add(1);
         Ok(())
     }
 
-    /// Reads an id, and puts the reference to its object.
-    fn copy_reference<R: Intake>(
-        &mut self,
-        dump: &mut Dump,
-        source: &mut R,
-        slots: &mut Slots,
-    ) -> Result<(), ImportError>
-        ensures input { result ≡ Err ImportError.Input → IsTrue (R.has_failed source.new) }
-    {
-        let id = dump.id(source)?;
-        self.put_reference(dump, id, slots)
-    }
-
     /// Puts the reference to the object with this id, or null if the dump has no such object.
-    fn put_reference(&mut self, dump: &Dump, id: u64, slots: &mut Slots) -> Result<(), ImportError>
+    fn put_reference(&mut self, dump: &Dump, id: u64) -> Result<(), ImportError>
         ensures { result ≢ Err ImportError.Input }
     {
         let reference = match self.inventory.objects.address_of(id) {
@@ -173,9 +162,12 @@ impl Transcription<'_> {
             None => 0,
         };
         if reference == 0 && id != 0 {
-            self.unresolved = self.unresolved.saturating_add(1);
+            self.transcript.unresolved = self.transcript.unresolved.saturating_add(1);
         }
-        if !slots.put_reference(&mut self.heap, reference) {
+        if !self
+            .slots
+            .put_reference(&mut self.transcript.heap, reference)
+        {
             return Err(dump.problem(Problem::Changed));
         }
         Ok(())
@@ -187,16 +179,19 @@ impl Transcription<'_> {
         dump: &mut Dump,
         source: &mut R,
         value: FieldType,
-        slots: &mut Slots,
     ) -> Result<(), ImportError>
         ensures input { result ≡ Err ImportError.Input → IsTrue (R.has_failed source.new) }
     {
-        let count = value.data_bytes();
-        if count == 0 {
-            return self.copy_reference(dump, source, slots);
+        if let FieldType::Reference = value {
+            let id = dump.id(source)?;
+            return self.put_reference(dump, id);
         }
+        let count = usize::from(value.data_bytes());
         dump.window.need(source, count)?;
-        if !slots.put_data(&mut self.heap, dump.window.front(count)) {
+        if !self
+            .slots
+            .put_data(&mut self.transcript.heap, dump.window.front(count))
+        {
             return Err(dump.problem(Problem::Changed));
         }
         dump.window.pass(count);
@@ -209,14 +204,16 @@ impl Transcription<'_> {
         dump: &mut Dump,
         source: &mut R,
         bytes: u64,
-        slots: &mut Slots,
     ) -> Result<(), ImportError>
         ensures input { result ≡ Err ImportError.Input → IsTrue (R.has_failed source.new) }
     {
         let mut rest = bytes;
         while rest > 0 {
             let count = dump.window.piece(source, rest, unit_of(rest))?;
-            if !slots.put_data(&mut self.heap, dump.window.front(count)) {
+            if !self
+                .slots
+                .put_data(&mut self.transcript.heap, dump.window.front(count))
+            {
                 return Err(dump.problem(Problem::Changed));
             }
             dump.window.pass(count);
@@ -225,42 +222,15 @@ impl Transcription<'_> {
         Ok(())
     }
 
-    /// Reads and copies the current class.
-    fn copy_class<R: Intake>(
-        &mut self,
-        dump: &mut Dump,
-        source: &mut R,
-        id: u64,
-    ) -> Result<(), ImportError>
+    /// Reads and puts the references of the current class and its static fields, and skips the rest of it.
+    fn copy_class<R: Intake>(&mut self, dump: &mut Dump, source: &mut R) -> Result<(), ImportError>
         ensures input { result ≡ Err ImportError.Input → IsTrue (R.has_failed source.new) }
     {
-        let place = self.find(dump, id)?;
-        let Some(contents) = self.inventory.classes.own_contents(place.class, id) else {
-            return Err(dump.problem(Problem::Changed));
-        };
-        self.keep_class(place, CLASS_OBJECTS);
-        let mut slots = self.begin(dump, place.address, contents)?;
-        let head = dump.class_head(source)?;
-        self.put_head(dump, head, &mut slots)?;
-        self.copy_statics(dump, source, &mut slots)?;
-        dump.skip_fields(source)?;
-        self.end(dump, slots)
-    }
-
-    /// Puts the references to a class's superclass, loader, signers and domain.
-    fn put_head(
-        &mut self,
-        dump: &Dump,
-        head: ClassHead,
-        slots: &mut Slots,
-    ) -> Result<(), ImportError>
-        ensures { result ≢ Err ImportError.Input }
-    {
-        self.put_reference(dump, head.parent, slots)?;
-        for owner in head.owners {
-            self.put_reference(dump, owner, slots)?;
+        for id in dump.class_head(source)? {
+            self.put_reference(dump, id)?;
         }
-        Ok(())
+        self.copy_statics(dump, source)?;
+        dump.skip_fields(source)
     }
 
     /// Reads and puts the static fields of a class.
@@ -268,63 +238,15 @@ impl Transcription<'_> {
         &mut self,
         dump: &mut Dump,
         source: &mut R,
-        slots: &mut Slots,
     ) -> Result<(), ImportError>
         ensures input { result ≡ Err ImportError.Input → IsTrue (R.has_failed source.new) }
     {
-        let count = dump.u16(source)?;
+        let count = dump.window.number(source, 2)?;
         for _ in 0..count {
             let field = dump.field(source)?;
-            self.copy_value(dump, source, field, slots)?;
+            self.copy_value(dump, source, field)?;
         }
         Ok(())
-    }
-
-    /// Reads and copies the fields of an instance.
-    fn copy_instance<R: Intake>(
-        &mut self,
-        dump: &mut Dump,
-        source: &mut R,
-        instance: Instance,
-    ) -> Result<(), ImportError>
-        ensures input { result ≡ Err ImportError.Input → IsTrue (R.has_failed source.new) }
-    {
-        let place = self.find(dump, instance.id)?;
-        let contents = self.contents_of(dump, place.class, instance)?;
-        self.keep_class(place, number_of_class(place.class));
-        let mut slots = self.begin(dump, place.address, contents)?;
-        self.copy_fields(dump, source, place.class, &mut slots)?;
-        self.end(dump, slots)
-    }
-
-    /// The contents of the fields of an instance. Its class has the number `class`, unless the dump has changed.
-    fn contents_of(
-        &self,
-        dump: &Dump,
-        class: u32,
-        instance: Instance,
-    ) -> Result<Contents, ImportError>
-        ensures { result ≢ Err ImportError.Input }
-    {
-        let Inventory {
-            classes,
-            objects,
-            ..
-        } = self.inventory;
-        if !classes.has_id(class, instance.class) {
-            let is_there = objects.class_number(classes, instance.class) > 0;
-            return Err(dump.problem(if is_there {
-                Problem::Changed
-            } else {
-                Problem::NoClass
-            }));
-        }
-        if classes.instance_contents(class).is_none() {
-            return Err(dump.problem(Problem::NoClass));
-        }
-        classes
-            .fitting_contents(class, instance.bytes)
-            .ok_or(dump.problem(Problem::InstanceSize(instance.bytes)))
     }
 
     /// Reads and puts the instance fields of the class with this number, then those of its superclasses.
@@ -333,7 +255,6 @@ impl Transcription<'_> {
         dump: &mut Dump,
         source: &mut R,
         class: u32,
-        slots: &mut Slots,
     ) -> Result<(), ImportError>
         ensures input { result ≡ Err ImportError.Input → IsTrue (R.has_failed source.new) }
     {
@@ -343,7 +264,7 @@ impl Transcription<'_> {
             if class == 0 {
                 break;
             }
-            self.copy_values(dump, source, classes.fields(class), slots)?;
+            self.copy_values(dump, source, classes.fields(class))?;
             class = classes.next(class);
         }
         Ok(())
@@ -355,58 +276,62 @@ impl Transcription<'_> {
         dump: &mut Dump,
         source: &mut R,
         types: &[FieldType],
-        slots: &mut Slots,
     ) -> Result<(), ImportError>
         ensures input { result ≡ Err ImportError.Input → IsTrue (R.has_failed source.new) }
     {
         for value in types {
-            self.copy_value(dump, source, *value, slots)?;
+            self.copy_value(dump, source, *value)?;
         }
         Ok(())
     }
 
-    /// The class number of an array with these elements.
-    fn number_of_array(&self, elements: Elements) -> u32 {
-        let class = match elements {
-            Elements::Primitive { code } => return number_of_code(code),
-            Elements::References { class } => class,
-        };
-        if self.classes.is_empty() {
-            return UNKNOWN_ARRAYS;
-        }
-        let Inventory {
-            classes,
-            objects,
-            ..
-        } = self.inventory;
-        match objects.class_number(classes, class) {
-            0 => UNKNOWN_ARRAYS,
-            number => number_of_class(number),
-        }
-    }
-
-    /// Reads and copies the elements of an array.
-    fn copy_array<R: Intake>(
+    /// Reads and puts the elements of an array.
+    fn copy_elements<R: Intake>(
         &mut self,
         dump: &mut Dump,
         source: &mut R,
-        array: Array,
+        contents: Contents,
     ) -> Result<(), ImportError>
         ensures input { result ≡ Err ImportError.Input → IsTrue (R.has_failed source.new) }
     {
-        let Array {
-            id,
-            elements,
-            contents,
-        } = array;
-        let place = self.find(dump, id)?;
-        self.keep_class(place, self.number_of_array(elements));
-        let mut slots = self.begin(dump, place.address, contents)?;
         for _ in 0..contents.references {
-            self.copy_reference(dump, source, &mut slots)?;
+            self.copy_value(dump, source, FieldType::Reference)?;
         }
-        self.copy_data(dump, source, contents.data_bytes, &mut slots)?;
-        self.end(dump, slots)
+        self.copy_data(dump, source, contents.data_bytes)
+    }
+}
+
+impl Transcript {
+    /// A heap without values, with room for the class number of each object, if classes are wanted.
+    fn new(
+        alloc: Global,
+        inventory: &Inventory,
+        heap: UnsealedHeap,
+    ) -> Result<Transcript, AllocError> {
+        let names = inventory.names.len();
+        let objects = if inventory.names.wants_classes() {
+            inventory.objects.len()
+        } else {
+            0
+        };
+        Ok(Transcript {
+            heap,
+            unresolved: 0,
+            classes: vec![in alloc; UNKNOWN_ARRAYS; objects]?,
+            texts: Texts::new(alloc, names)?,
+        })
+    }
+
+    /// Writes the first word of the object at this address. Returns whether the object has the size that it had in the
+    /// first reading.
+    fn begin(&mut self, address: u64, contents: Contents) -> bool {
+        let words = contents.words();
+        if self.heap.word(address) != first_word(words, 0) {
+            return false;
+        }
+        self.heap
+            .put(address, first_word(words, contents.references));
+        true
     }
 }
 
@@ -418,12 +343,9 @@ impl RecordVisitor for Transcription<'_> {
         record: Record,
     ) -> Result<(), ImportError> {
         match record {
-            Record::Root { .. } => Ok(()),
-            Record::Class { id } => self.copy_class(dump, source, id),
-            Record::Instance(instance) => self.copy_instance(dump, source, instance),
-            Record::Array(array) => self.copy_array(dump, source, array),
+            Record::Object(object) => self.copy_object(dump, source, object),
             Record::Text { id } => self.keep_text(dump, source, id),
-            Record::ClassName { .. } => Ok(()),
+            _ => Ok(()),
         }
     }
 }
@@ -436,13 +358,4 @@ fn unit_of(rest: u64) -> usize
     ensures within { result ≤ rest }
 {
     if rest >= 8 { 8 } else { 1 }
-}
-
-/// Room for the class number of each object, if classes are wanted.
-fn room_for_classes(alloc: Global, inventory: &Inventory) -> Result<Vec<u32>, AllocError> {
-    if inventory.names.wants_classes() {
-        vec![in alloc; UNKNOWN_ARRAYS; inventory.objects.len()]
-    } else {
-        Ok(Vec::new(alloc))
-    }
 }

@@ -3,7 +3,6 @@ ghost use Rattle.std.specs.Prelude.{◌≡◌, ◌<◌, ◌≤◌, ◌+◌, ◌-
 ghost use Rattle.std.specs.Io.KnownBytes.{IsAtEnd};
 
 use crate::error::{ImportError, Problem};
-use byteorder::{BigEndian, ByteOrder};
 use heap_image::Intake;
 
 /// The size of the buffer, and the most bytes that are requested at a time.
@@ -169,40 +168,34 @@ impl Window {
         Ok(bytes - bytes % unit)
     }
 
-    pub(crate) fn u8<R: Intake>(&mut self, source: &mut R) -> Result<u8, ImportError>
+    /// Reads a number of this many bytes.
+    pub(crate) fn number<R: Intake>(
+        &mut self,
+        source: &mut R,
+        bytes: u8,
+    ) -> Result<u64, ImportError>
         ensures input { result ≡ Err ImportError.Input → IsTrue (R.has_failed source.new) }
     {
-        self.need(source, 1)?;
-        let number = self.front(1)[0];
-        self.pass(1);
+        let count = usize::from(bytes);
+        self.need(source, count)?;
+        let number = big_endian(self.front(count));
+        self.pass(count);
         Ok(number)
     }
 
-    pub(crate) fn u16<R: Intake>(&mut self, source: &mut R) -> Result<u16, ImportError>
+    /// Reads numbers of these many bytes, one after another.
+    pub(crate) fn numbers<R: Intake, const N: usize>(
+        &mut self,
+        source: &mut R,
+        bytes: [u8; N],
+    ) -> Result<[u64; N], ImportError>
         ensures input { result ≡ Err ImportError.Input → IsTrue (R.has_failed source.new) }
     {
-        self.need(source, 2)?;
-        let number = BigEndian::read_u16(self.front(2));
-        self.pass(2);
-        Ok(number)
-    }
-
-    pub(crate) fn u32<R: Intake>(&mut self, source: &mut R) -> Result<u32, ImportError>
-        ensures input { result ≡ Err ImportError.Input → IsTrue (R.has_failed source.new) }
-    {
-        self.need(source, 4)?;
-        let number = BigEndian::read_u32(self.front(4));
-        self.pass(4);
-        Ok(number)
-    }
-
-    pub(crate) fn u64<R: Intake>(&mut self, source: &mut R) -> Result<u64, ImportError>
-        ensures input { result ≡ Err ImportError.Input → IsTrue (R.has_failed source.new) }
-    {
-        self.need(source, 8)?;
-        let number = BigEndian::read_u64(self.front(8));
-        self.pass(8);
-        Ok(number)
+        let mut numbers = [0; N];
+        for index in 0..N {
+            numbers[index] = self.number(source, bytes[index])?;
+        }
+        Ok(numbers)
     }
 
     /// Skips `count` bytes of the record, whether buffered or not.
@@ -220,4 +213,13 @@ impl Window {
         }
         Ok(())
     }
+}
+
+/// The number with these bytes, the highest first. Of more than eight bytes it has the last ones.
+fn big_endian(bytes: &[u8]) -> u64 {
+    let mut number = 0u64;
+    for byte in bytes {
+        number = (number << 8) | u64::from(*byte);
+    }
+    number
 }
