@@ -70,6 +70,8 @@ class Heaps:
     def run(self, job: str, command: list) -> tuple[float, float]:
         """The seconds of a run, and the most MiB that it had in memory."""
         self.out(job).unlink(missing_ok=True)
+        # Else the system writes what an earlier run left while this one is measured.
+        os.sync()
         done = subprocess.run([self.plain, "measure", *command], stdout=subprocess.DEVNULL, stderr=subprocess.PIPE, text=True)
         if done.returncode != 0:
             sys.exit(f"{job} failed: {done.stderr}")
