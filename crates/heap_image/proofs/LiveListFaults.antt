@@ -98,12 +98,16 @@ module _ (image : HeapImage) where
       by_place zero l k both more = field_fails t x (count x) both.0 f k
       by_place (suc i) l k both more = more i (omega arith) k
 
+  -- each reference of a live object is null or leads to a live object
+  pub references_lead : dangling image ≡ None → (i : ℕ) → i < length image.live → (f : ℕ) → f < references_at image (get_or image.live i 0)
+      → is_null_or_live image (reference_at image (get_or image.live i 0) f) ≡ true
+  references_lead led i l f k = not-false (is_null_or_live image (reference_at image (get_or image.live i 0) f)) (fields_in (is_dangling image) (references_at image) image.live led i l f k)
+
   pub faultless-HasLiveList : unsound_header image ≡ None → overlapping image ≡ None → dangling image ≡ None → HasLiveList image
   faultless-HasLiveList sound apart led = record {
     sound = All-from_get_or (HasSoundHeader image) image.live 0 (sound_at sound);
     apart = apart_in (size_at image) image.live (map_None (λ (p : ℕ × ℕ). p.1) (find (λ (p : ℕ × ℕ). ltb p.1 (end_of image p.0)) (zip image.live (drop 1 image.live))) apart);
-    references = All-from_get_or (λ a. (f : ℕ) → f < references_at image a → is_null_or_live image (reference_at image a f) ≡ true) image.live 0 (λ i l f k.
-        not-false (is_null_or_live image (reference_at image (get_or image.live i 0) f)) (fields_in (is_dangling image) (references_at image) image.live led i l f k));
+    references = All-from_get_or (λ a. (f : ℕ) → f < references_at image a → is_null_or_live image (reference_at image a f) ≡ true) image.live 0 (references_lead led);
   }
 
   -- the same, of the list of faults

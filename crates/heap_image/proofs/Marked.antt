@@ -9,14 +9,19 @@ use Rattle.heap_image.specs.declared.fault.Fault.TheVariants.{LiveOrder, Root}
 use Rattle.heap_image.specs.declared.version.Version.TheVariants.{Two}
 use Rattle.heap_image.specs.HeapImage.{HeapImage, heap_words, with_live, reachable}
 use Rattle.heap_image.specs.ImageText.{object_faults, first_object_fault, first_some, live_list_faults, misplaced_root, misplaced_index, from_tail}
-use Rattle.heap_image.specs.Bits.{MarkBegins, has}
+use Rattle.heap_image.specs.Bits.{MarkBegins, has, addresses_of}
 use Rattle.heap_image.specs.Reachable.{is_listed}
 use Rattle.heap_image.specs.Marking.{AreReached}
 use Rattle.heap_image.proofs.References.{either_way, none_above}
 use Rattle.heap_image.proofs.Listed.{filter_same}
+use Rattle.heap_image.proofs.Ones.{addresses-below}
 use Rattle.heap_image.proofs.Reaches.{reachable-ascending, reachable-below}
 use Rattle.heap_image.proofs.InOrder.{reachable-in_order}
 use Rattle.heap_image.proofs.TextLaws.{reachable-words}
+
+-- what is listed of the marks of a heap
+pub listed_below : (image : HeapImage) (roots bits live : List ℕ) (words : ℕ) → words ≡ heap_words image → AreReached image roots bits → live ≡ addresses_of bits → live ≡ filter (has bits) (range_with_len 0 words)
+listed_below image roots bits live words are reached is = is ∙ addresses-below bits words (let room = reached.room in omega arith) (λ a l. reached.outside a (omega arith))
 
 module _ (image : HeapImage) (roots bits live : List ℕ) (words : ℕ) (are : words ≡ heap_words image) (reached : AreReached image roots bits) (is : live ≡ filter (has bits) (range_with_len 0 words)) where
   pub live_is : live ≡ reachable image roots

@@ -1,13 +1,14 @@
 -- The places of the bits that are set in words of 64 bits.
-use Rattle.std.proofs.Common.{◌≡◌, ℕ, zero, suc, ◌+◌, ◌-◌, ◌*◌, ◌/◌, ◌%◌, ◌^◌, ◌≤◌, ◌<◌, inl, inr, Bool, true, false, cond, List, [], ◌∷◌, ◌++◌, get_or, min, refl, sym, ◌∙◌, ap, arith, eqb, bit_and}
+use Rattle.std.proofs.Common.{◌≡◌, ℕ, zero, suc, ◌+◌, ◌-◌, ◌*◌, ◌/◌, ◌%◌, ◌^◌, ◌≤◌, ◌<◌, inl, inr, Bool, true, false, cond, List, [], ◌∷◌, ◌++◌, length, get_or, min, refl, sym, ◌∙◌, ap, arith, eqb, bit_and}
 use Rattle.std.proofs.lemmas.Bool.{cases_eq, cond-true, cond-false}
 use Rattle.std.proofs.lemmas.List.{append-nil}
 use Rattle.std.proofs.lemmas.List.Elements.{filter-append}
-use Rattle.std.proofs.lemmas.Nat.Bits.{bit_at-zero, bit_at-lt, bit_at_clear_other, bit_at_clear_same, bit_at_and, bit_at_ones, bit_at_ones_above}
+use Rattle.std.proofs.lemmas.Grind.{div_ceil_times}
+use Rattle.std.proofs.lemmas.Nat.Bits.{bit_at-zero, bit_at_clear_other, bit_at_clear_same}
 use Rattle.std.specs.Prelude.{filter, map}
-use Rattle.std.specs.Int.{bit_at, bit_not, w64}
+use Rattle.std.specs.Int.{bit_at, bit_not, div_ceil, w64}
 use Rattle.std.specs.List.{range_with_len}
-use Rattle.heap_image.specs.Bits.{has, ones_of}
+use Rattle.heap_image.specs.Bits.{has, ones_of, addresses_between, addresses_of, addresses_of_part}
 use Rattle.heap_image.proofs.Listed.{filter_same}
 
 -- the least number that passes comes first
@@ -79,44 +80,72 @@ in_word bits i j l =
     let place : (64 * i + j) % 64 ≡ j = omega arith in
     ap (λ r. eqb (bit_at (get_or bits r 0) ((64 * i + j) % 64)) 1) row ∙ ap (λ k. eqb (bit_at (get_or bits i 0) k) 1) place
 
--- the marked addresses below 64 * i and those of word i
-pub marked-word : (bits : List ℕ) (i : ℕ) → filter (has bits) (range_with_len 0 (64 * (i + 1))) ≡ filter (has bits) (range_with_len 0 (64 * i)) ++ map (λ j. 64 * i + j) (ones_of (get_or bits i 0))
-marked-word bits i =
-    let e : 64 * (i + 1) ≡ 64 * i + 64 = omega arith in
-    let z : 0 + 64 * i ≡ 64 * i + 0 = omega arith in
-    ap (λ n. filter (has bits) (range_with_len 0 n)) e
-    ∙ ap (filter (has bits)) (range_split 0 (64 * i) 64)
-    ∙ filter-append (has bits) (range_with_len 0 (64 * i)) (range_with_len (0 + 64 * i) 64)
-    ∙ ap (λ xs. filter (has bits) (range_with_len 0 (64 * i)) ++ xs)
-    (ap (λ a. filter (has bits) (range_with_len a 64)) z ∙ filter_shift (has bits) (64 * i) 0 64
-    ∙ ap (map (λ j. 64 * i + j)) (filter_same (λ j. has bits (64 * i + j)) (λ j. eqb (bit_at (get_or bits i 0) j) 1) 0 64 (λ j l m. in_word bits i j (omega arith))))
+-- ---- from word to word
 
--- of the first n bits of a word
-low_kept : (word n j : ℕ) → j < n → bit_at (bit_and word (2 ^ n - 1)) j ≡ bit_at word j
-low_kept word n j l = bit_at_and word (2 ^ n - 1) j ∙ ap (min (bit_at word j)) (bit_at_ones n j l) ∙ (let b = bit_at-lt word j in omega arith)
+-- the addresses of adjacent parts append
+pub between-append : (words : List ℕ) (a b c : ℕ) → a ≤ b → b ≤ c → addresses_between words a c ≡ addresses_between words a b ++ addresses_between words b c
+between-append words a b c l m =
+    let low : List ℕ = range_with_len (64 * a) (64 * (b - a)) in
+    let e : 64 * (c - a) ≡ 64 * (b - a) + 64 * (c - b) = omega (arith, l, m) in
+    let f : 64 * a + 64 * (b - a) ≡ 64 * b = omega (arith, l) in
+    ap (λ n. filter (has words) (range_with_len (64 * a) n)) e
+    ∙ ap (filter (has words)) (range_split (64 * a) (64 * (b - a)) (64 * (c - b)))
+    ∙ filter-append (has words) low (range_with_len (64 * a + 64 * (b - a)) (64 * (c - b)))
+    ∙ ap (λ x. filter (has words) low ++ filter (has words) (range_with_len x (64 * (c - b)))) f
 
-high_cleared : (word n j : ℕ) → n ≤ j → bit_at (bit_and word (2 ^ n - 1)) j ≡ 0
-high_cleared word n j l = bit_at_and word (2 ^ n - 1) j ∙ ap (min (bit_at word j)) (bit_at_ones_above n j l) ∙ omega arith
+-- there are none between a word and itself
+pub between-none : (words : List ℕ) (a b : ℕ) → a ≡ b → addresses_between words a b ≡ []
+between-none words a b e = let none : 64 * (b - a) ≡ 0 = omega arith in ap (λ n. filter (has words) (range_with_len (64 * a) n)) none
 
-low_ones : (word n : ℕ) → n < 64 → ones_of (bit_and word (2 ^ n - 1)) ≡ filter (λ j. eqb (bit_at (bit_and word (2 ^ n - 1)) j) 1) (range_with_len 0 n)
-low_ones word n few =
-    let set : ℕ → Bool = λ j. eqb (bit_at (bit_and word (2 ^ n - 1)) j) 1 in
-    let e : 64 ≡ n + (64 - n) = omega arith in
-    ap (λ k. filter set (range_with_len 0 k)) e
-    ∙ ap (filter set) (range_split 0 n (64 - n))
-    ∙ filter-append set (range_with_len 0 n) (range_with_len (0 + n) (64 - n))
-    ∙ ap (λ xs. filter set (range_with_len 0 n) ++ xs) (filter_none set (0 + n) (64 - n) (λ j l m. ap (λ b. eqb b 1) (high_cleared word n j (omega arith))))
-    ∙ append-nil (filter set (range_with_len 0 n))
+-- the addresses of one word
+between-word : (words : List ℕ) (i : ℕ) → addresses_between words i (i + 1) ≡ map (λ j. 64 * i + j) (ones_of (get_or words i 0))
+between-word words i =
+    let e : 64 * (i + 1 - i) ≡ 64 = omega arith in
+    let z : 64 * i ≡ 64 * i + 0 = omega arith in
+    ap (λ n. filter (has words) (range_with_len (64 * i) n)) e
+    ∙ ap (λ a. filter (has words) (range_with_len a 64)) z
+    ∙ filter_shift (has words) (64 * i) 0 64
+    ∙ ap (map (λ j. 64 * i + j)) (filter_same (λ j. has words (64 * i + j)) (λ j. eqb (bit_at (get_or words i 0) j) 1) 0 64 (λ j l m. in_word words i j (omega arith)))
 
--- and those of the first n bits of word i
-pub marked-part : (bits : List ℕ) (i n : ℕ) → n < 64 → filter (has bits) (range_with_len 0 (64 * i + n)) ≡ filter (has bits) (range_with_len 0 (64 * i)) ++ map (λ j. 64 * i + j) (ones_of (bit_and (get_or bits i 0) (2 ^ n - 1)))
-marked-part bits i n few =
-    let word : ℕ = get_or bits i 0 in
-    let z : 0 + 64 * i ≡ 64 * i + 0 = omega arith in
-    let low : filter (λ j. has bits (64 * i + j)) (range_with_len 0 n) ≡ filter (λ j. eqb (bit_at (bit_and word (2 ^ n - 1)) j) 1) (range_with_len 0 n) =
-    filter_same (λ j. has bits (64 * i + j)) (λ j. eqb (bit_at (bit_and word (2 ^ n - 1)) j) 1) 0 n (λ j l m. in_word bits i j (omega arith) ∙ ap (λ b. eqb b 1) (sym (low_kept word n j (omega arith)))) in
-    ap (filter (has bits)) (range_split 0 (64 * i) n)
-    ∙ filter-append (has bits) (range_with_len 0 (64 * i)) (range_with_len (0 + 64 * i) n)
-    ∙ ap (λ xs. filter (has bits) (range_with_len 0 (64 * i)) ++ xs)
-    (ap (λ a. filter (has bits) (range_with_len a n)) z ∙ filter_shift (has bits) (64 * i) 0 n
-    ∙ ap (map (λ j. 64 * i + j)) (low ∙ sym (low_ones word n few)))
+-- one word more
+pub between-next : (words : List ℕ) (a i : ℕ) → a ≤ i → addresses_between words a (i + 1) ≡ addresses_between words a i ++ map (λ j. 64 * i + j) (ones_of (get_or words i 0))
+between-next words a i l = between-append words a i (i + 1) l (omega arith) ∙ ap (λ xs. addresses_between words a i ++ xs) (between-word words i)
+
+-- ---- from part to part
+
+-- the addresses of the parts before one, and its own
+pub parts-next : (words live list : List ℕ) (share k m : ℕ) → live ≡ addresses_between words 0 (min (k * share) (length words)) → list ≡ addresses_of_part words share k → m ≡ k + 1
+    → live ++ list ≡ addresses_between words 0 (min (m * share) (length words))
+parts-next words live list share k m before own next =
+    let low : ℕ = min (k * share) (length words) in
+    let high : ℕ = min (k * share + share) (length words) in
+    let e : high ≡ min ((k + 1) * share) (length words) = omega arith in
+    ap (λ xs. xs ++ list) before
+    ∙ ap (λ xs. addresses_between words 0 low ++ xs) own
+    ∙ sym (between-append words 0 low high (omega arith) (omega arith))
+    ∙ ap (addresses_between words 0) e
+    ∙ ap (λ n. addresses_between words 0 (min (n * share) (length words))) (sym next)
+
+-- all parts
+pub parts-all : (words : List ℕ) (share count : ℕ) → length words ≤ count * share → addresses_between words 0 (min (count * share) (length words)) ≡ addresses_of words
+parts-all words share count l = let e : min (count * share) (length words) ≡ length words = omega (arith, l) in ap (addresses_between words 0) e
+
+-- the parts have all words
+pub parts-cover : (n count : ℕ) → 0 < count → n ≤ count * div_ceil n count
+parts-cover n count some = let all = (div_ceil_times n count some).0 in omega (arith, all)
+
+-- ---- the addresses below one
+
+-- where no bit from `size` on is set, the addresses are those below
+pub addresses-below : (words : List ℕ) (size : ℕ) → size ≤ 64 * length words → ((a : ℕ) → size ≤ a → has words a ≡ false) → addresses_of words ≡ filter (has words) (range_with_len 0 size)
+addresses-below words size l none =
+    let low : List ℕ = range_with_len 0 size in
+    let rest : ℕ = 64 * length words - size in
+    let z : 64 * 0 ≡ 0 = omega arith in
+    let e : 64 * (length words - 0) ≡ size + rest = omega (arith, l) in
+    ap (λ a. filter (has words) (range_with_len a (64 * (length words - 0)))) z
+    ∙ ap (λ n. filter (has words) (range_with_len 0 n)) e
+    ∙ ap (filter (has words)) (range_split 0 size rest)
+    ∙ filter-append (has words) low (range_with_len (0 + size) rest)
+    ∙ ap (λ xs. filter (has words) low ++ xs) (filter_none (has words) (0 + size) rest (λ a m k. none a (omega arith)))
+    ∙ append-nil (filter (has words) low)

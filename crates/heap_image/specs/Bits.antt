@@ -1,5 +1,5 @@
 -- Bits in words of 64.
-use Rattle.std.specs.Prelude.{◌≡◌, ℕ, ◌+◌, ◌*◌, ◌/◌, ◌%◌, ◌<◌, ◌≤◌, ◌==◌, Bool, false, IsTrue, List, length, slice_index, filter}
+use Rattle.std.specs.Prelude.{◌≡◌, ℕ, ◌+◌, ◌-◌, ◌*◌, ◌/◌, ◌%◌, ◌<◌, ◌≤◌, ◌==◌, Bool, false, IsTrue, List, length, slice_index, filter, min}
 use Rattle.std.specs.List.{list_any, range_with_len}
 use Rattle.std.specs.Int.{bit_at}
 
@@ -38,3 +38,15 @@ pub record MarkBegins (live : List ℕ) (words : ℕ) (bits : List ℕ) : Type 0
 -- the indices of the bits that are set in a word of 64 bits, ascending
 abbrev pub ones_of : ℕ → List ℕ
 ones_of word = filter (λ j. bit_at word j == 1) (range_with_len 0 64)
+
+-- the set addresses of the words from one index up to another, ascending
+abbrev pub addresses_between : List ℕ → ℕ → ℕ → List ℕ
+addresses_between words from to = filter (has words) (range_with_len (64 * from) (64 * (to - from)))
+
+-- all set addresses, ascending
+abbrev pub addresses_of : List ℕ → List ℕ
+addresses_of words = addresses_between words 0 (length words)
+
+-- the set addresses of part k, where each part but the last has this number of words
+abbrev pub addresses_of_part : List ℕ → ℕ → ℕ → List ℕ
+addresses_of_part words share k = addresses_between words (min (k * share) (length words)) (min (k * share + share) (length words))

@@ -1,5 +1,6 @@
 -- Which objects of a live list are sound.
-use Rattle.std.specs.Prelude.{◌≡◌, List, ℕ, ◌+◌, ◌*◌, ◌<◌, ◌≤◌, IsTrue, None, length, slice_index}
+use Rattle.std.specs.Prelude.{◌≡◌, List, ℕ, ◌+◌, ◌*◌, ◌<◌, ◌≤◌, IsTrue, Option, None, MatchOption, length, slice_index}
+use denote.Ref.{Bor}
 use Rattle.heap_image.specs.HeapImage.{HeapImage, HasSoundHeader, heap_words, size_at, end_of, references_at, reference_at, is_null_or_live}
 use Rattle.heap_image.specs.Bits.{has, room}
 use Rattle.heap_image.specs.ImageText.{unsound_header, dangling}
@@ -26,3 +27,7 @@ pub record AreTargets (image : HeapImage) (bits : List ℕ) : Type 0 where
 pub record AreWellFormed (image : HeapImage) : Type 0 where
   pub headers : unsound_header image ≡ None
   pub references : dangling image ≡ None
+
+-- these are the targets, or there are none and the live objects are well-formed
+abbrev pub AreTargetsOrWellFormed : HeapImage → Option (Bor (List ℕ)) → Type 0
+AreTargetsOrWellFormed image targets = MatchOption targets (AreWellFormed image) (λ bits. AreTargets image bits.now)

@@ -165,6 +165,14 @@ impl Bits {
         if first < to { Some(first) } else { None }
     }
 
+    /// All words.
+    #[inline]
+    pub(crate) fn words(&self) -> &[u64]
+        ensures { result.now ≡ self.now }
+    {
+        self.words.as_slice()
+    }
+
     /// The words with the bits of the addresses below `to`.
     #[inline]
     pub(crate) fn words_below(&self, to: u64) -> &[u64]
@@ -283,7 +291,7 @@ fn lowest(word: u64) -> u64
 }
 
 /// The number of bits that are set in these words.
-fn ones_of(words: &[u64]) -> u64
+pub(crate) fn ones_of(words: &[u64]) -> u64
     requires { length words.now < 2 ^ 58 }
     ensures { result ≡ count_by (has words.now) (range_with_len 0 (64 * length words.now)) }
 {

@@ -12,7 +12,6 @@ use crate::bits::Bits;
 use crate::check::check_live;
 use crate::crowd::Crowd;
 use crate::heap::Heap;
-use crate::live_list::marked_addresses;
 use crate::marking::{Alone, Marker};
 use raw_region::Region;
 use std::alloc::Global;
@@ -132,7 +131,7 @@ pub(crate) fn find_reachable<M: Marker>(
         return Err(Fault::Root(index));
     }
     let marked = marker.mark(alloc, heap, roots)?;
-    let live = marked_addresses(alloc, &marked.bits, words)?;
+    let live = marker.list(alloc, &marked.bits)?;
     Ok(Reached {
         live,
         begins: marked.bits,

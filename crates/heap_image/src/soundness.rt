@@ -2,12 +2,13 @@
 //!
 //! Threads take the objects in pieces of 64: they first read all headers of a piece, so that the cache misses overlap,
 //! and then the references, a row of words at a time. References are looked up in a bit set with a bit for null and for
-//! each reference to a live object. The result only says whether all objects are sound: `check` finds the first fault.
+//! each reference to a live object. If the objects are known to be well-formed, only their headers are read. The result
+//! only says whether all objects are sound: `check` finds the first fault.
 ghost use Rattle.std.specs.Prelude.{◌≡◌, ◌<◌, ◌≤◌, ◌+◌, ◌*◌, ◌/◌, ◌%◌, ℕ, All, IfSome, IsTrue, OnOk, IfOk, length, [], min, slice_index, slice_index_or};
 ghost use Rattle.heap_image.specs.HeapImage.{HasLiveList, heap_words, size_at, with_live, word_at};
-ghost use Rattle.heap_image.specs.Bits.{MarkBegins, has, room};
+ghost use Rattle.heap_image.specs.Bits.{has, room};
 ghost use Rattle.heap_image.specs.Sizes.{AreSizes};
-ghost use Rattle.heap_image.specs.Soundness.{AreNoted, AreTargets, IsSoundObject};
+ghost use Rattle.heap_image.specs.Soundness.{AreNoted, AreTargetsOrWellFormed, IsSoundObject};
 
 use crate::bits::Bits;
 use crate::check::is_unsound;
@@ -24,24 +25,24 @@ pub const PIECE: usize = 64;
 /// The least number of pieces that are worth a thread.
 const LEAST_PIECES: usize = 16;
 
-/// The sizes in words of the live objects, if all of them are sound. `begins` marks their addresses. The crowd visits
-/// each object once. Returns `None` also if memory runs out.
+/// The sizes in words of the live objects, if all of them are sound. The crowd visits each object once. Returns `None`
+/// also if memory runs out.
+///
+/// `targets` has the bits of null and of the references to live objects. It is `None` for objects that are known to be
+/// well-formed: then only overlaps are possible, and no reference is looked up.
 pub(crate) fn sizes_if_sound<T: Threads + Sync>(
     alloc: Global,
     heap: &Heap<'_>,
     live: &[u64],
-    begins: &Bits,
+    targets: Option<&Bits>,
     crowd: &Crowd<'_, T>,
 ) -> Option<Vec<[u32; PIECE]>>
     requires inside { All (λ a. a < heap_words heap.now) live.now }
-    requires bits { MarkBegins live.now (heap_words heap.now) begins.now }
+    requires targets { AreTargetsOrWellFormed (with_live heap.now live.now) targets }
     ensures sound { IfSome result (λ _. HasLiveList (with_live heap.now live.now)) }
     ensures sizes { IfSome result (λ sizes. AreSizes (with_live heap.now live.now) sizes.items) }
 {
-    let Ok(targets) = begins.shift_up(alloc) else {
-        return None;
-    };
-    let Ok(sizes) = note_all_sizes(alloc, heap, live, &targets, crowd) else {
+    let Ok(sizes) = note_all_sizes(alloc, heap, live, targets, crowd) else {
         return None;
     };
     if are_all_noted(sizes.as_slice(), live.len()) {
@@ -51,17 +52,16 @@ pub(crate) fn sizes_if_sound<T: Threads + Sync>(
     }
 }
 
-/// The size of each sound live object, and 0 for each unsound one. `targets` has the bits of null and of the references
-/// to live objects.
+/// The size of each sound live object, and 0 for each unsound one.
 fn note_all_sizes<T: Threads + Sync>(
     alloc: Global,
     heap: &Heap<'_>,
     live: &[u64],
-    targets: &Bits,
+    targets: Option<&Bits>,
     crowd: &Crowd<'_, T>,
 ) -> Result<Vec<[u32; PIECE]>, AllocError>
     requires inside { All (λ a. a < heap_words heap.now) live.now }
-    requires targets { AreTargets (with_live heap.now live.now) targets.now }
+    requires targets { AreTargetsOrWellFormed (with_live heap.now live.now) targets }
     ensures room { IfOk result (λ sizes. length live.now ≤ 64 * length sizes.items) }
     ensures noted { IfOk result (λ sizes. (p : ℕ) → p < length sizes.items
         → AreNoted (with_live heap.now live.now) p (slice_index_or sizes.items p [])) }
@@ -70,7 +70,7 @@ fn note_all_sizes<T: Threads + Sync>(
     let count = crowd.most.min(sizes.len() / LEAST_PIECES).max(1);
     let note = |piece: usize, sizes: &mut [u32; PIECE]|
         requires { All (λ a. a < heap_words heap.now) live.now
-            × AreTargets (with_live heap.now live.now) targets.now × (64 * piece < length live.now) }
+            × AreTargetsOrWellFormed (with_live heap.now live.now) targets × (64 * piece < length live.now) }
         ensures { AreNoted (with_live heap.entry.now live.entry.now) piece sizes.new }
     { note_sizes(heap, live, targets, piece, sizes) };
     for_each_mut(crowd.threads, sizes.as_mut_slice(), count, &note);
@@ -78,9 +78,15 @@ fn note_all_sizes<T: Threads + Sync>(
 }
 
 /// Notes the sizes of the sound live objects of a piece.
-fn note_sizes(heap: &Heap<'_>, live: &[u64], targets: &Bits, piece: usize, sizes: &mut [u32; PIECE])
+fn note_sizes(
+    heap: &Heap<'_>,
+    live: &[u64],
+    targets: Option<&Bits>,
+    piece: usize,
+    sizes: &mut [u32; PIECE],
+)
     requires inside { All (λ a. a < heap_words heap.now) live.now }
-    requires targets { AreTargets (with_live heap.now live.now) targets.now }
+    requires targets { AreTargetsOrWellFormed (with_live heap.now live.now) targets }
     requires piece { 64 * piece < length live.now }
     ensures { AreNoted (with_live heap.now live.now) piece sizes.new }
 {
@@ -120,9 +126,15 @@ fn are_noted(sizes: &[u32]) -> bool
 
 /// The size of the live object with this index and this header, or 0 if it isn't sound.
 #[inline]
-fn size_if_sound(heap: &Heap<'_>, live: &[u64], targets: &Bits, i: usize, header: u64) -> u32
+fn size_if_sound(
+    heap: &Heap<'_>,
+    live: &[u64],
+    targets: Option<&Bits>,
+    i: usize,
+    header: u64,
+) -> u32
     requires inside { All (λ a. a < heap_words heap.now) live.now }
-    requires targets { AreTargets (with_live heap.now live.now) targets.now }
+    requires targets { AreTargetsOrWellFormed (with_live heap.now live.now) targets }
     requires index { i < length live.now }
     requires header { header ≡ word_at heap.now (slice_index live.now i) }
     ensures sound { 0 < result → IsSoundObject (with_live heap.now live.now) i }
@@ -152,9 +164,9 @@ fn headers_of(heap: &Heap<'_>, objects: &[u64]) -> [u64; PIECE]
 /// Whether the live object with this index and this header fits in the heap, ends before the next one begins, and has
 /// only references that are null or lead to live objects.
 #[inline]
-fn is_sound(heap: &Heap<'_>, live: &[u64], targets: &Bits, i: usize, header: u64) -> bool
+fn is_sound(heap: &Heap<'_>, live: &[u64], targets: Option<&Bits>, i: usize, header: u64) -> bool
     requires inside { All (λ a. a < heap_words heap.now) live.now }
-    requires targets { AreTargets (with_live heap.now live.now) targets.now }
+    requires targets { AreTargetsOrWellFormed (with_live heap.now live.now) targets }
     requires index { i < length live.now }
     requires header { header ≡ word_at heap.now (slice_index live.now i) }
     ensures { IsTrue result → IsSoundObject (with_live heap.now live.now) i }
@@ -167,12 +179,27 @@ fn is_sound(heap: &Heap<'_>, live: &[u64], targets: &Bits, i: usize, header: u64
     if i + 1 < live.len() && end > live[i + 1] {
         return false;
     }
-    lead_to_targets(
+    are_sound_references(
         heap,
         targets,
         a + 1,
         a + 1 + u64::from(header::references(header)),
     )
+}
+
+/// Whether each word from `from` up to `to` is one of these references, or nothing is known of it because there are
+/// none to compare it with.
+#[inline]
+fn are_sound_references(heap: &Heap<'_>, targets: Option<&Bits>, from: u64, to: u64) -> bool
+    requires inside { to ≤ heap_words heap.now }
+    requires room { IfSome targets (λ bits. heap_words heap.now + 1 < room bits.now) }
+    ensures { IsTrue result → IfSome targets.entry (λ bits. (p : ℕ) → from ≤ p → p < to
+        → IsTrue (has bits.now (min (word_at heap.now p) (heap_words heap.now + 1)))) }
+{
+    match targets {
+        Some(targets) => lead_to_targets(heap, targets, from, to),
+        None => true,
+    }
 }
 
 /// Whether each word from `from` up to `to` is one of these references. A reference that leads out of the heap is

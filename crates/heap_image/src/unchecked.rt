@@ -101,7 +101,7 @@ impl Found {
     }
 
     /// The sizes of the live objects, if the crowd finds all of them sound. If they are known to be well-formed
-    /// already, this returns `None` and visits none.
+    /// already, it looks for overlaps alone. Returns `None` also if memory runs out.
     pub(crate) fn sizes_if_sound<T: Threads + Sync>(
         &self,
         alloc: Global,
@@ -110,14 +110,19 @@ impl Found {
     ) -> Option<Vec<[u32; PIECE]>>
         requires inside { All (λ a. a < heap_words heap.now) self.now.live.items }
         requires begins { MarkBegins self.now.live.items (heap_words heap.now) self.now.begins }
+        requires well_formed { IsTrue self.now.well_formed → AreWellFormed (with_live heap.now self.now.live.items) }
         ensures ok { IfSome result
             (λ _. first_object_fault (with_live heap.now self.now.live.items) ≡ None) }
         ensures sizes { IfSome result
             (λ sizes. AreSizes (with_live heap.now self.now.live.items) sizes.items) }
     {
+        let live = self.live.as_slice();
         if self.well_formed {
-            return None;
+            return sizes_if_sound(alloc, heap, live, None, crowd);
         }
-        sizes_if_sound(alloc, heap, self.live.as_slice(), &self.begins, crowd)
+        match self.begins.shift_up(alloc) {
+            Ok(targets) => sizes_if_sound(alloc, heap, live, Some(&targets), crowd),
+            Err(_) => None,
+        }
     }
 }

@@ -30,6 +30,8 @@ enum Shape {
     Dangling,
     /// As `Random`, but one object has no sound header.
     Unsound,
+    /// As `List`, but one object is a word too large, the last of 64 that one thread checks.
+    Overlapping,
 }
 
 const SHAPES: [Shape; 6] = [
@@ -61,6 +63,7 @@ impl Shape {
     fn header(self, number: u64) -> u64 {
         match self {
             Shape::Unsound if number == OBJECTS / 2 => 7,
+            Shape::Overlapping if number == OBJECTS / 2 - 1 => object(SIZE + 1, 3),
             _ => object(SIZE, 3),
         }
     }
@@ -77,7 +80,7 @@ impl Shape {
             (Shape::Tree, 0 | 1) => {
                 reference_to(number.wrapping_mul(2).wrapping_add(1).wrapping_add(field))
             }
-            (Shape::List, 0) => reference_to(number.wrapping_add(1)),
+            (Shape::List | Shape::Overlapping, 0) => reference_to(number.wrapping_add(1)),
             (Shape::HoppingList, 0) => {
                 reference_to(number.wrapping_add(OBJECTS / 2).wrapping_add(3) % OBJECTS)
             }
@@ -141,6 +144,19 @@ fn several_threads_mark_what_one_marks(rt: HostRuntime) -> Result<(), Fail> {
                 10 * row + workers,
             );
         }
+    }
+    Ok(())
+}
+
+#[test]
+fn several_threads_find_an_overlap(rt: HostRuntime) -> Result<(), Fail> {
+    let text = Shape::Overlapping.text(rt.alloc())?;
+    for workers in [1, 4] {
+        holds_at(
+            &rt,
+            agrees(&rt, rt.alloc(), text.as_slice(), workers)?,
+            workers,
+        );
     }
     Ok(())
 }
