@@ -46,6 +46,7 @@ impl<'a> RegionSource<'a> {
     }
 
     /// The region with this number, of `2 ^ region_log` words. Fault 11 if memory runs out, or if it is out of the pool.
+    #[tactic(auto, using(crate::proofs::Parts::region_few))]
     pub(crate) fn region(&self, index: usize, region_log: u32) -> Result<Region, Fault>
         requires log { region_log ≤ 20 }
         requires has { HasRegions self.now region_log (index + 1) }
@@ -60,6 +61,7 @@ impl<'a> RegionSource<'a> {
 }
 
 /// Allocates the regions of a body of this size at once, if it has any. The only error is that memory runs out.
+#[tactic(auto, using(crate::proofs::Parts::region_few))]
 pub(crate) fn pool_for(alloc: Global, size: BodySize) -> Result<Option<RegionPool>, AllocError>
     requires log { size.region_log ≤ 20 }
     requires fits { body_words size < 2 ^ 64 }
