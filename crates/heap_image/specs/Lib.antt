@@ -18,6 +18,7 @@ pub mod Reachable
 pub mod Marking
 pub mod Upgrade
 pub mod Extents
+pub mod RegionSource
 pub mod Boxes
 pub mod Spread
 pub mod Rounds

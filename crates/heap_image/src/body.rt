@@ -5,14 +5,15 @@ ghost use Rattle.heap_image.specs.Body.{IsBody, body_words};
 ghost use Rattle.heap_image.specs.Device.{is_io};
 ghost use Rattle.heap_image.specs.Refusals.{IsOfBody};
 ghost use Rattle.heap_image.specs.Incoming.{IsInRange, FallsShort, expected, known_rest};
+ghost use Rattle.heap_image.specs.RegionSource.{HasRegions};
 
 use crate::Fault;
 use crate::body_size::BodySize;
 use crate::incoming::Incoming;
 use crate::intake::Intake;
 use crate::read::read_regions;
+use crate::region_source::RegionSource;
 use raw_region::Region;
-use std::alloc::Global;
 
 /// The part of an image after its front: the regions with the words, and the numbers after them, live addresses or
 /// roots.
@@ -23,14 +24,15 @@ pub struct Body {
 }
 
 impl Body {
-    /// Reads a body of this size.
+    /// Reads a body of this size into regions of this source.
     pub(crate) fn read<R: Intake>(
-        alloc: Global,
+        source: &RegionSource<'_>,
         incoming: &mut Incoming,
         reader: &mut R,
         size: BodySize,
     ) -> Result<Body, Fault>
         requires log { size.region_log ≤ 20 }
+        requires source { HasRegions source.now size.region_log size.regions }
         requires in_range { IsInRange incoming.old }
         requires enough { body_words size ≤ expected incoming.old }
         ensures in_range { OnOk result (IsInRange incoming.new) }
@@ -43,8 +45,8 @@ impl Body {
         ensures lost { (came : List ℕ) × Consumes (R.left reader.old) (R.left reader.new) came }
         ensures failed { R.has_failed reader.new ≡ (is_io result || R.has_failed reader.old) }
     {
-        let regions = read_regions(alloc, incoming, reader, size.region_log, size.regions)?;
-        let mut tail = vec![in alloc; 0u64; size.numbers]?;
+        let regions = read_regions(source, incoming, reader, size.region_log, size.regions)?;
+        let mut tail = vec![in source.alloc; 0u64; size.numbers]?;
         incoming.read(reader, tail.as_mut_slice())?;
         Ok(Body { regions, tail })
     }

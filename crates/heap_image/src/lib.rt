@@ -47,6 +47,7 @@ mod outgoing;
 mod outlet;
 mod reach;
 mod read;
+mod region_source;
 mod side_by_side;
 mod soundness;
 mod store;

@@ -11,6 +11,7 @@ ghost use Rattle.heap_image.specs.Reading.{HasFittingNumbers, IsFound, numbers_o
 ghost use Rattle.heap_image.specs.Sizes.{AreSizes};
 ghost use Rattle.heap_image.specs.Refusals.{IsReason, IsOfReading, IsOfBody, LeavesRest};
 ghost use Rattle.heap_image.specs.Incoming.{IsInRange, FallsShort, expected, known_rest};
+ghost use Rattle.heap_image.specs.RegionSource.{HasRegions};
 
 use crate::body::Body;
 use crate::body_size::BodySize;
@@ -20,6 +21,7 @@ use crate::heap::Heap;
 use crate::incoming::Incoming;
 use crate::intake::{Intake, fill};
 use crate::marking::{Alone, Marker};
+use crate::region_source::RegionSource;
 use crate::soundness::PIECE;
 use crate::unchecked::{Found, find_live_objects};
 use crate::{Fault, Image, ImageParts};
@@ -301,13 +303,14 @@ fn read_body_in_order<R: Intake>(
 {
     let mut incoming = Incoming::new(size.words());
     incoming.top_up(reader)?;
-    Body::read(alloc, &mut incoming, reader, size)
+    let source = RegionSource::new(alloc, None);
+    Body::read(&source, &mut incoming, reader, size)
 }
 
-/// Reads the words of `count` regions, each into a block of its own. It takes memory as the words come: for at most one
-/// region more than have come, and for twice as many blocks.
+/// Reads the words of `count` regions of this source. If each is a block of its own, it takes memory as the words come:
+/// for at most one region more than have come, and for twice as many blocks.
 pub(crate) fn read_regions<R: Intake>(
-    alloc: Global,
+    source: &RegionSource<'_>,
     incoming: &mut Incoming,
     reader: &mut R,
     region_log: u32,
@@ -315,6 +318,7 @@ pub(crate) fn read_regions<R: Intake>(
 ) -> Result<Vec<Region>, Fault>
     requires log { region_log ≤ 20 }
     requires in_range { IsInRange incoming.old }
+    requires source { HasRegions source.now region_log count }
     requires enough { count * 2 ^ region_log ≤ expected incoming.old }
     ensures in_range { OnOk result (IsInRange incoming.new) }
     ensures bytes { IfOk result
@@ -332,21 +336,24 @@ pub(crate) fn read_regions<R: Intake>(
     ensures lost { (came : List ℕ) × Consumes (R.left reader.old) (R.left reader.new) came }
     ensures failed { R.has_failed reader.new ≡ (is_io result || R.has_failed reader.old) }
 {
-    let mut regions = Vec::new(alloc);
-    for _r in 0..count {
-        regions.push(read_region(alloc, incoming, reader, region_log)?)?;
+    let mut regions = Vec::new(source.alloc);
+    for r in 0..count {
+        regions.push(read_region(source, incoming, reader, region_log, r)?)?;
     }
     Ok(regions)
 }
 
+/// Reads the words of the region with this number.
 fn read_region<R: Intake>(
-    alloc: Global,
+    source: &RegionSource<'_>,
     incoming: &mut Incoming,
     reader: &mut R,
     region_log: u32,
+    index: usize,
 ) -> Result<Region, Fault>
     requires log { region_log ≤ 20 }
     requires in_range { IsInRange incoming.old }
+    requires source { HasRegions source.now region_log (index + 1) }
     requires enough { 2 ^ region_log ≤ expected incoming.old }
     ensures in_range { OnOk result (IsInRange incoming.new) }
     ensures bytes { IfOk result
@@ -362,7 +369,7 @@ fn read_region<R: Intake>(
     ensures lost { (came : List ℕ) × Consumes (R.left reader.old) (R.left reader.new) came }
     ensures failed { R.has_failed reader.new ≡ (is_io result || R.has_failed reader.old) }
 {
-    let mut region = Region::new(alloc, 1 << region_log)?;
+    let mut region = source.region(index, region_log)?;
     incoming.read(reader, region.words_mut())?;
     Ok(region)
 }

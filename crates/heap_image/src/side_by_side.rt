@@ -2,12 +2,14 @@
 ghost use Rattle.std.specs.Prelude.{◌≡◌, ◌++◌, ◌<◌, ◌≤◌, ◌^◌, [], IfSome};
 ghost use Rattle.heap_image.specs.Body.{body_words};
 ghost use Rattle.heap_image.specs.Extents.{IsBodyOf, AreTwoParts, IsExtent, extent_end};
+ghost use Rattle.heap_image.specs.RegionSource.{HasRegions, HasRest};
 
 use crate::body::Body;
 use crate::body_size::BodySize;
 use crate::cursor::Cursor;
 use crate::front::{FRONT_BYTES, Front};
 use crate::incoming::Incoming;
+use crate::region_source::{RegionSource, pool_for};
 use crate::store::Store;
 use std::alloc::Global;
 use std::thread;
@@ -78,7 +80,7 @@ impl Extent {
 }
 
 /// Reads the body in an extent in at most `most` threads, the caller's included. Returns `None` if the store has too
-/// few bytes or fails, or if memory runs out.
+/// few bytes or fails, or if memory runs out, which is taken for all regions at once.
 pub fn body_at<S: Store>(
     alloc: Global,
     store: &S,
@@ -89,54 +91,76 @@ pub fn body_at<S: Store>(
     requires { IsExtent extent }
     ensures { IfSome result (IsBodyOf (S.bytes store.now) extent) }
 {
-    let most = most.min(extent.size.words() / LEAST_WORDS);
-    if most < 2 {
-        return body_in_order(alloc, store, extent);
-    }
-    let in_row = move || -> Option<Body>
-        requires { IsExtent extent × (most < 2 ^ 64) }
-        ensures { IfSome result (IsBodyOf (S.bytes store.entry.now) extent) }
-    { body_in_row(alloc, store, extent, most, threads) };
-    behind_an_empty_thread(threads, in_row)
+    let Ok(pool) = pool_for(alloc, extent.size) else {
+        return None;
+    };
+    let source = RegionSource::new(alloc, pool.as_ref());
+    body_by(source, store, extent, most, threads)
 }
 
-/// Reads the body in an extent in `most` threads, of which this one starts the others. Returns `None` as [`body_at`]
-/// does.
-fn body_in_row<S: Store>(
-    alloc: Global,
+/// Reads the body in an extent into the last regions of this source, as [`body_at`] does.
+fn body_by<S: Store>(
+    source: RegionSource<'_>,
     store: &S,
     extent: Extent,
     most: usize,
     threads: &(impl Threads + Sync),
 ) -> Option<Body>
-    requires { IsExtent extent }
+    requires extent { IsExtent extent }
+    requires source { HasRest source extent.size }
+    ensures { IfSome result (IsBodyOf (S.bytes store.now) extent) }
+{
+    let most = most.min(extent.size.words() / LEAST_WORDS);
+    if most < 2 {
+        return body_in_order(source, store, extent);
+    }
+    let in_row = move || -> Option<Body>
+        requires { IsExtent extent × (HasRest source extent.size × (most < 2 ^ 64)) }
+        ensures { IfSome result (IsBodyOf (S.bytes store.entry.now) extent) }
+    { body_in_row(source, store, extent, most, threads) };
+    behind_an_empty_thread(threads, in_row)
+}
+
+/// Reads the body in an extent into the last regions of this source, in `most` threads, of which this one starts the
+/// others. Returns `None` as [`body_at`] does.
+fn body_in_row<S: Store>(
+    source: RegionSource<'_>,
+    store: &S,
+    extent: Extent,
+    most: usize,
+    threads: &(impl Threads + Sync),
+) -> Option<Body>
+    requires extent { IsExtent extent }
+    requires source { HasRest source extent.size }
     ensures { IfSome result (IsBodyOf (S.bytes store.now) extent) }
 {
     if most < 2 {
-        return body_in_order(alloc, store, extent);
+        return body_in_order(source, store, extent);
     }
     let (low, high) = extent.split(most);
     let others = most - 1;
+    let rest = source.after(low.size.regions);
     let first = move || -> Option<Body>
-        requires { IsExtent low }
+        requires { IsExtent low × HasRegions source low.size.region_log low.size.regions }
         ensures { IfSome result (IsBodyOf (S.bytes store.entry.now) low) }
-    { body_in_order(alloc, store, low) };
+    { body_in_order(source, store, low) };
     let second = move || -> Option<Body>
-        requires { IsExtent high × (others < 2 ^ 64) }
+        requires { IsExtent high × (HasRest rest high.size × (others < 2 ^ 64)) }
         ensures { IfSome result (IsBodyOf (S.bytes store.entry.now) high) }
-    { body_in_row(alloc, store, high, others, threads) };
+    { body_in_row(rest, store, high, others, threads) };
     let (first, second) = thread::join(threads, first, second);
     join_bodies(first?, second?)
 }
 
 /// Reads the body in an extent in this thread. Returns `None` as [`body_at`] does.
-fn body_in_order<S: Store>(alloc: Global, store: &S, extent: Extent) -> Option<Body>
-    requires { IsExtent extent }
+fn body_in_order<S: Store>(source: RegionSource<'_>, store: &S, extent: Extent) -> Option<Body>
+    requires extent { IsExtent extent }
+    requires source { HasRegions source extent.size.region_log extent.size.regions }
     ensures { IfSome result (IsBodyOf (S.bytes store.now) extent) }
 {
     let mut cursor = Cursor::new(store, extent.at);
     let mut incoming = Incoming::new(extent.size.words());
-    match Body::read(alloc, &mut incoming, &mut cursor, extent.size) {
+    match Body::read(&source, &mut incoming, &mut cursor, extent.size) {
         Ok(body) => Some(body),
         Err(_) => None,
     }

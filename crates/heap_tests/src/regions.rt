@@ -1,6 +1,8 @@
 //! Tests of `raw_region`.
+ghost use Rattle.std.specs.Prelude.{◌<◌};
+
 use crate::checks::{equal, equal_words, holds};
-use raw_region::{MAX_WORDS, Region};
+use raw_region::{MAX_WORDS, Region, RegionPool};
 use std::test::Fail;
 
 fn crosses_threads<T: Send + Sync>(_value: &T) {}
@@ -106,5 +108,61 @@ fn the_smallest_and_the_largest_region(rt: HostRuntime) -> Result<(), Fail> {
         (largest.len(), is_full_of(&largest, 0)),
         (MAX_WORDS, true),
     );
+    Ok(())
+}
+
+/// Takes a region, and fills it with its number.
+fn take_filled(pool: &RegionPool, index: usize) -> Option<Region>
+    requires { index < pool.now.count }
+{
+    let mut region = pool.take(index)?;
+    let words = region.len();
+    region.fill(0, words, index as u64);
+    Some(region)
+}
+
+/// The first and the last word of a region.
+fn ends(region: &Option<Region>) -> Option<(u64, u64)> {
+    match region {
+        Some(region) => {
+            let last = region.len() - 1;
+            Some((region.get(0), region.get(last)))
+        }
+        None => None,
+    }
+}
+
+#[test]
+fn regions_of_a_pool_have_words_of_their_own(rt: HostRuntime) -> Result<(), Fail> {
+    let pool = RegionPool::new(rt.alloc(), 3, 4)?;
+    crosses_threads(&pool);
+    equal(&rt, (pool.len(), pool.region_len()), (3, 4));
+    let high = take_filled(&pool, 2);
+    let low = take_filled(&pool, 0);
+    let middle = take_filled(&pool, 1);
+    equal(
+        &rt,
+        (ends(&low), ends(&middle), ends(&high)),
+        (Some((0, 0)), Some((1, 1)), Some((2, 2))),
+    );
+    Ok(())
+}
+
+#[test]
+fn a_region_is_out_until_it_is_dropped(rt: HostRuntime) -> Result<(), Fail> {
+    let pool = RegionPool::new(rt.alloc(), 2, 4)?;
+    let region = take_filled(&pool, 1);
+    holds(&rt, pool.take(1).is_none());
+    drop(region);
+    equal(&rt, ends(&pool.take(1)), Some((0, 0)));
+    Ok(())
+}
+
+#[test]
+fn a_region_outlives_its_pool(rt: HostRuntime) -> Result<(), Fail> {
+    let pool = RegionPool::new(rt.alloc(), 2, MAX_WORDS)?;
+    let region = take_filled(&pool, 1);
+    drop(pool);
+    equal(&rt, ends(&region), Some((1, 1)));
     Ok(())
 }

@@ -1,5 +1,5 @@
 //! Tests of bodies that several threads read from a store.
-use crate::checks::{equal, holds_at};
+use crate::checks::{equal, holds, holds_at};
 use heap_image::{Body, BodySize, Extent, Failed, Store, body_at};
 use raw_region::Region;
 use std::alloc::{AllocError, Global};
@@ -141,6 +141,21 @@ fn a_missing_or_failing_byte_gives_none(rt: HostRuntime) -> Result<(), Fail> {
         holds_at(&rt, is_reported, store.1);
     }
     Ok(())
+}
+
+#[test]
+fn more_words_than_a_block_may_have_give_none(rt: HostRuntime) {
+    let store = Failing {
+        bytes: &[],
+        fails_from: usize::MAX,
+    };
+    let size = BodySize {
+        region_log: 20,
+        regions: 1 << 40,
+        numbers: 0,
+    };
+    let body = body_at(rt.alloc(), &store, Extent { at: 0, size }, 4, &rt);
+    holds(&rt, body.is_none());
 }
 
 #[test]

@@ -1,26 +1,30 @@
 //! The unsafe code of the crate: a raw pointer, a length, and the memory that they own.
-ghost use Rattle.std.specs.Prelude.{◌≡◌, ◌≤◌, ℕ, List, length, replicate, IfOk};
+ghost use Rattle.std.specs.Prelude.{◌≡◌, ◌^◌, ◌<◌, ◌≤◌, ℕ, List, length, replicate, Option, Some, IfOk};
 ghost use Rattle.std.specs.Borrow.{sem};
+ghost use Rattle.std.specs.Ptr.{Ptr};
 ghost use Rattle.raw_region.specs.Block.{block_owns, block_shares};
 
-use std::alloc::{AllocError, Allocator, Global};
+use crate::room::Room;
+use std::alloc::{AllocError, Global};
 use std::marker::{Model, Send, Sync};
 use std::slice;
 
 /// The largest number of words of a region.
 pub const MAX_WORDS: usize = 1_048_576;
 
-/// An allocation of `len` words.
+/// `len` words at a place, which may be a part of an allocation.
 ///
-/// It has no `Drop`, so the check rejects code that drops a block: only `release` ends one.
+/// It has no `Drop`, so the check rejects code that drops a block: only `release` and `leave` end one.
 pub(crate) struct Block {
-    at: *mut u64,
-    len: usize,
+    pub(crate) at: *mut u64,
+    pub(crate) len: usize,
     pub(crate) ghost words: { List ℕ },
+    /// The allocation that the block may free, once all words of it are in the block.
+    pub(crate) ghost deed: { Option (Ptr × ℕ) },
 }
 
 impl Model for Block {
-    ghost also_owns = { λ b. block_owns b.at b.len b.words };
+    ghost also_owns = { λ b. block_owns b.deed b.at b.len b.words };
 
     ghost also_shares = { λ b _ κ. block_shares b.at b.len b.words κ };
 }
@@ -31,31 +35,20 @@ unsafe impl Sync for Block {}
 
 impl Block {
     ghost use Rattle.raw_region.specs.BlockLending.{LendsBlock};
+    ghost use Rattle.raw_region.specs.Rooms.{room_of};
 
     /// Allocates a block of zeros.
     pub(crate) fn zeroed(alloc: &Global, len: usize) -> Result<Block, AllocError>
         requires nonempty { 1 ≤ len }
-        requires at_most { len ≤ MAX_WORDS }
-        ensures { IfOk result (λ b. b.words ≡ replicate len 0) }
+        requires at_most { len < 2 ^ 60 }
+        ensures { IfOk result (λ b. (b.words ≡ replicate len 0) × (b.len ≡ len) × (b.deed ≡ Some (b.at, len))) }
     {
-        match alloc.allocate(len * 8, 8) {
-            Ok(start) => {
-                let at = start as *mut u64;
-                let mut i = 0;
-                while i < len {
-                    unsafe { at.add(i).write(0) };
-                    i += 1;
-                }
-                Ok(Block { at, len })
-            }
-            Err(refused) => Err(refused),
-        }
+        Ok(Room::allocate(alloc, len)?.zeroed())
     }
 
     pub(crate) fn words(&self) -> &[u64]
         ensures value { result.now ≡ self.now.words }
-        ensures nonempty { 1 ≤ length self.now.words }
-        ensures at_most { length self.now.words ≤ MAX_WORDS }
+        ensures length { length self.now.words ≡ self.now.len }
     {
         unsafe { slice::from_raw_parts(self.at, self.len) }
     }
@@ -67,9 +60,23 @@ impl Block {
         unsafe { slice::from_raw_parts_mut(self.at, self.len) }
     }
 
-    /// Frees the block.
-    pub(crate) fn release(self, alloc: &Global) {
+    /// Gives the words up.
+    pub(crate) fn into_room(self) -> Room
+        ensures { result ≡ room_of self }
+    {
         let Block { at, len } = self;
-        unsafe { alloc.deallocate(at as *mut u8, len * 8, 8) }
+        Room { at, len }
+    }
+
+    /// Frees the allocation, all of whose words are in the block.
+    pub(crate) fn release(self, alloc: &Global)
+        requires { self.deed ≡ Some (self.at, self.len) }
+    {
+        self.into_room().release(alloc);
+    }
+
+    /// Lets the words be. Those of an allocation are never freed then.
+    pub(crate) fn leave(self) {
+        let Block { at: _, len: _ } = self;
     }
 }

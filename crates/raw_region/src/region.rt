@@ -1,10 +1,11 @@
 //! The safe part of the crate: a list of words, built on `Block`.
-ghost use Rattle.std.specs.Prelude.{◌≡◌, ◌+◌, ◌<◌, ◌≤◌, length, replicate, slice_index, slice_set, IfOk, IsTrue};
+ghost use Rattle.std.specs.Prelude.{◌≡◌, ◌+◌, ◌<◌, ◌≤◌, length, replicate, slice_index, slice_set, IfOk, IfErr, IsTrue, None};
 ghost use Rattle.std.specs.Borrow.{sem};
 ghost use Rattle.raw_region.specs.Region.{with_words, part, hides};
 
 use crate::block::{Block, MAX_WORDS};
 use crate::chunks::move_down;
+use crate::home::{Home, Lease};
 use std::alloc::{AllocError, Global};
 use std::marker::Model;
 
@@ -19,20 +20,26 @@ pub struct Region {
     block: Block,
     /// Whether all words are 0, whatever the block contains, if it has at most `HIDDEN_WORDS`.
     is_clear: bool,
+    home: Home,
     alloc: Global,
 }
 
 impl Model for Region {
     ghost use Rattle.std.specs.Prelude.{List, ℕ};
     ghost use Rattle.raw_region.specs.Region.{shown_words};
+    ghost use Rattle.raw_region.specs.RegionBlock.{IsRegionBlock};
 
     ghost Value = { List ℕ };
 
     ghost view = { λ r. shown_words r.is_clear r.block.words };
+
+    ghost invariant = { λ r. IsRegionBlock r.home r.block };
 }
 
 impl Region {
     ghost use Rattle.raw_region.specs.RegionLending.{LendsRegion};
+    ghost use Rattle.raw_region.specs.RegionBlock.{IsLeased};
+    ghost use Rattle.raw_region.specs.Rooms.{room_of};
 
     /// Allocates a region of this many words, all 0. The only error is that memory runs out.
     pub fn new(alloc: Global, words: usize) -> Result<Region, AllocError>
@@ -45,8 +52,66 @@ impl Region {
         Ok(Region {
             block,
             is_clear: false,
+            home: Home::Own,
             alloc,
         })
+    }
+
+    /// A region of a part of a frame.
+    pub(crate) fn of_lease(alloc: Global, lease: Lease, block: Block) -> Region
+        requires lease { IsLeased lease (room_of block) }
+        requires nonempty { 1 ≤ block.len }
+        requires at_most { block.len ≤ MAX_WORDS }
+        ensures { result ≡ block.words }
+    {
+        Region {
+            block,
+            is_clear: false,
+            home: Home::Leased(lease),
+            alloc,
+        }
+    }
+
+    /// A region of a host's words.
+    pub(crate) fn of_host(alloc: Global, block: Block) -> Region
+        requires nonempty { 1 ≤ block.len }
+        requires at_most { block.len ≤ MAX_WORDS }
+        requires deed { block.deed ≡ None }
+        ensures { result ≡ block.words }
+    {
+        Region {
+            block,
+            is_clear: false,
+            home: Home::Host,
+            alloc,
+        }
+    }
+
+    /// The words of a host. A region of other words comes back.
+    pub(crate) fn into_host(self) -> Result<Block, Region>
+        ensures block { IfOk result (λ b. (b.words ≡ self) × (b.deed ≡ None)) }
+        ensures refused { IfErr result (λ back. back ≡ self) }
+    {
+        let Region {
+            mut block,
+            is_clear,
+            home,
+            alloc,
+        } = self;
+        match home {
+            Home::Host => {
+                if hides(is_clear, block.words()) {
+                    zero(block.words_mut());
+                }
+                Ok(block)
+            }
+            home => Err(Region {
+                block,
+                is_clear,
+                home,
+                alloc,
+            }),
+        }
     }
 
     /// The number of words, which never changes.
@@ -172,8 +237,13 @@ impl Drop for Region {
         let Region {
             block,
             is_clear: _,
+            home,
             alloc,
         } = self;
-        block.release(&alloc);
+        match home {
+            Home::Own => block.release(&alloc),
+            Home::Leased(lease) => lease.end(block.into_room(), &alloc),
+            Home::Host => block.leave(),
+        }
     }
 }

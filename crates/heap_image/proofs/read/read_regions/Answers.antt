@@ -21,7 +21,7 @@ returns-in_err-read_region-clause-truncated g c =
     let p = err_from_is_err_and c.from_residual.result c.from_residual.ensures.1 in
     let so_far = c.loop-r.invariant in
     let long = length-concat (2 ^ c.args.region_log) c.loop-r.regions.items so_far.whole in
-    let counted : length c.loop-r.regions.items * 2 ^ c.args.region_log ≡ c.loop-r._r * 2 ^ c.args.region_log = ap (λ n. n * 2 ^ c.args.region_log) so_far.count in
+    let counted : length c.loop-r.regions.items * 2 ^ c.args.region_log ≡ c.loop-r.r * 2 ^ c.args.region_log = ap (λ n. n * 2 ^ c.args.region_log) so_far.count in
     let same = so_far.expected in
     rw (p.1, p.2) (λ e. let t = c.in_err-read_region.ensures.truncated (same_error c.in_err-read_region.field-0.0 TruncatedBody e) in
     (t.0, still_short (known_rest c.args.incoming.now (g.R.Intake.left c.args.reader.now)) (known_rest c.loop-r.incoming (g.R.Intake.left c.loop-r.reader)) (concat c.loop-r.regions.items) (expected c.args.incoming.now) (expected c.loop-r.incoming) so_far.bytes (omega arith) t.1))
@@ -70,9 +70,9 @@ pub returns-clause-words : goal.returns-clause-words
 returns-clause-words g c =
     let so_far = c.loop-r.invariant in
     let long = length-concat (2 ^ c.args.region_log) c.loop-r.regions.items so_far.whole in
-    let counted : length c.loop-r.regions.items * 2 ^ c.args.region_log ≡ c.loop-r._r * 2 ^ c.args.region_log = ap (λ n. n * 2 ^ c.args.region_log) so_far.count in
+    let counted : length c.loop-r.regions.items * 2 ^ c.args.region_log ≡ c.loop-r.r * 2 ^ c.args.region_log = ap (λ n. n * 2 ^ c.args.region_log) so_far.count in
     let last = c.loop-r-test.false in
     let first = c.loop-r.auto in
-    let is : c.loop-r._r ≡ c.args.count = omega arith in
-    let rows : c.loop-r._r * 2 ^ c.args.region_log ≡ c.args.count * 2 ^ c.args.region_log = ap (λ n. n * 2 ^ c.args.region_log) is in
+    let is : c.loop-r.r ≡ c.args.count = omega arith in
+    let rows : c.loop-r.r * 2 ^ c.args.region_log ≡ c.args.count * 2 ^ c.args.region_log = ap (λ n. n * 2 ^ c.args.region_log) is in
     omega arith

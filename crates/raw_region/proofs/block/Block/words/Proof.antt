@@ -3,7 +3,7 @@ use Rattle.raw_region.proofs.Steps.{refl, sym, ap, subst, List, [], ◌∷◌, �
 use denote.Memory.{hidden_shr}
 use denote.Opens.{unhide, hide}
 use denote.Struct.Lending.{in_block_says, lent_out}
-use Rattle.core.proofs.mem.Facts.{says_three}
+use Rattle.core.proofs.mem.Facts.{says_two}
 use Rattle.std_alloc.proofs.Words.{word_in, word_out, pointer_in, pointer_out}
 use Rattle.raw_region.specs.contracts.block.Block.words as f
 use Rattle.raw_region.proofs.block.Block.words.Statement.{statement}
@@ -27,7 +27,7 @@ words_spec 𝓤 𝓛 𝓜 𝓡 wired =
     split ! $ split ! $ move ! (2 ∷ []) $ split ! $ keep ! (0 ∷ 2 ∷ []) $ fsplit ! $ drop ! $
     enter ! _ _ _ _ _ $ alloc_all ! (λ l. pass_all ! refl ((tt, tt), tt) $
     use1 𝓛 (‵ (hidden_shr Plain κ (plain_of d) b o) ⊛ ‵ (fhide (B.the_lent d d.at κ))) (lent_out 𝓛 B.struct B.the_codes B.the_heap B.the_lent κ d b o) $ split ! $
-    move ! (1 ∷ []) $ unhide ! $ fsplit ! $ fsplit ! $ flt_l ! (λ nonempty. flt_l ! (λ most. fsplit ! $ use1 𝓛 (raw (fact 𝓤 (InBlock d.at))) (in_block_says 𝓛 d.at) $ heard ! (InBlock d.at) (λ inside.
+    move ! (1 ∷ []) $ unhide ! $ fsplit ! $ flt_l ! (λ most. fsplit ! $ use1 𝓛 (raw (fact 𝓤 (InBlock d.at))) (in_block_says 𝓛 d.at) $ heard ! (InBlock d.at) (λ inside.
     fsplit ! $ feq_l ! (λ long. hide ! $ move ! (1 ∷ 2 ∷ []) $
     -- [the fields; the token; the words]
     first ! $ blocks ! $
@@ -43,5 +43,5 @@ words_spec 𝓤 𝓛 𝓜 𝓡 wired =
     returns ! (look_at ! 0 refl) $ free_all ! refl $ keep ! (2 ∷ 0 ∷ []) $
     flt_i ! (length ws * 8) (2 ^ 63) (omega arith) $ flt_i ! (length ws) (2 ^ 64) (subst (λ k. k < 2 ^ 64) (sym long) fits) $ fjoin ! $
     feq_i ! (List Val) (slice_val at d.len ∷ []) (slice_val at (length ws) ∷ []) (ap (λ k. slice_val at k ∷ []) (sym long)) $ fjoin ! $ fjoin ! $
-    suffices ! _ (ends_at 𝓛 f.ended stayed c y (slice_val at d.len) (record { ref_ptr = at; now = ws }) (tt, tt) (tt, tt)) $ says_three ! (refl, omega arith, omega arith) $
-    nothing ! $ nothing ! $ join ! $ nothing ! $ move ! (3 ∷ 0 ∷ []) $ join ! $ done !))))))))
+    suffices ! _ (ends_at 𝓛 f.ended stayed c y (slice_val at d.len) (record { ref_ptr = at; now = ws }) (tt, tt) (tt, tt)) $ says_two ! (refl, long) $
+    nothing ! $ nothing ! $ join ! $ nothing ! $ move ! (3 ∷ 0 ∷ []) $ join ! $ done !)))))))

@@ -6,8 +6,8 @@ use Rattle.raw_region.proofs.region.Region.new.Goals as goal
 -- A new region isn't cleared: its block has the zeros.
 pub returns-clause-zeros : goal.returns-clause-zeros
 unfolding shown_words
-returns-clause-zeros c = c.in_ok-block.ensures
+returns-clause-zeros c = c.in_ok-block.ensures.0
 
 pub returns-clause-length : goal.returns-clause-length
 unfolding shown_words
-returns-clause-length c = ap length c.in_ok-block.ensures ∙ length-replicate c.args.words 0
+returns-clause-length c = ap length c.in_ok-block.ensures.0 ∙ length-replicate c.args.words 0

@@ -8,11 +8,11 @@ use Rattle.raw_region.proofs.region.Region.words.Goals as goal
 long : (b : Bool) (ws now : List ℕ) → shown_words b ws ≡ now → length ws ≡ length now
 long b ws now is = sym (length-shown_words b ws) ∙ ap length is
 
-nonempty : (b : Bool) (ws now : List ℕ) → shown_words b ws ≡ now → 1 ≤ length ws → 1 ≤ length now
-nonempty b ws now is some = subst (λ n. 1 ≤ n) (long b ws now is) some
+nonempty : (b : Bool) (ws now : List ℕ) (n : ℕ) → shown_words b ws ≡ now → length ws ≡ n → 1 ≤ n → 1 ≤ length now
+nonempty b ws now n is has some = subst (λ n. 1 ≤ n) (sym has ∙ long b ws now is) some
 
-at_most : (b : Bool) (ws now : List ℕ) → shown_words b ws ≡ now → length ws ≤ 1048576 → length now ≤ 1048576
-at_most b ws now is most = subst (λ n. n ≤ 1048576) (long b ws now is) most
+at_most : (b : Bool) (ws now : List ℕ) (n : ℕ) → shown_words b ws ≡ now → length ws ≡ n → n ≤ 1048576 → length now ≤ 1048576
+at_most b ws now n is has most = subst (λ n. n ≤ 1048576) (sym has ∙ long b ws now is) most
 
 -- As many of the zeros are the words of a cleared region.
 zeros : (b : Bool) (ws got now : List ℕ) → shown_words b ws ≡ now → hides b ws ≡ true → got ≡ ws → length got ≤ 65536 → take (length got) (replicate {A = ℕ} 65536 0) ≡ now
@@ -24,10 +24,10 @@ returns-then-hides-clause-value c =
     zeros c.self.inside.is_clear c.self.inside.block.words got c.args.self.now c.self.view_is (hides-lent c.self.inside.is_clear c.self.inside.block.words got c.hides.result true c.words-words.ensures.value c.hides.ensures.value c.if-hides.true) c.words-words.ensures.value (c.hides.ensures.few c.if-hides.true)
 
 pub returns-then-hides-clause-nonempty : goal.returns-then-hides-clause-nonempty
-returns-then-hides-clause-nonempty c = nonempty c.self.inside.is_clear c.self.inside.block.words c.args.self.now c.self.view_is c.words-words.ensures.nonempty
+returns-then-hides-clause-nonempty c = nonempty c.self.inside.is_clear c.self.inside.block.words c.args.self.now c.self.inside.block.len c.self.view_is c.words-words.ensures.length c.self.invariant.some
 
 pub returns-then-hides-clause-at_most : goal.returns-then-hides-clause-at_most
-returns-then-hides-clause-at_most c = at_most c.self.inside.is_clear c.self.inside.block.words c.args.self.now c.self.view_is c.words-words.ensures.at_most
+returns-then-hides-clause-at_most c = at_most c.self.inside.is_clear c.self.inside.block.words c.args.self.now c.self.inside.block.len c.self.view_is c.words-words.ensures.length c.self.invariant.most
 
 pub returns-else-hides-clause-value : goal.returns-else-hides-clause-value
 returns-else-hides-clause-value c =
@@ -35,7 +35,7 @@ returns-else-hides-clause-value c =
     c.words-words.ensures.value ∙ sym (shown_words-kept c.self.inside.is_clear c.self.inside.block.words (hides-lent c.self.inside.is_clear c.self.inside.block.words got c.hides.result false c.words-words.ensures.value c.hides.ensures.value c.if-hides.false)) ∙ c.self.view_is
 
 pub returns-else-hides-clause-nonempty : goal.returns-else-hides-clause-nonempty
-returns-else-hides-clause-nonempty c = nonempty c.self.inside.is_clear c.self.inside.block.words c.args.self.now c.self.view_is c.words-words.ensures.nonempty
+returns-else-hides-clause-nonempty c = nonempty c.self.inside.is_clear c.self.inside.block.words c.args.self.now c.self.inside.block.len c.self.view_is c.words-words.ensures.length c.self.invariant.some
 
 pub returns-else-hides-clause-at_most : goal.returns-else-hides-clause-at_most
-returns-else-hides-clause-at_most c = at_most c.self.inside.is_clear c.self.inside.block.words c.args.self.now c.self.view_is c.words-words.ensures.at_most
+returns-else-hides-clause-at_most c = at_most c.self.inside.is_clear c.self.inside.block.words c.args.self.now c.self.inside.block.len c.self.view_is c.words-words.ensures.length c.self.invariant.most

@@ -1,6 +1,7 @@
--- `release` gives the words up, and hands their room back with the right to free it.
-use Rattle.raw_region.proofs.Steps.{refl, ap, List, [], ◌∷◌, ◌*◌, ◌<◌, ◌^◌, arith, lit<, proved, full_share, id⊢, ftrue, flft, named, w64, Val, vint, vunit, tables, fact, ‵, raw, ◌⊛◌, some, later, at_ret, ◌$◌, ◌∵◌, !, qed, done, move, keep, drop, use0, use1, split, join, group, fsplit, fjoin, feq_i, feq_l, flt_l, pick, await, suffices, sub, whole, enter, of_opd, lit, unit_lit, bin, stop, fld, no_more, and_then, first, blocks, exec, returns, alloc_all, pass_all, free_all, look_at, get, get_in, sets, env, Array, u64, usize, RefOf, yes, ShrRef, shr_vals, shr_Tells, plain, nothing, Stays, walk_of, stay_dropped, Goes-dropped, ends_at}
-use mathlib.Core.Path.{subst, sym}
+-- `release` gives the words up, and gives the room back with the right to free it.
+use Rattle.raw_region.proofs.Steps.{refl, ap, List, [], ◌∷◌, ◌*◌, ◌<◌, ◌^◌, arith, lit<, proved, id⊢, ftrue, flft, named, w64, Val, vint, vunit, tables, fact, ‵, raw, ◌⊛◌, some, later, at_ret, ◌$◌, ◌∵◌, !, qed, done, move, keep, drop, use0, use1, split, join, group, fsplit, fjoin, feq_i, feq_l, flt_l, pick, await, suffices, sub, whole, enter, of_opd, lit, unit_lit, bin, stop, fld, no_more, and_then, first, blocks, exec, returns, alloc_all, pass_all, free_all, look_at, get, get_in, sets, env, u64, usize, RefOf, yes, ShrRef, shr_vals, shr_Tells, plain, nothing, Stays, walk_of, stay_dropped, Goes-dropped, ends_at}
+use mathlib.Core.Path.{◌≡◌, subst, sym}
+use denote.Steps.{heard}
 use lib.Dec.{T}
 use base.Fml.{froom}
 use mir.Val.{vptr}
@@ -13,24 +14,26 @@ use mir.Val.{has_ty, WT}
 use types.ByLocal.{lands_last}
 use denote.Builtin.{unit}
 use denote.Plain.{uint_Makes}
-use denote.RawPtr.{rawptr_vals, lies_at}
+use denote.RawPtr.{rawptr_vals, room_for}
+use mir.Syntax.{ty_int, ty_array}
 use denote.Steps.{only, owned}
 use denote.Triple.Call.{calls_at_last}
 use denote.Triple.Clauses.{lasts}
 use denote.Triple.Spec.{triple_of}
 use denote.Triple.Table.{framed}
-use Rattle.raw_region.specs.Block.{may_free}
+use Rattle.core.specs.declared.option.Option.TheVariants.{Some as Just}
+use Rattle.raw_region.specs.Block.{Deed, may_free, right}
 use Rattle.core.proofs.alloc.Calls.{Goes-blank}
 use Rattle.core.specs.Allocator.{HasLayout, array_of}
 use Rattle.std_heap.specs.contracts.Global as G
 use Rattle.std_heap.specs.contracts.GlobalAllocator.deallocate as g
 use Rattle.std_heap.proofs.GlobalAllocator.deallocate.Met.{met}
-use Rattle.raw_region.specs.contracts.block.Block.release as f
-use Rattle.raw_region.proofs.block.Block.release.Statement.{statement}
-use Rattle.raw_region.proofs.block.Block.release.Code as code
-use Rattle.raw_region.specs.contracts.block.Block as B
-use Rattle.raw_region.proofs.block.Block.TheLaws.{lowers}
-use Rattle.raw_region.proofs.Heap.{layout_of, forgotten}
+use Rattle.raw_region.specs.contracts.room.Room.release as f
+use Rattle.raw_region.proofs.room.Room.release.Statement.{statement}
+use Rattle.raw_region.proofs.room.Room.release.Code as code
+use Rattle.raw_region.specs.contracts.room.Room as B
+use Rattle.raw_region.proofs.room.Room.TheLaws.{lowers}
+use Rattle.raw_region.proofs.Heap.{layout_of}
 
 abbrev stayed : Stays f.ended.signature.params f.ended.kept
 stayed = (stay_dropped (plain (λ _. B.the_row)) yes, (stay_dropped (RefOf (0 ∷ []) tt (plain (λ _. G.the_row)) (λ _. tt)) yes, tt))
@@ -43,10 +46,10 @@ release_spec 𝓤 𝓛 𝓜 𝓡 wired =
     (λ κs. ((λ d. lowers.lowered d ∷ []), (shr_vals, tt))) (λ κs. (lowers.val_is, (shr_Tells (named 0) κs.0 G.the_row, tt))) (λ κs qs bounds a _ are.
     let κ = κs.0 in let q = qs.0 in let d = a.0 in let heap = a.1.0 in let n = d.len in let τ = array_of u64 n in
     let y : W.Ghost = ((κs, qs, bounds, a, (lowers.lowered d ∷ [], (shr_vals heap, tt))), tt) in
-    qed 𝓛 (((‵ (flft κ q) ⊛ ‵ ftrue) ⊛ ‵ (B.the_row.own_val d (lowers.lowered d ∷ [])) ⊛ ‵ ((ShrRef (named 0) κ G.the_row).own_val heap (shr_vals heap)) ⊛ ‵ ftrue) ∷ ‵ ftrue ∷ []) ∵
-    split ! $ split ! $ move ! (2 ∷ []) $ split ! $ move ! (1 ∷ []) $ split ! $ keep ! (2 ∷ 0 ∷ 3 ∷ []) $
-    fsplit ! $ drop ! $ fsplit ! $ fsplit ! $ flt_l ! (λ nonempty. flt_l ! (λ most. fsplit ! $ in_a_block ! d.at (λ p. lies_at (Array u64 n) full_share p d.words) (id⊢ 𝓤 _) (λ b o e.
-    rewrite ! 1 (λ (p : Ptr). ‵ (may_free τ p)) e refl $ use1 𝓛 (‵ (froom τ b o)) (forgotten 𝓛 n d.words b o) $ fjoin ! $
+    qed 𝓛 (((‵ (flft κ q) ⊛ ‵ ftrue) ⊛ ‵ (B.the_row.own_val d (lowers.lowered d ∷ [])) ⊛ ‵ ((ShrRef (named 0) κ G.the_row).own_val heap (shr_vals heap)) ⊛ ‵ ftrue) ∷ raw (fact 𝓤 (d.deed ≡ Just (d.at, d.len))) ∷ []) ∵
+    move ! (1 ∷ []) $ heard ! (d.deed ≡ Just (d.at, d.len)) (λ is. split ! $ split ! $ move ! (2 ∷ []) $ split ! $ move ! (1 ∷ []) $ split ! $ keep ! (2 ∷ 0 ∷ 3 ∷ []) $
+    fsplit ! $ drop ! $ fsplit ! $ flt_l ! (λ most. fsplit ! $ in_a_block ! d.at (λ p. room_for (ty_array (ty_int w64) n) p) (id⊢ 𝓤 _) (λ b o e.
+    rewrite ! 1 (λ (z : Deed). ‵ (right z)) is refl $ rewrite ! 1 (λ (p : Ptr). ‵ (may_free τ p)) e refl $ use1 𝓛 (‵ (froom τ b o)) (𝓛.laws.room-raw (ty_array (ty_int w64) n) b o) $ fjoin ! $
     regoal ! (λ (p : Ptr). prop (WpFn 𝓤 𝓛.H 𝓣.C 𝓣.Λ code.function (lowers.lowered (record d { at = p }) ∷ vptr heap.ref_ptr.0 heap.ref_ptr.1 ∷ []) (W.post y))) e refl $
     -- [the room and the right to free it; the handle; the token]
     let bytes : n * 8 < 2 ^ 64 = omega arith in let fits : n < 2 ^ 64 = omega arith in

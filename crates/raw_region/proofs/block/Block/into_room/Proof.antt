@@ -1,0 +1,44 @@
+-- `into_room` moves the two fields, and gives the words up.
+use Rattle.raw_region.proofs.Steps.{refl, sym, ap, [], ◌∷◌, ◌<◌, ◌^◌, arith, proved, full_share, id⊢, ftrue, w64, Val, vptr, vint, tables, ‵, ◌⊛◌, ◌$◌, ◌∵◌, !, qed, done, keep, drop, use1, split, join, fsplit, fjoin, flt_i, flt_l, suffices, agg, enter, of_opd, stop, fld, no_more, and_then, returns, alloc_all, pass_all, free_all, look_at, get, get_in, sets, sub, whole, Array, u64, yes, Ptr, block_ptr, in_a_block, plain, nothing, Stays, walk_of, says, stay_dropped, ends_at}
+use mir.Syntax.{ty_int, ty_array}
+use mir.Val.{vstruct, vcons, vnil}
+use base.Fml.{froom}
+use prog.Wp.{WpFn}
+use types.Kit.{prop, regoal}
+use denote.RawPtr.{lies_at}
+use denote.Shadow.{pure_i}
+use Rattle.core.proofs.alloc.Calls.{Goes-blank}
+use Rattle.raw_region.specs.contracts.block.Block.into_room as f
+use Rattle.raw_region.proofs.block.Block.into_room.Statement.{statement}
+use Rattle.raw_region.proofs.block.Block.into_room.Code as code
+use Rattle.raw_region.specs.Rooms.{room_of}
+use Rattle.raw_region.specs.contracts.block.Block as B
+use Rattle.raw_region.specs.contracts.room.Room as R
+use Rattle.raw_region.proofs.block.Block.TheLaws.{lowers}
+use Rattle.raw_region.proofs.Heap.{forgotten}
+use Rattle.raw_region.proofs.Rooms.{RoomFields, fields_of}
+
+abbrev stayed : Stays f.ended.signature.params f.ended.kept
+stayed = (stay_dropped (plain (λ _. B.the_row)) yes, tt)
+
+pub into_room_spec : {M : Type 1} → statement M
+into_room_spec 𝓤 𝓛 𝓜 𝓡 wired =
+    let c = f.clauses 𝓛 𝓜.mem 𝓡.returns in let W = walk_of 𝓛 f.ended stayed c in let 𝓣 = tables 𝓤 𝓛.H 𝓜 𝓡 𝓡.env in
+    proved 𝓛 f.ended stayed c 𝓜 𝓡 (Goes-blank 𝓛 0 (plain (λ _. B.the_row)) yes (λ κs x w. tt), tt) f.Key.name code.function (code.unfolded 𝓤 𝓛.H 𝓜 𝓡 wired)
+    (λ κs. ((λ d. lowers.lowered d ∷ []), tt)) (λ κs. (lowers.val_is, tt)) (λ κs qs bounds a _ are.
+    let d = a.0 in let n = d.len in let y : W.Ghost = ((κs, qs, bounds, a, (lowers.lowered d ∷ [], tt)), tt) in
+    qed 𝓛 ((‵ ftrue ⊛ ‵ (B.the_row.own_val d (lowers.lowered d ∷ [])) ⊛ ‵ ftrue) ∷ ‵ ftrue ∷ []) ∵
+    split ! $ drop ! $ split ! $ keep ! (0 ∷ []) $ fsplit ! $ drop ! $ fsplit ! $ flt_l ! (λ small. fsplit ! $
+    in_a_block ! d.at (λ p. lies_at (Array u64 n) full_share p d.words) (id⊢ 𝓤 _) (λ b o e.
+    use1 𝓛 (‵ (froom (ty_array (ty_int w64) n) b o)) (forgotten 𝓛 n d.words b o) $ fjoin ! $ flt_i ! n (2 ^ 60) small $ fjoin ! $
+    let fits : n < 2 ^ 64 = omega arith in
+    let made : R.the_row.Denot = record { at = block_ptr b o; len = n; deed = d.deed } in let cell : Val = vstruct (vcons (vptr b o) (vcons (vint w64 n) vnil)) in
+    regoal ! (λ (p : Ptr). prop (WpFn 𝓤 𝓛.H 𝓣.C 𝓣.Λ code.function (lowers.lowered (record d { at = p }) ∷ []) (W.post y))) e refl $
+    enter ! _ _ _ _ _ $ alloc_all ! (λ l. pass_all ! refl ((tt, (tt, (record { fits = fits }, tt))), tt) $
+    sets ! (of_opd ! (get_in ! (fld ! refl (stop !)) (sub ! 0 refl (whole !)))) refl (tt, tt) $
+    sets ! (of_opd ! (get_in ! (fld ! refl (stop !)) (sub ! 1 refl (whole !)))) refl (tt, record { fits = fits }) $
+    sets ! (agg ! (and_then ! (get ! refl) (and_then ! (get ! refl) (no_more !)))) refl (tt, (tt, (record { fits = fits }, tt))) $
+    returns ! (look_at ! 0 refl) $ free_all ! refl $
+    pure_i ! (RoomFields.own_val (fields_of made) (cell ∷ [])) (λ vss. (tt, (tt, ((tt, tt), tt)))) ((vptr b o ∷ [], (vint w64 n ∷ [], tt)), (refl, (refl, ((refl, fits), tt)))) $ fjoin ! $
+    suffices ! _ (ends_at 𝓛 f.ended stayed c y cell made (tt, tt) (tt, tt)) $ says ! (ap (λ (p : Ptr). room_of (record d { at = p })) (sym e)) $
+    nothing ! $ nothing ! $ join ! $ nothing ! $ done !))))

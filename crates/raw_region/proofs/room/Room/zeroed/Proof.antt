@@ -1,0 +1,115 @@
+-- `zeroed` writes a room full of zeros in a loop, and makes a block of it.
+use Rattle.raw_region.proofs.Steps.{◌≡◌, refl, sym, ap, List, [], ◌∷◌, ℕ, zero, suc, ◌+◌, ◌-◌, ◌*◌, ◌≤◌, ◌<◌, ◌^◌, arith, length, replicate, lit<, proved, Ura, full_share, SProp, id⊢, ftrue, fat, froom, w64, ty_int, ty_array, Val, vptr, vint, tables, Logic, ‵, ◌⊛◌, at_ret, Sq, ◌$◌, ◌∵◌, !, qed, done, move, keep, drop, use0, use1, use2, split, join, fjoin, feq_i, flt_i, rewrite, suffices, agg, whole, enter, of_opd, lit, bin, init, stop, fld, no_more, and_then, assigns_last, first, blocks, branches, skips, exec, returns, alloc_all, pass_all, free_all, look_at, get, get_in, through, sets, sets_last, env, Array, u64, yes, block_ptr, plain, nothing, Stays, walk_of, says, stay_dropped, ends_at}
+use mathlib.Core.WellFounded.InvImage
+use lib.Dec.{ltb→lt, nltb→le}
+use lib.WfN.{lt-wf_rel}
+use Rattle.std.proofs.lemmas.List.{length-replicate}
+use contract.Running.{tables_of}
+use mir.Syntax.{Body}
+use mir.Val.{vstruct, vcons, vnil}
+use prog.Wp.{Env, Out, Wp, Tables, at_return, after_seq, after_block, after_turn}
+use types.Kit.{Item, any_q, runs}
+use types.Run.{jumps, loops, again, Below}
+use types.ByLocal.{holding, forget_but, take_at, give_at}
+use denote.ArrayMemory.{Array-whole}
+use denote.Index.{row}
+use denote.Memory.{part_at}
+use denote.Plain.{uint_in}
+use denote.RawPtr.{lies_at}
+use denote.Shadow.{pure_i}
+use Rattle.core.proofs.alloc.Shapes.{after}
+use Rattle.raw_region.specs.contracts.room.Room.zeroed as f
+use Rattle.raw_region.proofs.room.Room.zeroed.Statement.{statement}
+use Rattle.raw_region.proofs.room.Room.zeroed.Code as code
+use Rattle.raw_region.specs.contracts.block.Block as B
+use Rattle.raw_region.specs.contracts.room.Room as R
+use Rattle.raw_region.proofs.room.Room.TheLaws.{lowers}
+use Rattle.core.proofs.alloc.Calls.{Goes-blank}
+use prog.Wp.{WpFn}
+use types.Kit.{prop, regoal}
+use types.Part.{sub}
+use denote.RawPtr.{Ptr, room_for, in_a_block}
+use Rattle.raw_region.specs.Block.{Deed, right}
+use types.Kit.{fsplit, flt_l}
+use Rattle.raw_region.proofs.Fields.{Plain, plain_of}
+use Rattle.raw_region.proofs.Heap.{zeros_more}
+
+abbrev stayed : Stays f.ended.signature.params f.ended.kept
+stayed = (stay_dropped (plain (λ _. R.the_row)) yes, tt)
+
+-- the loop: i of the n words at (b, o) are written
+module _ {M : Type 1} {𝓤 : Ura M} (𝓛 : Logic 𝓤) (𝓣 : Tables 𝓤 𝓛.H) (P : Val → SProp 𝓤) (rest : Body) (deed : Deed) (n b o : ℕ) (small : n * 8 < 2 ^ 63) (l : ℕ → ℕ) where
+  open 𝓛 use {H}
+
+  abbrev En : Env 𝓤 H
+  En = env code.Mir.locals l
+
+  abbrev Written : Type 0
+  Written = (i : ℕ) × (i ≤ n)
+
+  abbrev Nearer : Written → Written → Type 0
+  Nearer t u = n - t.0 < n - u.0
+
+  abbrev Now : Written → List (Item 𝓤)
+  Now t = ‵ (row u64 full_share (replicate t.0 0) b o) ∷ ‵ (froom (ty_array (ty_int w64) (n - t.0)) b (t.0 * 8 + o)) ∷ ‵ (right deed)
+      ∷ holding 𝓛 En ((1, vstruct (vcons (vptr b o) (vcons (vint w64 n) vnil))) ∷ (2, vptr b o) ∷ (3, vint w64 n) ∷ (4, vint w64 t.0) ∷ [])
+
+  abbrev Turned : Written → Out → SProp 𝓤
+  Turned t = after_turn 𝓤 H (Below 𝓛 Nearer Now t) (after_block 𝓤 H (after_seq 𝓤 H (Wp 𝓤 H 𝓣.C 𝓣.Λ En rest (at_return 𝓤 H En P)) (at_return 𝓤 H En P)))
+
+  turns : ((t : Written) → t.0 ≡ n → Sq 𝓛 (Now t) (runs 𝓣.C 𝓣.Λ En rest (at_ret En P))) → (t : Written) → Sq 𝓛 (Now t) (runs 𝓣.C 𝓣.Λ En code.Mir.turn-1 (any_q (Turned t)))
+  unfolding after_turn
+  turns finish t =
+      let i : ℕ = t.0 in let le = t.1 in
+      sets ! (bin ! (get ! refl) (get ! refl) tt) refl (tt, tt) $ first ! $ branches ! (get ! refl)
+      (λ less. let h : i < n = ltb→lt i n less in
+      let far : i * 8 < 2 ^ 64 = omega arith in let next : i + 1 < 2 ^ 64 = omega arith in
+      let left : n - i ≡ suc (n - suc i) = omega arith in let place : i * 8 + o + 8 ≡ suc i * 8 + o = omega arith in let one : i + 1 ≡ suc i = omega arith in
+      skips ! $ exec ! 𝓣.C 𝓣.Λ En (after 2 code.Mir.turn-1) (any_q (Turned t)) $ first ! $ blocks ! $
+      sets ! (bin ! (get ! refl) (lit ! tt) (record { fits = far })) refl (tt, record { fits = far }) $
+      sets ! (bin ! (get ! refl) (get ! refl) tt) refl (tt, tt) $
+      move ! (1 ∷ []) $ rewrite ! 0 (λ (m : ℕ). ‵ (froom (ty_array (ty_int w64) m) b (i * 8 + o))) left refl $
+      use1 𝓛 (‵ (froom (ty_int w64) b (i * 8 + o)) ⊛ ‵ (froom (ty_array (ty_int w64) (n - suc i)) b (i * 8 + o + 8))) (𝓛.laws.room_uncons (ty_int w64) (n - suc i) b (i * 8 + o)) $ split ! $
+      assigns_last ! (of_opd ! (lit ! tt)) (through ! refl (stop !)) (init ! 0 refl (tt, record { fits = lit< tt })) $
+      exec ! 𝓣.C 𝓣.Λ En (after 3 code.Mir.turn-1) (any_q (Turned t)) $ sets_last ! (bin ! (get ! refl) (lit ! tt) (record { fits = next })) refl (tt, record { fits = next }) $
+      -- [the new word; the room after it; the words before it]
+      use1 𝓛 (‵ (part_at u64 full_share 0 b (i * 8 + o))) (uint_in 𝓛 full_share w64 0 b (i * 8 + o)) $ move ! (2 ∷ 0 ∷ []) $
+      use2 𝓛 (‵ (row u64 full_share (replicate (suc i) 0) b o)) (zeros_more 𝓛 i b o) $
+      rewrite ! 1 (λ (k : ℕ). ‵ (froom (ty_array (ty_int w64) (n - suc i)) b k)) place refl $
+      forget_but ! En (1 ∷ 2 ∷ 3 ∷ 4 ∷ []) refl $ take_at ! 4 $ rewrite ! 0 (λ (k : ℕ). ‵ (fat full_share (ty_int w64) (l 4) zero (vint w64 k))) one refl $ give_at ! 4 $
+      again ! Nearer Now t (suc i, omega arith) (omega arith))
+      (λ over. let ge = nltb→le i n over in
+      jumps ! $ exec ! 𝓣.C 𝓣.Λ En rest (at_ret En P) $ forget_but ! En (1 ∷ 2 ∷ 3 ∷ 4 ∷ []) refl $ finish t (omega arith))
+
+pub zeroed_spec : {M : Type 1} → statement M
+unfolding tables_of
+zeroed_spec 𝓤 𝓛 𝓜 𝓡 wired =
+    let c = f.clauses 𝓛 𝓜.mem 𝓡.returns in let W = walk_of 𝓛 f.ended stayed c in let 𝓣 = tables 𝓤 𝓛.H 𝓜 𝓡 𝓡.env in
+    proved 𝓛 f.ended stayed c 𝓜 𝓡 (Goes-blank 𝓛 0 (plain (λ _. R.the_row)) yes (λ κs x w. tt), tt) f.Key.name code.function (code.unfolded 𝓤 𝓛.H 𝓜 𝓡 wired)
+    (λ κs. ((λ d. lowers.lowered d ∷ []), tt)) (λ κs. (lowers.val_is, tt)) (λ κs qs bounds a _ are.
+    let d = a.0 in let n = d.len in let y : W.Ghost = ((κs, qs, bounds, a, (lowers.lowered d ∷ [], tt)), tt) in
+    qed 𝓛 ((‵ ftrue ⊛ ‵ (R.the_row.own_val d (lowers.lowered d ∷ [])) ⊛ ‵ ftrue) ∷ ‵ ftrue ∷ []) ∵
+    split ! $ drop ! $ split ! $ keep ! (0 ∷ []) $ fsplit ! $ drop ! $ fsplit ! $ flt_l ! (λ most. fsplit ! $
+    in_a_block ! d.at (λ p. room_for (ty_array (ty_int w64) n) p) (id⊢ 𝓤 _) (λ b o e.
+    let small : n * 8 < 2 ^ 63 = omega arith in let fits : n < 2 ^ 64 = omega arith in
+    let ws : List ℕ = replicate n 0 in let made : B.the_row.Denot = record { at = block_ptr b o; len = n; words = ws; deed = d.deed } in let cell : Val = vstruct (vcons (vptr b o) (vcons (vint w64 n) vnil)) in
+    let all : n ≡ n - 0 = omega arith in let here : o ≡ 0 * 8 + o = omega arith in
+    regoal ! (λ (p : Ptr). prop (WpFn 𝓤 𝓛.H 𝓣.C 𝓣.Λ code.function (lowers.lowered (record d { at = p }) ∷ []) (W.post y))) e refl $
+    enter ! _ _ _ _ _ $ alloc_all ! (λ l. pass_all ! refl ((tt, (tt, (record { fits = fits }, tt))), tt) $
+    let E = env code.Mir.locals l in
+    sets ! (of_opd ! (get_in ! (fld ! refl (stop !)) (sub ! 0 refl (whole !)))) refl (tt, tt) $
+    sets ! (of_opd ! (get_in ! (fld ! refl (stop !)) (sub ! 1 refl (whole !)))) refl (tt, record { fits = fits }) $
+    sets ! (of_opd ! (lit ! tt)) refl (tt, record { fits = lit< tt }) $
+    rewrite ! 0 (λ (m : ℕ). ‵ (froom (ty_array (ty_int w64) m) b o)) all refl $ rewrite ! 0 (λ (k : ℕ). ‵ (froom (ty_array (ty_int w64) (n - 0)) b k)) here refl $
+    use0 𝓛 (‵ (row u64 full_share [] b o)) (id⊢ 𝓤 _) $
+    first ! $ blocks ! $ loops ! (tables_of 𝓤 𝓛.H 𝓜 𝓣) (Nearer 𝓛 (tables_of 𝓤 𝓛.H 𝓜 𝓣) (W.post y) code.Mir.t-5 d.deed n b o small l) (InvImage.wf (λ (t : (i : ℕ) × (i ≤ n)). n - t.0) lt-wf_rel.wf) (Now 𝓛 (tables_of 𝓤 𝓛.H 𝓜 𝓣) (W.post y) code.Mir.t-5 d.deed n b o small l)
+    (turns 𝓛 (tables_of 𝓤 𝓛.H 𝓜 𝓣) (W.post y) code.Mir.t-5 d.deed n b o small l (λ t full.
+    rewrite ! 0 (λ (k : ℕ). ‵ (row u64 full_share (replicate k 0) b o)) full refl $ move ! (1 ∷ []) $ drop ! $
+    -- [the words; the right]
+    sets ! (agg ! (and_then ! (get ! refl) (and_then ! (get ! refl) (no_more !)))) refl (tt, (tt, (record { fits = fits }, tt))) $
+    returns ! (look_at ! 0 refl) $ free_all ! refl $
+    feq_i ! ℕ (length ws) n (length-replicate n 0) $ fjoin ! $ use1 𝓛 (‵ (lies_at (Array u64 n) full_share (block_ptr b o) ws)) (Array-whole 𝓛 u64 full_share n ws b o) $ fjoin ! $
+    flt_i ! n (2 ^ 60) most $ fjoin ! $
+    pure_i ! (Plain.own_val (plain_of made) (cell ∷ [])) (λ vss. (tt, (tt, ((tt, tt), tt)))) ((vptr b o ∷ [], (vint w64 n ∷ [], tt)), (refl, (refl, ((refl, fits), tt)))) $ fjoin ! $
+    suffices ! _ (ends_at 𝓛 f.ended stayed c y cell made (tt, tt) (tt, tt)) $ says ! (ap (λ (p : Ptr). record d { at = p }) (sym e), refl) $
+    nothing ! $ nothing ! $ join ! $ nothing ! $ done !)) (0, omega arith)))))

@@ -1,0 +1,27 @@
+-- The block of a region.
+use Rattle.std.specs.Prelude.{◌≡◌, ◌≤◌, ◌<◌, Some, None}
+use Rattle.std.specs.Arc.{arc_value}
+use Rattle.raw_region.specs.declared.block.Block.{Block}
+use Rattle.raw_region.specs.declared.block.TheConstants.{MAX_WORDS}
+use Rattle.raw_region.specs.Rooms.{room_of}
+use Rattle.raw_region.specs.declared.room.Room.{Room}
+use Rattle.raw_region.specs.Frame.{part_of, IsPart}
+use Rattle.raw_region.specs.declared.home.Home.{Home}
+use Rattle.raw_region.specs.declared.home.Lease.{Lease}
+use Rattle.raw_region.specs.declared.home.Home.TheVariants.{Own, Leased, Host}
+
+-- the room of the part that is out
+pub record IsLeased (lease : Lease) (room : Room) : Type 0 where
+  pub inside : lease.index < (arc_value lease.frame).count
+  pub part : IsPart (part_of (arc_value lease.frame) lease.index) room
+
+-- what the block may free
+abbrev pub IsAtHome : Home → Block → Type 0
+IsAtHome Own b = b.deed ≡ Some (b.at, b.len)
+IsAtHome (Leased lease) b = IsLeased lease (room_of b)
+IsAtHome Host b = b.deed ≡ None
+
+pub record IsRegionBlock (home : Home) (b : Block) : Type 0 where
+  pub some : 1 ≤ b.len
+  pub most : b.len ≤ MAX_WORDS
+  pub at_home : IsAtHome home b

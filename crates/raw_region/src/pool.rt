@@ -1,0 +1,91 @@
+//! Regions that share one allocation.
+ghost use Rattle.std.specs.Prelude.{◌≡◌, ◌*◌, ◌^◌, ◌<◌, ◌≤◌, replicate, IfSome, IfOk};
+
+use crate::block::MAX_WORDS;
+use crate::frame::Frame;
+use crate::home::{Lease, leave};
+use crate::region::Region;
+use std::alloc::{AllocError, Global};
+use std::marker::Model;
+use std::sync::Arc;
+
+/// Regions of one size in one allocation, which the last of the pool and its regions frees.
+///
+/// A region is taken by its number. Once it is dropped, its words are back in the pool, and it may be taken again.
+pub struct RegionPool {
+    frame: Arc<Frame, Global>,
+    alloc: Global,
+}
+
+impl Model for RegionPool {
+    ghost use Rattle.std.specs.Arc.{arc_value};
+    ghost use Rattle.raw_region.specs.Frame.{FrameView};
+
+    ghost Value = { FrameView };
+
+    ghost view = { λ p. arc_value p.frame };
+}
+
+impl RegionPool {
+    /// Allocates the words of `count` regions of `words` words. The only error is that memory runs out.
+    pub fn new(alloc: Global, count: usize, words: usize) -> Result<RegionPool, AllocError>
+        requires some { 1 ≤ count }
+        requires nonempty { 1 ≤ words }
+        requires at_most { words ≤ MAX_WORDS }
+        requires fits { count * words < 2 ^ 60 }
+        ensures size { IfOk result (λ pool. pool.size ≡ words) }
+        ensures count { IfOk result (λ pool. pool.count ≡ count) }
+    {
+        let frame = Frame::new(alloc, count, words)?;
+        match Arc::new(alloc, frame) {
+            Ok(frame) => Ok(RegionPool { frame, alloc }),
+            Err(failed) => {
+                failed.value.end(&alloc);
+                Err(AllocError)
+            }
+        }
+    }
+
+    /// The number of regions, whether they are out or not.
+    pub fn len(&self) -> usize
+        ensures { result ≡ self.now.count }
+    {
+        self.frame.count()
+    }
+
+    /// The number of words of a region.
+    pub fn region_len(&self) -> usize
+        ensures value { result ≡ self.now.size }
+        ensures nonempty { 1 ≤ result }
+        ensures at_most { result ≤ MAX_WORDS }
+    {
+        self.frame.size()
+    }
+
+    /// Takes a region, all of whose words are 0. `None` if it is out already.
+    pub fn take(&self, index: usize) -> Option<Region>
+        requires { index < self.now.count }
+        ensures { IfSome result (λ region. region ≡ replicate self.now.size 0) }
+    {
+        let Ok(frame) = Arc::try_clone(&self.frame) else {
+            return None;
+        };
+        match self.frame.take(index) {
+            Some(room) => {
+                let lease = Lease { frame, index };
+                Some(Region::of_lease(self.alloc, lease, room.zeroed()))
+            }
+            None => {
+                leave(frame, &self.alloc);
+                None
+            }
+        }
+    }
+}
+
+impl Drop for RegionPool {
+    fn drop(self) {
+        let RegionPool { frame, alloc } = self;
+        leave(frame, &alloc);
+    }
+}
