@@ -12,7 +12,7 @@ const PERMISSIONS: u32 = 0o777;
 const OTHERS_READ: u32 = 0o044;
 
 /// The owner of a file, its group, and who may read and write it.
-#[derive(Debug, Clone, Copy, PartialEq, Eq)]
+#[derive(Clone, Copy)]
 pub struct Access {
     owner: u32,
     group: u32,

@@ -2,7 +2,7 @@
 use std::fmt;
 
 /// The first difference between an image and the compaction of another.
-#[derive(Debug, Clone, Copy, PartialEq, Eq)]
+#[derive(Clone, Copy)]
 pub enum Difference {
     /// The region log, the allowance, the version, or the number of words, live objects or roots.
     Shape,
@@ -16,11 +16,12 @@ pub enum Difference {
 
 impl fmt::Display for Difference {
     fn fmt<W: fmt::Write>(&self, f: &mut fmt::Formatter<W>) -> fmt::Result {
-        match self {
-            Difference::Shape => f.write_str("shape"),
-            Difference::Word(address) => write!(f, "word {address}"),
-            Difference::Live(index) => write!(f, "live {index}"),
-            Difference::Root(index) => write!(f, "root {index}"),
-        }
+        let (place, number) = match self {
+            Difference::Shape => return f.write_str("shape"),
+            Difference::Word(address) => ("word", *address),
+            Difference::Live(index) => ("live", *index),
+            Difference::Root(index) => ("root", *index),
+        };
+        write!(f, "{place} {number}")
     }
 }

@@ -3,7 +3,7 @@ use std::io::{Error, ErrorKind, Write};
 use std::{fmt, io};
 
 /// A system call on a file.
-#[derive(Debug, Clone, Copy, PartialEq, Eq)]
+#[derive(Clone, Copy)]
 pub enum SystemCall {
     Open,
     /// Gets the metadata.
@@ -74,14 +74,15 @@ impl FailedCall {
 /// The reason: in words if the user can mend it, else the system's number.
 impl fmt::Display for FailedCall {
     fn fmt<W: fmt::Write>(&self, f: &mut fmt::Formatter<W>) -> fmt::Result {
-        match (self.kind, self.number) {
-            (ErrorKind::NotFound, _) => write!(f, "no such file or folder"),
-            (ErrorKind::PermissionDenied, _) => write!(f, "not permitted"),
-            (ErrorKind::StorageFull | ErrorKind::QuotaExceeded, _) => write!(f, "no space"),
-            (ErrorKind::IsADirectory, _) => write!(f, "a folder"),
-            (ErrorKind::WriteZero, _) => write!(f, "no byte was taken"),
-            (_, Some(number)) => write!(f, "other, error {number} of the system"),
-            (_, None) => write!(f, "other"),
-        }
+        let text = match (self.kind, self.number) {
+            (ErrorKind::NotFound, _) => "no such file or folder",
+            (ErrorKind::PermissionDenied, _) => "not permitted",
+            (ErrorKind::StorageFull | ErrorKind::QuotaExceeded, _) => "no space",
+            (ErrorKind::IsADirectory, _) => "a folder",
+            (ErrorKind::WriteZero, _) => "no byte was taken",
+            (_, Some(number)) => return write!(f, "other, error {number} of the system"),
+            (_, None) => "other",
+        };
+        f.write_str(text)
     }
 }

@@ -12,7 +12,7 @@ use heap_text::TextError;
 use std::alloc::{AllocError, Global};
 
 /// Why the program ends with a status other than 0.
-#[derive(Debug, Drop)]
+#[derive(Drop)]
 pub enum Failure {
     /// The words are no command. The text, in whole lines, says why.
     Usage(String),

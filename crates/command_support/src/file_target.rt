@@ -1,6 +1,6 @@
 //! Files to write, as they are before a command changes them.
 use crate::access::{Access, first_mode};
-use crate::failed_call::{FailedCall, SystemCall};
+use crate::failed_call::SystemCall;
 use crate::file_id::FileId;
 use crate::file_word::FileWord;
 use crate::files::not_regular;
@@ -19,7 +19,7 @@ use std::rt::Files;
 use std::{fs, io};
 
 /// How a command writes its files.
-#[derive(Debug, Clone, Copy, PartialEq, Eq)]
+#[derive(Clone, Copy)]
 pub struct Writing {
     /// Whether each file is replaced, once all is done.
     pub atomic: bool,
@@ -35,8 +35,8 @@ pub struct FileTarget<'a, F: Drop> {
     word: FileWord<'a>,
     /// Whether it is made for its owner alone, if it isn't there yet.
     is_private: bool,
-    /// The metadata of the file that was there, or was made because there was none.
-    found: Option<Metadata>,
+    /// The file that was there, or was made because there was none.
+    found: Option<FileId>,
     inputs: Inputs,
     way: Way<F>,
 }
@@ -45,10 +45,22 @@ pub struct FileTarget<'a, F: Drop> {
 #[derive(Drop)]
 enum Way<F: Drop> {
     /// In place. The file is open, and was made if it wasn't there.
-    InPlace { file: F, is_new: bool },
+    InPlace {
+        file: F,
+        is_new: bool,
+        /// The length of a regular file.
+        len: Option<u64>,
+    },
     /// As a new file beside this place, which that takes in the end.
-    Beside(PathBuf),
+    Beside {
+        place: PathBuf,
+        /// The access of the file that was there.
+        access: Option<Access>,
+    },
 }
+
+/// The file that was found, if there is one, and how it is to be written.
+type Found<F> = (Option<FileId>, Way<F>);
 
 impl<'a, F: OpenFile + Drop> FileTarget<'a, F> {
     /// Opens the file of this word for writing, and makes it if it isn't there. With `atomic` it only looks at what is there,
@@ -61,50 +73,21 @@ impl<'a, F: OpenFile + Drop> FileTarget<'a, F> {
         writing: Writing,
     ) -> Result<FileTarget<'a, F>, Trouble<'a>> {
         if writing.atomic && word.is_standard() {
-            Err(not_regular(host.alloc(), word)?)
-        } else if writing.atomic {
-            FileTarget::beside(host, word, writing)
+            return Err(not_regular(host.alloc(), word)?);
+        }
+        let (found, way) = if writing.atomic {
+            find_place(host, word)?
         } else {
-            FileTarget::in_place(host, word, writing)
-        }
-    }
-
-    fn in_place<H: Files<File = F> + AllocGlobal>(
-        host: &H,
-        word: FileWord<'a>,
-        writing: Writing,
-    ) -> Result<FileTarget<'a, F>, Trouble<'a>> {
-        let opened = open(host, word.path_to_write(), writing.is_private);
-        let (file, is_new) = on_file(word, SystemCall::Open, opened)?;
-        match on_file(word, SystemCall::Stat, file.metadata()) {
-            Ok(found) => Ok(FileTarget {
-                word,
-                is_private: writing.is_private,
-                found: Some(found),
-                inputs: writing.inputs(),
-                way: Way::InPlace { file, is_new },
-            }),
-            Err(trouble) => {
-                if is_new {
-                    remove_made(host, word.path_to_write());
-                }
-                Err(trouble)
-            }
-        }
-    }
-
-    fn beside<H: Files<File = F> + AllocGlobal>(
-        host: &H,
-        word: FileWord<'a>,
-        writing: Writing,
-    ) -> Result<FileTarget<'a, F>, Trouble<'a>> {
-        let (place, found) = find_place(host, word)?;
-        let way = Way::Beside(place);
+            open_in_place(host, word, writing.is_private)?
+        };
         Ok(FileTarget {
             word,
             is_private: writing.is_private,
             found,
-            inputs: writing.inputs(),
+            inputs: Inputs {
+                first: writing.read,
+                second: None,
+            },
             way,
         })
     }
@@ -117,7 +100,7 @@ impl<'a, F: OpenFile + Drop> FileTarget<'a, F> {
     pub fn is_replaced(&self) -> bool {
         match &self.way {
             Way::InPlace { .. } => false,
-            Way::Beside(_) => true,
+            Way::Beside { .. } => true,
         }
     }
 
@@ -125,25 +108,23 @@ impl<'a, F: OpenFile + Drop> FileTarget<'a, F> {
     pub fn place_name(&self) -> Option<&str> {
         match &self.way {
             Way::InPlace { .. } => None,
-            Way::Beside(place) => place.file_name(),
+            Way::Beside { place, .. } => place.file_name(),
         }
     }
 
     /// Notes that the command reads this file besides the one of its [`Writing`].
-    pub(crate) fn beside_input(self, id: FileId) -> FileTarget<'a, F> {
-        FileTarget {
-            inputs: Inputs {
-                second: Some(id),
-                ..self.inputs
-            },
-            ..self
-        }
+    pub(crate) fn beside_input(mut self, id: FileId) -> FileTarget<'a, F> {
+        self.inputs = Inputs {
+            second: Some(id),
+            ..self.inputs
+        };
+        self
     }
 
     /// Whether it is this file.
     pub fn is(&self, id: FileId) -> bool {
-        match &self.found {
-            Some(found) => FileId::of(found).is_same(id),
+        match self.found {
+            Some(found) => found.is_same(id),
             None => false,
         }
     }
@@ -154,8 +135,8 @@ impl<'a, F: OpenFile + Drop> FileTarget<'a, F> {
         host: &H,
         other: &FileTarget<'a, F>,
     ) -> Result<bool, Trouble<'a>> {
-        match (&self.found, &other.found) {
-            (Some(one), Some(other)) => Ok(FileId::of(one).is_same(FileId::of(other))),
+        match (self.found, other.found) {
+            (Some(one), Some(other)) => Ok(one.is_same(other)),
             (None, None) => is_one_place(host, self.word, other.word),
             _ => Ok(false),
         }
@@ -170,21 +151,9 @@ impl<'a, F: OpenFile + Drop> FileTarget<'a, F> {
 
     /// Begins to write the file: empties it, or makes the new file beside it. A pipe, a device and standard output have nothing
     /// to empty, and an empty file isn't emptied again: some systems write a file that was emptied to the disk when it is
-    /// closed.
+    /// closed. A new file doesn't get the name `apart`, which is that of the other file that the command writes.
     ///
     /// After fault 13, or 11 if memory runs out, the file is as it was.
-    pub fn begin<H: Files<File = F> + AllocGlobal>(
-        self,
-        host: &H,
-    ) -> Result<Output<'a, F>, Trouble<'a>>
-    where
-        F: SystemFile,
-    {
-        self.begin_apart(host, None)
-    }
-
-    /// Begins to write the file, as [`FileTarget::begin`]. A new file doesn't get this name, which is that of the other file
-    /// that the command writes.
     pub fn begin_apart<H: Files<File = F> + AllocGlobal>(
         self,
         host: &H,
@@ -196,78 +165,83 @@ impl<'a, F: OpenFile + Drop> FileTarget<'a, F> {
         let FileTarget {
             word,
             is_private,
-            found,
             inputs,
             way,
+            ..
         } = self;
         match way {
-            Way::InPlace { file, .. } => begin_in_place(word, file, found),
-            Way::Beside(place) => {
+            Way::InPlace { file, len, .. } => begin_in_place(word, file, len),
+            Way::Beside { place, access } => {
                 let making = Making {
-                    access: found.as_ref().map(Access::of),
+                    access,
                     is_private,
                     apart,
                     inputs,
                 };
-                let (file, replacement) = Replacement::make(host, word, place, making)?;
-                let may_have_holes = !file.is_standard_output();
-                Ok(Output {
-                    file: Watched::new(word, file),
-                    may_have_holes,
-                    replacement: Some(replacement),
-                })
+                Replacement::begin(host, word, place, making)
             }
         }
     }
 }
 
-impl Writing {
-    fn inputs(self) -> Inputs {
-        Inputs {
-            first: self.read,
-            second: None,
+/// Opens a file to write it in place, and makes it if it isn't there.
+fn open_in_place<'a, H: Files + AllocGlobal>(
+    host: &H,
+    word: FileWord<'a>,
+    is_private: bool,
+) -> Result<Found<H::File>, Trouble<'a>> {
+    let opened = open(host, word.path_to_write(), is_private);
+    let (file, is_new) = on_file(word, SystemCall::Open, opened)?;
+    match on_file(word, SystemCall::Stat, file.metadata()) {
+        Ok(found) => {
+            let len = if found.is_file() {
+                Some(found.len())
+            } else {
+                None
+            };
+            Ok((Some(FileId::of(&found)), Way::InPlace { file, is_new, len }))
+        }
+        Err(trouble) => {
+            if is_new {
+                remove_made(host, word.path_to_write());
+            }
+            Err(trouble)
         }
     }
 }
 
-/// Begins to write a file in place.
+/// Begins to write a file in place. A regular file has this length.
 fn begin_in_place<'a, F: SystemFile + Drop>(
     word: FileWord<'a>,
     file: F,
-    found: Option<Metadata>,
+    len: Option<u64>,
 ) -> Result<Output<'a, F>, Trouble<'a>> {
-    let (is_regular, len) = match found {
-        Some(found) => (found.is_file() && !file.is_standard_output(), found.len()),
-        None => (false, 0),
-    };
-    if is_regular && len > 0 {
+    let len = if file.is_standard_output() { None } else { len };
+    if len.unwrap_or(0) > 0 {
         on_file(word, SystemCall::Empty, file.set_len(0))?;
     }
     Ok(Output {
         file: Watched::new(word, file),
-        may_have_holes: is_regular,
+        may_have_holes: len.is_some(),
         replacement: None,
     })
 }
 
-/// The file of this name, open for writing, and whether it was made.
+/// The file of this name, open for writing, and whether it was made because there was none. If the name is a link's, the file
+/// that it leads to is made.
 fn open<H: Files>(host: &H, name: &str, is_private: bool) -> io::Result<(H::File, bool)> {
     match OpenOptions::new().write(true).open(host, name) {
         Ok(file) => Ok((file, false)),
         Err(error) if error.kind() == ErrorKind::NotFound => {
-            Ok((make(host, name, is_private)?, true))
+            let made = OpenOptions::new()
+                .write(true)
+                .create(true)
+                .mode(first_mode(is_private))
+                .open(host, name)?;
+            Ok((made, true))
         }
         Err(error) => Err(error),
     }
-}
-
-/// Makes a file of this name, which was not there. If the name is a link's, the file that it leads to is made.
-fn make<H: Files>(host: &H, name: &str, is_private: bool) -> io::Result<H::File> {
-    OpenOptions::new()
-        .write(true)
-        .create(true)
-        .mode(first_mode(is_private))
-        .open(host, name)
 }
 
 /// Removes a file that was made under this name. If the name is a link's, the file that it leads to is removed, unless memory
@@ -289,20 +263,25 @@ fn writable<H: Files>(host: &H, name: &str) -> io::Result<Metadata> {
     OpenOptions::new().write(true).open(host, name)?.metadata()
 }
 
-/// The place of a new file, and the metadata of the file that it replaces, if there is one.
+/// The place of a new file, and the file that it replaces, if there is one.
 fn find_place<'a, H: Files + AllocGlobal>(
     host: &H,
     word: FileWord<'a>,
-) -> Result<(PathBuf, Option<Metadata>), Trouble<'a>> {
+) -> Result<Found<H::File>, Trouble<'a>> {
     match fs::symlink_metadata(host, word.name) {
         Ok(named) => find_replaced(host, word, named.is_symlink()),
-        Err(error) if error.kind() == ErrorKind::NotFound && may_be_made(word.name) => {
-            Ok((PathBuf::from_str(host.alloc(), word.name)?, None))
+        Err(error) if error.kind() != ErrorKind::NotFound => {
+            Err(Trouble::of_call(word, SystemCall::Stat, &error))
         }
-        Err(error) if error.kind() == ErrorKind::NotFound => {
-            Err(Trouble::of_call(word, FailedCall::of(SystemCall::Make, &error)))
+        Err(_) if may_be_made(word.name) => {
+            let place = PathBuf::from_str(host.alloc(), word.name)?;
+            let way = Way::Beside {
+                place,
+                access: None,
+            };
+            Ok((None, way))
         }
-        Err(error) => Err(Trouble::of_call(word, FailedCall::of(SystemCall::Stat, &error))),
+        Err(error) => Err(Trouble::of_call(word, SystemCall::Make, &error)),
     }
 }
 
@@ -311,16 +290,17 @@ fn may_be_made(name: &str) -> bool {
     !name.is_empty() && !name.ends_with('/')
 }
 
-/// The place of a file that is to be replaced, and its metadata. It must be a regular file.
+/// A file that is to be replaced, and its place. It must be a regular file.
 fn find_replaced<'a, H: Files + AllocGlobal>(
     host: &H,
     word: FileWord<'a>,
     is_link: bool,
-) -> Result<(PathBuf, Option<Metadata>), Trouble<'a>> {
+) -> Result<Found<H::File>, Trouble<'a>> {
     must_be_regular(host, word)?;
     let place = place_of(host, word, is_link)?;
     let found = on_file(word, SystemCall::Open, writable(host, word.name))?;
-    Ok((place, Some(found)))
+    let access = Some(Access::of(&found));
+    Ok((Some(FileId::of(&found)), Way::Beside { place, access }))
 }
 
 /// Refuses what isn't a regular file.
@@ -331,7 +311,7 @@ fn must_be_regular<'a, H: Files + AllocGlobal>(
     match fs::metadata(host, word.name) {
         Ok(found) if found.is_file() => Ok(()),
         Err(error) if error.kind() != ErrorKind::NotFound => {
-            Err(Trouble::of_call(word, FailedCall::of(SystemCall::Stat, &error)))
+            Err(Trouble::of_call(word, SystemCall::Stat, &error))
         }
         _ => Err(not_regular(host.alloc(), word)?),
     }
@@ -349,7 +329,7 @@ fn place_of<'a, H: Files + AllocGlobal>(
     match fs::canonicalize(host, word.name) {
         Ok(place) => Ok(place),
         Err(error) if error.kind() == ErrorKind::OutOfMemory => Err(Trouble::from(AllocError)),
-        Err(error) => Err(Trouble::of_call(word, FailedCall::of(SystemCall::Stat, &error))),
+        Err(error) => Err(Trouble::of_call(word, SystemCall::Stat, &error)),
     }
 }
 
@@ -362,17 +342,14 @@ fn is_one_place<'a, H: Files>(
     if Path::new(one.name).file_name() != Path::new(other.name).file_name() {
         return Ok(false);
     }
-    let first = on_file(
-        one,
-        SystemCall::Stat,
-        fs::metadata(host, folder_of(Path::new(one.name))),
-    )?;
-    let second = on_file(
-        other,
-        SystemCall::Stat,
-        fs::metadata(host, folder_of(Path::new(other.name))),
-    )?;
-    Ok(FileId::of(&first).is_same(FileId::of(&second)))
+    let (one, other) = (folder_id(host, one)?, folder_id(host, other)?);
+    Ok(one.is_same(other))
+}
+
+/// Which file of the system the folder of a file is.
+fn folder_id<'a, H: Files>(host: &H, word: FileWord<'a>) -> Result<FileId, Trouble<'a>> {
+    let folder = fs::metadata(host, folder_of(Path::new(word.name)));
+    Ok(FileId::of(&on_file(word, SystemCall::Stat, folder)?))
 }
 
 /// The folder of a file.

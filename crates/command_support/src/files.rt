@@ -30,26 +30,12 @@ where
 {
     let image = FileWord::new(Role::Image, image);
     let out = FileWord::new(Role::Out, out);
-    let (image, out) = image_and_target(host, image, out, atomic)?;
-    Ok((image, out.begin(host)?))
-}
-
-/// An open file to read, and one to write, unchanged yet.
-type ImageAndTarget<'a, F> = (Watched<'a, F>, FileTarget<'a, F>);
-
-/// Opens the file to read, and then finds the one to write.
-fn image_and_target<'a, H: Files + AllocGlobal>(
-    host: &H,
-    image: FileWord<'a>,
-    out: FileWord<'a>,
-    atomic: bool,
-) -> Result<ImageAndTarget<'a, H::File>, Trouble<'a>> {
     if !atomic {
         output_must_differ(host.alloc(), image, out)?;
     }
     let image = Watched::open(host, image)?;
     let out = target_beside(host, &image, out, atomic)?;
-    Ok((image, out))
+    Ok((image, out.begin_apart(host, None)?))
 }
 
 /// Opens two files to read. Standard input can't be both.
@@ -178,6 +164,33 @@ where
         schedule: None,
         stats: None,
     })
+}
+
+/// Finishes the two files that a command has written. The command prints this line.
+pub fn both_ended<'a, H: Files>(
+    host: &H,
+    line: String,
+    out: Output<'a, H::File>,
+    schedule: Output<'a, H::File>,
+) -> Result<WorkDone<'a>, Trouble<'a>>
+where
+    H::File: SystemFile,
+    ensures { IfOk result (λ done. done.text.items ≡ string_bytes line) }
+{
+    let mut done = match ended(host, line, out) {
+        Ok(done) => done,
+        Err(trouble) => return Err(failed(host, trouble, schedule)),
+    };
+    match schedule.finish(host) {
+        Ok(schedule) => {
+            done.schedule = schedule;
+            Ok(done)
+        }
+        Err(trouble) => {
+            done.remove(host);
+            Err(trouble)
+        }
+    }
 }
 
 /// Abandons the file that a command was writing when this error came, and returns the error.

@@ -45,9 +45,14 @@ impl<'m> Gauge<'m> {
         let before = self.done.fetch_add(bytes as u64, Ordering::Relaxed);
         let done = before.saturating_add(bytes as u64);
         if before == 0 {
-            self.begin(done);
+            if let Some(now) = self.meter.now() {
+                self.begun.store(now, Ordering::Relaxed);
+                self.meter.begin(now, self.transfer(done, now));
+            }
         } else if before / STEP != done / STEP {
-            self.go_on(done);
+            if let Some(now) = self.meter.turn() {
+                self.meter.show(self.transfer(done, now));
+            }
         }
     }
 
@@ -62,19 +67,6 @@ impl<'m> Gauge<'m> {
             if let Some(now) = self.meter.now() {
                 self.meter.begin(now, "work in memory");
             }
-        }
-    }
-
-    fn begin(&self, done: u64) {
-        if let Some(now) = self.meter.now() {
-            self.begun.store(now, Ordering::Relaxed);
-            self.meter.begin(now, self.transfer(done, now));
-        }
-    }
-
-    fn go_on(&self, done: u64) {
-        if let Some(now) = self.meter.turn() {
-            self.meter.show(self.transfer(done, now));
         }
     }
 

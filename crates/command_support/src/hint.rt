@@ -8,7 +8,7 @@ use heap_dump::ImportError;
 use std::fmt;
 
 /// What is known of a file that a command refuses.
-#[derive(Debug, Clone, Copy, PartialEq, Eq)]
+#[derive(Clone, Copy)]
 pub enum Hint {
     /// It has no byte.
     Empty,
@@ -102,14 +102,17 @@ impl fmt::Display for Hint {
                 most,
                 live_words,
             } => {
-                let (size, limit, live) = (mib(*words), mib(*most), mib(*live_words));
+                let size = Tenths::mib_of_words(*words);
+                let limit = Tenths::mib_of_words(*most);
+                let live = Tenths::mib_of_words(*live_words);
                 write!(
                     f,
                     "it has {size} MiB, {limit} MiB are the most, and with --live-only it has {live} MiB"
                 )
             }
             Hint::TooLarge { live_words, most } => {
-                let (live, limit) = (mib(*live_words), mib(*most));
+                let live = Tenths::mib_of_words(*live_words);
+                let limit = Tenths::mib_of_words(*most);
                 write!(
                     f,
                     "its live objects have {live} MiB, and {limit} MiB are the most"
@@ -117,11 +120,6 @@ impl fmt::Display for Hint {
             }
         }
     }
-}
-
-/// The size of this number of words.
-fn mib(words: u64) -> Tenths {
-    Tenths::of_mib(words.saturating_mul(8))
 }
 
 /// The hint about a file that has the first of these where the second is wanted.

@@ -5,7 +5,7 @@ ghost use Rattle.command_support.specs.Json.{after, column_name, ending, first_o
 use std::alloc::AllocError;
 
 /// A column of a summary.
-#[derive(Debug, Clone, Copy, PartialEq, Eq)]
+#[derive(Clone, Copy)]
 enum Column {
     Region,
     Partial,
@@ -45,7 +45,7 @@ impl Column {
 }
 
 /// A place in a text: a line of names and values, then lines of columns.
-#[derive(Debug, Clone, Copy, PartialEq, Eq)]
+#[derive(Clone, Copy)]
 enum Place {
     Name,
     Value,

@@ -1,9 +1,9 @@
 //! The durations of a command's phases.
 use crate::phase::Phase;
 use crate::tenths::Tenths;
-use std::io;
 use std::io::Write;
 use std::time::Duration;
+use std::{fmt, io};
 
 /// How many phases a command has at most.
 const MAX_LAPS: usize = 7;
@@ -22,14 +22,6 @@ pub struct Laps {
 struct Lap {
     phase: Phase,
     took: Duration,
-}
-
-impl Lap {
-    /// Writes its line.
-    fn print<B: Write>(&self, err: &mut B) -> io::Result<()> {
-        let took = Tenths::of_milliseconds(self.took);
-        writeln!(err, "pcompact: {} {took} ms", self.phase)
-    }
 }
 
 impl Laps {
@@ -57,18 +49,22 @@ impl Laps {
     /// Writes a line for each phase, and where the time of all is known one for the rest of it, and one for all of it.
     pub fn print<B: Write>(&self, total: Option<Duration>, err: &mut B) -> io::Result<()> {
         for lap in self.laps.iter().flatten() {
-            lap.print(err)?;
+            print_time(lap.phase, lap.took, err)?;
         }
-        match total {
-            Some(total) => self.print_total(total, err),
-            None => Ok(()),
+        if let Some(total) = total {
+            print_time("finish", total.saturating_sub(self.end), err)?;
+            print_time("total", total, err)?;
         }
+        Ok(())
     }
+}
 
-    /// Writes the lines for the rest of this time and for all of it.
-    fn print_total<B: Write>(&self, total: Duration, err: &mut B) -> io::Result<()> {
-        let rest = total.saturating_sub(self.end);
-        writeln!(err, "pcompact: finish {} ms", Tenths::of_milliseconds(rest))?;
-        writeln!(err, "pcompact: total {} ms", Tenths::of_milliseconds(total))
-    }
+/// Writes the line of a time.
+fn print_time<D: fmt::Display + Drop, B: Write>(
+    name: D,
+    time: Duration,
+    err: &mut B,
+) -> io::Result<()> {
+    let time = Tenths::of_milliseconds(time);
+    writeln!(err, "pcompact: {name} {time} ms")
 }

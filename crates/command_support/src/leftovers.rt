@@ -18,7 +18,7 @@ const STICKY: u32 = 0o1000;
 const ROOT: u32 = 0;
 
 /// The files that a command reads.
-#[derive(Debug, Clone, Copy, PartialEq, Eq)]
+#[derive(Clone, Copy)]
 pub(crate) struct Inputs {
     pub first: Option<FileId>,
     pub second: Option<FileId>,

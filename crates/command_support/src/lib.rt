@@ -2,7 +2,7 @@
 //!
 //! **Files.** A [`FileWord`] is a file name from the command line, with its role. [`Watched`] is an open file that keeps its
 //! first bytes and the last call on it that failed; it can read an image with another head ([`reshape`]). [`FileTarget::find`] looks at a file to write and changes nothing;
-//! [`FileTarget::begin`] makes an [`Output`] of it: the emptied file, or a new file that takes its place in the end
+//! [`FileTarget::begin_apart`] makes an [`Output`] of it: the emptied file, or a new file that takes its place in the end
 //! ([`Replacement`]). [`Late`] begins with the first byte. [`WorkDone`] is the outcome of a command before it prints.
 //!
 //! **Failures.** A [`Failure`] decides the exit status and the first line on standard error. [`Trouble`] adds the file, the
@@ -73,8 +73,9 @@ pub use file_id::FileId;
 pub use file_target::{FileTarget, Writing};
 pub use file_word::{FileWord, Role};
 pub use files::{
-    ended, failed, failed_between, image_and_out, must_differ, not_regular, output_must_differ,
-    reject_same_file, same_file, target_beside, two_different_inputs, two_inputs,
+    both_ended, ended, failed, failed_between, image_and_out, must_differ, not_regular,
+    output_must_differ, reject_same_file, same_file, target_beside, two_different_inputs,
+    two_inputs,
 };
 pub use gauge::Gauge;
 pub use head::{heads_have_shapes, reshape, unchanged_heads_stay};

@@ -23,18 +23,18 @@ impl Moved {
     /// Writes the lines of `--stats`, with the rate if the time is known.
     pub fn print<B: Write>(&self, err: &mut B) -> io::Result<()> {
         if let Some(heap) = self.heap {
-            let size = Tenths::of_mib(heap.saturating_mul(BYTES_IN_A_WORD));
+            let size = Tenths::mib_of_words(heap);
             let share = Tenths::of_per_cent(self.kept, heap);
             writeln!(err, "pcompact: heap {size} MiB, {share} per cent kept")?;
         }
         let bytes = self.words.saturating_mul(BYTES_IN_A_WORD);
-        write!(err, "pcompact: live {} MiB moved", Tenths::of_mib(bytes))?;
+        let moved = Tenths::of_mib(bytes);
         match self.took {
             Some(took) if took > Duration::ZERO => {
                 let rate = u128::from(bytes).saturating_mul(1_000_000_000) / took.as_nanos() >> 20;
-                writeln!(err, ", {rate} MiB a second")
+                writeln!(err, "pcompact: live {moved} MiB moved, {rate} MiB a second")
             }
-            _ => writeln!(err),
+            _ => writeln!(err, "pcompact: live {moved} MiB moved"),
         }
     }
 }

@@ -24,26 +24,26 @@ impl<'a, F: OpenFile + Seek + Drop> Output<'a, F> {
     ///
     /// After fault 13 a new file is removed.
     pub fn finish<H: Files<File = F>>(
-        self,
+        mut self,
         host: &H,
     ) -> Result<Option<Replacement<'a>>, Trouble<'a>>
     where
         F: SystemFile,
     {
-        let Output {
-            mut file,
-            may_have_holes,
-            replacement,
-        } = self;
-        let cut = if may_have_holes { file.cut() } else { Ok(()) };
-        match (replacement, cut) {
-            (None, Ok(())) => Ok(None),
-            (None, Err(trouble)) => Err(trouble),
-            (Some(replacement), Ok(())) => Ok(Some(replacement.complete(host, file.file())?)),
-            (Some(replacement), Err(trouble)) => {
-                replacement.remove(host);
-                Err(trouble)
+        if self.may_have_holes {
+            if let Err(trouble) = self.file.cut() {
+                self.abandon(host);
+                return Err(trouble);
             }
+        }
+        let Output {
+            file,
+            replacement,
+            ..
+        } = self;
+        match replacement {
+            Some(replacement) => Ok(Some(replacement.complete(host, file.file())?)),
+            None => Ok(None),
         }
     }
 

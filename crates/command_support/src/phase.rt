@@ -2,7 +2,7 @@
 use std::fmt;
 
 /// A phase of a command, as `--stats` names it.
-#[derive(Debug, Clone, Copy, PartialEq, Eq)]
+#[derive(Clone, Copy, PartialEq, Eq)]
 pub enum Phase {
     Read,
     Check,

@@ -2,8 +2,8 @@
 use crate::failed_call::FailedCall;
 use heap_image::LengthCause;
 use history::{LineCause, MAX_WORKERS};
-use std::io;
 use std::io::Write;
+use std::{fmt, io};
 
 /// What is known of a fault beyond its text.
 #[derive(Clone, Copy)]
@@ -21,7 +21,7 @@ pub enum Reason {
 }
 
 /// Why a line of a schedule is refused.
-#[derive(Clone, Copy, Debug, PartialEq, Eq)]
+#[derive(Clone, Copy)]
 pub enum LineReason {
     /// It isn't a schedule's line.
     Malformed,
@@ -45,23 +45,25 @@ impl Reason {
                 writeln!(err, "pcompact: standard output")?;
                 failed.print(err)
             }
-            Reason::Line(reason) => reason.print(err),
+            Reason::Line(reason) => {
+                writeln!(err, "pcompact: reason {reason}")?;
+                match reason {
+                    LineReason::Refused(LineCause::OtherReply(reply)) => {
+                        writeln!(err, "pcompact: reply {reply}")
+                    }
+                    _ => Ok(()),
+                }
+            }
         }
     }
 }
 
-impl LineReason {
-    /// Writes the line of the reason, and of the reply if that is another one.
-    fn print<B: Write>(&self, err: &mut B) -> io::Result<()> {
-        match self {
-            LineReason::Malformed => writeln!(err, "pcompact: reason the line is malformed"),
-            LineReason::Refused(LineCause::NotAllowed) => {
-                writeln!(err, "pcompact: reason the event is not allowed")
-            }
-            LineReason::Refused(LineCause::OtherReply(reply)) => {
-                writeln!(err, "pcompact: reason the reply is another")?;
-                writeln!(err, "pcompact: reply {reply}")
-            }
-        }
+impl fmt::Display for LineReason {
+    fn fmt<W: fmt::Write>(&self, f: &mut fmt::Formatter<W>) -> fmt::Result {
+        f.write_str(match self {
+            LineReason::Malformed => "the line is malformed",
+            LineReason::Refused(LineCause::NotAllowed) => "the event is not allowed",
+            LineReason::Refused(LineCause::OtherReply(_)) => "the reply is another",
+        })
     }
 }

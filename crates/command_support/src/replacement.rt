@@ -3,11 +3,13 @@ ghost use Rattle.std.specs.Prelude.{◌≡◌, IfErr};
 ghost use Rattle.command_support.specs.Failure.{failed_device};
 
 use crate::access::{Access, first_mode};
-use crate::failed_call::{FailedCall, SystemCall};
+use crate::failed_call::SystemCall;
 use crate::file_word::FileWord;
 use crate::leftovers::{Inputs, has_name, is_guarded, remove_leftover};
+use crate::output::Output;
 use crate::system_file::{FileLock, SystemFile};
 use crate::trouble::{Trouble, on_file};
+use crate::watched::Watched;
 use heap_image::Fault;
 use std::alloc::{AllocError, Global};
 use std::fs::{OpenFile, OpenOptions};
@@ -58,16 +60,16 @@ struct New<F: Drop> {
 }
 
 impl<'a> Replacement<'a> {
-    /// Makes an empty file beside this place and opens it for writing. If it replaces another file only its owner may read it
-    /// until [`Replacement::complete`]. New files that killed calls have left beside the place are removed.
+    /// Begins to write a new file beside this place. If it replaces another file only its owner may read it until
+    /// [`Replacement::complete`]. New files that killed calls have left beside the place are removed.
     ///
     /// Fault 13 if it can't be made, and 11 if memory for its name runs out.
-    pub(crate) fn make<H: Files + AllocGlobal>(
+    pub(crate) fn begin<H: Files + AllocGlobal>(
         host: &H,
         word: FileWord<'a>,
         place: PathBuf,
         making: Making<'_>,
-    ) -> Result<(H::File, Replacement<'a>), Trouble<'a>>
+    ) -> Result<Output<'a, H::File>, Trouble<'a>>
     where
         H::File: SystemFile,
     {
@@ -79,14 +81,17 @@ impl<'a> Replacement<'a> {
             lock,
             ..
         } = new;
-        let replacement = Replacement {
-            word,
-            new: path,
-            place,
-            access: making.access,
-            lock,
-        };
-        Ok((file, replacement))
+        Ok(Output {
+            may_have_holes: !file.is_standard_output(),
+            file: Watched::new(word, file),
+            replacement: Some(Replacement {
+                word,
+                new: path,
+                place,
+                access: making.access,
+                lock,
+            }),
+        })
     }
 
     /// Gives the new file, which is open here, the owner, the group and the permissions of the one that it replaces, and syncs
@@ -157,10 +162,11 @@ fn make_beside<'a, H: Files + AllocGlobal>(
 where
     H::File: SystemFile,
 {
+    let mode = first_mode(making.is_private || making.access.is_some());
     for number in 0..u32::MAX {
         let path = beside(host.alloc(), place, number)?;
         if is_free_for_new(&path, place, making.apart) {
-            match make_locked(host, &path, making.mode()) {
+            match make_locked(host, &path, mode) {
                 Ok(Some((file, lock))) => return Ok(New {
                     path,
                     number,
@@ -170,21 +176,11 @@ where
                 Ok(None) if number < NAMES_TO_LOSE => {}
                 Ok(None) => return Err(Trouble::from(Fault::Io).about(word)),
                 Err(error) if error.kind() == ErrorKind::AlreadyExists => {}
-                Err(error) => return Err(Trouble::of_call(
-                    word,
-                    FailedCall::of(SystemCall::Make, &error),
-                )),
+                Err(error) => return Err(Trouble::of_call(word, SystemCall::Make, &error)),
             }
         }
     }
     Err(Trouble::from(Fault::Io).about(word))
-}
-
-impl Making<'_> {
-    /// The permissions with which the file is made.
-    fn mode(self) -> u32 {
-        first_mode(self.is_private || self.access.is_some())
-    }
 }
 
 /// Whether the name isn't that of a file that the command writes.
@@ -193,8 +189,8 @@ fn is_free_for_new(new: &PathBuf, place: &PathBuf, apart: Option<&str>) -> bool 
     name != place.file_name() && name != apart
 }
 
-/// A new file under this name, which must be free, and its lock. None if another call has locked it or taken its name before
-/// it was locked here.
+/// A new file under this name, which must be free, open for writing and with these permissions, and its lock. None if another
+/// call has locked it or taken its name before it was locked here.
 fn make_locked<H: Files>(
     host: &H,
     path: &PathBuf,
@@ -203,7 +199,11 @@ fn make_locked<H: Files>(
 where
     H::File: SystemFile,
 {
-    let file = make_new(host, path, mode)?;
+    let file = OpenOptions::new()
+        .write(true)
+        .create_new(true)
+        .mode(mode)
+        .open(host, path)?;
     match lock_new(host, path, &file) {
         Ok(Some(lock)) => Ok(Some((file, lock))),
         Ok(None) => Ok(None),
@@ -212,15 +212,6 @@ where
             Err(error)
         }
     }
-}
-
-/// Makes a file of this name, which must be free, open for writing, and with these permissions.
-fn make_new<H: Files>(host: &H, new: &PathBuf, mode: u32) -> io::Result<H::File> {
-    OpenOptions::new()
-        .write(true)
-        .create_new(true)
-        .mode(mode)
-        .open(host, new)
 }
 
 /// The lock of a file that was made under this name, if the name still is that file's.

@@ -72,7 +72,11 @@ impl Stats {
         if let Some(share) = &self.share {
             share.print(err)?;
         }
-        if let Some(threads) = self.workers.or_else(|| processors(host)) {
+        let threads = match self.workers {
+            None => processors(host),
+            workers => workers,
+        };
+        if let Some(threads) = threads {
             writeln!(err, "pcompact: threads {threads}")?;
         }
         print_peak(host, err)

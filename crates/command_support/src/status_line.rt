@@ -5,7 +5,7 @@ const MOST_COLUMNS: usize = 63;
 
 /// A line of a terminal, after which the cursor is at its beginning again, so that the next one overwrites it. What has no room
 /// is cut.
-#[derive(Drop)]
+#[derive(Clone, Copy)]
 pub(crate) struct StatusLine {
     bytes: [u8; MOST_COLUMNS + 1],
     len: usize,

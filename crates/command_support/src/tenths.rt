@@ -4,8 +4,10 @@ use std::time::Duration;
 
 const BYTES_IN_A_MIB: u64 = 1 << 20;
 
+const BYTES_IN_A_WORD: u64 = 8;
+
 /// A number of tenths.
-#[derive(Debug, Clone, Copy, PartialEq, Eq)]
+#[derive(Clone, Copy)]
 pub struct Tenths {
     count: u64,
 }
@@ -25,6 +27,11 @@ impl Tenths {
         Tenths {
             count: tenths / BYTES_IN_A_MIB,
         }
+    }
+
+    /// A number of words in MiB, rounded.
+    pub fn mib_of_words(words: u64) -> Tenths {
+        Tenths::of_mib(words.saturating_mul(BYTES_IN_A_WORD))
     }
 
     /// A part of a whole in per cent, rounded. Of nothing there is nothing.

@@ -9,7 +9,7 @@ use std::fmt;
 const BYTES_IN_A_MIB: u128 = 1 << 20;
 
 /// How far the reading or writing of a file is.
-#[derive(Debug, Clone, Copy, PartialEq, Eq)]
+#[derive(Clone, Copy)]
 pub struct Transfer {
     pub phase: Phase,
     /// The number of bytes that are read or written.

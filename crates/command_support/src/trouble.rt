@@ -47,58 +47,46 @@ impl<'a> Trouble<'a> {
         }
     }
 
-    /// A call on this file failed: fault 13.
-    pub fn of_call(file: FileWord<'a>, call: FailedCall) -> Trouble<'a>
+    /// This call on this file failed: fault 13.
+    pub fn of_call(file: FileWord<'a>, call: SystemCall, error: &io::Error) -> Trouble<'a>
         ensures { result.failure ≡ failed_device }
     {
         Trouble::new(Failure::Fault(Fault::Io))
-            .because(Reason::SystemCall(call))
+            .because(Reason::SystemCall(FailedCall::of(call, error)))
             .about(file)
     }
 
     /// Adds the file that it is about. A file that was there stays, as the other one.
-    pub fn about(self, file: FileWord<'a>) -> Trouble<'a>
+    pub fn about(mut self, file: FileWord<'a>) -> Trouble<'a>
         ensures { result.failure ≡ self.entry.failure }
     {
-        Trouble {
-            file: Some(file),
-            other: self.file,
-            ..self
-        }
+        self.other = self.file;
+        self.file = Some(file);
+        self
     }
 
     /// Adds the reason.
-    pub fn because(self, reason: Reason) -> Trouble<'a>
+    pub fn because(mut self, reason: Reason) -> Trouble<'a>
         ensures { result.failure ≡ self.entry.failure }
     {
-        Trouble {
-            reason: Some(reason),
-            ..self
-        }
+        self.reason = Some(reason);
+        self
     }
 
     /// Adds this file, which the failure says to be none of what is wanted, and the hint about it.
-    fn about_content<F: Drop>(self, wanted: Content, file: &Watched<'a, F>) -> Trouble<'a>
+    fn about_content<F: Drop>(mut self, wanted: Content, file: &Watched<'a, F>) -> Trouble<'a>
         ensures { result.failure ≡ self.entry.failure }
     {
+        self.hint = Hint::of(wanted, file.first_bytes());
         self.about(file.word())
-            .hinted(Hint::of(wanted, file.first_bytes()))
-    }
-
-    fn hinted(self, hint: Option<Hint>) -> Trouble<'a>
-        ensures { result.failure ≡ self.entry.failure }
-    {
-        Trouble { hint, ..self }
     }
 
     /// Adds lines that explain it, if there are some.
-    pub fn explained(self, explanation: Option<String>) -> Trouble<'a>
+    pub fn explained(mut self, explanation: Option<String>) -> Trouble<'a>
         ensures { result.failure ≡ self.entry.failure }
     {
-        Trouble {
-            explanation,
-            ..self
-        }
+        self.explanation = explanation;
+        self
     }
 
     /// Adds this file and the call, if a call on the file failed.
@@ -115,27 +103,32 @@ impl<'a> Trouble<'a> {
 
     /// Adds this file, if it is a fault of the image in the file, the image has a later version than wanted, or a call on
     /// the file failed.
-    pub fn if_image<F: Drop>(self, image: &Watched<'a, F>) -> Trouble<'a>
+    pub fn if_image<F: Drop>(mut self, image: &Watched<'a, F>) -> Trouble<'a>
         ensures { result.failure ≡ self.entry.failure }
     {
-        if self.is_later() {
-            return self.about(image.word());
-        }
-        match self.fault() {
-            Some(Fault::Length) => self.because_of_length(image).about(image.word()),
-            Some(fault) if is_of_image(fault) => self.about_content(Content::Image, image),
+        match &self.failure {
+            Failure::Later { .. } => self.about(image.word()),
+            Failure::Fault(Fault::Length) => {
+                if let Some(cause) = LengthCause::of(&image.front()) {
+                    self.reason = Some(Reason::Length(cause));
+                }
+                self.about(image.word())
+            }
+            Failure::Fault(fault) if is_of_image(*fault) => {
+                self.about_content(Content::Image, image)
+            }
             _ => self.if_failed(image),
         }
     }
 
     /// Adds the dump, if it gives no image or a call on one of these two openings of it failed.
-    pub fn if_dump<F: Drop>(self, dump: &Watched<'a, F>, again: &Watched<'a, F>) -> Trouble<'a>
+    pub fn if_dump<F: Drop>(mut self, dump: &Watched<'a, F>, again: &Watched<'a, F>) -> Trouble<'a>
         ensures { result.failure ≡ self.entry.failure }
     {
         match &self.failure {
             Failure::Dump(error) => {
-                let hint = Hint::of_dump(*error, dump.first_bytes());
-                self.about(dump.word()).hinted(hint)
+                self.hint = Hint::of_dump(*error, dump.first_bytes());
+                self.about(dump.word())
             }
             _ => self.if_failed(dump).if_failed(again),
         }
@@ -145,10 +138,9 @@ impl<'a> Trouble<'a> {
     pub fn if_text<F: Drop>(self, text: &Watched<'a, F>) -> Trouble<'a>
         ensures { result.failure ≡ self.entry.failure }
     {
-        if self.is_of_text() {
-            self.about_content(Content::Text, text)
-        } else {
-            self.if_failed(text)
+        match &self.failure {
+            Failure::Text(_) => self.about_content(Content::Text, text),
+            _ => self.if_failed(text),
         }
     }
 
@@ -202,29 +194,6 @@ impl<'a> Trouble<'a> {
             _ => None,
         }
     }
-
-    fn is_later(&self) -> bool {
-        match &self.failure {
-            Failure::Later { .. } => true,
-            _ => false,
-        }
-    }
-
-    fn is_of_text(&self) -> bool {
-        match &self.failure {
-            Failure::Text(_) => true,
-            _ => false,
-        }
-    }
-
-    fn because_of_length<F: Drop>(self, image: &Watched<'a, F>) -> Trouble<'a>
-        ensures { result.failure ≡ self.entry.failure }
-    {
-        match LengthCause::of(&image.front()) {
-            Some(cause) => self.because(Reason::Length(cause)),
-            None => self,
-        }
-    }
 }
 
 /// Writes the line of a file, if there is one.
@@ -248,7 +217,7 @@ pub fn on_file<'a, T>(
 {
     match outcome {
         Ok(value) => Ok(value),
-        Err(error) => Err(Trouble::of_call(file, FailedCall::of(call, &error))),
+        Err(error) => Err(Trouble::of_call(file, call, &error)),
     }
 }
 
@@ -278,8 +247,8 @@ fn is_of_image(fault: Fault) -> bool {
 impl<'a> From<AllocError> for Trouble<'a> {
     ghost from_gives = { λ _ trouble. trouble.failure ≡ Fault Memory };
 
-    fn from(refused: AllocError) -> Trouble<'a> {
-        Trouble::new(Failure::from(refused))
+    fn from(_refused: AllocError) -> Trouble<'a> {
+        Trouble::new(Failure::Fault(Fault::Memory))
     }
 }
 

@@ -232,7 +232,7 @@ impl<F: Write + Drop> Write for Watched<'_, F> {
 }
 
 /// The first bytes of a file.
-#[derive(Drop)]
+#[derive(Clone, Copy)]
 struct Front {
     bytes: [u8; FRONT_BYTES],
     /// How many of them were read.

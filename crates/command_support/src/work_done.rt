@@ -34,13 +34,11 @@ impl<'a> WorkDone<'a> {
     }
 
     /// Adds timings.
-    pub fn with_stats(self, stats: Stats) -> WorkDone<'a>
+    pub fn with_stats(mut self, stats: Stats) -> WorkDone<'a>
         ensures { result.text ≡ self.entry.text }
     {
-        WorkDone {
-            stats: Some(stats),
-            ..self
-        }
+        self.stats = Some(stats);
+        self
     }
 
     /// Renames the new files to their places, OUT's first.

@@ -26,14 +26,16 @@ where
     R::File: SystemFile,
     ensures { IfOk result (λ done. IsCountLine done.text.items) }
 {
-    let (text, target) = open(rt, &request)?;
-    let mut text = FromRead::new(text);
-    let mut output = ToWrite::new(Late::new(rt, target));
-    let line = assemble_into(rt.alloc(), &mut text, &mut output);
-    let late = output.into_inner();
+    let (mut text, target) = open(rt, &request)?;
+    let mut late = Late::new(rt, target);
+    let line = assemble_into(
+        rt.alloc(),
+        &mut FromRead::new(&mut text),
+        &mut ToWrite::new(&mut late),
+    );
     match line {
         Ok(line) => ended(rt, line, late.into_output()?),
-        Err(failure) => Err(late.failed(Trouble::new(failure).if_text(&text.into_inner()))),
+        Err(failure) => Err(late.failed(Trouble::new(failure).if_text(&text))),
     }
 }
 

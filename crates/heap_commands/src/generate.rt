@@ -32,9 +32,12 @@ where
         read: None,
     };
     let target = FileTarget::find(rt, image, writing)?;
-    let mut output = ToWrite::new(Late::new(rt, target));
-    let line = generate_into(rt.alloc(), &mut output, &generation_of(&request));
-    let late = output.into_inner();
+    let mut late = Late::new(rt, target);
+    let line = generate_into(
+        rt.alloc(),
+        &mut ToWrite::new(&mut late),
+        &generation_of(&request),
+    );
     match line {
         Ok(line) => ended(rt, line, late.into_output()?),
         Err(failure) => Err(late.failed(Trouble::new(failure))),

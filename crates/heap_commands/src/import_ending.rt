@@ -3,9 +3,11 @@ ghost use Rattle.std.specs.Prelude.{◌≡◌, IfOk, string_bytes};
 
 use crate::import::ImportMade;
 use crate::object_list::give_list;
-use command_support::{FileTarget, Late, Output, SystemFile, Trouble, WorkDone, ended, failed};
+use command_support::{
+    FileTarget, Late, Output, SystemFile, Trouble, WorkDone, both_ended, ended, failed,
+};
 use heap_dump::ListedImport;
-use heap_image::ToWrite;
+use heap_image::{Fault, Outlet, ToWrite};
 use std::rt::Files;
 
 /// Writes the list of objects, if there is to be one, and finishes both files.
@@ -19,22 +21,34 @@ where
     H::File: SystemFile,
     ensures { IfOk result (λ done. done.text.items ≡ string_bytes made.text) }
 {
-    let ImportMade { text, listed, .. } = made;
     let Some(list) = list else {
-        return ended(host, text, image.into_output()?);
+        return ended(host, made.text, image.into_output()?);
     };
-    let image = match image.into_output() {
-        Ok(image) => image,
+    match image.into_output() {
+        Ok(image) => finished_with_list(host, made, image, list),
         Err(trouble) => {
             list.leave(host);
-            return Err(trouble);
+            Err(trouble)
         }
-    };
-    let list = match write_list(host, listed, list, image.place_name()) {
-        Ok(list) => list,
-        Err(trouble) => return Err(failed(host, trouble, image)),
-    };
-    both_ended(host, text, image, list)
+    }
+}
+
+/// Writes the list of objects, and finishes both files.
+fn finished_with_list<'a, H: Files + AllocGlobal>(
+    host: &H,
+    made: ImportMade,
+    image: Output<'a, H::File>,
+    list: FileTarget<'a, H::File>,
+) -> Result<WorkDone<'a>, Trouble<'a>>
+where
+    H::File: SystemFile,
+    ensures { IfOk result (λ done. done.text.items ≡ string_bytes made.text) }
+{
+    let ImportMade { text, listed, .. } = made;
+    match write_list(host, listed, list, image.place_name()) {
+        Ok(list) => both_ended(host, text, image, list),
+        Err(trouble) => Err(failed(host, trouble, image)),
+    }
 }
 
 /// The error of an import that failed before its image was complete. A file that wasn't begun is unchanged.
@@ -64,10 +78,7 @@ where
     H::File: SystemFile,
 {
     let mut list = list.begin_apart(host, image_place)?;
-    let given = match listed {
-        Some((import, room)) => give_list(&import, room, &mut ToWrite::new(&mut list.file)),
-        None => Ok(()),
-    };
+    let given = give_listed(listed, &mut ToWrite::new(&mut list.file));
     match given {
         Ok(()) => Ok(list),
         Err(fault) => {
@@ -77,35 +88,13 @@ where
     }
 }
 
-/// Finishes both files. The command prints this text.
-fn both_ended<'a, H: Files>(
-    host: &H,
-    text: String,
-    image: Output<'a, H::File>,
-    list: Output<'a, H::File>,
-) -> Result<WorkDone<'a>, Trouble<'a>>
-where
-    H::File: SystemFile,
-    ensures { IfOk result (λ done. done.text.items ≡ string_bytes text) }
-{
-    let out = match image.finish(host) {
-        Ok(out) => out,
-        Err(trouble) => return Err(failed(host, trouble, list)),
-    };
-    let mut done = WorkDone {
-        text: text.into_bytes(),
-        out,
-        schedule: None,
-        stats: None,
-    };
-    match list.finish(host) {
-        Ok(list) => {
-            done.schedule = list;
-            Ok(done)
-        }
-        Err(trouble) => {
-            done.remove(host);
-            Err(trouble)
-        }
+/// Writes the lines of the objects, if they are wanted.
+fn give_listed<O: Outlet>(
+    listed: Option<(ListedImport, String)>,
+    output: &mut O,
+) -> Result<(), Fault> {
+    match listed {
+        Some((import, room)) => give_list(&import, room, output),
+        None => Ok(()),
     }
 }

@@ -23,6 +23,7 @@ pub mod histogram;
 pub mod import;
 mod import_ending;
 mod import_files;
+mod inputs;
 pub mod line;
 mod live_share;
 pub mod map;

@@ -5,6 +5,7 @@ ghost use Rattle.heap_map.specs.Cells.{cells_before};
 ghost use Rattle.heap_map.specs.MapFigures.{AreFiguresOf, figures_text};
 ghost use Rattle.heap_commands.specs.Map.{IsDrawing, IsMap, IsMapLine, IsPicture, IsPrinted, after_shown, cells_shown, shape_of};
 
+use crate::inputs::open_image;
 use crate::screen::{Screen, USUAL_WIDTH};
 use command_line::{Look, Map};
 use command_support::{
@@ -37,8 +38,7 @@ where
         after: request.after,
         name: request.image,
     };
-    let image = Watched::open(rt, FileWord::new(Role::Image, request.image))?;
-    let image = image.with_shape(request.shape);
+    let image = open_image(rt, request.image, request.shape)?;
     match request.svg {
         Some(svg) => {
             let svg = FileWord::new(Role::Drawing, svg);
@@ -136,16 +136,15 @@ pub fn style_on(screen: Screen, look: Look) -> Style {
 /// Prints the picture of the image in a file.
 fn print<'a, R: Files + AllocGlobal + Threads + Sync>(
     rt: &R,
-    image: Watched<'a, R::File>,
+    mut image: Watched<'a, R::File>,
     cut: Cut<'_>,
     style: Style,
 ) -> Result<WorkDone<'a>, Trouble<'a>>
     ensures { IfOk result (λ done. IsMap done.text.items) }
 {
-    let mut image = FromRead::new(image);
-    match map(rt.alloc(), &mut image, cut, style, rt) {
+    match map(rt.alloc(), &mut FromRead::new(&mut image), cut, style, rt) {
         Ok(text) => Ok(WorkDone::printing(text.into_bytes())),
-        Err(fault) => Err(Trouble::from(fault).if_image(&image.into_inner())),
+        Err(fault) => Err(Trouble::from(fault).if_image(&image)),
     }
 }
 
@@ -168,7 +167,7 @@ where
 /// Draws the picture of the image in a file to this file, and prints the figures.
 fn draw_to<'a, R: Files + AllocGlobal + Threads + Sync>(
     rt: &R,
-    image: Watched<'a, R::File>,
+    mut image: Watched<'a, R::File>,
     cut: Cut<'_>,
     target: FileTarget<'a, R::File>,
 ) -> Result<WorkDone<'a>, Trouble<'a>>
@@ -176,16 +175,17 @@ where
     R::File: SystemFile,
     ensures { IfOk result (λ done. IsMap done.text.items) }
 {
-    let mut image = FromRead::new(image);
-    let mut output = ToWrite::new(Late::new(rt, target));
-    let drawing = draw_into(rt.alloc(), &mut image, &mut output, cut, rt);
-    let late = output.into_inner();
+    let mut late = Late::new(rt, target);
+    let drawing = draw_into(
+        rt.alloc(),
+        &mut FromRead::new(&mut image),
+        &mut ToWrite::new(&mut late),
+        cut,
+        rt,
+    );
     match drawing {
         Ok(MapDrawing { line, .. }) => ended(rt, line, late.into_output()?),
-        Err(fault) => {
-            let trouble = Trouble::from(fault).if_image(&image.into_inner());
-            Err(late.failed(trouble))
-        }
+        Err(fault) => Err(late.failed(Trouble::from(fault).if_image(&image))),
     }
 }
 

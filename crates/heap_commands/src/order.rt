@@ -5,8 +5,9 @@ ghost use Rattle.work_order.specs.Chains.{IsLongestChain};
 ghost use Rattle.work_order.specs.WorkOrder.{order_text};
 ghost use Rattle.heap_commands.specs.Order.{IsOrder, IsOrderLine, IsOrderOf};
 
+use crate::inputs::open_image;
 use command_line::Order;
-use command_support::{FileWord, Role, Trouble, Watched, WorkDone};
+use command_support::{Trouble, WorkDone};
 use heap_image::{Fault, FromRead, Image, Intake, read_image_by_threads};
 use std::alloc::{AllocError, Global};
 use std::rt::Files;
@@ -21,11 +22,10 @@ pub fn answer<'a, R: Files + AllocGlobal + Threads + Sync>(
 ) -> Result<WorkDone<'a>, Trouble<'a>>
     ensures { IfOk result (λ done. IsOrder done.text.items) }
 {
-    let image = Watched::open(rt, FileWord::new(Role::Image, request.image))?;
-    let mut image = FromRead::new(image.with_shape(request.shape));
-    match order(rt.alloc(), &mut image, rt) {
+    let mut image = open_image(rt, request.image, request.shape)?;
+    match order(rt.alloc(), &mut FromRead::new(&mut image), rt) {
         Ok(text) => Ok(WorkDone::printing(text.into_bytes())),
-        Err(fault) => Err(Trouble::from(fault).if_image(&image.into_inner())),
+        Err(fault) => Err(Trouble::from(fault).if_image(&image)),
     }
 }
 

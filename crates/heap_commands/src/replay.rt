@@ -5,8 +5,9 @@ ghost use Rattle.history.specs.Replayed.{IsReplayed};
 ghost use Rattle.heap_commands.specs.Replay.{IsReplayText, IsReplayOf, end_line};
 ghost use Rattle.heap_commands.specs.Unreplayed.{IsReplayRefused, IsScheduleUnread, IsUnreplayed};
 
+use crate::inputs::{Inputs, Opened, replay_trouble};
 use command_line::Replay;
-use command_support::{FileWord, LineReason, Role, Trouble, WorkDone, two_different_inputs};
+use command_support::{LineReason, Trouble, WorkDone};
 use heap_image::{Fault, FromRead, Image, Intake, read_image_by_threads};
 use history::{End, Replayed, Schedule, explain, read_schedule_from, replay, write_schedule};
 use std::alloc::{AllocError, Global};
@@ -21,10 +22,15 @@ pub fn answer<'a, R: Files + AllocGlobal + Threads + Sync>(
 ) -> Result<WorkDone<'a>, Trouble<'a>>
     ensures { IfOk result (λ done. IsReplayText done.text.items) }
 {
-    let image = FileWord::new(Role::Image, request.image);
-    let schedule = FileWord::new(Role::Schedule, request.schedule);
-    let (image, mut schedule) = two_different_inputs(rt, image, schedule)?;
-    let mut image = image.with_shape(request.shape);
+    let inputs = Inputs {
+        image: request.image,
+        shape: request.shape,
+        schedule: request.schedule,
+    };
+    let Opened {
+        mut image,
+        mut schedule,
+    } = inputs.open(rt)?;
     match replay_text(
         rt.alloc(),
         &mut FromRead::new(&mut image),
@@ -32,16 +38,12 @@ pub fn answer<'a, R: Files + AllocGlobal + Threads + Sync>(
         rt,
     ) {
         Ok(text) => Ok(WorkDone::printing(text)),
-        Err(Unreplayed { fault, line }) => Err(
-            Trouble::from(fault)
-                .if_image(&image)
-                .if_line(&schedule, line),
-        ),
+        Err(unreplayed) => Err(replay_trouble(unreplayed, &image, &schedule)),
     }
 }
 
 /// Why a schedule isn't replayed.
-#[derive(Debug, Clone, Copy, PartialEq, Eq)]
+#[derive(Clone, Copy)]
 pub struct Unreplayed {
     pub fault: Fault,
     /// Of fault 14, why the line is refused. None if memory ran out before the reason was known.

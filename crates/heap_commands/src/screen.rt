@@ -12,7 +12,7 @@ const NUMBER_ROOM: usize = 16;
 pub(crate) const USUAL_WIDTH: u32 = 64;
 
 /// What standard output can show, and whether a person reads standard error.
-#[derive(Debug, Clone, Copy, PartialEq, Eq)]
+#[derive(Clone, Copy)]
 pub struct Screen {
     /// Whether standard output is a terminal.
     pub is_terminal: bool,

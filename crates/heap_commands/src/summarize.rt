@@ -3,9 +3,10 @@ ghost use Rattle.std.specs.Prelude.{◌≡◌, codes, ℕ, List, IfOk, IfErr, If
 ghost use Rattle.heap_image.specs.Refusals.{IsReason};
 ghost use Rattle.heap_commands.specs.Summarize.{IsSummary, IsSummaryOf, heading, summary_of};
 
+use crate::inputs::open_image;
 use crate::screen::Screen;
 use command_line::Summary;
-use command_support::{FileWord, Role, Trouble, Watched, WorkDone};
+use command_support::{Trouble, WorkDone};
 use heap_image::{Fault, FromRead, Image, Intake, read_image_by_threads};
 use std::alloc::{AllocError, Global};
 use std::rt::Files;
@@ -23,12 +24,11 @@ pub fn answer<'a, R: Files + AllocGlobal + Threads + Sync>(
 ) -> Result<WorkDone<'a>, Trouble<'a>>
     ensures { IfOk result (λ done. IsSummary done.text.items) }
 {
-    let image = Watched::open(rt, FileWord::new(Role::Image, request.image))?;
-    let mut image = FromRead::new(image.with_shape(request.shape));
+    let mut image = open_image(rt, request.image, request.shape)?;
     let headed = (request.heading || screen.is_terminal) && !request.json;
-    match summarize(rt.alloc(), &mut image, headed, rt) {
+    match summarize(rt.alloc(), &mut FromRead::new(&mut image), headed, rt) {
         Ok(text) => Ok(WorkDone::printing(text.into_bytes())),
-        Err(fault) => Err(Trouble::from(fault).if_image(&image.into_inner())),
+        Err(fault) => Err(Trouble::from(fault).if_image(&image)),
     }
 }
 

@@ -2,8 +2,9 @@ ghost use Rattle.std.specs.Prelude.{◌≡◌, codes, ℕ, List, IfOk, IfErr, If
 ghost use Rattle.heap_image.specs.Refusals.{IsReason};
 ghost use Rattle.heap_commands.specs.Text.{AreLines, AreLinesOf};
 
-use command_line::Text;
-use command_support::{FileWord, Role, Trouble, Watched, WorkDone};
+use crate::inputs::open_image;
+use command_line::{Shape, Text};
+use command_support::{Trouble, WorkDone};
 use heap_image::{Fault, FromRead, Intake, read_image_by_threads};
 use heap_text::write_text;
 use std::alloc::Global;
@@ -17,11 +18,10 @@ pub fn answer<'a, R: Files + AllocGlobal + Threads + Sync>(
 ) -> Result<WorkDone<'a>, Trouble<'a>>
     ensures { IfOk result (λ done. AreLines done.text.items) }
 {
-    let image = Watched::open(rt, FileWord::new(Role::Image, request.image))?;
-    let mut image = FromRead::new(image);
-    match lines_of(rt.alloc(), &mut image, rt) {
+    let mut image = open_image(rt, request.image, Shape::unchanged())?;
+    match lines_of(rt.alloc(), &mut FromRead::new(&mut image), rt) {
         Ok(lines) => Ok(WorkDone::printing(lines)),
-        Err(fault) => Err(Trouble::from(fault).if_image(&image.into_inner())),
+        Err(fault) => Err(Trouble::from(fault).if_image(&image)),
     }
 }
 

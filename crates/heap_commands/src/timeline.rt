@@ -7,13 +7,14 @@ ghost use Rattle.schedule_timeline.specs.Timeline.{IsTimelineOf};
 ghost use Rattle.heap_commands.specs.Timeline.{HasLanes, HasPicture, IsFollowed, IsPictureOf, IsTimeline};
 ghost use Rattle.heap_commands.specs.Unreplayed.{IsReplayRefused, IsUnreplayed};
 
+use crate::inputs::{Inputs, Opened, replay_trouble};
 use crate::map::{drawing_target, style_on};
 use crate::replay::{Unreplayed, refused, schedule_in};
 use crate::screen::Screen;
-use command_line::{Shape, Timeline};
+use command_line::Timeline;
 use command_support::{
-    Failure, FileTarget, FileWord, Late, Role, SystemFile, Trouble, Watched, WorkDone, ended,
-    output_must_differ, reject_same_file, two_different_inputs,
+    Failure, FileTarget, FileWord, Late, Role, SystemFile, Trouble, WorkDone, ended,
+    output_must_differ, reject_same_file,
 };
 use heap_image::{
     Fault, FromRead, Image, Intake, Outlet, ToWrite, give_all, read_image_by_threads,
@@ -41,9 +42,9 @@ where
     ensures { IfOk result (λ done. IsTimeline done.text.items) }
 {
     let inputs = Inputs {
-        image: FileWord::new(Role::Image, request.image),
+        image: request.image,
         shape: request.shape,
-        schedule: FileWord::new(Role::Schedule, request.schedule),
+        schedule: request.schedule,
     };
     let lanes = Lanes {
         style: style_on(screen, request.look),
@@ -66,22 +67,6 @@ where
     write_picture(rt, inputs, wanted, file, request.atomic)
 }
 
-/// The two files to read.
-#[derive(Clone, Copy)]
-struct Inputs<'a> {
-    image: FileWord<'a>,
-    /// What the image is read with in place of what is in its head.
-    shape: Shape,
-    schedule: FileWord<'a>,
-}
-
-/// The two files to read, open.
-#[derive(Drop)]
-struct Opened<'a, F: Drop> {
-    image: Watched<'a, F>,
-    schedule: Watched<'a, F>,
-}
-
 /// How lanes are printed.
 #[derive(Clone, Copy)]
 pub struct Lanes {
@@ -100,7 +85,7 @@ pub struct Wanted<'a> {
 }
 
 /// The form of a picture.
-#[derive(Debug, Clone, Copy, PartialEq, Eq)]
+#[derive(Clone, Copy)]
 pub enum Form {
     /// SVG.
     Drawing,
@@ -125,7 +110,7 @@ fn print_lanes<'a, R: Files + AllocGlobal + Threads + Sync>(
     let Opened {
         mut image,
         mut schedule,
-    } = open(rt, inputs)?;
+    } = inputs.open(rt)?;
     match lanes_text(
         rt,
         &mut FromRead::new(&mut image),
@@ -133,7 +118,7 @@ fn print_lanes<'a, R: Files + AllocGlobal + Threads + Sync>(
         lanes,
     ) {
         Ok(text) => Ok(WorkDone::printing(text.into_bytes())),
-        Err(unreplayed) => Err(trouble_of(unreplayed, &image, &schedule)),
+        Err(unreplayed) => Err(replay_trouble(unreplayed, &image, &schedule)),
     }
 }
 
@@ -149,7 +134,7 @@ where
     R::File: SystemFile,
     ensures { IfOk result (λ done. IsTimeline done.text.items) }
 {
-    let opened = open(rt, inputs)?;
+    let opened = inputs.open(rt)?;
     let target = picture_target(rt, &opened, file, atomic)?;
     write_picture_to(rt, opened, wanted, target)
 }
@@ -169,31 +154,18 @@ where
         mut image,
         mut schedule,
     } = opened;
-    let mut output = ToWrite::new(Late::new(rt, target));
+    let mut late = Late::new(rt, target);
     let written = write_into(
         rt,
         &mut FromRead::new(&mut image),
         &mut FromRead::new(&mut schedule),
-        &mut output,
+        &mut ToWrite::new(&mut late),
         wanted,
     );
-    let late = output.into_inner();
     match written {
         Ok(TimelinePicture { line, .. }) => ended(rt, line, late.into_output()?),
-        Err(unreplayed) => Err(late.failed(trouble_of(unreplayed, &image, &schedule))),
+        Err(unreplayed) => Err(late.failed(replay_trouble(unreplayed, &image, &schedule))),
     }
-}
-
-/// Opens the files to read, which must not be one file.
-fn open<'a, H: Files + AllocGlobal>(
-    host: &H,
-    inputs: Inputs<'a>,
-) -> Result<Opened<'a, H::File>, Trouble<'a>> {
-    let (image, schedule) = two_different_inputs(host, inputs.image, inputs.schedule)?;
-    Ok(Opened {
-        image: image.with_shape(inputs.shape),
-        schedule,
-    })
 }
 
 /// The file for a picture, which must be neither of the files that are read.
@@ -208,16 +180,6 @@ fn picture_target<'a, H: Files + AllocGlobal>(
     let id = schedule.id()?;
     let target = drawing_target(host, image, file, atomic)?;
     reject_same_file(host, target, schedule.word(), id)
-}
-
-/// Says which file a fault is about, and which line of the schedule.
-fn trouble_of<'a, F: Drop>(
-    unreplayed: Unreplayed,
-    image: &Watched<'a, F>,
-    schedule: &Watched<'a, F>,
-) -> Trouble<'a> {
-    let Unreplayed { fault, line } = unreplayed;
-    Trouble::from(fault).if_image(image).if_line(schedule, line)
 }
 
 /// Reads an image from `input` and a schedule from `source`, and returns the lanes of the schedule as text.

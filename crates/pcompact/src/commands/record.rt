@@ -15,7 +15,8 @@ use command_host::ImageFile;
 use command_line::Record;
 use command_support::{
     FileId, FileTarget, FileWord, Output, Phase, Role, Stats, Stopwatch, SystemFile, TimedIntake,
-    TimedOutlet, Trouble, Watched, WorkDone, failed, must_differ, output_must_differ, same_file,
+    TimedOutlet, Trouble, Watched, WorkDone, both_ended, failed, must_differ, output_must_differ,
+    same_file,
 };
 use heap_image::{Fault, Intake, Outlet, ToWrite};
 use std::alloc::Global;
@@ -182,39 +183,6 @@ fn one_file<'a, H: Files>(
     } else {
         None
     })
-}
-
-/// Ends both files. The command prints this line.
-fn both_ended<'a, H: Files>(
-    host: &H,
-    line: String,
-    out: Output<'a, H::File>,
-    schedule: Output<'a, H::File>,
-) -> Result<WorkDone<'a>, Trouble<'a>>
-where
-    H::File: SystemFile,
-    ensures { IfOk result (λ done. done.text.items ≡ string_bytes line) }
-{
-    let out = match out.finish(host) {
-        Ok(out) => out,
-        Err(trouble) => return Err(failed(host, trouble, schedule)),
-    };
-    let mut done = WorkDone {
-        text: line.into_bytes(),
-        out,
-        schedule: None,
-        stats: None,
-    };
-    match schedule.finish(host) {
-        Ok(schedule) => {
-            done.schedule = schedule;
-            Ok(done)
-        }
-        Err(trouble) => {
-            done.remove(host);
-            Err(trouble)
-        }
-    }
 }
 
 /// Reads an image, collects it, writes its compaction, and then the schedule of all that the workers did. Returns the
