@@ -90,6 +90,9 @@ fn find_and_check<M: Marker>(
         begins,
         well_formed,
     } = find_reachable(alloc, heap, roots, marker)?;
+    if well_formed && marker.are_apart(alloc, heap, live.as_slice()) {
+        return Ok(live);
+    }
     check_live(heap, live.as_slice(), &begins, well_formed)?;
     Ok(live)
 }

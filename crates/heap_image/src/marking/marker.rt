@@ -1,17 +1,20 @@
-//! Marking and listing in one thread or in several, for code that serves both.
-ghost use Rattle.std.specs.Prelude.{◌≡◌, ◌<◌, ◌^◌, IfOk, IsTrue, length};
+//! Marking, listing and checking in one thread or in several, for code that serves both.
+ghost use Rattle.std.specs.Prelude.{◌≡◌, ◌<◌, ◌^◌, All, IfOk, IsTrue, length};
+ghost use Rattle.heap_image.specs.HeapImage.{HasLiveList, heap_words, with_live};
 ghost use Rattle.heap_image.specs.Bits.{addresses_of};
 ghost use Rattle.heap_image.specs.Marking.{AreReached, AreReachedWell};
+ghost use Rattle.heap_image.specs.Soundness.{AreWellFormed};
 
 use super::{Marked, mark, mark_by_crowd};
 use crate::bits::Bits;
 use crate::crowd::Crowd;
 use crate::heap::Heap;
 use crate::live_list::{marked_addresses, marked_by_crowd};
+use crate::soundness::sizes_if_sound;
 use std::alloc::{AllocError, Global};
 use std::thread::Threads;
 
-/// The threads that mark, and list what is marked.
+/// The threads that mark, list what is marked, and look for overlaps.
 pub(crate) trait Marker {
     /// That several threads may hold what starts them.
     ghost may_start: { Type 0 };
@@ -28,6 +31,13 @@ pub(crate) trait Marker {
         requires start { may_start }
         requires few { length bits.now < 2 ^ 58 }
         ensures { IfOk result (λ live. live.items ≡ addresses_of bits.now) };
+
+    /// Whether these well-formed objects are known not to overlap. `false` says nothing of them.
+    fn are_apart(&self, alloc: Global, heap: &Heap<'_>, live: &[u64]) -> bool
+        requires start { may_start }
+        requires inside { All (λ a. a < heap_words heap.now) live.now }
+        requires well_formed { AreWellFormed (with_live heap.now live.now) }
+        ensures { IsTrue result → HasLiveList (with_live heap.now live.now) };
 }
 
 /// The caller's thread alone.
@@ -44,6 +54,10 @@ impl Marker for Alone {
     fn list(&self, alloc: Global, bits: &Bits) -> Result<Vec<u64>, AllocError> {
         marked_addresses(alloc, bits)
     }
+
+    fn are_apart(&self, _alloc: Global, _heap: &Heap<'_>, _live: &[u64]) -> bool {
+        false
+    }
 }
 
 impl<T: Threads + Sync> Marker for Crowd<'_, T> {
@@ -57,5 +71,9 @@ impl<T: Threads + Sync> Marker for Crowd<'_, T> {
 
     fn list(&self, alloc: Global, bits: &Bits) -> Result<Vec<u64>, AllocError> {
         marked_by_crowd(alloc, bits, self)
+    }
+
+    fn are_apart(&self, alloc: Global, heap: &Heap<'_>, live: &[u64]) -> bool {
+        sizes_if_sound(alloc, heap, live, None, self).is_some()
     }
 }
