@@ -2,8 +2,8 @@
 """Runs the commands of the built program on a large heap of version 3, generated from a seed, half live.
 
 `collect` by 1, 2 and 4 workers writes the same bytes, which `verify` finds right. `summary`, `order` and `map` tell of as many
-live words, and of the same prefix and top; all of this also with as many regions as version 3 allows. `record` writes these bytes
-too, and `replay` and `timeline` follow its schedule to the end. Drawings have less than 300,000 bytes. `text` through a pipe into
+live words, and of the same prefix and top. `record` writes these bytes too, and `replay` and `timeline` follow its schedule to the
+end. All of this also with as many regions as version 3 allows. Drawings have less than 300,000 bytes. `text` through a pipe into
 `assemble` gives the heap again. No call takes more memory than MOST says. Then `collect --atomic` is killed, meets a full disk,
 and gets little memory, and the old file or the whole new one is there. Ends with status 1 where something is another way.
 
@@ -127,6 +127,7 @@ def main() -> int:
         many = Heap(calls, given.mib, least_log(given.mib), given.seed)
         many.try_collections()
         many.try_looks()
+        many.try_schedule()
         usual = Heap(calls, given.mib, USUAL_LOG, given.seed)
         usual.try_collections()
         usual.try_looks()
