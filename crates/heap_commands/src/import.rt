@@ -22,6 +22,7 @@ use command_support::{
 use heap_dump::{ImportFigures, Imported, ListedImport, Options, import, import_listed};
 use heap_image::{FromRead, Intake, Outlet, ToWrite, write_image_buffered};
 use std::alloc::{AllocError, Global};
+use std::io::{Read, Write};
 use std::rt::Files;
 use std::time::Clock;
 
@@ -60,30 +61,20 @@ where
     ensures { IfOk result (λ done. IsImportText wish.rows done.text.items) }
 {
     let ImportFiles {
-        dump,
+        mut dump,
         image,
         list,
         ..
     } = files;
-    let late = late_beside(rt, image, list.as_ref())?;
-    let again = match Watched::open(rt, dump.word()) {
+    let mut late = late_beside(rt, image, list.as_ref())?;
+    let mut again = match Watched::open(rt, dump.word()) {
         Ok(again) => again,
         Err(trouble) => return Err(unfinished(rt, trouble, late, list)),
     };
-    let mut dump = TimedIntake::new(rt, watch, FromRead::new(dump));
-    let mut again = TimedIntake::new(rt, watch, FromRead::new(again));
-    let mut output = TimedOutlet::new(rt, watch, ToWrite::new(late));
-    let made = import_as_wished(rt.alloc(), &mut dump, &mut again, &mut output, wish);
-    let laps = laps_of(&again, &output);
-    let late = output.into_inner().into_inner();
-    match made {
-        Ok(made) => {
-            let stats = Stats::of_import(watch, laps, made.share);
-            Ok(finished(rt, made, late, list)?.with_stats(stats))
-        }
+    match import_timed(rt, (&mut dump, &mut again), &mut late, wish, watch) {
+        Ok((made, stats)) => Ok(finished(rt, made, late, list)?.with_stats(stats)),
         Err(failure) => {
-            let (dump, again) = (dump.into_inner(), again.into_inner());
-            let trouble = Trouble::new(failure).if_dump(&dump.into_inner(), &again.into_inner());
+            let trouble = Trouble::new(failure).if_dump(&dump, &again);
             Err(unfinished(rt, trouble, late, list))
         }
     }
@@ -106,7 +97,7 @@ where
         list,
         ..
     } = files;
-    let late = late_beside(rt, image, list.as_ref())?;
+    let mut late = late_beside(rt, image, list.as_ref())?;
     let bytes = match keep(rt.alloc(), &mut dump) {
         Ok(bytes) => bytes,
         Err(fault) => {
@@ -114,22 +105,38 @@ where
             return Err(unfinished(rt, trouble, late, list));
         }
     };
-    let mut first = TimedIntake::new(rt, watch, FromRead::new(bytes.as_slice()));
-    let mut second = TimedIntake::new(rt, watch, FromRead::new(bytes.as_slice()));
-    let mut output = TimedOutlet::new(rt, watch, ToWrite::new(late));
-    let made = import_as_wished(rt.alloc(), &mut first, &mut second, &mut output, wish);
-    let laps = laps_of(&second, &output);
-    let late = output.into_inner().into_inner();
-    match made {
-        Ok(made) => {
-            let stats = Stats::of_import(watch, laps, made.share);
-            Ok(finished(rt, made, late, list)?.with_stats(stats))
-        }
+    match import_timed(
+        rt,
+        (bytes.as_slice(), bytes.as_slice()),
+        &mut late,
+        wish,
+        watch,
+    ) {
+        Ok((made, stats)) => Ok(finished(rt, made, late, list)?.with_stats(stats)),
         Err(failure) => {
             let trouble = Trouble::new(failure).if_dump(&dump, &dump);
             Err(unfinished(rt, trouble, late, list))
         }
     }
+}
+
+/// Makes an image of the dump that both readers give, and writes it. Returns what was made, and the times.
+fn import_timed<R: AllocGlobal + Clock, I: Read + Drop, W: Write + Drop>(
+    rt: &R,
+    readers: (I, I),
+    image: W,
+    wish: ImportWish,
+    watch: Stopwatch,
+) -> Result<(ImportMade, Stats), Failure>
+    ensures { IfOk result (λ made. IsImportText wish.rows (string_bytes made.0.text)) }
+{
+    let (first, second) = readers;
+    let mut first = TimedIntake::new(rt, watch, FromRead::new(first));
+    let mut second = TimedIntake::new(rt, watch, FromRead::new(second));
+    let mut output = TimedOutlet::new(rt, watch, ToWrite::new(image));
+    let made = import_as_wished(rt.alloc(), &mut first, &mut second, &mut output, wish)?;
+    let stats = Stats::of_import(watch, laps_of(&second, &output), made.share);
+    Ok((made, stats))
 }
 
 /// The phases of an import: both readings, making the image, and writing it.
