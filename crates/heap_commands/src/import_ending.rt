@@ -7,7 +7,7 @@ use command_support::{
     FileTarget, Late, Output, SystemFile, Trouble, WorkDone, both_ended, ended, failed,
 };
 use heap_dump::ListedImport;
-use heap_image::{Fault, Outlet, ToWrite};
+use heap_image::ToWrite;
 use std::rt::Files;
 
 /// Writes the list of objects, if there is to be one, and finishes both files.
@@ -21,34 +21,22 @@ where
     H::File: SystemFile,
     ensures { IfOk result (λ done. done.text.items ≡ string_bytes made.text) }
 {
+    let ImportMade { text, listed, .. } = made;
     let Some(list) = list else {
-        return ended(host, made.text, image.into_output()?);
+        return ended(host, text, image.into_output()?);
     };
-    match image.into_output() {
-        Ok(image) => finished_with_list(host, made, image, list),
+    let image = match image.into_output() {
+        Ok(image) => image,
         Err(trouble) => {
             list.leave(host);
-            Err(trouble)
+            return Err(trouble);
         }
-    }
-}
-
-/// Writes the list of objects, and finishes both files.
-fn finished_with_list<'a, H: Files + AllocGlobal>(
-    host: &H,
-    made: ImportMade,
-    image: Output<'a, H::File>,
-    list: FileTarget<'a, H::File>,
-) -> Result<WorkDone<'a>, Trouble<'a>>
-where
-    H::File: SystemFile,
-    ensures { IfOk result (λ done. done.text.items ≡ string_bytes made.text) }
-{
-    let ImportMade { text, listed, .. } = made;
-    match write_list(host, listed, list, image.place_name()) {
-        Ok(list) => both_ended(host, text, image, list),
-        Err(trouble) => Err(failed(host, trouble, image)),
-    }
+    };
+    let list = match write_list(host, listed, list, image.place_name()) {
+        Ok(list) => list,
+        Err(trouble) => return Err(failed(host, trouble, image)),
+    };
+    both_ended(host, text, image, list)
 }
 
 /// The error of an import that failed before its image was complete. A file that wasn't begun is unchanged.
@@ -78,23 +66,15 @@ where
     H::File: SystemFile,
 {
     let mut list = list.begin_apart(host, image_place)?;
-    let given = give_listed(listed, &mut ToWrite::new(&mut list.file));
+    let given = match listed {
+        Some((import, room)) => give_list(&import, room, &mut ToWrite::new(&mut list.file)),
+        None => Ok(()),
+    };
     match given {
         Ok(()) => Ok(list),
         Err(fault) => {
             let trouble = Trouble::from(fault).if_failed(&list.file);
             Err(failed(host, trouble, list))
         }
-    }
-}
-
-/// Writes the lines of the objects, if they are wanted.
-fn give_listed<O: Outlet>(
-    listed: Option<(ListedImport, String)>,
-    output: &mut O,
-) -> Result<(), Fault> {
-    match listed {
-        Some((import, room)) => give_list(&import, room, output),
-        None => Ok(()),
     }
 }

@@ -41,12 +41,15 @@ impl<'a, F: OpenFile + Drop> ImportFiles<'a, F> {
             output_must_differ(host.alloc(), word, image)?;
         }
         let dump = Watched::open(host, word)?;
-        let is_regular = is_regular(host.alloc(), &dump)?;
+        let found = dump.metadata()?;
+        if found.is_dir() {
+            return Err(not_regular(host.alloc(), word)?);
+        }
         let image = target_beside(host, &dump, image, request.atomic)?;
         match list_target(host, &dump, &image, request) {
             Ok(list) => Ok(ImportFiles {
                 dump,
-                is_regular,
+                is_regular: found.is_file(),
                 image,
                 list,
             }),
@@ -56,18 +59,6 @@ impl<'a, F: OpenFile + Drop> ImportFiles<'a, F> {
             }
         }
     }
-}
-
-/// Whether a dump is a regular file. Refuses a folder.
-fn is_regular<'a, F: OpenFile + Drop>(
-    alloc: Global,
-    dump: &Watched<'a, F>,
-) -> Result<bool, Trouble<'a>> {
-    let found = dump.metadata()?;
-    if found.is_dir() {
-        return Err(not_regular(alloc, dump.word())?);
-    }
-    Ok(found.is_file())
 }
 
 /// Finds the file for the list of objects, if there is to be one. It must be neither the dump nor the image.
