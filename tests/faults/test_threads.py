@@ -121,13 +121,16 @@ def owed(heap: Heap, workers: int, is_pipe: bool) -> Started:
     reading = Phase(READING, words).starts(workers)
     check = heap.phase.starts(workers) if heap.phase.name == CHECK else 0
     # With as many live objects as the live list needs to be shared, the check is shared too, row by row of 64.
-    if heap.version == 1 and heap.phase.name != CHECK:
+    if heap.phase.name != CHECK:
         rows = -(-heap.objects // 64)
         share = -(-rows // max(1, min(workers, rows // 16)))
         check = Phase(CHECK, -(-rows // share)).starts(workers)
     # A heap of 524,288 words with roots is marked in parts of 262,144, each by one thread, before the end is asked for, too.
     if heap.version > 1 and heap.words >= 1 << 19:
         check += Phase("marking", heap.words >> 18).starts(workers)
+    # Its live list is made in parts of 4,096 words of bits.
+    if heap.version > 1:
+        check += Phase("listing", (heap.words // 64 + 1) // 4_096).starts(workers)
     later = heap.phase.starts(workers) if heap.phase.name not in (READING, CHECK) else 0
     return Started(reading, check, later + FILLS.starts(workers))
 
