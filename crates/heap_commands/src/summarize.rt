@@ -3,7 +3,7 @@ ghost use Rattle.std.specs.Prelude.{◌≡◌, codes, ℕ, List, IfOk, IfErr, If
 ghost use Rattle.heap_image.specs.Refusals.{IsReason};
 ghost use Rattle.heap_commands.specs.Summarize.{IsSummary, IsSummaryOf, heading, summary_of};
 
-use crate::screen::Screen;
+use crate::shared::screen::Screen;
 use command_line::Summary;
 use command_support::{FileWord, Role, Trouble, Watched, WorkDone};
 use heap_image::{Fault, FromRead, Image, Intake, read_image_by_threads};

@@ -9,7 +9,7 @@ ghost use Rattle.heap_commands.specs.Unreplayed.{IsReplayRefused, IsUnreplayed};
 
 use crate::map::{drawing_target, style_on};
 use crate::replay::{Unreplayed, refused, schedule_in};
-use crate::screen::Screen;
+use crate::shared::screen::Screen;
 use command_line::{Shape, Timeline};
 use command_support::{
     Failure, FileTarget, FileWord, Late, Role, SystemFile, Trouble, Watched, WorkDone, ended,

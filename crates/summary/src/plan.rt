@@ -10,17 +10,24 @@ ghost use Rattle.summary.specs.RegionData.{region_data, deferred, fill_count};
 ghost use Rattle.summary.specs.Plan.{sources, sources_from};
 ghost use Rattle.summary.specs.Report.{report};
 
-use crate::counting::count_regions;
-use crate::deferred::deferred_addresses;
+mod counting;
+mod deferred;
+pub(crate) mod layout;
+mod redirections;
+pub(crate) mod region_counts;
+pub(crate) mod sources;
+
 use crate::reads::Reads;
-use crate::redirections::Redirections;
 use crate::region_data::RegionData;
 use crate::region_table::RegionTable;
 use crate::report_text::report_of_table;
+use counting::count_regions;
+use deferred::deferred_addresses;
 use heap_image::{Fault, Image};
 use mark_bitmap::Marks;
 use raw_region::Region;
 use rayon::current_num_threads;
+use redirections::Redirections;
 use std::alloc::{AllocError, Global};
 use std::marker::Model;
 use std::thread::Threads;

@@ -3,7 +3,7 @@ ghost use Rattle.std.specs.Prelude.{IfOk, IsTrue};
 ghost use Rattle.heap_image.specs.Marking.{AreReached, AreReachedWell};
 
 use super::{Marked, mark, mark_by_crowd};
-use crate::crowd::Crowd;
+use crate::check::crowd::Crowd;
 use crate::heap::Heap;
 use std::alloc::{AllocError, Global};
 use std::thread::Threads;

@@ -15,7 +15,7 @@ use denote.Struct.Lending.{lent_at, lent_at_shr_laws, Lends-lies, Lends-said, Le
 use Rattle.core.specs.Allocator.{array_of}
 use Rattle.raw_region.specs.Block.{may_free, is_length}
 use Rattle.raw_region.specs.contracts.block.Block as C
-use Rattle.raw_region.proofs.Number.{word_laws}
+use Rattle.raw_region.proofs.Lemmas.Number.{word_laws}
 use Rattle.raw_region.proofs.block.Block.TheLaw.Statement.{statement}
 
 pub shares : statement

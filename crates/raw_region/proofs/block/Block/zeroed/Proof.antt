@@ -1,5 +1,5 @@
 -- `zeroed` asks for the room, writes it full of zeros in a loop, and makes the block of it.
-use Rattle.raw_region.proofs.Steps.{◌≡◌, refl, List, [], ◌∷◌, ℕ, zero, suc, ◌+◌, ◌-◌, ◌*◌, ◌≤◌, ◌<◌, ◌^◌, arith, length, replicate, lit<, proved, Ura, full_share, SProp, id⊢, Lft, Share, ftrue, fat, flft, froom, named, w64, ty_int, ty_array, Val, vptr, vint, tables, Logic, fact, ‵, raw, ◌⊛◌, some, later, at_ret, Sq, ◌$◌, ◌∵◌, !, qed, done, move, keep, drop, use0, use1, use2, split, join, fjoin, feq_i, flt_i, pick, await, rewrite, suffices, agg, whole, enter, of_opd, lit, bin, init, stop, fld, no_more, and_then, assigns_last, first, blocks, branches, skips, exec, returns, alloc_all, pass_all, free_all, look_at, get, get_in, through, sets, sets_last, env, Array, u64, usize, RefOf, yes, block_ptr, ShrRef, shr_vals, shr_Tells, plain, nothing, heard, Stays, walk_of, says, stay_dropped, Goes-dropped, ends_at}
+use Rattle.raw_region.proofs.Lemmas.Steps.{◌≡◌, refl, List, [], ◌∷◌, ℕ, zero, suc, ◌+◌, ◌-◌, ◌*◌, ◌≤◌, ◌<◌, ◌^◌, arith, length, replicate, lit<, proved, Ura, full_share, SProp, id⊢, Lft, Share, ftrue, fat, flft, froom, named, w64, ty_int, ty_array, Val, vptr, vint, tables, Logic, fact, ‵, raw, ◌⊛◌, some, later, at_ret, Sq, ◌$◌, ◌∵◌, !, qed, done, move, keep, drop, use0, use1, use2, split, join, fjoin, feq_i, flt_i, pick, await, rewrite, suffices, agg, whole, enter, of_opd, lit, bin, init, stop, fld, no_more, and_then, assigns_last, first, blocks, branches, skips, exec, returns, alloc_all, pass_all, free_all, look_at, get, get_in, through, sets, sets_last, env, Array, u64, usize, RefOf, yes, block_ptr, ShrRef, shr_vals, shr_Tells, plain, nothing, heard, Stays, walk_of, says, stay_dropped, Goes-dropped, ends_at}
 use mathlib.Core.Bool.{true, false}
 use mathlib.Core.WellFounded.InvImage
 use lib.Dec.{ltb→lt, nltb→le}
@@ -44,8 +44,8 @@ use Rattle.raw_region.specs.contracts.block.Block.zeroed as f
 use Rattle.raw_region.proofs.block.Block.zeroed.Statement.{statement}
 use Rattle.raw_region.proofs.block.Block.zeroed.Code as code
 use Rattle.raw_region.specs.contracts.block.Block as B
-use Rattle.raw_region.proofs.Fields.{Plain, plain_of}
-use Rattle.raw_region.proofs.Heap.{layout_of, told, zeros_more}
+use Rattle.raw_region.proofs.Lemmas.Fields.{Plain, plain_of}
+use Rattle.raw_region.proofs.Lemmas.Heap.{layout_of, told, zeros_more}
 
 abbrev stayed : Stays f.ended.signature.params f.ended.kept
 stayed = (stay_dropped (RefOf (0 ∷ []) tt (plain (λ _. G.the_row)) (λ _. tt)) yes, (stay_dropped (plain (λ _. usize)) yes, tt))

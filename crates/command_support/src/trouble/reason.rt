@@ -1,0 +1,67 @@
+//! Reasons of faults.
+use super::failed_call::FailedCall;
+use heap_image::LengthCause;
+use history::{LineCause, MAX_WORKERS};
+use std::io;
+use std::io::Write;
+
+/// What is known of a fault beyond its text.
+#[derive(Clone, Copy)]
+pub enum Reason {
+    /// Fault 4: which of its conditions holds.
+    Length(LengthCause),
+    /// Fault 12: the requested number of workers.
+    Workers(u32),
+    /// Fault 13: the system call that failed.
+    SystemCall(FailedCall),
+    /// Fault 13: the write to standard output that failed.
+    Output(FailedCall),
+    /// Fault 14: why the line is refused.
+    Line(LineReason),
+}
+
+/// Why a line of a schedule is refused.
+#[derive(Clone, Copy, Debug, PartialEq, Eq)]
+pub enum LineReason {
+    /// It isn't a schedule's line.
+    Malformed,
+    /// The replay refuses it.
+    Refused(LineCause),
+}
+
+impl Reason {
+    /// Writes its lines, one for each fact.
+    pub fn print<B: Write>(&self, err: &mut B) -> io::Result<()> {
+        match self {
+            Reason::Length(cause) => writeln!(err, "pcompact: reason {cause}"),
+            Reason::Workers(count) => {
+                writeln!(
+                    err,
+                    "pcompact: reason {count} is not from 1 to {MAX_WORKERS}"
+                )
+            }
+            Reason::SystemCall(failed) => failed.print(err),
+            Reason::Output(failed) => {
+                writeln!(err, "pcompact: standard output")?;
+                failed.print(err)
+            }
+            Reason::Line(reason) => reason.print(err),
+        }
+    }
+}
+
+impl LineReason {
+    /// Writes the line of the reason, and of the reply if that is another one.
+    fn print<B: Write>(&self, err: &mut B) -> io::Result<()> {
+        match self {
+            LineReason::Malformed => writeln!(err, "pcompact: reason the line is malformed"),
+            LineReason::Refused(LineCause::NotAllowed) => {
+                writeln!(err, "pcompact: reason the event is not allowed")
+            }
+            LineReason::Refused(LineCause::OtherReply(reply)) => {
+                writeln!(err, "pcompact: reason the reply is another")?;
+                writeln!(err, "pcompact: reply {reply}")
+            }
+        }
+    }
+}

@@ -1,0 +1,6 @@
+//! What several commands share.
+
+pub mod line;
+pub(crate) mod live_share;
+pub mod screen;
+pub(crate) mod versions;

@@ -1,0 +1,5 @@
+use Rattle.heap_image.proofs.Lemmas.Parts.{region_few}
+use Rattle.heap_image.proofs.io.read.read_region.Goals as goal
+
+pub new-requires-clause-at_most : goal.new-requires-clause-at_most
+new-requires-clause-at_most g c = region_few c.args.region_log c.requires.log
