@@ -1,4 +1,4 @@
-//! The body of an image's file, read by several threads before the collector reads the image.
+//! The body of an image's file, read before the collector reads the image.
 ghost use Rattle.std.specs.Prelude.{◌≤◌, ◌<◌, None, IfSome};
 ghost use Rattle.heap_image.specs.Body.{body_words};
 ghost use Rattle.heap_image.specs.Extents.{IsBodyOf};
@@ -13,7 +13,7 @@ use std::thread::Threads;
 /// A body of fewer words is read in order.
 const LEAST_WORDS: u64 = 131_072;
 
-/// The body of an image's file, which several threads have read side by side.
+/// The body of an image's file, whose regions share one block.
 #[derive(Drop)]
 pub struct Ahead {
     /// Where the body lies in the file.
@@ -23,15 +23,15 @@ pub struct Ahead {
 }
 
 impl Ahead {
-    /// Reads the body of a regular file by at most `readers` threads. None for fewer than two readers or another file, if
-    /// the file doesn't begin as that of a large image, or if a thread can't read its part.
+    /// Reads the body of a regular file by at most `readers` threads. None for no reader or another file, if the file
+    /// doesn't begin as that of a large image, if a thread can't read its part, or if memory runs out.
     pub fn read<F: OpenFile + FileExt + Sync + Drop>(
         alloc: Global,
         watched: &Watched<'_, F>,
         readers: usize,
         threads: &(impl Threads + Sync),
     ) -> Option<Ahead> {
-        if readers < 2 {
+        if readers == 0 {
             return None;
         }
         let len = watched.regular_len();

@@ -9,9 +9,9 @@ use std::thread::Threads;
 
 /// The file of an image. Its bytes are unknown to contracts.
 ///
-/// The body of a large image in a regular file is read ahead by several threads side by side. Any other file, such as
-/// a pipe, is read in order. So is a whole regular file of which a thread can't read its part: what is wrong is then
-/// found as for a pipe.
+/// The body of a large image in a regular file is read ahead, by several threads side by side if there are more. Any
+/// other file, such as a pipe, is read in order. So is a whole regular file of which a thread can't read its part: what
+/// is wrong is then found as for a pipe.
 #[derive(Drop)]
 pub struct ImageFile<'a, F: Drop> {
     watched: Watched<'a, F>,
