@@ -1,14 +1,14 @@
 -- The places of the bits that are set in words of 64 bits.
-use Rattle.std.proofs.Common.{◌≡◌, ℕ, zero, suc, ◌+◌, ◌-◌, ◌*◌, ◌/◌, ◌%◌, ◌^◌, ◌≤◌, ◌<◌, inl, inr, Bool, true, false, cond, List, [], ◌∷◌, ◌++◌, length, get_or, min, refl, sym, ◌∙◌, ap, arith, eqb, bit_and}
+use Rattle.std.proofs.Common.{◌≡◌, ℕ, zero, suc, ◌+◌, ◌-◌, ◌*◌, ◌/◌, ◌%◌, ◌^◌, ◌≤◌, ◌<◌, inl, inr, Bool, true, false, cond, List, [], ◌∷◌, ◌++◌, length, get_or, drop, length-take, length-drop, length-append, refl, sym, ◌∙◌, ap, arith, eqb, subst, bit_and}
 use Rattle.std.proofs.lemmas.Bool.{cases_eq, cond-true, cond-false}
-use Rattle.std.proofs.lemmas.List.{append-nil}
+use Rattle.std.proofs.lemmas.List.{append-nil, get_or-take, get_or-drop, length-map}
 use Rattle.std.proofs.lemmas.List.Elements.{filter-append}
-use Rattle.std.proofs.lemmas.Grind.{div_ceil_times}
-use Rattle.std.proofs.lemmas.Nat.Bits.{bit_at-zero, bit_at_clear_other, bit_at_clear_same}
-use Rattle.std.specs.Prelude.{filter, map}
-use Rattle.std.specs.Int.{bit_at, bit_not, div_ceil, w64}
+use Rattle.std.proofs.lemmas.List.Sums.{length-filter}
+use Rattle.std.proofs.lemmas.Nat.Bits.{bit_at-zero, bit_at_clear_other, bit_at_clear_same, bit_at-trailing_zeros}
+use Rattle.std.specs.Prelude.{count_by, filter, map, slice_range}
+use Rattle.std.specs.Int.{bit_at, bit_not, trailing_zeros, w64}
 use Rattle.std.specs.List.{range_with_len}
-use Rattle.heap_image.specs.Bits.{has, ones_of, addresses_between, addresses_of, addresses_of_part}
+use Rattle.heap_image.specs.Bits.{has, ones_of, addresses_between, addresses_of}
 use Rattle.heap_image.proofs.Listed.{filter_same}
 
 -- the least number that passes comes first
@@ -51,6 +51,12 @@ ones_of-next word place l one before =
     (ap (λ b. eqb b 1) (bit_at_clear_same w64 word place l))
     (λ a m. ap (λ b. eqb b 1) (before a m))
     (λ a m other. ap (λ b. eqb b 1) (bit_at_clear_other w64 word place l a m other))
+
+-- the bit that is found from the right comes first
+pub ones_of-lowest : (rest place : ℕ) → 0 < rest → rest < 2 ^ 64 → place ≡ trailing_zeros w64 rest → ones_of rest ≡ place ∷ ones_of (bit_and rest (bit_not w64 (1 * 2 ^ place % 2 ^ 64)))
+ones_of-lowest rest place some fits e =
+    let low = bit_at-trailing_zeros w64 rest some fits in
+    subst (λ p. ones_of rest ≡ p ∷ ones_of (bit_and rest (bit_not w64 (1 * 2 ^ p % 2 ^ 64)))) (sym e) (ones_of-next rest (trailing_zeros w64 rest) low.0 low.1 low.2)
 
 -- ---- word by word
 
@@ -111,28 +117,50 @@ between-word words i =
 pub between-next : (words : List ℕ) (a i : ℕ) → a ≤ i → addresses_between words a (i + 1) ≡ addresses_between words a i ++ map (λ j. 64 * i + j) (ones_of (get_or words i 0))
 between-next words a i l = between-append words a i (i + 1) l (omega arith) ∙ ap (λ xs. addresses_between words a i ++ xs) (between-word words i)
 
--- ---- from part to part
+-- one word more, by number
+pub more-between : (words : List ℕ) (a i next : ℕ) → a ≤ i → next ≡ length (addresses_between words a i) → next + length (ones_of (get_or words i 0)) ≡ length (addresses_between words a (i + 1))
+more-between words a i next l e =
+    ap (λ n. n + length (ones_of (get_or words i 0))) e
+    ∙ ap (λ n. length (addresses_between words a i) + n) (sym (length-map (ones_of (get_or words i 0)) (λ j. 64 * i + j)))
+    ∙ sym (length-append (addresses_between words a i) (map (λ j. 64 * i + j) (ones_of (get_or words i 0))))
+    ∙ ap length (sym (between-next words a i l))
 
--- the addresses of the parts before one, and its own
-pub parts-next : (words live list : List ℕ) (share k m : ℕ) → live ≡ addresses_between words 0 (min (k * share) (length words)) → list ≡ addresses_of_part words share k → m ≡ k + 1
-    → live ++ list ≡ addresses_between words 0 (min (m * share) (length words))
-parts-next words live list share k m before own next =
-    let low : ℕ = min (k * share) (length words) in
-    let high : ℕ = min (k * share + share) (length words) in
-    let e : high ≡ min ((k + 1) * share) (length words) = omega arith in
-    ap (λ xs. xs ++ list) before
-    ∙ ap (λ xs. addresses_between words 0 low ++ xs) own
-    ∙ sym (between-append words 0 low high (omega arith) (omega arith))
-    ∙ ap (addresses_between words 0) e
-    ∙ ap (λ n. addresses_between words 0 (min (n * share) (length words))) (sym next)
+-- a part has as many addresses as its two parts
+pub length-between-append : (words : List ℕ) (a b c : ℕ) → a ≤ b → b ≤ c → length (addresses_between words a c) ≡ length (addresses_between words a b) + length (addresses_between words b c)
+length-between-append words a b c l m = ap length (between-append words a b c l m) ∙ length-append (addresses_between words a b) (addresses_between words b c)
 
--- all parts
-pub parts-all : (words : List ℕ) (share count : ℕ) → length words ≤ count * share → addresses_between words 0 (min (count * share) (length words)) ≡ addresses_of words
-parts-all words share count l = let e : min (count * share) (length words) ≡ length words = omega (arith, l) in ap (addresses_between words 0) e
+sum_fits : (n x y z : ℕ) → n ≡ x → z ≡ x + y → n ≤ z
+sum_fits n x y z e f = omega (arith, e, f)
 
--- the parts have all words
-pub parts-cover : (n count : ℕ) → 0 < count → n ≤ count * div_ceil n count
-parts-cover n count some = let all = (div_ceil_times n count some).0 in omega (arith, all)
+-- the addresses of a word have room behind those before it
+pub between-room : (words : List ℕ) (a i b next room : ℕ) → a ≤ i → i < b → next ≡ length (addresses_between words a i) → room ≡ length (addresses_between words a b) → next + length (ones_of (get_or words i 0)) ≤ room
+between-room words a i b next room l m e f =
+    sum_fits (next + length (ones_of (get_or words i 0))) (length (addresses_between words a (i + 1))) (length (addresses_between words (i + 1) b)) room
+    (more-between words a i next l e)
+    (f ∙ length-between-append words a (i + 1) b (omega (arith, l)) (omega (arith, m)))
+
+-- ---- a part of the words by itself
+
+-- a bit of a part
+in_part : (words : List ℕ) (a b j : ℕ) → j < 64 * (b - a) → has (slice_range words a b) j ≡ has words (64 * a + j)
+in_part words a b j l =
+    let row : a + j / 64 ≡ (64 * a + j) / 64 = omega arith in
+    let place : j % 64 ≡ (64 * a + j) % 64 = omega arith in
+    let word : get_or (slice_range words a b) (j / 64) 0 ≡ get_or words ((64 * a + j) / 64) 0 = get_or-take (b - a) (drop a words) (j / 64) 0 (omega (arith, l)) ∙ get_or-drop a words (j / 64) 0 ∙ ap (λ r. get_or words r 0) row in
+    ap (λ w. eqb (bit_at w (j % 64)) 1) word ∙ ap (λ k. eqb (bit_at (get_or words ((64 * a + j) / 64) 0) k) 1) place
+
+-- a part has as many addresses as set bits
+pub length-between : (words : List ℕ) (a b : ℕ) → a ≤ b → b ≤ length words → count_by (has (slice_range words a b)) (range_with_len 0 (64 * length (slice_range words a b))) ≡ length (addresses_between words a b)
+length-between words a b l m =
+    let part : List ℕ = slice_range words a b in
+    let size : length part ≡ b - a = let t = length-take (b - a) (drop a words) in let d = length-drop a words in omega (arith, t, d, l, m) in
+    let z : 64 * a ≡ 64 * a + 0 = omega arith in
+    let own : List ℕ = filter (λ j. has words (64 * a + j)) (range_with_len 0 (64 * (b - a))) in
+    let shifted : addresses_between words a b ≡ map (λ j. 64 * a + j) own = ap (λ x. filter (has words) (range_with_len x (64 * (b - a)))) z ∙ filter_shift (has words) (64 * a) 0 (64 * (b - a)) in
+    sym (length-filter (has part) (range_with_len 0 (64 * length part)))
+    ∙ ap (λ n. length (filter (has part) (range_with_len 0 (64 * n)))) size
+    ∙ ap length (filter_same (has part) (λ j. has words (64 * a + j)) 0 (64 * (b - a)) (λ j low high. in_part words a b j (omega (arith, high))))
+    ∙ sym (ap length shifted ∙ length-map own (λ j. 64 * a + j))
 
 -- ---- the addresses below one
 

@@ -1,5 +1,5 @@
 -- Bits in words of 64.
-use Rattle.std.specs.Prelude.{◌≡◌, ℕ, ◌+◌, ◌-◌, ◌*◌, ◌/◌, ◌%◌, ◌<◌, ◌≤◌, ◌==◌, Bool, false, IsTrue, List, length, slice_index, filter, min}
+use Rattle.std.specs.Prelude.{◌≡◌, ℕ, ◌+◌, ◌-◌, ◌*◌, ◌/◌, ◌%◌, ◌<◌, ◌≤◌, ◌==◌, Bool, false, IsTrue, List, length, slice_index, filter}
 use Rattle.std.specs.List.{list_any, range_with_len}
 use Rattle.std.specs.Int.{bit_at}
 
@@ -46,7 +46,3 @@ addresses_between words from to = filter (has words) (range_with_len (64 * from)
 -- all set addresses, ascending
 abbrev pub addresses_of : List ℕ → List ℕ
 addresses_of words = addresses_between words 0 (length words)
-
--- the set addresses of part k, where each part but the last has this number of words
-abbrev pub addresses_of_part : List ℕ → ℕ → ℕ → List ℕ
-addresses_of_part words share k = addresses_between words (min (k * share) (length words)) (min (k * share + share) (length words))

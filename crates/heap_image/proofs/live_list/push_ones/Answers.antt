@@ -1,24 +1,17 @@
-use Rattle.std.proofs.Common.{◌≡◌, ℕ, ◌+◌, ◌*◌, ◌^◌, ◌%◌, ◌<◌, ◌++◌, ◌∷◌, [], length, sym, ◌∙◌, ap, subst, arith, append_assoc, bit_and}
+use Rattle.std.proofs.Common.{ℕ, ◌+◌, ◌*◌, ◌^◌, ◌%◌, ◌<◌, ◌++◌, ◌∷◌, [], length, sym, ◌∙◌, ap, arith, append_assoc, bit_and}
 use Rattle.std.proofs.lemmas.List.{append-nil}
-use Rattle.std.proofs.lemmas.Nat.Bits.{bit_at-trailing_zeros}
 use Rattle.std.specs.Prelude.{map}
-use Rattle.std.specs.Int.{bit_not, trailing_zeros, w64}
+use Rattle.std.specs.Int.{bit_not, w64}
 use Rattle.heap_image.specs.Bits.{ones_of}
-use Rattle.heap_image.proofs.Ones.{ones_of-zero, ones_of-next}
+use Rattle.heap_image.proofs.Ones.{ones_of-zero, ones_of-lowest}
 use Rattle.heap_image.proofs.live_list.push_ones.Goals as goal
 use Rattle.heap_image.proofs.live_list.push_ones.Goals.{After-push}
-
--- the lowest bit of what is left comes first
-next : (rest place : ℕ) → 0 < rest → rest < 2 ^ 64 → place ≡ trailing_zeros w64 rest → ones_of rest ≡ place ∷ ones_of (bit_and rest (bit_not w64 (1 * 2 ^ place % 2 ^ 64)))
-next rest place some fits e =
-    let low = bit_at-trailing_zeros w64 rest some fits in
-    subst (λ p. ones_of rest ≡ p ∷ ones_of (bit_and rest (bit_not w64 (1 * 2 ^ p % 2 ^ 64)))) (sym e) (ones_of-next rest (trailing_zeros w64 rest) low.0 low.1 low.2)
 
 pub loop-rest-smaller : goal.loop-rest-smaller
 loop-rest-smaller c =
     let some = c.loop-rest-test.true in
     let fits : c.loop-rest.rest < 2 ^ 64 = omega (arith, c.loop-rest.auto.rest-fits) in
-    let e = ap length (next c.loop-rest.rest c.from-place.result (omega arith) fits c.from-place.ensures) in
+    let e = ap length (ones_of-lowest c.loop-rest.rest c.from-place.result (omega arith) fits c.from-place.ensures) in
     omega arith
 
 pub loop-rest-preserved : goal.loop-rest-preserved
@@ -29,7 +22,7 @@ loop-rest-preserved c =
     let place = c.from-place.result in
     let rest : ℕ = bit_and c.loop-rest.rest (bit_not w64 (1 * 2 ^ place % 2 ^ 64)) in
     let fits : c.loop-rest.rest < 2 ^ 64 = omega (arith, c.loop-rest.auto.rest-fits) in
-    let e = next c.loop-rest.rest place (omega arith) fits c.from-place.ensures in
+    let e = ones_of-lowest c.loop-rest.rest place (omega arith) fits c.from-place.ensures in
     ap (λ xs. xs ++ map (λ j. base + j) (ones_of rest)) c.in_ok-push.ensures.items
     ∙ append_assoc live ((base + place) ∷ []) (map (λ j. base + j) (ones_of rest))
     ∙ ap (λ xs. live ++ map (λ j. base + j) xs) (sym e)
