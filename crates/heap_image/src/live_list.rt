@@ -89,7 +89,7 @@ impl<T: Threads + Sync> ListWriter<'_, T> {
         self.write_both(first, low, high);
     }
 
-    /// Writes the addresses of one share of words from index `first` on, in a new thread, and those of the words after it.
+    /// Writes the addresses of a share of words from index `first` on, in a new thread, and those of the words after it.
     #[cycle(parts)]
     fn write_both(&self, first: usize, low: &mut [u64], high: &mut [u64])
         requires few { length self.now.words.now < 2 ^ 58 }
@@ -141,8 +141,8 @@ fn write_between(words: &[u64], first: usize, last: usize, list: &mut [u64])
     }
 }
 
-/// Writes the indices of the bits that are set in a word, ascending, each plus `base`, from index `first` of the list on.
-/// Returns the index after them.
+/// Writes the indices of the bits that are set in a word, ascending, each plus `base`, from index `first` of the list
+/// on. Returns the index after them.
 fn write_ones(list: &mut [u64], first: usize, base: u64, word: u64) -> usize
     requires base { base + 64 ≤ 2 ^ 64 }
     requires room { first + length (ones_of word) ≤ length list.old }
