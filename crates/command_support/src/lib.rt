@@ -11,6 +11,9 @@
 //! **Timings.** [`Stats`] has what `--stats` prints: times by a [`Stopwatch`] and by devices that note when bytes go through them
 //! ([`TimedIntake`], [`TimedOutlet`]). A [`Meter`] has the line that `--progress` shows, of what a [`Gauge`] counts.
 //!
+//! **Printing.** A [`Screen`] says what standard output can show. [`push_text`] and [`push_number`] append to a line that has
+//! its room before anything is written.
+//!
 //! # What is proved
 //!
 //! - The exit status of a failure (`status_of` of `specs/Failure.antt`), and which failure comes of which error.
@@ -44,6 +47,7 @@ mod json;
 mod laps;
 mod late;
 mod leftovers;
+mod line;
 mod live_share;
 mod meter;
 mod moved;
@@ -53,6 +57,7 @@ mod phase;
 mod printable;
 mod reason;
 mod replacement;
+mod screen;
 mod stats;
 mod status_line;
 mod stopwatch;
@@ -83,6 +88,7 @@ pub use hint::Hint;
 pub use json::push_json;
 pub use laps::Laps;
 pub use late::Late;
+pub use line::{push_number, push_text};
 pub use live_share::LiveShare;
 pub use meter::Meter;
 pub use moved::Moved;
@@ -91,6 +97,7 @@ pub use phase::Phase;
 pub use printable::Printable;
 pub use reason::{LineReason, Reason};
 pub use replacement::Replacement;
+pub use screen::{Screen, USUAL_WIDTH};
 pub use stats::Stats;
 pub use stopwatch::Stopwatch;
 pub use system_file::{FileLock, SystemFile};

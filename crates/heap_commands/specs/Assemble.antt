@@ -3,7 +3,7 @@ use Rattle.std.specs.Io.KnownBytes.{Appends}
 use Rattle.heap_image.specs.HeapImage.{HeapImage, IsValid, heap_words, roots_of}
 use Rattle.heap_image.specs.ImageText.{text}
 use Rattle.heap_text.specs.Text.{text_of}
-use Rattle.heap_commands.specs.Command.{Command}
+use Rattle.command_support.specs.Command.{Command}
 
 -- the line with the numbers of words, roots and live objects of an image
 abbrev pub count_line : HeapImage → List ℕ

@@ -8,7 +8,7 @@ use Rattle.heap_maker.specs.Wanted.{IsAsWanted}
 use Rattle.heap_maker.specs.declared.figures.GenerationFigures.{GenerationFigures}
 use Rattle.heap_maker.specs.declared.wanted.Wanted.{Wanted}
 use Rattle.command_line.specs.declared.generate.Generate.{Generate}
-use Rattle.heap_commands.specs.Command.{Command}
+use Rattle.command_support.specs.Command.{Command}
 use Rattle.heap_commands.specs.Versions.{version_numbered}
 
 -- The heap that a request describes. Without a version it has version 2 where that allows it, else version 3.

@@ -7,7 +7,7 @@ use Rattle.heap_dump.specs.ImportFigures.{AreFiguresOf, figures_text}
 use Rattle.heap_dump.specs.Requested.{HasChosenVersion}
 use Rattle.heap_dump.specs.declared.figures.ImportFigures.{ImportFigures}
 use Rattle.heap_dump.specs.declared.options.Options.{Options}
-use Rattle.heap_commands.specs.Command.{Command}
+use Rattle.command_support.specs.Command.{Command}
 use Rattle.heap_commands.specs.Histogram.{IsHistogram}
 
 -- the line with the figures of an image with roots

@@ -1,4 +1,3 @@
-pub mod Command
 pub mod Assemble
 pub mod Board
 pub mod Generate

@@ -9,7 +9,7 @@ use Rattle.heap_map.specs.declared.cell.Cell.{Cell}
 use Rattle.heap_map.specs.declared.figures.MapFigures.{MapFigures}
 use Rattle.heap_map.specs.declared.style.Shape.{Shape}
 use Rattle.heap_map.specs.declared.style.Style.{Style}
-use Rattle.heap_commands.specs.Command.{Command}
+use Rattle.command_support.specs.Command.{Command}
 use Rattle.heap_commands.specs.declared.map.Cut.{Cut}
 
 -- the shape of the rows; addresses follow them where there can be more than one row

@@ -5,7 +5,7 @@ use Rattle.heap_image.specs.ImageText.{text}
 use Rattle.summary.specs.NewAddresses.{new_top}
 use Rattle.work_order.specs.Chains.{IsLongestChain}
 use Rattle.work_order.specs.WorkOrder.{order_text}
-use Rattle.heap_commands.specs.Command.{Command}
+use Rattle.command_support.specs.Command.{Command}
 
 -- the line with the words of the longest chain of an image, those of the whole heap, and what follows from both
 abbrev pub IsOrderLine : HeapImage → List ℕ → Type 0

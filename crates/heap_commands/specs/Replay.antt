@@ -8,7 +8,7 @@ use Rattle.history.specs.Replayed.{IsReplayed}
 use Rattle.history.specs.declared.replayed.End.{End}
 use Rattle.history.specs.declared.replayed.End.TheVariants.{Finished, Open}
 use Rattle.history.specs.declared.replayed.Replayed.{Replayed}
-use Rattle.heap_commands.specs.Command.{Command}
+use Rattle.command_support.specs.Command.{Command}
 
 -- the line that says how a replay ended
 abbrev pub end_line : End → List ℕ

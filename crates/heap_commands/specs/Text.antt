@@ -3,7 +3,7 @@ use Rattle.std.specs.Io.KnownBytes.{Consumes}
 use Rattle.heap_image.specs.HeapImage.{HeapImage, IsValid}
 use Rattle.heap_image.specs.ImageText.{text}
 use Rattle.heap_text.specs.Text.{text_of}
-use Rattle.heap_commands.specs.Command.{Command}
+use Rattle.command_support.specs.Command.{Command}
 
 -- the lines of some valid image
 abbrev pub AreLines : List ℕ → Type 0

@@ -8,7 +8,7 @@ use Rattle.schedule_timeline.specs.Page.{Has}
 use Rattle.schedule_timeline.specs.TimelineFigures.{BeginsWithFigures, IsFiguresLine}
 use Rattle.schedule_timeline.specs.Timeline.{IsTimelineOf}
 use Rattle.schedule_timeline.specs.declared.timeline.Timeline.{Timeline}
-use Rattle.heap_commands.specs.Command.{Command}
+use Rattle.command_support.specs.Command.{Command}
 use Rattle.heap_commands.specs.declared.timeline.Form.{Form}
 use Rattle.heap_commands.specs.declared.timeline.Form.TheVariants.{Page}
 

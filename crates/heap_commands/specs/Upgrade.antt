@@ -6,7 +6,7 @@ use Rattle.heap_image.specs.Outgoing.{TakesBeginning}
 use Rattle.heap_image.specs.Reading.{IsRead}
 use Rattle.heap_image.specs.Upgrade.{upgraded_to}
 use Rattle.heap_image.specs.declared.version.Version.{Version}
-use Rattle.heap_commands.specs.Command.{Command}
+use Rattle.command_support.specs.Command.{Command}
 
 -- the line with the number of roots of an image
 abbrev pub roots_line : HeapImage → List ℕ

@@ -6,11 +6,10 @@ ghost use Rattle.heap_map.specs.MapFigures.{AreFiguresOf, figures_text};
 ghost use Rattle.heap_commands.specs.Map.{IsDrawing, IsMap, IsMapLine, IsPicture, IsPrinted, after_shown, cells_shown, shape_of};
 
 use crate::inputs::open_image;
-use crate::screen::{Screen, USUAL_WIDTH};
 use command_line::{Look, Map};
 use command_support::{
-    FileTarget, FileWord, Late, Role, SystemFile, Trouble, Watched, WorkDone, ended,
-    output_must_differ, reject_same_file,
+    FileTarget, FileWord, Late, Role, Screen, SystemFile, Trouble, USUAL_WIDTH, Watched, WorkDone,
+    ended, output_must_differ, reject_same_file,
 };
 use heap_image::{
     Fault, FromRead, Image, Intake, Outlet, ToWrite, give_all, read_image_by_threads,

@@ -4,9 +4,8 @@ ghost use Rattle.heap_image.specs.Refusals.{IsReason};
 ghost use Rattle.heap_commands.specs.Summarize.{IsSummary, IsSummaryOf, heading, summary_of};
 
 use crate::inputs::open_image;
-use crate::screen::Screen;
 use command_line::Summary;
-use command_support::{Trouble, WorkDone};
+use command_support::{Screen, Trouble, WorkDone};
 use heap_image::{Fault, FromRead, Image, Intake, read_image_by_threads};
 use std::alloc::{AllocError, Global};
 use std::rt::Files;

@@ -10,10 +10,9 @@ ghost use Rattle.heap_commands.specs.Unreplayed.{IsReplayRefused, IsUnreplayed};
 use crate::inputs::{Inputs, Opened, replay_trouble};
 use crate::map::{drawing_target, style_on};
 use crate::replay::{Unreplayed, refused, schedule_in};
-use crate::screen::Screen;
 use command_line::Timeline;
 use command_support::{
-    Failure, FileTarget, FileWord, Late, Role, SystemFile, Trouble, WorkDone, ended,
+    Failure, FileTarget, FileWord, Late, Role, Screen, SystemFile, Trouble, WorkDone, ended,
     output_must_differ, reject_same_file,
 };
 use heap_image::{

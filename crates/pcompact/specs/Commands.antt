@@ -3,7 +3,7 @@ pub mod Collect
 pub mod Verify
 pub mod Record
 use Rattle.std.specs.Prelude.{ℕ, List, [], ◌∷◌, MatchBool, bytes_eq}
-use Rattle.heap_commands.specs.Command.{Command}
+use Rattle.command_support.specs.Command.{Command}
 use Rattle.heap_commands.specs.Assemble.{assemble_command}
 use Rattle.heap_commands.specs.Board.{board_command}
 use Rattle.heap_commands.specs.Generate.{generate_command}

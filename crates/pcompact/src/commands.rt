@@ -12,8 +12,7 @@ mod record;
 mod verify;
 
 use command_line::Request;
-use command_support::{SystemFile, Trouble, WorkDone};
-use heap_commands::screen::Screen;
+use command_support::{Screen, SystemFile, Trouble, WorkDone};
 use heap_commands::{
     assemble, board, generate, import, map, order, replay, summarize, text, timeline, upgrade,
 };

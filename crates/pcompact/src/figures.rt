@@ -3,7 +3,7 @@ ghost use Rattle.std_alloc.specs.String.{string_capacity};
 ghost use Rattle.pcompact.specs.Figures.{figures_line};
 
 use collector::Figures;
-use heap_commands::line::{push_number, push_text};
+use command_support::{push_number, push_text};
 
 /// Room for the line, with 20 digits for each figure.
 pub const LINE_ROOM: usize = 81;

@@ -12,10 +12,9 @@ ghost use Rattle.command_support.specs.Json.{as_shown};
 use crate::commands;
 use command_line::{Request, Respelled, Unread};
 use command_support::{
-    FailedCall, Failure, Printable, Reason, Stats, SystemCall, SystemFile, Trouble, WorkDone,
-    push_json,
+    FailedCall, Failure, Printable, Reason, Screen, Stats, SystemCall, SystemFile, Trouble,
+    WorkDone, push_json,
 };
-use heap_commands::screen::Screen;
 use heap_image::Fault;
 use std::alloc::{AllocError, Global};
 use std::io;

@@ -2,7 +2,7 @@ use Rattle.std.specs.Prelude.{◌≡◌, ℕ, List, Option, codes}
 use Rattle.collector.specs.Streams.{AreRecorded}
 use Rattle.collector.specs.declared.outcome.Figures.{Figures}
 use Rattle.pcompact.specs.Figures.{IsFigures, figures_line}
-use Rattle.heap_commands.specs.Command.{Command}
+use Rattle.command_support.specs.Command.{Command}
 
 -- The whole input was read and is the text of some image. The text of its compaction was written, and that of a schedule by
 -- which the word machine makes it. Its figures are printed.

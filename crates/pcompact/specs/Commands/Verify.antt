@@ -11,7 +11,7 @@ use Rattle.collector.specs.declared.verdict.Verdict.{Verdict}
 use Rattle.collector.specs.declared.verdict.Verdict.TheVariants.{Shape, Word, Live, Root}
 use Rattle.command_support.specs.declared.difference.Difference.{Difference}
 use Rattle.pcompact.specs.declared.commands.verify.Unverified.{Unverified}
-use Rattle.heap_commands.specs.Command.{Command}
+use Rattle.command_support.specs.Command.{Command}
 
 -- the verdict on an image beside the compaction of another, where the words from the new top up are compared or not
 abbrev pub IsVerdictOn : Bool → HeapImage → HeapImage → Verdict → Type 0

@@ -8,10 +8,9 @@ use collector::{Verdict, verify, verify_below_top};
 use command_host::ImageFile;
 use command_line::Verify;
 use command_support::{
-    Difference, Failure, FileWord, Laps, Phase, Role, Stats, Stopwatch, TimedIntake, Trouble,
-    Watched, WorkDone, two_inputs,
+    Difference, Failure, FileWord, Laps, Phase, Role, Screen, Stats, Stopwatch, TimedIntake,
+    Trouble, Watched, WorkDone, two_inputs,
 };
-use heap_commands::screen::Screen;
 use heap_image::{Fault, Image, Intake, read_image_by_threads};
 use rayon::current_num_threads;
 use std::alloc::Global;

@@ -9,7 +9,7 @@ const NAME_ROOM: usize = 128;
 const NUMBER_ROOM: usize = 16;
 
 /// The number of cells of a row without `--width`, where the screen doesn't say how wide it is.
-pub(crate) const USUAL_WIDTH: u32 = 64;
+pub const USUAL_WIDTH: u32 = 64;
 
 /// What standard output can show, and whether a person reads standard error.
 #[derive(Clone, Copy)]
@@ -47,7 +47,7 @@ impl Screen {
     }
 
     /// The number of cells of a row: as requested, else as many as a terminal has columns for beside this many others.
-    pub(crate) fn cells_beside(self, others: u32, requested: Option<u32>) -> u32 {
+    pub fn cells_beside(self, others: u32, requested: Option<u32>) -> u32 {
         match (requested, self.columns) {
             (Some(width), _) => width,
             (None, Some(columns)) if self.is_terminal => {
