@@ -1,8 +1,8 @@
 //! The command line of `pcompact`: its commands, their arguments and help.
 //!
 //! [`read`] parses the words after the program's name with the kit's `clap`, and returns a [`Request`]: a command with its
-//! arguments, or a text to show. Each command has a file of its own, with its definition as data. `heap_commands` and `pcompact`
-//! carry the commands out.
+//! arguments, or a text to show. Each command has a file of its own, with its definition as data. `heap_commands` and
+//! `collection_commands` carry the commands out.
 //!
 //! # What is proved
 //!

@@ -1,9 +1,9 @@
--- The commands of the program. Each has a module of its own, with the text that a successful call prints.
-pub mod Collect
-pub mod Verify
-pub mod Record
+-- The commands of the program. Each has a module in its crate, with the text that a successful call prints.
 use Rattle.std.specs.Prelude.{ℕ, List, [], ◌∷◌, MatchBool, bytes_eq}
 use Rattle.command_support.specs.Command.{Command}
+use Rattle.collection_commands.specs.Collect.{collect_command}
+use Rattle.collection_commands.specs.Record.{record_command}
+use Rattle.collection_commands.specs.Verify.{verify_command}
 use Rattle.heap_commands.specs.Assemble.{assemble_command}
 use Rattle.heap_commands.specs.Board.{board_command}
 use Rattle.heap_commands.specs.Generate.{generate_command}
@@ -19,14 +19,14 @@ use Rattle.heap_commands.specs.Upgrade.{upgrade_command}
 -- the commands, in the order in which help lists them
 abbrev pub all_commands : List Command
 all_commands =
-    Collect.collect_command
-    ∷ Verify.verify_command
+    collect_command
+    ∷ verify_command
     ∷ summary_command
     ∷ order_command
     ∷ map_command
     ∷ text_command
     ∷ assemble_command
-    ∷ Record.record_command
+    ∷ record_command
     ∷ replay_command
     ∷ timeline_command
     ∷ upgrade_command

@@ -1,16 +1,12 @@
-//! The commands of the program. Each is a module, here or in `heap_commands`, and has an arm below. The crate
-//! `command_line` parses its arguments.
+//! The commands of the program. Each is a module of `collection_commands` or `heap_commands`, and has an arm below. The
+//! crate `command_line` parses its arguments.
 ghost use Rattle.std.specs.Prelude.{◌≡◌, codes, ℕ, List, IfOk, IfErr};
 ghost use Rattle.command_line.specs.Request.{IsFor, rows_of};
 ghost use Rattle.heap_commands.specs.Import.{IsImportText};
 ghost use Rattle.pcompact.specs.Commands.{IsPrintedBy};
 ghost use Rattle.command_support.specs.Failure.{out_of_memory};
 
-mod collect;
-mod explanation;
-mod record;
-mod verify;
-
+use collection_commands::{collect, record, verify};
 use command_line::Request;
 use command_support::{Screen, SystemFile, Trouble, WorkDone};
 use heap_commands::{

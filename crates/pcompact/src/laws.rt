@@ -12,7 +12,7 @@ ghost use Rattle.heap_commands.specs.Summarize.{IsSummary};
 ghost use Rattle.heap_commands.specs.Text.{AreLines};
 ghost use Rattle.heap_commands.specs.Timeline.{IsTimeline};
 ghost use Rattle.heap_commands.specs.Upgrade.{IsRootCount};
-ghost use Rattle.pcompact.specs.Figures.{IsFigures};
+ghost use Rattle.collection_commands.specs.Figures.{IsFigures};
 ghost use Rattle.pcompact.specs.Commands.{IsPrintedBy};
 
 /// `board` prints the report of some legal history of two workers over the moves of the three regions.

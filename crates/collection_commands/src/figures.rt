@@ -1,6 +1,6 @@
 ghost use Rattle.std.specs.Prelude.{◌≡◌, ◌≤◌, [], string_bytes};
 ghost use Rattle.std_alloc.specs.String.{string_capacity};
-ghost use Rattle.pcompact.specs.Figures.{figures_line};
+ghost use Rattle.collection_commands.specs.Figures.{figures_line};
 
 use collector::Figures;
 use command_support::{push_number, push_text};

@@ -1,9 +1,9 @@
 ghost use Rattle.std.specs.Prelude.{◌≡◌, ◌≢◌, ◌⊎◌, codes, ℕ, List, IfOk, IfErr, OnErr, string_bytes};
 ghost use Rattle.heap_image.specs.declared.fault.Fault.{Fault};
 ghost use Rattle.collector.specs.Streams.{IsTextBegun, IsTextWritten};
-ghost use Rattle.pcompact.specs.Commands.Collect.{IsFirstOfBytes};
-ghost use Rattle.pcompact.specs.Commands.Record.{IsRecording};
-ghost use Rattle.pcompact.specs.Figures.{IsFigures, figures_line};
+ghost use Rattle.collection_commands.specs.Collect.{IsFirstOfBytes};
+ghost use Rattle.collection_commands.specs.Record.{IsRecording};
+ghost use Rattle.collection_commands.specs.Figures.{IsFigures, figures_line};
 
 use crate::collection_times::CollectionTimes;
 use crate::figures::{FiguresLine, LINE_ROOM, with_line};

@@ -1,5 +1,5 @@
 use Rattle.std.proofs.lemmas.Result.{err_from_is_err_and}
-use Rattle.pcompact.proofs.commands.record.record_into.Goals as goal
+use Rattle.collection_commands.proofs.record.record_into.Goals as goal
 
 pub returns-clause-record : goal.returns-clause-record
 returns-clause-record g c = (c.in_ok-figures.figures, c.in_ok-figures.ensures.texts, c.with_line.ensures.line)

@@ -3,7 +3,7 @@ use Rattle.std.proofs.Math.Nat.{mod-eq_of_lt}
 use Rattle.std.specs.List.{concat}
 use Rattle.heap_image.specs.HeapImage.{AreBlocks}
 use Rattle.heap_image.proofs.BlockWords.{length-concat}
-use Rattle.pcompact.proofs.commands.explanation.heap_of.Goals as goal
+use Rattle.collection_commands.proofs.explanation.heap_of.Goals as goal
 
 -- a shift of 64 bits that loses none
 few : (shifted words : ℕ) → shifted ≡ words → shifted % 18446744073709551616 ≤ 68719476736 → words ≤ 137438953472 → words ≤ 68719476736

@@ -1,8 +1,8 @@
 ghost use Rattle.std.specs.Prelude.{◌≡◌, ◌≢◌, ◌⊎◌, codes, ℕ, List, IfOk, IfErr, OnErr, string_bytes};
 ghost use Rattle.heap_image.specs.declared.fault.Fault.{Fault};
 ghost use Rattle.collector.specs.Streams.{IsTextBegun};
-ghost use Rattle.pcompact.specs.Commands.Collect.{IsCollection, IsFirstOfBytes};
-ghost use Rattle.pcompact.specs.Figures.{IsFigures, figures_line};
+ghost use Rattle.collection_commands.specs.Collect.{IsCollection, IsFirstOfBytes};
+ghost use Rattle.collection_commands.specs.Figures.{IsFigures, figures_line};
 
 use crate::collection_times::CollectionTimes;
 use crate::figures::{FiguresLine, LINE_ROOM, with_line};

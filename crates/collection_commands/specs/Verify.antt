@@ -10,7 +10,7 @@ use Rattle.collector.specs.Verdict.{IsVerdict, IsVerdictBelow}
 use Rattle.collector.specs.declared.verdict.Verdict.{Verdict}
 use Rattle.collector.specs.declared.verdict.Verdict.TheVariants.{Shape, Word, Live, Root}
 use Rattle.command_support.specs.declared.difference.Difference.{Difference}
-use Rattle.pcompact.specs.declared.commands.verify.Unverified.{Unverified}
+use Rattle.collection_commands.specs.declared.verify.Unverified.{Unverified}
 use Rattle.command_support.specs.Command.{Command}
 
 -- the verdict on an image beside the compaction of another, where the words from the new top up are compared or not

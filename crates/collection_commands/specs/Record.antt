@@ -1,7 +1,7 @@
 use Rattle.std.specs.Prelude.{◌≡◌, ℕ, List, Option, codes}
 use Rattle.collector.specs.Streams.{AreRecorded}
 use Rattle.collector.specs.declared.outcome.Figures.{Figures}
-use Rattle.pcompact.specs.Figures.{IsFigures, figures_line}
+use Rattle.collection_commands.specs.Figures.{IsFigures, figures_line}
 use Rattle.command_support.specs.Command.{Command}
 
 -- The whole input was read and is the text of some image. The text of its compaction was written, and that of a schedule by

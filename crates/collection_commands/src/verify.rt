@@ -1,9 +1,9 @@
 ghost use Rattle.std.specs.Prelude.{◌≡◌, codes, ℕ, List, IfOk, IfErr, MatchOption};
 ghost use Rattle.heap_image.specs.declared.fault.Fault.TheVariants.{Memory};
 ghost use Rattle.collector.specs.declared.verdict.Verdict.TheVariants.{Same};
-ghost use Rattle.pcompact.specs.Commands.Verify.{IsVerdictOf, IsVerdictOn, IsUnverified, verdict_of};
+ghost use Rattle.collection_commands.specs.Verify.{IsVerdictOf, IsVerdictOn, IsUnverified, verdict_of};
 
-use super::explanation::{explanation_of_file, explanation_of_images};
+use crate::explanation::{explanation_of_file, explanation_of_images};
 use collector::{Verdict, verify, verify_below_top};
 use command_host::ImageFile;
 use command_line::Verify;

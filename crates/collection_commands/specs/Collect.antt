@@ -7,7 +7,7 @@ use Rattle.summary.specs.Compaction.{compact}
 use Rattle.collector.specs.Collections.{figures_of}
 use Rattle.heap_image.specs.Reading.{IsRead}
 use Rattle.collector.specs.Streams.{IsOfBytes}
-use Rattle.pcompact.specs.Figures.{IsFigures, figures_line}
+use Rattle.collection_commands.specs.Figures.{IsFigures, figures_line}
 use Rattle.command_support.specs.Command.{Command}
 
 -- the whole input was read and is the text of some image, the text of its compaction was written, and its figures are printed

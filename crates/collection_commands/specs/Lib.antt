@@ -1,0 +1,4 @@
+pub mod Collect
+pub mod Figures
+pub mod Record
+pub mod Verify
