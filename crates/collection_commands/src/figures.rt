@@ -11,7 +11,9 @@ pub const LINE_ROOM: usize = 81;
 /// The figures of a collection, and the line that prints them.
 #[derive(Drop)]
 pub struct FiguresLine {
+    /// Where the prefix ends, the new top and the filled regions.
     pub figures: Figures,
+    /// Their line, with its line feed.
     pub line: String,
 }
 

@@ -152,6 +152,7 @@ pub struct Wishes {
 /// The verdict of a comparison.
 #[derive(Drop)]
 pub struct Compared {
+    /// That the images are equal, or their first difference.
     pub verdict: Verdict,
     /// The lines that explain a difference. None if they aren't wanted, or if memory ran out while they were made.
     pub explanation: Option<String>,
