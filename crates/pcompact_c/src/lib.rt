@@ -1,0 +1,13 @@
+//! The C interface of the collector. `include/pcompact.h` declares it, and says what a caller must keep.
+//!
+//! No call keeps state, starts a thread or waits. Memory is allocated by the C library's heap alone.
+//!
+//! Proved: what each contract says of what a call returns and writes. Only tested: the texts of faults.
+#![tactic(auto)]
+
+mod check;
+mod fault;
+mod fault_text;
+mod version;
+
+pub use fault::PcompactFault;
