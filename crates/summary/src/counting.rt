@@ -41,6 +41,23 @@ pub(crate) fn count_regions(
         .collect(threads, alloc)
 }
 
+/// The counts of all regions, made by this thread alone.
+pub(crate) fn count_regions_alone(
+    alloc: Global,
+    image: &Image,
+    marks: &Marks,
+) -> Result<Vec<RegionCounts>, AllocError>
+    requires { marks.now ≡ image.now }
+    ensures { IfOk result (λ counts. AreRegionCounts image.now counts.items) }
+{
+    let starts = own_starts(alloc, image, marks)?;
+    let mut counts = Vec::with_capacity(alloc, starts.len())?;
+    for r in 0..image.regions() {
+        counts.push(counts_of(image, marks, r, starts[r as usize]))?;
+    }
+    Ok(counts)
+}
+
 /// The counts of one region, by population counts. The live words before its own start belong to an object of an earlier
 /// region.
 fn counts_of(image: &Image, marks: &Marks, r: u32, own_start: u64) -> RegionCounts

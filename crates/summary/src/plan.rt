@@ -7,13 +7,15 @@ ghost use Rattle.heap_image.specs.declared.fault.Fault.TheVariants.{Memory};
 ghost use Rattle.summary.specs.NewAddresses.{prefix_end, new_address, new_top};
 ghost use Rattle.summary.specs.Compaction.{redirected};
 ghost use Rattle.summary.specs.RegionData.{region_data, deferred, fill_count};
+ghost use Rattle.summary.specs.Layout.{AreRegionCounts};
 ghost use Rattle.summary.specs.Plan.{sources, sources_from};
 ghost use Rattle.summary.specs.Report.{report};
 
-use crate::counting::count_regions;
+use crate::counting::{count_regions, count_regions_alone};
 use crate::deferred::deferred_addresses;
 use crate::reads::Reads;
 use crate::redirections::Redirections;
+use crate::region_counts::RegionCounts;
 use crate::region_data::RegionData;
 use crate::region_table::RegionTable;
 use crate::report_text::report_of_table;
@@ -76,7 +78,32 @@ impl Plan {
         ensures fault { IfErr result (λ fault. fault ≡ Memory) }
     {
         let counts = count_regions(alloc, image, marks, workers, threads)?;
-        let table = RegionTable::of(alloc, image, counts.as_slice())?;
+        Plan::with_counts(alloc, image, marks, counts.as_slice())
+    }
+
+    /// Like [`of`](Plan::of), in the caller's thread alone.
+    pub fn alone(alloc: Global, image: &Image, marks: &Marks) -> Result<Plan, Fault>
+        requires { marks.now ≡ image.now }
+        ensures plan { IfOk result (λ plan. plan ≡ image.now) }
+        ensures fault { IfErr result (λ fault. fault ≡ Memory) }
+    {
+        let counts = count_regions_alone(alloc, image, marks)?;
+        Plan::with_counts(alloc, image, marks, counts.as_slice())
+    }
+
+    /// Makes the plan of an image from its marks and the counts of its regions.
+    fn with_counts(
+        alloc: Global,
+        image: &Image,
+        marks: &Marks,
+        counts: &[RegionCounts],
+    ) -> Result<Plan, Fault>
+        requires marks { marks.now ≡ image.now }
+        requires counts { AreRegionCounts image.now counts.now }
+        ensures plan { IfOk result (λ plan. plan ≡ image.now) }
+        ensures fault { IfErr result (λ fault. fault ≡ Memory) }
+    {
+        let table = RegionTable::of(alloc, image, counts)?;
         let redirections = Redirections::of(alloc, image, marks, table.prefix_end())?;
         let deferred = deferred_addresses(alloc, image, marks, &redirections)?;
         Ok(Plan {

@@ -78,6 +78,16 @@ impl Survey {
         Ok(Survey { marks, plan })
     }
 
+    /// Like [`of`](Survey::of), in the caller's thread alone.
+    pub fn alone(alloc: Global, image: &Image) -> Result<Survey, Fault>
+        ensures survey { IfOk result (λ survey. survey ≡ image.now) }
+        ensures fault { IfErr result (λ fault. fault ≡ Memory) }
+    {
+        let marks = Marks::of(alloc, image)?;
+        let plan = Plan::alone(alloc, image, &marks)?;
+        Ok(Survey { marks, plan })
+    }
+
     #[inline]
     pub fn plan(&self) -> &Plan
         ensures { result.now ≡ self.now }
