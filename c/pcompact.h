@@ -37,6 +37,32 @@ size_t pcompact_fault_text(pcompact_fault fault, uint8_t *text, size_t room);
  * bytes are the text of a valid image and memory suffices. `bytes` isn't null, and nobody writes there meanwhile. */
 pcompact_fault pcompact_check(const uint8_t *bytes, size_t len);
 
+/* What a collection will do. If there is a fault, the other numbers are 0. */
+typedef struct pcompact_answer {
+    pcompact_fault fault;
+    uint64_t prefix_end;     /* the address at which the dense prefix ends */
+    uint64_t new_top;        /* the first free address after the collection */
+    uint32_t filled_regions; /* how many regions a collection fills */
+} pcompact_answer;
+
+/* Tells what a collection will do to the image with these bytes. Returns the number of the fault in `answer`, which is that
+ * of pcompact_check: 0 if there is none. Takes the memory of the image, and about 5 bits for each of its words. `bytes`
+ * and `answer` aren't null, and nobody writes there meanwhile. `answer` need not be filled before. */
+uint32_t pcompact_summary_of_image(const uint8_t *bytes, size_t len, pcompact_answer *answer);
+
+/* What the words of a heap don't say. */
+typedef struct pcompact_settings {
+    uint32_t region_log; /* the logarithm, to base 2, of the number of words of a region: 3 to 16 */
+    uint64_t allowance;  /* the largest number of dead words that the dense prefix may keep */
+} pcompact_settings;
+
+/* Tells what a collection will do to the heap with these words, from address 0 up, and these live addresses, ascending. Returns
+ * the number of the fault in `answer`: 0, 3, 4, 6 to 9, or 11 if memory runs out. Takes the memory of a copy of the
+ * words, and about 5 bits for each of them. No pointer is null, also with a count of 0, and nobody writes there meanwhile.
+ * Nothing but `answer` is written. */
+uint32_t pcompact_summary(const uint64_t *words, size_t word_count, const uint64_t *live, size_t live_count,
+                          pcompact_settings settings, pcompact_answer *answer);
+
 #ifdef __cplusplus
 }
 #endif

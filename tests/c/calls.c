@@ -1,4 +1,6 @@
-/* Calls each function of pcompact.h. Reads an image from the file that it is given, and prints what is wrong. */
+/* Calls each function of pcompact.h on an image, and prints what is wrong.
+ *
+ * usage: calls IMAGE PREFIX_END NEW_TOP FILLED_REGIONS */
 #include "pcompact.h"
 #include <stdio.h>
 #include <stdlib.h>
@@ -70,12 +72,60 @@ static void check_image(const char *name) {
     free(bytes);
 }
 
+static uint64_t number_at(const uint8_t *bytes, size_t size) {
+    uint64_t number = 0;
+    memcpy(&number, bytes, size);
+    return number;
+}
+
+/* The same by words and live addresses. `bytes` are an image of version 1, and the machine is little endian. */
+static void check_heap(const uint8_t *bytes, const pcompact_answer *wanted) {
+    pcompact_settings settings = {(uint32_t)number_at(bytes + 8, 4), number_at(bytes + 24, 8)};
+    size_t live_count = number_at(bytes + 12, 4), count = number_at(bytes + 16, 8);
+    uint64_t *words = malloc(8 * (count + live_count));
+    if (!words) exit(2);
+    memcpy(words, bytes + 32, 8 * (count + live_count));
+    uint64_t *live = words + count;
+    pcompact_answer answer;
+    check(pcompact_summary(words, count, live, live_count, settings, &answer) == 0, "a summary of a heap");
+    check(answer.prefix_end == wanted->prefix_end && answer.new_top == wanted->new_top
+              && answer.filled_regions == wanted->filled_regions, "the same figures");
+    check(pcompact_summary(words, count - 1, live, live_count, settings, &answer) == 4, "a region that isn't whole");
+    check(pcompact_summary(words, 0, live, 0, settings, &answer) == 4, "no word");
+    pcompact_settings small = {2, 0};
+    check(pcompact_summary(words, count, live, live_count, small, &answer) == 3, "a small region");
+    live[1] = count;
+    check(pcompact_summary(words, count, live, live_count, settings, &answer) == 6 && answer.fault.place == 1,
+          "an address outside the heap");
+    live[1] = live[0] + 1;
+    check(pcompact_summary(words, count, live, live_count, settings, &answer) == 7 && answer.fault.place == live[1],
+          "an address without an object");
+    check(pcompact_summary(words, count, live, 1, settings, &answer) == 9, "a reference to no live object");
+    free(words);
+}
+
+/* The figures are those that `pcompact summary` prints. */
+static void check_summary(const char *name, uint64_t prefix_end, uint64_t new_top, uint32_t filled_regions) {
+    size_t len;
+    uint8_t *bytes = read_file(name, &len);
+    pcompact_answer answer;
+    check(pcompact_summary_of_image(bytes, len, &answer) == 0 && answer.fault.number == 0, "a summary");
+    check(answer.prefix_end == prefix_end, "prefix end");
+    check(answer.new_top == new_top, "new top");
+    check(answer.filled_regions == filled_regions, "filled regions");
+    if (bytes[7] == '1') check_heap(bytes, &answer);
+    check(pcompact_summary_of_image(bytes, len - 1, &answer) == 5 && answer.fault.number == 5, "fault 5");
+    check(answer.prefix_end == 0 && answer.new_top == 0 && answer.filled_regions == 0, "no figures");
+    free(bytes);
+}
+
 int main(int argc, char **argv) {
-    if (argc != 2) return 2;
+    if (argc != 5) return 2;
     check(pcompact_version() == PCOMPACT_VERSION, "the version of header and library");
     check_texts();
     check_cut_texts();
     check_image(argv[1]);
+    check_summary(argv[1], strtoull(argv[2], NULL, 10), strtoull(argv[3], NULL, 10), (uint32_t)strtoul(argv[4], NULL, 10));
     printf("%d passed, %d failed\n", passed, failed);
     return failed != 0;
 }

@@ -32,11 +32,12 @@ build() {
 }
 
 build plain -O2
-try "$room/plain" examples/base.pcheap
+try "$room/plain" examples/base.pcheap 0 19 3
 build checked -g -fsanitize=address,undefined -fno-sanitize-recover
-try "$room/checked" examples/base.pcheap
+try "$room/checked" examples/base.pcheap 0 19 3
+try "$room/checked" examples/rooted.pcheap 0 19 3
 if command -v valgrind >/dev/null; then
-    try valgrind -q --leak-check=full --error-exitcode=3 "$room/plain" examples/base.pcheap
+    try valgrind -q --leak-check=full --error-exitcode=3 "$room/plain" examples/rooted.pcheap 0 19 3
 fi
 echo "$passed passed, $failed failed"
 [ "$failed" = 0 ]

@@ -5,9 +5,16 @@
 //! Proved: what each contract says of what a call returns and writes. Only tested: the texts of faults.
 #![tactic(auto)]
 
+mod answer;
 mod check;
 mod fault;
 mod fault_text;
+mod heap_words;
+mod settings;
+mod summary_of_heap;
+mod summary_of_image;
 mod version;
 
+pub use answer::PcompactAnswer;
 pub use fault::PcompactFault;
+pub use settings::PcompactSettings;

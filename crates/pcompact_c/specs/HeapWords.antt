@@ -1,0 +1,16 @@
+-- A heap in memory as the bytes of an image.
+use Rattle.std.specs.Prelude.{◌≡◌, ℕ, List, ◌++◌, length, min}
+use Rattle.heap_image.specs.ImageText.{front, numbers}
+use Rattle.heap_image.specs.declared.version.Version.{Version}
+use Rattle.pcompact_c.specs.declared.heap_words.HeapWords.{HeapWords}
+use Rattle.pcompact_c.specs.declared.settings.PcompactSettings.{PcompactSettings}
+
+-- The bytes of an image of this version with these settings, these words, and these live addresses or roots. The front has
+-- no room for a larger count.
+abbrev pub heap_bytes : Version → PcompactSettings → List ℕ → List ℕ → List ℕ
+heap_bytes version settings words tail =
+    front version settings.region_log (min (length tail) 4294967295) (length words) settings.allowance ++ (numbers words ++ numbers tail)
+
+-- what the device still has
+abbrev pub bytes_left : HeapWords → List ℕ
+bytes_left heap = heap.front.now ++ (numbers heap.words.now ++ numbers heap.tail.now)
