@@ -1,4 +1,4 @@
-//! The C interface of the collector. `include/pcompact.h` declares it, and says what a caller must keep.
+//! The C interface of the collector. `c/pcompact.h` declares it, and says what a caller must keep.
 //!
 //! No call keeps state, starts a thread or waits. Memory is allocated by the C library's heap alone.
 //!
