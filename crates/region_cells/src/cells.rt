@@ -14,10 +14,10 @@ use claim_board::{Opening, Right};
 use counted_slot::{Counted, ONE_READER, PRESENT, TAKEN};
 use heap_image::{Fault, Image, ImageParts};
 use raw_region::Region;
+use retry_policy::RetryPolicy;
 use std::alloc::Global;
 use std::marker::Model;
 use std::snapshot::Snapshot;
-use std::sync::Wait;
 use summary::Plan;
 use summary::laws::compaction::blocks_of_regions;
 use summary::laws::region_data::regions_to_fill;
@@ -76,9 +76,9 @@ impl Cells {
 
     /// Opens the region of `opening` for reading.
     ///
-    /// Returns fault 15, and gives the opening up, if a writer has or had the region. Waits only while other readers
-    /// change the reader count.
-    pub fn read<R: Wait>(&self, opening: Opening, wait: &R) -> Result<Source<'_>, Fault>
+    /// Returns fault 15, and gives the opening up, if a writer has or had the region. Tries again only while other
+    /// readers change the reader count; fault 15 comes also if the policy gives up.
+    pub fn read<P: RetryPolicy>(&self, opening: Opening, policy: &P) -> Result<Source<'_>, Fault>
         requires { opening.source < region_count self.now }
         ensures image { IfOk result (λ source. source.image ≡ self.now) }
         ensures opening { IfOk result (λ source. source.opening ≡ opening) }
@@ -86,28 +86,30 @@ impl Cells {
     {
         let region = opening.source();
         let slot = self.slot(region);
-        for _ in wait.forever() {
+        for failures in 1..u64::MAX {
             let seen = slot.load();
             if !is_original(seen) {
-                opening.give_up();
-                return Err(Fault::Overwritten(region));
+                break;
             }
-            if is_full(seen) {
-                continue;
+            if !is_full(seen) {
+                let (found, hand) = slot.turn(seen, seen + ONE_READER);
+                if found == seen {
+                    return Source::new(hand, opening);
+                }
+                hand.done();
             }
-            let (found, hand) = slot.turn(seen, seen + ONE_READER);
-            if found == seen {
-                return Source::new(hand, opening);
+            if !policy.tries_again(failures) {
+                break;
             }
-            hand.done();
         }
-        unreachable!()
+        opening.give_up();
+        Err(Fault::Overwritten(region))
     }
 
     /// Takes the region of `right` out of its cell for writing.
     ///
     /// Returns fault 15 at once, and gives the right up, if the region is being read, or a writer has or had it.
-    pub fn write<R: Wait>(&self, right: Right, wait: &R) -> Result<Target<'_>, Fault>
+    pub fn write<P: RetryPolicy>(&self, right: Right, policy: &P) -> Result<Target<'_>, Fault>
         requires { right.region < region_count self.now }
         ensures image { IfOk result (λ target. target.image ≡ self.now) }
         ensures right { IfOk result (λ target. target.right ≡ right) }
@@ -124,7 +126,12 @@ impl Cells {
             return Err(Fault::Overwritten(region));
         }
         let kept = hand.put(Kept::Spoiled, WRITING);
-        Target::new(lock_for_write(wait, slot), Snapshot::of(self), kept, right)
+        let Some(claim) = lock_for_write(policy, slot) else {
+            drop(kept);
+            right.give_up();
+            return Err(Fault::Overwritten(region));
+        };
+        Target::new(claim, Snapshot::of(self), kept, right)
     }
 
     /// Takes the cells apart once all regions to fill have moved. The regions have their moved words; the live list is

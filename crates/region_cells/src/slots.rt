@@ -6,7 +6,7 @@ ghost use Rattle.region_cells.specs.Blocks.{moved_block};
 use crate::kept::{Kept, Place};
 use counted_slot::{Claim, Counted, FREE, ONE_READER, PRESENT, TAKEN};
 use raw_region::Region;
-use std::sync::Wait;
+use retry_policy::RetryPolicy;
 
 /// State words from this one up mean that the region is not original: it has moved, is spoiled, or a writer has it.
 pub(crate) const CHANGED: u64 = 0x1_0000_0000;
@@ -46,19 +46,25 @@ pub(crate) fn original(region: Region, place: &Place) -> Counted<Kept>
 }
 
 /// Claims the slot of a region that this writer has taken out. No one else turns the slot meanwhile, so the first turn
-/// wins.
-pub(crate) fn lock_for_write<'a, R: Wait>(wait: &R, slot: &'a Counted<Kept>) -> Claim<'a, Kept>
-    ensures right { result.right ≡ 2 }
-    ensures tag { result.tag ≡ slot.now }
+/// wins. No contract says so, and `None` means that the policy has given up.
+pub(crate) fn lock_for_write<'a, P: RetryPolicy>(
+    policy: &P,
+    slot: &'a Counted<Kept>,
+) -> Option<Claim<'a, Kept>>
+    ensures right { IfSome result (λ claim. claim.right ≡ 2) }
+    ensures tag { IfSome result (λ claim. claim.tag ≡ slot.now) }
 {
-    for _ in wait.forever() {
+    for failures in 1..u64::MAX {
         let (found, hand) = slot.turn(WRITING, WRITING + TAKEN);
         if found == WRITING {
-            return hand;
+            return Some(hand);
         }
         hand.done();
+        if !policy.tries_again(failures) {
+            break;
+        }
     }
-    unreachable!()
+    None
 }
 
 /// The region of a slot at the end: moved if `has_moved`, else original. None if the slot is in another state.

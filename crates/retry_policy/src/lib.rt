@@ -1,0 +1,34 @@
+//! What a thread does when another thread has prevented its step: try again, or give up.
+//!
+//! [`RetryPolicy`] decides. Each handle that may wait is a policy that never gives up, and [`Tries`] is one that does not
+//! wait, for callers without such a handle.
+#![tactic(auto)]
+
+use std::hint::spin_loop;
+use std::sync::Wait;
+
+/// Decides whether a step that another thread has prevented is tried again.
+pub trait RetryPolicy {
+    /// Whether to try again after this number of failures. May pause first.
+    fn tries_again(&self, failures: u64) -> bool;
+}
+
+impl<W: Wait> RetryPolicy for W {
+    fn tries_again(&self, _failures: u64) -> bool {
+        true
+    }
+}
+
+/// Gives up after so many failures. Never waits: a thread that tries again takes its processor's time.
+#[derive(Drop, Clone, Copy)]
+pub struct Tries {
+    /// The largest number of failures after which it tries again.
+    pub most: u64,
+}
+
+impl RetryPolicy for Tries {
+    fn tries_again(&self, failures: u64) -> bool {
+        spin_loop();
+        failures <= self.most
+    }
+}
