@@ -5,7 +5,7 @@ ghost use Rattle.claim_board.specs.Faults.{NamesNoOther};
 
 use crate::board::Board;
 use crate::closed::Closed;
-use crate::desk::Desk;
+use crate::desk::{Desk, Seating};
 use crate::done::Done;
 use crate::drained::Drained;
 use crate::pass::Pass;
@@ -13,11 +13,10 @@ use crate::ticket::Ticket;
 use crate::written::Written;
 use heap_image::Fault;
 use history::Reply;
-use std::sync::Wait;
 
 /// The seats are the passes, and each call is the board's call of the same name. None of them fails or
 /// waits.
-impl Desk for Board {
+impl Seating for Board {
     ghost use Rattle.std.specs.Prelude.{◌≡◌};
     ghost use Rattle.claim_board.specs.Boards.{moves as moves_of, identity, board_of, caller as caller_of};
 
@@ -32,24 +31,21 @@ impl Desk for Board {
     ghost caller = { caller_of };
 
     ghost may_fail = { λ _. ⊥ };
+}
 
+impl<W> Desk<W> for Board {
     #[tactic(auto, using(crate::proofs::Others::gains_call))]
-    fn claim<W: Wait>(
-        &self,
-        seat: &mut Pass,
-        region: u32,
-        _wait: &W,
-    ) -> Result<Option<Ticket>, Fault> {
+    fn claim(&self, seat: &mut Pass, region: u32, _wait: &W) -> Result<Option<Ticket>, Fault> {
         Ok(self.claim(seat, region))
     }
 
     #[tactic(auto, using(crate::proofs::Others::gains_call))]
-    fn look<W: Wait>(&self, seat: &mut Pass, region: u32, _wait: &W) -> Result<Reply, Fault> {
+    fn look(&self, seat: &mut Pass, region: u32, _wait: &W) -> Result<Reply, Fault> {
         Ok(self.look(seat, region))
     }
 
     #[tactic(auto, using(crate::proofs::Others::gains_call))]
-    fn drain<W: Wait>(
+    fn drain(
         &self,
         seat: &mut Pass,
         ticket: &mut Ticket,
@@ -60,7 +56,7 @@ impl Desk for Board {
     }
 
     #[tactic(auto, using(crate::proofs::Others::gains_call))]
-    fn complete<W: Wait>(
+    fn complete(
         &self,
         seat: &mut Pass,
         ticket: Ticket,
@@ -71,16 +67,16 @@ impl Desk for Board {
     }
 
     #[tactic(auto, using(crate::proofs::Others::gains_call))]
-    fn settle<W: Wait>(&self, seat: &mut Pass, done: Done, _wait: &W) -> Result<bool, Fault> {
+    fn settle(&self, seat: &mut Pass, done: Done, _wait: &W) -> Result<bool, Fault> {
         Ok(self.settle(seat, done))
     }
 
     #[tactic(auto, using(crate::proofs::Others::gains_call))]
-    fn poll<W: Wait>(&self, seat: &mut Pass, _wait: &W) -> Result<bool, Fault> {
+    fn poll(&self, seat: &mut Pass, _wait: &W) -> Result<bool, Fault> {
         Ok(self.poll(seat))
     }
 
-    fn copied<W: Wait>(
+    fn copied(
         &self,
         _seat: &mut Pass,
         _ticket: &Ticket,

@@ -54,7 +54,7 @@ mod written;
 
 pub use board::Board;
 pub use closed::Closed;
-pub use desk::Desk;
+pub use desk::{Desk, Seating};
 pub use done::Done;
 pub use drained::Drained;
 pub use finished::Finished;

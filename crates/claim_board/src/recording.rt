@@ -4,7 +4,7 @@ ghost use Rattle.claim_board.specs.Recorders.{moves as moves_of, worker_count, a
 ghost use Rattle.claim_board.specs.Faults.{NamesNoOther};
 
 use crate::closed::Closed;
-use crate::desk::Desk;
+use crate::desk::{Desk, Seating};
 use crate::done::Done;
 use crate::drained::Drained;
 use crate::key::Key;
@@ -66,7 +66,7 @@ impl Recorder {
 /// are the copied words; `poll` records nothing. A call fails with `Memory` if the list of calls can't
 /// grow, and with `Overwritten` and the region if the event isn't allowed. An error leaves the list
 /// unchanged and gives up the values that were passed.
-impl Desk for Recorder {
+impl Seating for Recorder {
     ghost use Rattle.std.specs.Prelude.{◌≡◌, ◌<◌};
     ghost use Rattle.claim_board.specs.Recorders.{moves as moves_of, worker_count, anybody, IsSomeRefusal};
 
@@ -81,13 +81,10 @@ impl Desk for Recorder {
     ghost caller = { anybody };
 
     ghost may_fail = { IsSomeRefusal };
+}
 
-    fn claim<W: Wait>(
-        &self,
-        seat: &mut u32,
-        region: u32,
-        wait: &W,
-    ) -> Result<Option<Ticket>, Fault> {
+impl<W: Wait> Desk<W> for Recorder {
+    fn claim(&self, seat: &mut u32, region: u32, wait: &W) -> Result<Option<Ticket>, Fault> {
         match self.call(*seat, Event::Claim(region), region, wait)? {
             Reply::Yes => Ok(Some(Ticket {
                 region,
@@ -100,11 +97,11 @@ impl Desk for Recorder {
         }
     }
 
-    fn look<W: Wait>(&self, seat: &mut u32, region: u32, wait: &W) -> Result<Reply, Fault> {
+    fn look(&self, seat: &mut u32, region: u32, wait: &W) -> Result<Reply, Fault> {
         self.call(*seat, Event::Look(region), region, wait)
     }
 
-    fn drain<W: Wait>(
+    fn drain(
         &self,
         seat: &mut u32,
         ticket: &mut Ticket,
@@ -125,7 +122,7 @@ impl Desk for Recorder {
         })
     }
 
-    fn complete<W: Wait>(
+    fn complete(
         &self,
         seat: &mut u32,
         ticket: Ticket,
@@ -144,23 +141,17 @@ impl Desk for Recorder {
         Ok(Done { region, from })
     }
 
-    fn settle<W: Wait>(&self, seat: &mut u32, done: Done, wait: &W) -> Result<bool, Fault> {
+    fn settle(&self, seat: &mut u32, done: Done, wait: &W) -> Result<bool, Fault> {
         let Done { region, from: _ } = done;
         let reply = self.call(*seat, Event::Settle(region), region, wait)?;
         Ok(reply == Reply::All)
     }
 
-    fn poll<W: Wait>(&self, _seat: &mut u32, wait: &W) -> Result<bool, Fault> {
+    fn poll(&self, _seat: &mut u32, wait: &W) -> Result<bool, Fault> {
         Ok(self.board.done(wait))
     }
 
-    fn copied<W: Wait>(
-        &self,
-        seat: &mut u32,
-        ticket: &Ticket,
-        words: u32,
-        wait: &W,
-    ) -> Result<(), Fault> {
+    fn copied(&self, seat: &mut u32, ticket: &Ticket, words: u32, wait: &W) -> Result<(), Fault> {
         if words > 0 {
             let event = Event::Copy(ticket.region, words);
             self.call(*seat, event, ticket.region, wait)?;

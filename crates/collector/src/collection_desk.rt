@@ -1,12 +1,12 @@
 ghost use Rattle.std.specs.Prelude.{◌≡◌, ◌<◌, ◌≤◌, ℕ, All, vec_len, IfOk};
 ghost use Rattle.history.specs.ImageMoves.{image_table};
 
-use claim_board::{Board, Desk, Pass, Recorder};
+use claim_board::{Board, Pass, Recorder, Seating};
 use std::alloc::{AllocError, Global};
 use summary::Plan;
 
 /// A desk that can be opened for the moves of an image.
-pub(crate) trait CollectionDesk: Desk {
+pub(crate) trait CollectionDesk: Seating {
     /// The number of workers that have a seat.
     ghost worker_count: { Self → ℕ };
 

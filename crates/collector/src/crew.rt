@@ -17,7 +17,7 @@ use fill::fill_region;
 use heap_image::Fault;
 use history::moves_of_images;
 use region_cells::Cells;
-use std::sync::Wait;
+use retry_policy::RetryPolicy;
 use std::sync::atomic::{AtomicBool, Ordering};
 use std::thread::Threads;
 use summary::Survey;
@@ -27,7 +27,7 @@ use thread_row::for_each_mut;
 
 /// What the workers of one collection share.
 #[derive(Drop)]
-pub(crate) struct Crew<'a, D: Desk, G: Gate, W: Wait> {
+pub(crate) struct Crew<'a, D: Desk<W>, G: Gate, W: RetryPolicy> {
     pub(crate) desk: &'a D,
     pub(crate) cells: &'a Cells,
     pub(crate) survey: &'a Survey,
@@ -42,7 +42,7 @@ pub(crate) struct Crew<'a, D: Desk, G: Gate, W: Wait> {
     pub(crate) ghost same_cells: { cells.now ≡ survey.now },
 }
 
-impl<'a, D: Desk, G: Gate, W: Wait> Crew<'a, D, G, W> {
+impl<'a, D: Desk<W>, G: Gate, W: RetryPolicy> Crew<'a, D, G, W> {
     /// Waits at the start line, and then fills regions until all are settled or some worker meets a fault. A fault of
     /// this worker stops the others.
     pub(crate) fn work(&self, number: u32, worker: &mut Worker<D::Seat>)
@@ -66,12 +66,12 @@ impl<'a, D: Desk, G: Gate, W: Wait> Crew<'a, D, G, W> {
         ensures halt { IfErr result (MayHalt D.may_fail (G.may_refuse self.now.gate.now number) (fill_count self.now.survey.now)) }
     {
         let backoff = Backoff::new();
-        for _ in self.wait.forever() {
+        for _ in 0..u64::MAX {
             if self.turn(number, worker, &backoff)? {
                 return Ok(());
             }
         }
-        unreachable!()
+        Err(Halt::Failed(Fault::Overwritten(0)))
     }
 
     /// Fills a region, or backs off if none is ready. Returns whether all regions to fill are settled.
@@ -93,7 +93,7 @@ impl<'a, D: Desk, G: Gate, W: Wait> Crew<'a, D, G, W> {
         }
         let all_settled = self.desk.poll(&mut worker.seat, self.wait)?;
         if !all_settled {
-            backoff.snooze();
+            self.wait.back_off(backoff);
         }
         Ok(all_settled)
     }
@@ -230,7 +230,12 @@ impl<'a, D: Desk, G: Gate, W: Wait> Crew<'a, D, G, W> {
 }
 
 /// Runs all workers, each in a thread of its own if one can be started, and otherwise one after another.
-pub(crate) fn work_all<D: Desk + Sync, G: Gate + Sync, T: Threads + Sync, W: Wait + Sync>(
+pub(crate) fn work_all<
+    D: Desk<W> + Sync,
+    G: Gate + Sync,
+    T: Threads + Sync,
+    W: RetryPolicy + Sync,
+>(
     crew: &Crew<'_, D, G, W>,
     workers: &mut [Worker<D::Seat>],
     threads: &T,

@@ -14,11 +14,12 @@ use crate::outcome::{Figures, Outcome};
 use crate::staff::Staff;
 use crate::start_line::StartLine;
 use crate::worker::Worker;
+use claim_board::Desk;
 use heap_image::{Fault, Image};
 use history::MAX_WORKERS;
 use region_cells::Cells;
+use retry_policy::RetryPolicy;
 use std::alloc::Global;
-use std::sync::Wait;
 use std::sync::atomic::AtomicBool;
 use std::thread::Threads;
 use summary::Survey;
@@ -118,7 +119,7 @@ where
 
     /// Runs all workers from this start line, and cleans up. Returns the fault of the lowest worker that met one, or
     /// fault 15 if a region has not moved.
-    pub(crate) fn work<G: Gate + Sync, T: Threads + Sync, W: Wait + Sync>(
+    pub(crate) fn work<G: Gate + Sync, T: Threads + Sync, W: RetryPolicy + Sync>(
         self,
         start: &StartLine,
         gate: &G,
@@ -126,7 +127,7 @@ where
         wait: &W,
     ) -> Result<Worked<D>, Fault>
     where
-        D: Sync,
+        D: Desk<W> + Sync,
         D::Seat: Send,
         requires seats { All (λ w. D.serves self.equipment.desk w.seat) self.equipment.staff.workers.items }
         ensures image { IfOk result (λ worked. worked.outcome.image ≡ compact self.equipment.survey) }

@@ -12,7 +12,7 @@ use claim_board::{Desk, Done, Ticket};
 use heap_image::Fault;
 use history::moves_of_images;
 use region_cells::{Cells, Placed};
-use std::sync::Wait;
+use retry_policy::RetryPolicy;
 use summary::Survey;
 use summary::laws::plans::planned_image_is_valid;
 use summary::laws::region_data::regions_to_fill;
@@ -26,7 +26,7 @@ use summary::laws::region_data::regions_to_fill;
 /// Returns fault 15 if the region is not to be filled, or if a cell is not in the state that a legal history leaves;
 /// the desk may return faults of its own. The ticket and what came from it are given up then, and the region is spoiled
 /// if it was open for writing.
-pub fn fill_region<D: Desk, F: FnMut(u32), W: Wait>(
+pub fn fill_region<D: Desk<W>, F: FnMut(u32), W: RetryPolicy>(
     desk: &D,
     cells: &Cells,
     survey: &Survey,

@@ -20,12 +20,12 @@ use claim_board::{
 use heap_image::Fault;
 use history::moves_of_images;
 use region_cells::{Cells, Target};
-use std::sync::Wait;
+use retry_policy::RetryPolicy;
 use summary::laws::readers::reads_by_words;
 
 /// One fill: the region, and the desk and the cells, which the workers share.
 #[derive(Drop)]
-pub(crate) struct Filling<'d, 'c, 's, 'w, D: Desk, W: Wait> {
+pub(crate) struct Filling<'d, 'c, 's, 'w, D: Desk<W>, W: RetryPolicy> {
     pub(crate) desk: &'d D,
     pub(crate) cells: &'c Cells,
     pub(crate) site: Site<'s>,
@@ -34,7 +34,7 @@ pub(crate) struct Filling<'d, 'c, 's, 'w, D: Desk, W: Wait> {
     pub(crate) ghost same_cells: { cells.now ≡ site.guide.now },
 }
 
-impl<D: Desk, W: Wait> Filling<'_, '_, '_, '_, D, W> {
+impl<D: Desk<W>, W: RetryPolicy> Filling<'_, '_, '_, '_, D, W> {
     /// Writes the region's moved words to the target, and drains its other sources.
     ///
     /// After the prefix, the region's own words are written first, then those of each other source, in ascending order;

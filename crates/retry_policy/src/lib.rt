@@ -4,6 +4,7 @@
 //! wait, for callers without such a handle.
 #![tactic(auto)]
 
+use crossbeam_utils::Backoff;
 use std::hint::spin_loop;
 use std::sync::Wait;
 
@@ -11,11 +12,18 @@ use std::sync::Wait;
 pub trait RetryPolicy {
     /// Whether to try again after this number of failures. May pause first.
     fn tries_again(&self, failures: u64) -> bool;
+
+    /// Pauses before the next look for what another thread is to do.
+    fn back_off(&self, backoff: &Backoff);
 }
 
 impl<W: Wait> RetryPolicy for W {
     fn tries_again(&self, _failures: u64) -> bool {
         true
+    }
+
+    fn back_off(&self, backoff: &Backoff) {
+        backoff.snooze();
     }
 }
 
@@ -30,5 +38,9 @@ impl RetryPolicy for Tries {
     fn tries_again(&self, failures: u64) -> bool {
         spin_loop();
         failures <= self.most
+    }
+
+    fn back_off(&self, backoff: &Backoff) {
+        backoff.spin();
     }
 }

@@ -16,7 +16,7 @@ write-requires g c =
 
 pub returns-clause-filled : goal.returns-clause-filled
 returns-clause-filled g c =
-    filled_here (λ f s h. goal.F-step g f s tt h) g.D.Desk.tells c.args.survey.now c.of.result.guide.now (c.of.ensures.guide ∙ c.new-guide.ensures) (c.moves_of_images.ensures.regions c.args.survey.now)
+    filled_here (λ f s h. goal.F-step g f s tt h) g.D.Seating.tells c.args.survey.now c.of.result.guide.now (c.of.ensures.guide ∙ c.new-guide.ensures) (c.moves_of_images.ensures.regions c.args.survey.now)
     c.args.ticket.region c.of.result.region c.fill-filled.new.ticket.region (c.of.ensures.region ∙ c.region-region.ensures) (c.in_default-filled.ensures.ticket.region ∙ c.in-Some.ensures.same.0)
-    (g.D.Desk.caller c.args.seat.now) (g.D.Desk.caller c.fill-filled.new.seat) (g.D.Desk.caller c.complete.new.seat) c.args.on_last.now c.fill-filled.new.on_last
+    (g.D.Seating.caller c.args.seat.now) (g.D.Seating.caller c.fill-filled.new.seat) (g.D.Seating.caller c.complete.new.seat) c.args.on_last.now c.fill-filled.new.on_last
     c.in_default-filled.ensures.drained c.in_ok-done.ensures.gains

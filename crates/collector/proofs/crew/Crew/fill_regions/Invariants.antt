@@ -5,4 +5,4 @@ abbrev pub invariant-loop : goal.invariant-loop
 invariant-loop g l =
     (goal.iterator-loop g).can_next l.iterator'
     × (goal.iterator-loop g).is_finite l.iterator'
-    × g.D.Desk.serves l.self.desk.now l.worker.seat
+    × g.D.Seating.serves l.self.desk.now l.worker.seat

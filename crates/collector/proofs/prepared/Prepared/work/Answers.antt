@@ -7,7 +7,7 @@ use Rattle.collector.proofs.prepared.Prepared.work.Goals as goal
 pub returns-in-Some-clause-fault : goal.returns-in-Some-clause-fault
 returns-in-Some-clause-fault g c =
     let may : ℕ → ℕ → Type 0 = g.G.Gate.may_refuse c.args.gate.now in
-    let may_fail = g.D.Desk.may_fail in
+    let may_fail = g.D.Seating.may_fail in
     let survey = c.args.self.equipment.survey in
     let fault = c.in-Some.fault in
     let workers = c.args.self.equipment.staff.workers in

@@ -7,7 +7,7 @@ use Rattle.collector.proofs.prepared.Worked.of.Goals as goal
 pub loop-worker-preserved : goal.loop-worker-preserved
 loop-worker-preserved g c =
     let i = c.loop-worker.invariant in
-    let serves = g.D.Desk.serves c.args.desk in
+    let serves = g.D.Seating.serves c.args.desk in
     let both = front_and_last (λ w. serves w.seat) c.loop-worker.workers.items c.pop.new.self.items c.in-Some.worker c.in-Some.ensures.items i.workers in
     record {
       workers = both.0;

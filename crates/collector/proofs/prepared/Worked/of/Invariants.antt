@@ -6,8 +6,8 @@ use Rattle.collector.proofs.prepared.Worked.of.Given as goal
 -- the seats so far and those of the remaining workers are the desk's
 abbrev pub invariant-loop-worker : goal.invariant-loop-worker
 invariant-loop-worker g l = record {
-  workers : All (λ w. g.D.Desk.serves l.desk w.seat) l.workers.items;
-  seats : All (g.D.Desk.serves l.desk) l.seats.items;
+  workers : All (λ w. g.D.Seating.serves l.desk w.seat) l.workers.items;
+  seats : All (g.D.Seating.serves l.desk) l.seats.items;
   room : vec_len l.workers + vec_len l.seats ≤ vec_capacity l.seats;
 }
 

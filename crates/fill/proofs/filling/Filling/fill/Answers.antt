@@ -64,7 +64,7 @@ note-requires-clause-few g c =
     omega (arith, site.start, site.end)
 
 pub drain-requires-clause-ticket : goal.drain-requires-clause-ticket
-drain-requires-clause-ticket g c = λ t. c.in-Some.ensures.stays (g.D.Desk.moves c.args.self.now.desk.now) (g.D.Desk.caller c.loop-opening.seat) (c.loop-opening.invariant.is_ticket t)
+drain-requires-clause-ticket g c = λ t. c.in-Some.ensures.stays (g.D.Seating.moves c.args.self.now.desk.now) (g.D.Seating.caller c.loop-opening.seat) (c.loop-opening.invariant.is_ticket t)
 
 pub overflow_add-from-in-Some : goal.overflow_add-from-in-Some
 overflow_add-from-in-Some g c =
@@ -79,7 +79,7 @@ loop-opening-init g c =
     let site = c.args.self.now.site in
     let image : HeapImage = site.guide.now in
     let d : ℕ = site.region in
-    let old = g.D.Desk.caller c.args.seat.now in
+    let old = g.D.Seating.caller c.args.seat.now in
     let t = c.requires.ticket in
     let first : c.args.ticket.now.next ≡ 0 = t.unopened in
     let none : other_sources_below (image_table image) d c.args.ticket.now.next ≡ [] = ap (other_sources_below (image_table image) d) first in
@@ -89,9 +89,9 @@ loop-opening-init g c =
       callable = c.requires.callable;
       region = t.region;
       claimed = refl;
-      is_ticket = λ tells. subst (λ x. IsTicketOf (g.D.Desk.moves c.args.self.now.desk.now) x c.args.ticket.now) (sym (c.in_ok-note.ensures.unchanged tells)) (t.claimed tells);
+      is_ticket = λ tells. subst (λ x. IsTicketOf (g.D.Seating.moves c.args.self.now.desk.now) x c.args.ticket.now) (sym (c.in_ok-note.ensures.unchanged tells)) (t.claimed tells);
       swept = λ tells s low reads. absurd (omega arith);
-      drained = undrained (λ f q h. goal.F-step g f q tt h) g.D.Desk.tells (image_table image) d c.args.ticket.now.next old (g.D.Desk.caller c.note.new.seat) c.args.on_last.now none c.in_ok-note.ensures.unchanged;
+      drained = undrained (λ f q h. goal.F-step g f q tt h) g.D.Seating.tells (image_table image) d c.args.ticket.now.next old (g.D.Seating.caller c.note.new.seat) c.args.on_last.now none c.in_ok-note.ensures.unchanged;
       inside = omega arith;
       next = omega arith;
       copied = own.now;
@@ -102,7 +102,7 @@ pub loop-opening-preserved : goal.loop-opening-preserved
 loop-opening-preserved g c =
     let image : HeapImage = c.args.self.now.site.guide.now in
     let valid : IsValid image = c.prefix_end.ensures.valid in
-    let desk = g.D.Desk in
+    let desk = g.D.Seating in
     let d : ℕ = c.args.self.now.site.region in
     let t = c.loop-opening.ticket in
     let s : ℕ = c.in-Some.opening.source in
@@ -148,15 +148,15 @@ returns-clause-ticket g c =
     let valid : IsValid image = c.prefix_end.ensures.valid in
     let t = c.loop-opening.ticket in
     let i = c.loop-opening.invariant in
-    let moved : g.D.Desk.moves c.args.self.now.desk.now ≡ image_table c.plan.result.now = c.args.self.now.moves ∙ ap image_table (sym c.plan.ensures) in
+    let moved : g.D.Seating.moves c.args.self.now.desk.now ≡ image_table c.plan.result.now = c.args.self.now.moves ∙ ap image_table (sym c.plan.ensures) in
     let lawful = subst IsMoveTable (sym c.args.self.now.moves) (c.moves_of_images.ensures.lawful image valid) in
     let last = subst (λ (m : MoveTable). (s : ℕ) → t.next ≤ s → reads m t.region s ≡ false) (sym moved) c.in_default.ensures.last in
     let same = c.in_default.ensures.same in
     record {
       region = same.0 ∙ i.region ∙ sym c.requires.ticket.region;
       from = same.3 ∙ i.claimed;
-      claimed = λ tells. c.in_default.ensures.stays (g.D.Desk.moves c.args.self.now.desk.now) (g.D.Desk.caller c.loop-opening.seat) (i.is_ticket tells);
-      none_left = λ tells. same.1 ∙ c.swept_tickets_have_none_left.ensures (g.D.Desk.moves c.args.self.now.desk.now) (g.D.Desk.caller c.loop-opening.seat) t lawful (i.is_ticket tells) (i.swept tells) last;
+      claimed = λ tells. c.in_default.ensures.stays (g.D.Seating.moves c.args.self.now.desk.now) (g.D.Seating.caller c.loop-opening.seat) (i.is_ticket tells);
+      none_left = λ tells. same.1 ∙ c.swept_tickets_have_none_left.ensures (g.D.Seating.moves c.args.self.now.desk.now) (g.D.Seating.caller c.loop-opening.seat) t lawful (i.is_ticket tells) (i.swept tells) last;
     }
 
 pub redirect_objects-requires-clause-own : goal.redirect_objects-requires-clause-own
@@ -194,11 +194,11 @@ returns-clause-drained g c =
     let t = c.loop-opening.ticket in
     let i = c.loop-opening.invariant in
     let past = last_sources_past image valid (c.moves_of_images.ensures.reads image valid) c.plan.result.now c.plan.ensures c.args.self.now.site.region t.region i.region t.next c.in_default.ensures.last in
-    drained_all (λ f s h. goal.F-step g f s tt h) g.D.Desk.tells (image_table image) c.args.self.now.site.region t.next (region_count image) (g.D.Desk.caller c.args.seat.now) (g.D.Desk.caller c.loop-opening.seat) c.args.on_last.now c.loop-opening.on_last i.drained i.inside past
+    drained_all (λ f s h. goal.F-step g f s tt h) g.D.Seating.tells (image_table image) c.args.self.now.site.region t.next (region_count image) (g.D.Seating.caller c.args.seat.now) (g.D.Seating.caller c.loop-opening.seat) c.args.on_last.now c.loop-opening.on_last i.drained i.inside past
 
 pub returns-then-self-prefix_end-clause-drained : goal.returns-then-self-prefix_end-clause-drained
 returns-then-self-prefix_end-clause-drained g c =
     let site = c.args.self.now.site in
     on_ok_weaker c.fill_in_prefix.result
-    (undrained (λ f s h. goal.F-step g f s tt h) g.D.Desk.tells (image_table site.guide.now) site.region (region_count site.guide.now) (g.D.Desk.caller c.args.seat.now) (g.D.Desk.caller c.fill_in_prefix.new.seat) c.args.on_last.now c.fill_in_prefix.ensures.no_source)
+    (undrained (λ f s h. goal.F-step g f s tt h) g.D.Seating.tells (image_table site.guide.now) site.region (region_count site.guide.now) (g.D.Seating.caller c.args.seat.now) (g.D.Seating.caller c.fill_in_prefix.new.seat) c.args.on_last.now c.fill_in_prefix.ensures.no_source)
     c.fill_in_prefix.ensures.unchanged

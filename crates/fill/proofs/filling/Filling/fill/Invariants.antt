@@ -8,13 +8,13 @@ use Rattle.fill.proofs.filling.Filling.fill.Given as goal
 
 abbrev pub invariant-loop-opening : goal.invariant-loop-opening
 invariant-loop-opening g l = record {
-  serves : g.D.Desk.serves l.self.desk.now l.seat;
+  serves : g.D.Seating.serves l.self.desk.now l.seat;
   callable : goal.F-IsAlwaysCallable g l.on_last;
   region : l.ticket.region ≡ l.self.site.region;
   claimed : l.ticket.from ≡ l.fn.ticket.from;
-  is_ticket : g.D.Desk.tells → IsTicketOf (g.D.Desk.moves l.self.desk.now) (g.D.Desk.caller l.seat) l.ticket;
-  swept : g.D.Desk.tells → IsSwept (g.D.Desk.moves l.self.desk.now) (g.D.Desk.caller l.seat) l.ticket;
-  drained : HasDrained (λ f s h. goal.F-step g f s tt h) g.D.Desk.tells (image_table l.self.site.guide.now) l.self.site.region l.ticket.next (g.D.Desk.caller l.fn.seat) (g.D.Desk.caller l.seat) l.fn.on_last l.on_last;
+  is_ticket : g.D.Seating.tells → IsTicketOf (g.D.Seating.moves l.self.desk.now) (g.D.Seating.caller l.seat) l.ticket;
+  swept : g.D.Seating.tells → IsSwept (g.D.Seating.moves l.self.desk.now) (g.D.Seating.caller l.seat) l.ticket;
+  drained : HasDrained (λ f s h. goal.F-step g f s tt h) g.D.Seating.tells (image_table l.self.site.guide.now) l.self.site.region l.ticket.next (g.D.Seating.caller l.fn.seat) (g.D.Seating.caller l.seat) l.fn.on_last l.on_last;
   inside : l.ticket.next ≤ region_count l.self.site.guide.now;
   next : l.from ≡ max l.ticket.next (l.self.site.region + 1);
   copied : IsCopied l.self.site.guide.now l.self.site.region l.from l.to l.target;
