@@ -230,12 +230,7 @@ impl<'a, D: Desk<W>, G: Gate, W: RetryPolicy> Crew<'a, D, G, W> {
 }
 
 /// Runs all workers, each in a thread of its own if one can be started, and otherwise one after another.
-pub(crate) fn work_all<
-    D: Desk<W> + Sync,
-    G: Gate + Sync,
-    T: Threads + Sync,
-    W: RetryPolicy + Sync,
->(
+pub(crate) fn work_all<D: Desk<W> + Sync, G: Gate + Sync, T: Threads + Sync, W: RetryPolicy + Sync>(
     crew: &Crew<'_, D, G, W>,
     workers: &mut [Worker<D::Seat>],
     threads: &T,
