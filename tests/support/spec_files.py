@@ -69,9 +69,11 @@ class Names:
     def add_types(self, text: str) -> None:
         """Adds the types of the crate and of the crates that are imported."""
         own = self.file.split("/")[1]
+        folder = (TOP / self.file).with_suffix("")
         for crate, names in RUST_USE.findall(text):
+            is_own = crate in ("crate", "super") or (folder / f"{crate}.rt").exists()
             for name in re.findall(r"\b[A-Z]\w*", names):
-                key = types_of(own if crate == "crate" else crate).get(name)
+                key = types_of(own if is_own else crate).get(name)
                 self.meanings.setdefault(name, key or f"{crate}::{name}")
         for name, key in types_of(own).items():
             self.meanings.setdefault(name, key)

@@ -8,7 +8,7 @@ use Rattle.history.specs.MoveTable.{MoveTable}
 use Rattle.history.specs.History.{BeginsWith, calls_by}
 use Rattle.claim_board.specs.declared.board.Board.{Board}
 use Rattle.claim_board.specs.declared.pass.Pass.{Pass}
-use Rattle.claim_board.specs.declared.view.Touch.{Touch}
+use Rattle.claim_board.specs.declared.rule.view.Touch.{Touch}
 use Rattle.claim_board.specs.Callers.{Caller}
 use Rattle.claim_board.specs.Views.{worker_of, seen_of, mine_of, steps_of}
 use Rattle.claim_board.specs.Steps.{step_of}

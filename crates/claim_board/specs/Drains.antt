@@ -1,8 +1,8 @@
 -- The result of a drain as a reply.
 use Rattle.history.specs.declared.reply.Reply.{Reply}
 use Rattle.history.specs.declared.reply.Reply.TheVariants.{Last as LastReply, NotLast as NotLastReply}
-use Rattle.claim_board.specs.declared.drained.Drained.{Drained}
-use Rattle.claim_board.specs.declared.drained.Drained.TheVariants.{Last, NotLast}
+use Rattle.claim_board.specs.declared.tokens.drained.Drained.{Drained}
+use Rattle.claim_board.specs.declared.tokens.drained.Drained.TheVariants.{Last, NotLast}
 
 abbrev pub reply_of : Drained → Reply
 reply_of Last = LastReply

@@ -10,8 +10,8 @@ use Rattle.history.specs.declared.entry.Entry.{Entry}
 use Rattle.history.specs.MoveTable.{MoveTable, IsMoveTable, to_fill, region_count}
 use Rattle.history.specs.State.{State, readers_left, unsettled}
 use Rattle.history.specs.History.{entry, calls_by, state_of, BeginsWith, IsLegal}
-use Rattle.claim_board.specs.declared.key.Key.{Key}
-use Rattle.claim_board.specs.declared.view.View.{View}
+use Rattle.claim_board.specs.declared.rule.key.Key.{Key}
+use Rattle.claim_board.specs.declared.rule.view.View.{View}
 use Rattle.claim_board.specs.Views.{fresh, rest_of, head_of, times_held, total, AllFit, ViewFits, IsPassView, worker_of, seen_of, mine_of, steps_of}
 use Rattle.claim_board.specs.Steps.{touch_of}
 

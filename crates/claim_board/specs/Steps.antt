@@ -4,7 +4,7 @@ use Rattle.atomic_table.specs.Table.{Step}
 use Rattle.history.specs.declared.event.Event.{Event}
 use Rattle.history.specs.declared.event.Event.TheVariants.{Claim, Look, Drain, Complete, Settle, Poll, Copy}
 use Rattle.history.specs.MoveTable.{MoveTable, region_count}
-use Rattle.claim_board.specs.declared.view.Touch.{Touch}
+use Rattle.claim_board.specs.declared.rule.view.Touch.{Touch}
 
 abbrev pub touch : ℕ → ℕ → ℕ → Touch
 touch word first second = record { word = word; first = first; second = second }

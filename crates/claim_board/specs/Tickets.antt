@@ -6,10 +6,10 @@ use Rattle.history.specs.declared.event.Event.TheVariants.{Claim, Look, Drain, C
 use Rattle.history.specs.MoveTable.{MoveTable, region_count, reads}
 use Rattle.history.specs.State.{is_pending, IsFilling}
 use Rattle.history.specs.Scheduler.{sources_left}
-use Rattle.claim_board.specs.declared.ticket.Ticket.{Ticket}
-use Rattle.claim_board.specs.declared.closed.Closed.{Closed}
-use Rattle.claim_board.specs.declared.written.Written.{Written}
-use Rattle.claim_board.specs.declared.done.Done.{Done}
+use Rattle.claim_board.specs.declared.tokens.ticket.Ticket.{Ticket}
+use Rattle.claim_board.specs.declared.tokens.closed.Closed.{Closed}
+use Rattle.claim_board.specs.declared.tokens.written.Written.{Written}
+use Rattle.claim_board.specs.declared.tokens.done.Done.{Done}
 use Rattle.claim_board.specs.Views.{worker_of}
 use Rattle.claim_board.specs.Callers.{Caller, own}
 

@@ -2,9 +2,9 @@
 use Rattle.std.specs.Prelude.{◌≡◌, ℕ, zero, suc, ◌+◌, ◌<◌, cond, ◌==◌, List, [], ◌∷◌}
 use Rattle.history.specs.declared.entry.Entry.{Entry}
 use Rattle.history.specs.History.{calls_by, BeginsWith}
-use Rattle.claim_board.specs.declared.view.Hold.{Hold}
-use Rattle.claim_board.specs.declared.view.Touch.{Touch}
-use Rattle.claim_board.specs.declared.view.View.{View}
+use Rattle.claim_board.specs.declared.rule.view.Hold.{Hold}
+use Rattle.claim_board.specs.declared.rule.view.Touch.{Touch}
+use Rattle.claim_board.specs.declared.rule.view.View.{View}
 
 abbrev pub hold : ℕ → List Entry → List Entry → List Touch → Hold
 hold w seen mine steps = record { worker = w; seen = seen; mine = mine; steps = steps }

@@ -2,9 +2,9 @@ ghost use Rattle.std.specs.Prelude.{◌≡◌, ◌<◌, suc};
 ghost use Rattle.history.specs.MoveTable.{IsMoveTable, region_count};
 ghost use Rattle.history.specs.Scheduler.{ArePairCounts};
 
-use crate::key::Key;
 use crate::rule::Law;
-use crate::view::View;
+use crate::rule::key::Key;
+use crate::rule::view::View;
 use atomic_table::Table;
 use history::IndexedMoves;
 use std::alloc::Global;

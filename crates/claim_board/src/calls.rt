@@ -10,13 +10,13 @@ ghost use Rattle.claim_board.specs.Grants.{IsGranted};
 ghost use Rattle.claim_board.specs.Tickets.{IsUnused, IsTicketOf, IsClosedOf, IsWrittenOf, IsDoneOf};
 
 use crate::board::Board;
-use crate::closed::Closed;
-use crate::done::Done;
-use crate::drained::Drained;
 use crate::pass::Pass;
-use crate::steps;
-use crate::ticket::Ticket;
-use crate::written::Written;
+use crate::rule::steps;
+use crate::tokens::closed::Closed;
+use crate::tokens::done::Done;
+use crate::tokens::drained::Drained;
+use crate::tokens::ticket::Ticket;
+use crate::tokens::written::Written;
 use history::{
     Reply, how_counts_go_down, legal_histories_are_orderly, pairs_slide_down, what_own_calls_tell,
 };

@@ -8,11 +8,15 @@ ghost use Rattle.claim_board.specs.Drains.{reply_of};
 ghost use Rattle.claim_board.specs.Faults.{NamesNoOther};
 ghost use Rattle.claim_board.specs.Tickets.{IsUnused, IsTicketOf, IsClosedOf, IsWrittenOf, IsDoneOf};
 
-use crate::closed::Closed;
-use crate::done::Done;
-use crate::drained::Drained;
-use crate::ticket::Ticket;
-use crate::written::Written;
+mod counter;
+pub(crate) mod recorder;
+mod recording;
+
+use crate::tokens::closed::Closed;
+use crate::tokens::done::Done;
+use crate::tokens::drained::Drained;
+use crate::tokens::ticket::Ticket;
+use crate::tokens::written::Written;
 use heap_image::Fault;
 use history::Reply;
 

@@ -13,8 +13,8 @@ ghost use mathlib.Core.Option.{none};
 use crate::board::Board;
 use crate::finished::Finished;
 use crate::pass::Pass;
+use crate::rule::steps::{Place, Words};
 use crate::rule::{About, Gather, Surveys};
-use crate::steps::{Place, Words};
 use std::marker::Brand;
 use std::snapshot::Snapshot;
 

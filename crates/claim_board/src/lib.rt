@@ -29,42 +29,29 @@
 
 mod board;
 mod calls;
-mod closed;
-mod counter;
 mod desk;
-mod done;
-mod drained;
 mod finish;
 mod finished;
-mod key;
 mod laws;
 mod make;
 mod meet;
-mod opening;
 mod pass;
-mod recorder;
-mod recording;
-mod right;
 mod rule;
-mod steps;
-mod ticket;
 mod tokens;
-mod view;
-mod written;
 
 pub use board::Board;
-pub use closed::Closed;
+pub use desk::recorder::Recorder;
 pub use desk::{Desk, Seating};
-pub use done::Done;
-pub use drained::Drained;
 pub use finished::Finished;
 pub use laws::{
     appended_calls_are_gained, nothing_is_read_from_a_ticket, one_more_source_is_drained,
     other_calls_leave_completions, other_calls_leave_tickets, swept_tickets_have_none_left,
 };
-pub use opening::Opening;
 pub use pass::Pass;
-pub use recorder::Recorder;
-pub use right::Right;
-pub use ticket::Ticket;
-pub use written::Written;
+pub use tokens::closed::Closed;
+pub use tokens::done::Done;
+pub use tokens::drained::Drained;
+pub use tokens::opening::Opening;
+pub use tokens::right::Right;
+pub use tokens::ticket::Ticket;
+pub use tokens::written::Written;

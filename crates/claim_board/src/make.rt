@@ -7,10 +7,10 @@ ghost use Rattle.claim_board.specs.Rule.{word_of};
 ghost use Rattle.claim_board.specs.Boards.{moves as moves_of, worker_count, identity, ArePasses};
 
 use crate::board::Board;
-use crate::key::Key;
 use crate::pass::Pass;
 use crate::rule::Deal;
-use crate::steps::{Place, Words};
+use crate::rule::key::Key;
+use crate::rule::steps::{Place, Words};
 use atomic_table::Table;
 use history::{GivenMoves, IndexedMoves, Moves, count_readers, count_sources, how_counts_go_down};
 use std::alloc::{AllocError, Global};

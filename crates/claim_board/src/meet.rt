@@ -11,8 +11,8 @@ ghost use mathlib.Core.Option.{none};
 
 use crate::board::Board;
 use crate::pass::Pass;
+use crate::rule::steps::{Place, Words};
 use crate::rule::{About, Note, Sees, Takes};
-use crate::steps::{Place, Words};
 use std::marker::Brand;
 
 /// Lets the seat see the whole history.

@@ -1,7 +1,7 @@
 ghost use Rattle.std.specs.Prelude.{◌≡◌, []};
 ghost use Rattle.claim_board.specs.Views.{IsPassView};
 
-use crate::steps::Place;
+use crate::rule::steps::Place;
 
 /// One worker's access to a board. Contracts see two lists of calls: `seen`, a legal history known to
 /// this pass, and `mine`, its own calls in it. The value takes no memory.

@@ -1,8 +1,13 @@
 //! The rule of the board's table, and what each kind of step adds to a history or shows of it.
-use crate::key::Key;
-use crate::view::View;
+
+pub(crate) mod key;
+pub(crate) mod steps;
+pub(crate) mod view;
+
 use atomic_table::{Join, Play, Split, TableRule};
+use key::Key;
 use std::marker::{Brand, PhantomData};
+use view::View;
 
 /// The words have the values that one legal history determines.
 pub struct Law;

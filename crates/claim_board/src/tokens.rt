@@ -5,11 +5,19 @@ ghost use Rattle.history.specs.MoveTable.{MoveTable, region_count, reads};
 ghost use Rattle.claim_board.specs.Callers.{Caller};
 ghost use Rattle.claim_board.specs.Tickets.{IsTicketOf};
 
-use crate::opening::Opening;
-use crate::right::Right;
-use crate::ticket::Ticket;
+pub(crate) mod closed;
+pub(crate) mod done;
+pub(crate) mod drained;
+pub(crate) mod opening;
+pub(crate) mod right;
+pub(crate) mod ticket;
+pub(crate) mod written;
+
 use history::Moves;
+use opening::Opening;
+use right::Right;
 use std::snapshot::Snapshot;
+use ticket::Ticket;
 
 impl Ticket {
     /// Opens the next other region that this one reads. Goes over them once, ascending, and returns `None`

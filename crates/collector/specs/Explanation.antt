@@ -7,16 +7,16 @@ use Rattle.summary.specs.Compaction.{redirected, compact}
 use Rattle.collector.specs.Difference.{AreAlike, IsLeastDifference}
 use Rattle.collector.specs.Verdict.{root_count, root_at}
 use Rattle.collector.specs.Tally.{IsTally}
-use Rattle.collector.specs.declared.difference_tally.Tally.{Tally}
-use Rattle.collector.specs.declared.verdict_explanation.Moved.{Moved}
-use Rattle.collector.specs.declared.verdict_explanation.Part.{Part}
-use Rattle.collector.specs.declared.verdict_explanation.Part.TheVariants.{Header, Field, Data, Filler, Free}
-use Rattle.collector.specs.declared.verdict_explanation.Lead.{Lead}
-use Rattle.collector.specs.declared.verdict_explanation.Lead.TheVariants.{Null, Outside, Unchanged, To}
-use Rattle.collector.specs.declared.verdict_explanation.ExplainedWord.{ExplainedWord}
-use Rattle.collector.specs.declared.verdict_explanation.OtherLive.{OtherLive}
-use Rattle.collector.specs.declared.verdict_explanation.OtherRoot.{OtherRoot}
-use Rattle.collector.specs.declared.verdict_explanation.Explanation.{Explanation}
+use Rattle.collector.specs.declared.verification.difference_tally.Tally.{Tally}
+use Rattle.collector.specs.declared.verification.verdict_explanation.Moved.{Moved}
+use Rattle.collector.specs.declared.verification.verdict_explanation.Part.{Part}
+use Rattle.collector.specs.declared.verification.verdict_explanation.Part.TheVariants.{Header, Field, Data, Filler, Free}
+use Rattle.collector.specs.declared.verification.verdict_explanation.Lead.{Lead}
+use Rattle.collector.specs.declared.verification.verdict_explanation.Lead.TheVariants.{Null, Outside, Unchanged, To}
+use Rattle.collector.specs.declared.verification.verdict_explanation.ExplainedWord.{ExplainedWord}
+use Rattle.collector.specs.declared.verification.verdict_explanation.OtherLive.{OtherLive}
+use Rattle.collector.specs.declared.verification.verdict_explanation.OtherRoot.{OtherRoot}
+use Rattle.collector.specs.declared.verification.verdict_explanation.Explanation.{Explanation}
 
 -- the addresses to compare: all, or those below the new top
 abbrev pub limit_of : Bool → HeapImage → ℕ

@@ -5,8 +5,8 @@ use Rattle.heap_image.specs.declared.fault.Fault.{Fault}
 use Rattle.heap_image.specs.declared.fault.Fault.TheVariants.{Gate}
 use Rattle.summary.specs.RegionData.{fill_count}
 use Rattle.fill.specs.FillFaults.{IsFaultOf}
-use Rattle.collector.specs.declared.worker.Halt.{Halt}
-use Rattle.collector.specs.declared.worker.Halt.TheVariants.{Stopped, Failed}
+use Rattle.collector.specs.declared.workers.worker.Halt.{Halt}
+use Rattle.collector.specs.declared.workers.worker.Halt.TheVariants.{Stopped, Failed}
 
 -- one of the first `regions` regions may be refused
 abbrev pub MayBeRefused : (ℕ → Type 0) → ℕ → Type 0

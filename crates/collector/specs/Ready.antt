@@ -2,7 +2,7 @@
 use Rattle.std.specs.Prelude.{◌≡◌, ℕ, ◌≤◌, true, List, ◌++◌, length}
 use mathlib.Core.Option.{some}
 use lib.ListN.{get_elem?}
-use Rattle.collector.specs.declared.ready.Pushed.{Pushed}
+use Rattle.collector.specs.declared.workers.ready.Pushed.{Pushed}
 
 -- How many numbers a queue takes in all, and those that were pushed so far, oldest first, taken or not.
 pub record Queue : Type 0 where

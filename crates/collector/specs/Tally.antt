@@ -1,7 +1,7 @@
 -- The differences of two tables of numbers: how many there are, and the first ten.
 use Rattle.std.specs.Prelude.{◌≡◌, ℕ, ◌≤◌, not, ◌==◌, List, length, take, filter, map}
 use Rattle.std.specs.List.{range_with_len}
-use Rattle.collector.specs.declared.difference_tally.OtherWord.{OtherWord}
+use Rattle.collector.specs.declared.verification.difference_tally.OtherWord.{OtherWord}
 
 module _ (wanted found : ℕ → ℕ) where
   -- the indices below `limit` at which they differ, ascending

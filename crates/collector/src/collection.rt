@@ -11,13 +11,22 @@ ghost use Rattle.collector.specs.Halts.{MayRefuse};
 ghost use Rattle.collector.specs.Collections.{figures_of, AreNoneOrTooMany, IfKept, IfLost};
 ghost use Rattle.collector.specs.declared.outcome.Refusal.TheVariants.{Kept, Lost};
 
+mod clean_up;
+mod collection_desk;
+mod equipment;
+mod prepared;
+mod reading;
+pub(crate) mod record_streaming;
+pub(crate) mod recording;
+pub(crate) mod streaming;
+
 use crate::gate::Gate;
 use crate::outcome::{Outcome, Refusal};
-use crate::prepared::Prepared;
-use crate::start_line::StartLine;
+use crate::workers::start_line::StartLine;
 use claim_board::{Board, Finished, Pass};
 use heap_image::{Fault, Image};
 use history::{moves_are_lawful, settled_histories_have_each_once};
+use prepared::Prepared;
 use std::alloc::Global;
 use std::sync::Wait;
 use std::thread::Threads;

@@ -40,45 +40,27 @@
 //! small heap. No contract says how long a call takes, nor that `verify` has enough memory.
 #![tactic(auto)]
 
-mod clean_up;
 mod collection;
-mod collection_desk;
-mod comparison;
-mod comparison_explained;
-mod crew;
-mod difference;
-mod difference_tally;
-mod equipment;
 mod gate;
 mod laws;
 mod outcome;
-mod prepared;
-mod reading;
-mod ready;
-mod record_streaming;
-mod recording;
-mod staff;
-mod start_line;
-mod streaming;
 mod verdict;
-mod verdict_explanation;
 mod verification;
-mod worker;
 mod workers;
 
 pub use collection::collect;
-pub use comparison_explained::{Found, explain};
-pub use difference_tally::{LISTED, OtherWord};
+pub use collection::record_streaming::record_stream;
+pub use collection::recording::record;
+pub use collection::streaming::collect_stream;
 pub use gate::{Gate, OpenGate};
 pub use laws::an_upgrade_is_collected_alike;
 pub use outcome::{Figures, Outcome, Refusal};
-pub use ready::{Ready, Thief};
-pub use record_streaming::record_stream;
-pub use recording::record;
-pub use streaming::collect_stream;
 pub use verdict::Verdict;
-pub use verdict_explanation::{
+pub use verification::comparison_explained::{Found, explain};
+pub use verification::difference_tally::{LISTED, OtherWord};
+pub use verification::verdict_explanation::{
     ExplainedWord, Explanation, Lead, Moved, OtherLive, OtherRoot, Part,
 };
 pub use verification::{verify, verify_below_top};
 pub use workers::Workers;
+pub use workers::ready::{Ready, Thief};

@@ -5,8 +5,14 @@ ghost use Rattle.summary.specs.NewAddresses.{new_top};
 ghost use Rattle.collector.specs.Verdict.{IsVerdict, IsVerdictBelow};
 ghost use Rattle.collector.specs.declared.verdict.Verdict.TheVariants.{Same};
 
-use crate::comparison::Comparison;
+mod comparison;
+pub(crate) mod comparison_explained;
+mod difference;
+pub(crate) mod difference_tally;
+pub(crate) mod verdict_explanation;
+
 use crate::verdict::Verdict;
+use comparison::Comparison;
 use heap_image::{Fault, Image};
 use std::alloc::Global;
 use std::thread::Threads;

@@ -1,3 +1,9 @@
+pub(crate) mod crew;
+pub(crate) mod ready;
+pub(crate) mod staff;
+pub(crate) mod start_line;
+pub(crate) mod worker;
+
 /// The workers of a collection, and what they run on.
 pub struct Workers<'a, G, T, W> {
     /// How many there are, 1 to 64.

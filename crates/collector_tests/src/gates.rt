@@ -1,4 +1,10 @@
 //! Gates with which tests force an order: they hold a call until another one has come.
+
+mod forced;
+mod held;
+mod held_recordings;
+mod orders;
+
 use collector::Gate;
 use std::sync::atomic::{AtomicBool, AtomicU32, Ordering};
 use std::thread;

@@ -8,21 +8,13 @@ mod checks;
 #[cfg(test)]
 mod explanations;
 #[cfg(test)]
-mod forced;
-#[cfg(test)]
 mod gates;
 #[cfg(test)]
 mod heaps;
 #[cfg(test)]
-mod held;
-#[cfg(test)]
-mod held_recordings;
-#[cfg(test)]
 mod library;
 #[cfg(test)]
 mod marked;
-#[cfg(test)]
-mod orders;
 #[cfg(test)]
 mod refusals;
 #[cfg(test)]

@@ -1,6 +1,6 @@
 use Rattle.std.specs.Prelude.{◌≡◌, ⊤, ℕ, Bool, if◌then◌else◌, Option, None, codes, false}
 use Rattle.clap.specs.Walk.{Text as Name}
-use Rattle.command_line.specs.declared.import.Import.{Import as ImportCall}
+use Rattle.command_line.specs.declared.commands.import.Import.{Import as ImportCall}
 use Rattle.command_line.specs.declared.request.Request.{Request}
 use Rattle.command_line.specs.declared.request.Request.TheVariants.{Board, Summary, Collect, Verify, Record, Replay, Upgrade, Import, Generate, Order, Text, Assemble, Map, Timeline, Show}
 use Rattle.command_line.specs.declared.unread.Unread.{Unread}

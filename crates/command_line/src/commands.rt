@@ -8,28 +8,39 @@ ghost use Rattle.command_line.specs.Definition.{app_in};
 ghost use Rattle.command_line.specs.Request.{IsFor, IsNoUsage};
 ghost use Rattle.command_line.specs.declared.request.Request.TheVariants.{Board};
 
-use crate::assemble::Assemble;
-use crate::collect::Collect;
+pub(crate) mod assemble;
+pub(crate) mod board;
+pub(crate) mod collect;
+pub(crate) mod generate;
+pub(crate) mod import;
+pub(crate) mod map;
+pub(crate) mod order;
+pub(crate) mod record;
+pub(crate) mod replay;
+pub(crate) mod summary;
+pub(crate) mod text;
+pub(crate) mod timeline;
+pub(crate) mod upgrade;
+pub(crate) mod verify;
+
 use crate::definition::Definition;
-use crate::generate::Generate;
-use crate::import::Import;
-use crate::map::Map;
-use crate::order::Order;
-use crate::record::Record;
-use crate::replay::Replay;
 use crate::request::Request;
-use crate::summary::Summary;
-use crate::text::Text;
-use crate::timeline::Timeline;
 use crate::unread::Unread;
-use crate::upgrade::Upgrade;
-use crate::verify::Verify;
-use crate::{
-    assemble, board, collect, generate, import, map, order, record, replay, summary, text,
-    timeline, upgrade, verify,
-};
+use assemble::Assemble;
 use clap::{ArgMatches, Command};
+use collect::Collect;
+use generate::Generate;
+use import::Import;
+use map::Map;
+use order::Order;
+use record::Record;
+use replay::Replay;
 use std::alloc::{AllocError, Global};
+use summary::Summary;
+use text::Text;
+use timeline::Timeline;
+use upgrade::Upgrade;
+use verify::Verify;
 
 const ABOUT: &str = "Parallel mark-compact collection of heap images";
 

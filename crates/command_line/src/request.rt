@@ -1,18 +1,18 @@
 //! The commands with their arguments.
-use crate::assemble::Assemble;
-use crate::collect::Collect;
-use crate::generate::Generate;
-use crate::import::Import;
-use crate::map::Map;
-use crate::order::Order;
-use crate::record::Record;
-use crate::replay::Replay;
+use crate::commands::assemble::Assemble;
+use crate::commands::collect::Collect;
+use crate::commands::generate::Generate;
+use crate::commands::import::Import;
+use crate::commands::map::Map;
+use crate::commands::order::Order;
+use crate::commands::record::Record;
+use crate::commands::replay::Replay;
+use crate::commands::summary::Summary;
+use crate::commands::text::Text;
+use crate::commands::timeline::Timeline;
+use crate::commands::upgrade::Upgrade;
+use crate::commands::verify::Verify;
 use crate::respelled::When;
-use crate::summary::Summary;
-use crate::text::Text;
-use crate::timeline::Timeline;
-use crate::upgrade::Upgrade;
-use crate::verify::Verify;
 
 /// A command with its arguments, or a text to show.
 #[derive(Drop)]

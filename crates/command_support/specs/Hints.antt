@@ -1,10 +1,10 @@
 -- What the first bytes of a file say of it.
 use Rattle.std.specs.Prelude.{ℕ, List, [], ◌∷◌, Bool, ◌||◌, Option, None, Some, codes, if◌then◌else◌, nat_eq, nat_lt}
 use Rattle.std.specs.List.{starts_with}
-use Rattle.command_support.specs.declared.content.Content.{Content}
-use Rattle.command_support.specs.declared.content.Content.TheVariants.{Image, Dump, Schedule, Text, Packed}
-use Rattle.command_support.specs.declared.hint.Hint.{Hint}
-use Rattle.command_support.specs.declared.hint.Hint.TheVariants.{Empty, Has, LiveOnly, TooLarge}
+use Rattle.command_support.specs.declared.files.content.Content.{Content}
+use Rattle.command_support.specs.declared.files.content.Content.TheVariants.{Image, Dump, Schedule, Text, Packed}
+use Rattle.command_support.specs.declared.trouble.hint.Hint.{Hint}
+use Rattle.command_support.specs.declared.trouble.hint.Hint.TheVariants.{Empty, Has, LiveOnly, TooLarge}
 use Rattle.heap_dump.specs.declared.error.ImportError.{ImportError}
 
 -- the file begins with this text

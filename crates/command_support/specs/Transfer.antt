@@ -2,7 +2,7 @@
 use Rattle.std.specs.Prelude.{ℕ, ◌-◌, ◌*◌, ◌/◌, ◌%◌, ◌==◌, ◌||◌, max, min, if◌then◌else◌, List, ◌++◌, Option, None, Some, codes, decimal}
 use Rattle.command_support.specs.declared.phase.Phase.{Phase}
 use Rattle.command_support.specs.declared.phase.Phase.TheVariants.{Read, Check, Prepare, Fills, CleanUp, Write, Schedule, ReadBefore, CheckBefore, ReadAfter, CheckAfter, Compare}
-use Rattle.command_support.specs.declared.transfer.Transfer.{Transfer}
+use Rattle.command_support.specs.declared.meter.transfer.Transfer.{Transfer}
 
 -- the name of a phase
 abbrev pub phase_text : Phase → List ℕ

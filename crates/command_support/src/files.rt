@@ -2,18 +2,31 @@
 //! fault 13.
 ghost use Rattle.std.specs.Prelude.{◌≡◌, ◌≢◌, IfOk, OnOk, string_bytes};
 
+mod access;
+pub(crate) mod content;
+pub(crate) mod file_id;
+pub(crate) mod file_target;
+pub(crate) mod file_word;
+pub(crate) mod head;
+pub(crate) mod late;
+mod leftovers;
+pub(crate) mod output;
+pub(crate) mod replacement;
+pub(crate) mod system_file;
+pub(crate) mod watched;
+
 use crate::failure::Failure;
-use crate::file_id::FileId;
-use crate::file_target::FileTarget;
-use crate::file_word::{FileWord, Role};
-use crate::output::Output;
-use crate::system_file::SystemFile;
 use crate::trouble::Trouble;
-use crate::watched::Watched;
 use crate::work_done::WorkDone;
+use file_id::FileId;
+use file_target::FileTarget;
+use file_word::{FileWord, Role};
+use output::Output;
 use std::alloc::{AllocError, Global};
 use std::fs::OpenFile;
 use std::rt::Files;
+use system_file::SystemFile;
+use watched::Watched;
 
 /// A file to read, and one to write.
 type ImageAndOut<'a, F> = (Watched<'a, F>, Output<'a, F>);

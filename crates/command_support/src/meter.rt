@@ -1,9 +1,14 @@
 //! The line on standard error that shows how far a command is.
-use crate::gauge::Gauge;
+
+pub(crate) mod gauge;
+mod status_line;
+pub(crate) mod transfer;
+
 use crate::phase::Phase;
-use crate::status_line::StatusLine;
-use crate::stopwatch::Stopwatch;
+use crate::stats::stopwatch::Stopwatch;
 use command_line::When;
+use gauge::Gauge;
+use status_line::StatusLine;
 use std::fmt;
 use std::fs::OpenFile;
 use std::io::Write;

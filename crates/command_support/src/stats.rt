@@ -1,15 +1,25 @@
 //! What `--stats` prints.
-use crate::laps::Laps;
-use crate::live_share::LiveShare;
-use crate::moved::Moved;
-use crate::peak_memory::peak_kib;
-use crate::stopwatch::Stopwatch;
-use crate::tenths::Tenths;
+
+pub(crate) mod laps;
+pub(crate) mod live_share;
+pub(crate) mod moved;
+mod peak_memory;
+pub(crate) mod stopwatch;
+pub(crate) mod tenths;
+pub(crate) mod timed_intake;
+pub(crate) mod timed_outlet;
+
+use laps::Laps;
+use live_share::LiveShare;
+use moved::Moved;
+use peak_memory::peak_kib;
 use std::io;
 use std::io::Write;
 use std::rt::Files;
 use std::thread::{Threads, available_parallelism};
 use std::time::Clock;
+use stopwatch::Stopwatch;
+use tenths::Tenths;
 
 /// The timings of a command.
 #[derive(Clone, Copy)]

@@ -4,15 +4,20 @@ ghost use Rattle.command_support.specs.Failure.{failed_device};
 ghost use Rattle.heap_image.specs.declared.fault.Fault.TheVariants.{Memory};
 ghost use Rattle.command_support.specs.declared.failure.Failure.TheVariants.{Fault};
 
-use crate::content::Content;
-use crate::failed_call::{FailedCall, SystemCall};
+pub(crate) mod failed_call;
+pub(crate) mod hint;
+pub(crate) mod printable;
+pub(crate) mod reason;
+
 use crate::failure::Failure;
-use crate::file_word::FileWord;
-use crate::hint::Hint;
-use crate::printable::Printable;
-use crate::reason::{LineReason, Reason};
-use crate::watched::Watched;
+use crate::files::content::Content;
+use crate::files::file_word::FileWord;
+use crate::files::watched::Watched;
+use failed_call::{FailedCall, SystemCall};
 use heap_image::{Fault, LengthCause};
+use hint::Hint;
+use printable::Printable;
+use reason::{LineReason, Reason};
 use std::alloc::AllocError;
 use std::io;
 use std::io::Write;

@@ -2,7 +2,7 @@
 ghost use Rattle.std.specs.Prelude.{◌≡◌, IfErr};
 ghost use Rattle.command_support.specs.Failure.{failed_device};
 
-use crate::replacement::Replacement;
+use crate::files::replacement::Replacement;
 use crate::stats::Stats;
 use crate::trouble::Trouble;
 use std::rt::Files;

@@ -6,8 +6,8 @@ use Rattle.history.specs.declared.event.Event.TheVariants.{Drain, Complete}
 use Rattle.history.specs.declared.reply.Reply.TheVariants.{Done}
 use Rattle.history.specs.MoveTable.{MoveTable, region_count, reads}
 use Rattle.history.specs.History.{BeginsWith, entry}
-use Rattle.claim_board.specs.declared.drained.Drained.{Drained}
-use Rattle.claim_board.specs.declared.drained.Drained.TheVariants.{Last, NotLast}
+use Rattle.claim_board.specs.declared.tokens.drained.Drained.{Drained}
+use Rattle.claim_board.specs.declared.tokens.drained.Drained.TheVariants.{Last, NotLast}
 use Rattle.claim_board.specs.Callers.{Caller}
 use Rattle.claim_board.specs.Drains.{reply_of}
 

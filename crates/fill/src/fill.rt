@@ -5,9 +5,9 @@ ghost use Rattle.claim_board.specs.Tickets.{IsUnused, IsTicketOf, IsDoneOf};
 ghost use Rattle.fill.specs.SourceDrains.{HasFilled};
 ghost use Rattle.fill.specs.FillFaults.{IsFaultOf};
 
-use crate::filling::Filling;
-use crate::guide::Guide;
-use crate::site::Site;
+use crate::region::filling::Filling;
+use crate::region::guide::Guide;
+use crate::region::site::Site;
 use claim_board::{Desk, Done, Ticket};
 use heap_image::Fault;
 use history::moves_of_images;

@@ -18,19 +18,10 @@
 //! many parts the update is split. **Not stated**: how fast a call is.
 #![tactic(auto)]
 
-mod after_prefix;
-mod clear;
-mod deferred;
-mod deferred_parts;
+mod cleanup;
 mod fill;
-mod filling;
-mod guide;
-mod heap;
-mod in_prefix;
-mod runs;
-mod site;
-mod span;
+mod region;
 
-pub use clear::clear_above;
-pub use deferred::{update_deferred, update_deferred_by_workers};
+pub use cleanup::clear::clear_above;
+pub use cleanup::deferred::{update_deferred, update_deferred_by_workers};
 pub use fill::fill_region;

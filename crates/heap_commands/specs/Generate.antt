@@ -7,7 +7,7 @@ use Rattle.heap_maker.specs.GenerationFigures.{AreFiguresOf, figures_text}
 use Rattle.heap_maker.specs.Wanted.{IsAsWanted}
 use Rattle.heap_maker.specs.declared.figures.GenerationFigures.{GenerationFigures}
 use Rattle.heap_maker.specs.declared.wanted.Wanted.{Wanted}
-use Rattle.command_line.specs.declared.generate.Generate.{Generate}
+use Rattle.command_line.specs.declared.commands.generate.Generate.{Generate}
 use Rattle.command_support.specs.Command.{Command}
 use Rattle.heap_commands.specs.Versions.{version_numbered}
 

@@ -5,7 +5,7 @@ use Rattle.heap_image.specs.HeapImage.{HeapImage, heap_words}
 use Rattle.heap_dump.specs.ClassNames.{name_of}
 use Rattle.heap_dump.specs.Listing.{AreObjectsOf}
 use Rattle.heap_dump.specs.Totals.{AreDeadWords, IsRanking, held, sums_of}
-use Rattle.heap_dump.specs.declared.class_names.ClassNames.{ClassNames}
+use Rattle.heap_dump.specs.declared.listing.class_names.ClassNames.{ClassNames}
 use Rattle.heap_dump.specs.declared.dead_words.DeadWords.{DeadWords}
 use Rattle.heap_dump.specs.declared.figures.ImportFigures.{ImportFigures}
 use Rattle.heap_dump.specs.declared.listing.ListedObject.{ListedObject}

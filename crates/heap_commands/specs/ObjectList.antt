@@ -1,7 +1,7 @@
 -- The list of the objects of an imported image.
 use Rattle.std.specs.Prelude.{ℕ, Bool, if◌then◌else◌, List, ◌++◌, flat_map, codes, decimal}
 use Rattle.heap_dump.specs.ClassNames.{name_of}
-use Rattle.heap_dump.specs.declared.class_names.ClassNames.{ClassNames}
+use Rattle.heap_dump.specs.declared.listing.class_names.ClassNames.{ClassNames}
 use Rattle.heap_dump.specs.declared.listing.ListedObject.{ListedObject}
 use Rattle.heap_commands.specs.Histogram.{bytes_of}
 

@@ -5,9 +5,9 @@ use Rattle.heap_image.specs.ImageText.{text}
 use Rattle.history.specs.Schedule.{ScheduleView}
 use Rattle.history.specs.ScheduleText.{schedule_text}
 use Rattle.history.specs.Replayed.{IsReplayed}
-use Rattle.history.specs.declared.replayed.End.{End}
-use Rattle.history.specs.declared.replayed.End.TheVariants.{Finished, Open}
-use Rattle.history.specs.declared.replayed.Replayed.{Replayed}
+use Rattle.history.specs.declared.machine.replayed.End.{End}
+use Rattle.history.specs.declared.machine.replayed.End.TheVariants.{Finished, Open}
+use Rattle.history.specs.declared.machine.replayed.Replayed.{Replayed}
 use Rattle.command_support.specs.Command.{Command}
 
 -- the line that says how a replay ended

@@ -3,7 +3,7 @@ ghost use Rattle.heap_maker.specs.GenerationFigures.{figures_text};
 ghost use Rattle.heap_commands.specs.Generate.{IsGeneration, IsGenerationLine, IsWantedOf};
 ghost use Rattle.command_support.specs.Failure.{failed_device};
 
-use crate::versions::requested_version;
+use crate::shared::versions::requested_version;
 use command_line::Generate;
 use command_support::{
     Failure, FileTarget, FileWord, Late, Role, SystemFile, Trouble, WorkDone, Writing, ended,

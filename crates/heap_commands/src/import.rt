@@ -8,12 +8,13 @@ ghost use Rattle.heap_dump.specs.Listing.{AreObjectsOf};
 ghost use Rattle.heap_commands.specs.Import.{IsImport, IsImportText, IsImported, IsListedImport, IsTextOf};
 ghost use Rattle.command_support.specs.Failure.{failed_device};
 
-use crate::histogram::push_histogram;
-use crate::import_ending::{finished, unfinished};
-use crate::import_files::{ImportFiles, keep, late_beside};
-use crate::live_share::live_share;
-use crate::object_list::list_room;
-use crate::versions::requested_version;
+pub mod histogram;
+mod import_ending;
+mod import_files;
+pub mod object_list;
+
+use crate::shared::live_share::live_share;
+use crate::shared::versions::requested_version;
 use command_line::Import;
 use command_support::{
     Failure, Laps, LiveShare, Phase, Stats, Stopwatch, SystemFile, TimedIntake, TimedOutlet,
@@ -21,6 +22,10 @@ use command_support::{
 };
 use heap_dump::{ImportFigures, Imported, ListedImport, Options, import, import_listed};
 use heap_image::{FromRead, Intake, Outlet, ToWrite, write_image_buffered};
+use histogram::push_histogram;
+use import_ending::{finished, unfinished};
+use import_files::{ImportFiles, keep, late_beside};
+use object_list::list_room;
 use std::alloc::{AllocError, Global};
 use std::io::{Read, Write};
 use std::rt::Files;

@@ -19,18 +19,14 @@
 pub mod assemble;
 pub mod board;
 pub mod generate;
-pub mod histogram;
 pub mod import;
-mod import_ending;
-mod import_files;
-mod inputs;
-mod live_share;
 pub mod map;
-pub mod object_list;
 pub mod order;
 pub mod replay;
+mod shared;
 pub mod summarize;
 pub mod text;
 pub mod timeline;
 pub mod upgrade;
-mod versions;
+
+pub use import::{histogram, object_list};

@@ -5,7 +5,7 @@ ghost use Rattle.heap_map.specs.Cells.{cells_before};
 ghost use Rattle.heap_map.specs.MapFigures.{AreFiguresOf, figures_text};
 ghost use Rattle.heap_commands.specs.Map.{IsDrawing, IsMap, IsMapLine, IsPicture, IsPrinted, after_shown, cells_shown, shape_of};
 
-use crate::inputs::open_image;
+use crate::shared::inputs::open_image;
 use command_line::{Look, Map};
 use command_support::{
     FileTarget, FileWord, Late, Role, Screen, SystemFile, Trouble, USUAL_WIDTH, Watched, WorkDone,

@@ -5,7 +5,7 @@ ghost use Rattle.history.specs.Replayed.{IsReplayed};
 ghost use Rattle.heap_commands.specs.Replay.{IsReplayText, IsReplayOf, end_line};
 ghost use Rattle.heap_commands.specs.Unreplayed.{IsReplayRefused, IsScheduleUnread, IsUnreplayed};
 
-use crate::inputs::{Inputs, Opened, replay_trouble};
+use crate::shared::inputs::{Inputs, Opened, replay_trouble};
 use command_line::Replay;
 use command_support::{LineReason, Trouble, WorkDone};
 use heap_image::{Fault, FromRead, Image, Intake, read_image_by_threads};

@@ -2,7 +2,7 @@ ghost use Rattle.std.specs.Prelude.{◌≡◌, codes, ℕ, List, IfOk, IfErr, If
 ghost use Rattle.heap_image.specs.Refusals.{IsReason};
 ghost use Rattle.heap_commands.specs.Text.{AreLines, AreLinesOf};
 
-use crate::inputs::open_image;
+use crate::shared::inputs::open_image;
 use command_line::{Shape, Text};
 use command_support::{Trouble, WorkDone};
 use heap_image::{Fault, FromRead, Intake, read_image_by_threads};

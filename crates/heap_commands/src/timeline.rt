@@ -7,9 +7,9 @@ ghost use Rattle.schedule_timeline.specs.Timeline.{IsTimelineOf};
 ghost use Rattle.heap_commands.specs.Timeline.{HasLanes, HasPicture, IsFollowed, IsPictureOf, IsTimeline};
 ghost use Rattle.heap_commands.specs.Unreplayed.{IsReplayRefused, IsUnreplayed};
 
-use crate::inputs::{Inputs, Opened, replay_trouble};
 use crate::map::{drawing_target, style_on};
 use crate::replay::{Unreplayed, refused, schedule_in};
+use crate::shared::inputs::{Inputs, Opened, replay_trouble};
 use command_line::Timeline;
 use command_support::{
     Failure, FileTarget, FileWord, Late, Role, Screen, SystemFile, Trouble, WorkDone, ended,

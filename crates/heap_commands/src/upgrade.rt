@@ -10,7 +10,7 @@ ghost use Rattle.heap_commands.specs.Upgrade.{IsBegun, IsRootCount, IsUpgrading}
 ghost use Rattle.command_support.specs.Failure.{failed_device};
 ghost use Rattle.command_support.specs.declared.failure.Failure.TheVariants.{Fault as OfFault, Later};
 
-use crate::versions::version_numbered;
+use crate::shared::versions::version_numbered;
 use command_line::Upgrade;
 use command_support::{
     Failure, SystemFile, Trouble, WorkDone, ended, failed_between, image_and_out, push_number,

@@ -5,7 +5,7 @@ use Rattle.std.specs.List.Sorted.{IsStableByKey}
 use Rattle.std.specs.Ordering.{nat_cmp}
 use Rattle.heap_dump.specs.ClassNames.{most_padding}
 use Rattle.heap_dump.specs.Listing.{end_of_listed}
-use Rattle.heap_dump.specs.declared.class_names.ClassNames.{ClassNames}
+use Rattle.heap_dump.specs.declared.listing.class_names.ClassNames.{ClassNames}
 use Rattle.heap_dump.specs.declared.dead_words.DeadWords.{DeadWords}
 use Rattle.heap_dump.specs.declared.listing.ListedObject.{ListedObject}
 use Rattle.heap_dump.specs.declared.totals.ClassTotals.{ClassTotals}

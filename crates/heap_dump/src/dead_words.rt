@@ -2,8 +2,8 @@
 ghost use Rattle.std.specs.Prelude.{◌≡◌, ◌+◌, if◌then◌else◌, nat_le};
 ghost use Rattle.heap_dump.specs.Totals.{AreDeadWords, held};
 
-use crate::class_names::ClassNames;
 use crate::listing::ListedObject;
+use crate::listing::class_names::ClassNames;
 use crate::totals::Totals;
 
 /// What the words of an imported image are that belong to no live object. What a `u64` cannot hold is [`u64::MAX`].

@@ -2,13 +2,18 @@
 ghost use Rattle.std.specs.Prelude.{◌≡◌, true, OnOk, IsTrue, ◌≢◌};
 ghost use Rattle.std.specs.Io.KnownBytes.{IsAtEnd};
 
-use crate::contents::Contents;
+pub(crate) mod field_type;
+pub(crate) mod record;
+pub(crate) mod record_visitor;
+mod window;
+
 use crate::error::{ImportError, Problem};
-use crate::field_type::{FieldType, IdSize};
-use crate::record::{Elements, ObjectKind, ObjectRecord, Record};
-use crate::record_visitor::RecordVisitor;
-use crate::window::Window;
+use crate::inventory::contents::Contents;
+use field_type::{FieldType, IdSize};
 use heap_image::Intake;
+use record::{Elements, ObjectKind, ObjectRecord, Record};
+use record_visitor::RecordVisitor;
+use window::Window;
 
 /// The number of bytes before the first record: the name of the format, the size of ids, and the time.
 const HEAD_BYTES: u64 = 31;

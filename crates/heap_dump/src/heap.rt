@@ -2,6 +2,14 @@
 ghost use Rattle.std.specs.Prelude.{◌<◌, ◌≤◌, ◌^◌, ◌≢◌};
 ghost use Rattle.heap_image.specs.HeapImage.{AreBlocks};
 
+pub(crate) mod arrangement;
+pub(crate) mod draft;
+pub(crate) mod forwarding;
+mod marking;
+pub(crate) mod packed;
+mod roots;
+mod survivors;
+
 use crate::error::ImportError;
 use raw_region::Region;
 use std::alloc::{AllocError, Global};

@@ -9,18 +9,18 @@ ghost use Rattle.heap_dump.specs.ImportFigures.{AreFiguresOf};
 ghost use Rattle.heap_dump.specs.Listing.{AreObjectsOf};
 ghost use Rattle.heap_dump.specs.Totals.{AreDeadWords, IsRanking, sums_of};
 
-use crate::class_names::ClassNames;
 use crate::dead_words::DeadWords;
-use crate::draft::{Draft, Imported};
 use crate::error::ImportError;
 use crate::heap::UnsealedHeap;
+use crate::heap::draft::{Draft, Imported};
+use crate::heap::packed::Packed;
 use crate::inventory::Inventory;
+use crate::listing::class_names::ClassNames;
+use crate::listing::object_classes::ObjectClasses;
 use crate::listing::{ListedObject, list_objects};
-use crate::object_classes::ObjectClasses;
 use crate::options::{Options, Regions};
-use crate::packed::Packed;
 use crate::totals::{ClassTotals, Totals, ranking};
-use crate::transcribed::Transcribed;
+use crate::transcription::transcribed::Transcribed;
 use heap_image::Intake;
 use std::alloc::{AllocError, Global};
 

@@ -2,19 +2,29 @@
 ghost use Rattle.std.specs.Prelude.{◌≤◌, OnOk, ◌≡◌, IsTrue, ◌⊎◌};
 ghost use Rattle.std.specs.Io.KnownBytes.{IsAtEnd};
 
-use crate::arrangement::Arrangement;
-use crate::class_number::{CLASS_OBJECTS, UNKNOWN_ARRAYS, number_of_class, number_of_code};
-use crate::classes::Classes;
-use crate::contents::Contents;
+pub(crate) mod class_kind;
+mod classes;
+pub(crate) mod contents;
+mod name_ids;
+pub(crate) mod objects;
+mod repeats;
+mod sections;
+
 use crate::dump::Dump;
+use crate::dump::record::{Elements, ObjectKind, ObjectRecord, Record};
+use crate::dump::record_visitor::RecordVisitor;
 use crate::error::{ImportError, Problem};
 use crate::heap::UnsealedHeap;
-use crate::name_ids::NameIds;
-use crate::objects::{Object, Objects};
-use crate::record::{Elements, ObjectKind, ObjectRecord, Record};
-use crate::record_visitor::RecordVisitor;
-use crate::repeats::find_repeat;
+use crate::heap::arrangement::Arrangement;
+use crate::listing::class_number::{
+    CLASS_OBJECTS, UNKNOWN_ARRAYS, number_of_class, number_of_code,
+};
+use classes::Classes;
+use contents::Contents;
 use heap_image::Intake;
+use name_ids::NameIds;
+use objects::{Object, Objects};
+use repeats::find_repeat;
 use std::alloc::{AllocError, Global};
 
 /// The classes, the sizes of the objects in the order of their ids, and the roots of a dump.

@@ -9,49 +9,25 @@
 //! dump. See the README.
 #![tactic(auto)]
 
-mod arrangement;
-mod class_kind;
-mod class_names;
-mod class_number;
-mod classes;
-mod contents;
 mod dead_words;
-mod draft;
 mod dump;
 mod error;
-mod field_type;
 mod figures;
-mod forwarding;
 mod heap;
 mod importing;
 mod inventory;
 mod limits;
 mod listing;
-mod marking;
-mod name_ids;
-mod object_classes;
-mod objects;
 mod options;
-mod packed;
-mod record;
-mod record_visitor;
-mod repeats;
-mod roots;
-mod sections;
-mod slots;
-mod survivors;
-mod texts;
 mod totals;
-mod transcribed;
 mod transcription;
-mod window;
 
-pub use class_names::ClassNames;
 pub use dead_words::DeadWords;
-pub use draft::Imported;
 pub use error::{ImportError, Problem};
 pub use figures::ImportFigures;
+pub use heap::draft::Imported;
 pub use importing::{ListedImport, import, import_listed};
 pub use listing::ListedObject;
+pub use listing::class_names::ClassNames;
 pub use options::Options;
 pub use totals::{ClassTotals, Totals};

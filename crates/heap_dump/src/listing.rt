@@ -3,6 +3,11 @@ ghost use Rattle.std.specs.Prelude.{◌≡◌, ◌≢◌, ◌<◌, ◌≤◌, �
 ghost use Rattle.heap_image.specs.HeapImage.{heap_words, size_at};
 ghost use Rattle.heap_dump.specs.Listing.{AreObjectsBefore, AreObjectsOf, IsNextLive};
 
+pub(crate) mod class_names;
+pub(crate) mod class_number;
+pub(crate) mod object_classes;
+pub(crate) mod texts;
+
 use crate::error::ImportError;
 use heap_image::header::size;
 use heap_image::{Fault, Image};

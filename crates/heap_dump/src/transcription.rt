@@ -2,19 +2,22 @@
 ghost use Rattle.std.specs.Prelude.{◌<◌, ◌≤◌, OnOk, ◌≡◌, IsTrue, ◌≢◌};
 ghost use Rattle.std.specs.Io.KnownBytes.{IsAtEnd};
 
-use crate::class_number::UNKNOWN_ARRAYS;
-use crate::contents::Contents;
+mod slots;
+pub(crate) mod transcribed;
+
 use crate::dump::Dump;
+use crate::dump::field_type::FieldType;
+use crate::dump::record::{ObjectKind, ObjectRecord, Record};
+use crate::dump::record_visitor::RecordVisitor;
 use crate::error::{ImportError, Problem};
-use crate::field_type::FieldType;
 use crate::heap::{UnsealedHeap, first_word};
 use crate::inventory::Inventory;
-use crate::objects::Place;
-use crate::record::{ObjectKind, ObjectRecord, Record};
-use crate::record_visitor::RecordVisitor;
-use crate::slots::Slots;
-use crate::texts::Texts;
+use crate::inventory::contents::Contents;
+use crate::inventory::objects::Place;
+use crate::listing::class_number::UNKNOWN_ARRAYS;
+use crate::listing::texts::Texts;
 use heap_image::Intake;
+use slots::Slots;
 use std::alloc::{AllocError, Global};
 
 /// A heap into which the values of the objects are copied.

@@ -4,8 +4,8 @@ use Rattle.std.specs.List.{concat}
 use Rattle.std.specs.Io.KnownBytes.{Consumes}
 use Rattle.heap_image.specs.HeapImage.{AreBlocks}
 use Rattle.heap_image.specs.ImageText.{numbers}
-use Rattle.heap_image.specs.declared.body.Body.{Body}
-use Rattle.heap_image.specs.declared.body_size.BodySize.{BodySize}
+use Rattle.heap_image.specs.declared.io.body.Body.{Body}
+use Rattle.heap_image.specs.declared.io.front.body_size.BodySize.{BodySize}
 
 -- the number of words of the regions and the numbers after them
 abbrev pub body_words : BodySize → ℕ

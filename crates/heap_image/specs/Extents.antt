@@ -1,8 +1,8 @@
 -- Bytes at offsets, and the bodies of images among them.
 use Rattle.std.specs.Prelude.{◌≡◌, ℕ, ◌+◌, ◌*◌, ◌^◌, ◌<◌, ◌≤◌, List, Option, drop, option_map}
 use Rattle.heap_image.specs.Body.{IsBody, body_words}
-use Rattle.heap_image.specs.declared.body.Body.{Body}
-use Rattle.heap_image.specs.declared.side_by_side.Extent.{Extent}
+use Rattle.heap_image.specs.declared.io.body.Body.{Body}
+use Rattle.heap_image.specs.declared.io.side_by_side.Extent.{Extent}
 
 -- the known bytes from an offset on
 abbrev pub from_place : Option (List ℕ) → ℕ → Option (List ℕ)

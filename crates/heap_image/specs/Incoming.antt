@@ -1,7 +1,7 @@
 -- The numbers of a body that are still to be read.
 use Rattle.std.specs.Prelude.{ℕ, ◌+◌, ◌-◌, ◌*◌, ◌<◌, ◌≤◌, List, Option, IfSome, length, slice_range}
 use Rattle.std.specs.Io.KnownBytes.{IsAtEnd, prepend_known}
-use Rattle.heap_image.specs.declared.incoming.Incoming.{Incoming}
+use Rattle.heap_image.specs.declared.io.numbers.incoming.Incoming.{Incoming}
 
 -- the buffered numbers are within the buffer
 pub record IsInRange (i : Incoming) : Type 0 where

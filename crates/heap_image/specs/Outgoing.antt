@@ -1,7 +1,7 @@
 -- The numbers that are buffered while they are written.
 use Rattle.std.specs.Prelude.{◌≡◌, ◌≤◌, ℕ, ◌*◌, List, ◌++◌, Option, length, take}
 use Rattle.std.specs.Io.KnownBytes.{Appends}
-use Rattle.heap_image.specs.declared.outgoing.Outgoing.{Outgoing}
+use Rattle.heap_image.specs.declared.io.numbers.outgoing.Outgoing.{Outgoing}
 
 -- the buffer has room for at least one number, and the buffered numbers are within it
 pub record HasRoom (o : Outgoing) : Type 0 where

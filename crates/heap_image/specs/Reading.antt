@@ -9,7 +9,7 @@ use Rattle.heap_image.specs.declared.version.Version.TheVariants.{One}
 use Rattle.heap_image.specs.ImageText.{text, from_tail, first_some, first_object_fault, live_list_faults}
 use Rattle.heap_image.specs.Bits.{MarkBegins}
 use Rattle.heap_image.specs.Soundness.{AreWellFormed}
-use Rattle.heap_image.specs.declared.read.Unchecked.{Unchecked}
+use Rattle.heap_image.specs.declared.io.read.Unchecked.{Unchecked}
 
 -- all of an input was read, and it is the text of this image
 pub record IsRead (image : HeapImage) (before after : Option (List ℕ)) : Type 0 where

@@ -1,8 +1,8 @@
 -- The regions of a body that is read, and the pool that they come from.
 use Rattle.std.specs.Prelude.{◌≡◌, ℕ, ◌+◌, ◌^◌, ◌<◌, ◌≤◌, IfSome}
 use Rattle.raw_region.specs.Frame.{FrameView}
-use Rattle.heap_image.specs.declared.body_size.BodySize.{BodySize}
-use Rattle.heap_image.specs.declared.region_source.RegionSource.{RegionSource}
+use Rattle.heap_image.specs.declared.io.front.body_size.BodySize.{BodySize}
+use Rattle.heap_image.specs.declared.io.region_source.RegionSource.{RegionSource}
 
 -- the pool has the regions of a body of this size
 pub record IsPoolOf (size : BodySize) (pool : FrameView) : Type 0 where

@@ -1,7 +1,7 @@
 -- The devices over std's readers and writers: what they wrap, and whether they have failed.
 use Rattle.std.specs.Prelude.{Bool}
-use Rattle.heap_image.specs.declared.intake.FromRead.{FromRead}
-use Rattle.heap_image.specs.declared.outlet.ToWrite.{ToWrite}
+use Rattle.heap_image.specs.declared.io.intake.FromRead.{FromRead}
+use Rattle.heap_image.specs.declared.io.outlet.ToWrite.{ToWrite}
 
 abbrev pub reader_of : {R : Type 0} → FromRead R → R
 reader_of intake = intake.reader

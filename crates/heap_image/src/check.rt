@@ -7,6 +7,11 @@ ghost use Rattle.heap_image.specs.ImageText.{first_object_fault, misplaced_index
 ghost use Rattle.heap_image.specs.Bits.{MarkBegins};
 ghost use Rattle.heap_image.specs.Soundness.{AreWellFormed};
 
+pub(crate) mod crowd;
+pub(crate) mod live_list;
+pub(crate) mod soundness;
+pub(crate) mod unchecked;
+
 use crate::bits::Bits;
 use crate::heap::{Heap, is_small};
 use crate::{Fault, header};

@@ -8,8 +8,8 @@ ghost use Rattle.heap_image.specs.Sizes.{AreSizes};
 ghost use Rattle.heap_image.specs.Version.{has_roots};
 
 use crate::bits::Bits;
+use crate::check::soundness::PIECE;
 use crate::heap::Heap;
-use crate::soundness::PIECE;
 use crate::version::Version;
 use raw_region::Region;
 use std::marker::Model;

@@ -23,61 +23,40 @@
 #![tactic(auto)]
 
 mod bits;
-mod body;
-mod body_size;
 mod check;
-mod crowd;
-mod cursor;
-mod decoding;
-mod encoding;
 mod fault;
-mod front;
 pub mod header;
 mod heap;
 mod image;
-mod incoming;
-mod intake;
+mod io;
 mod laws;
-mod length_cause;
 pub mod limits;
-mod live_list;
 mod marking;
-mod numbers;
-mod outgoing;
-mod outlet;
-mod reach;
-mod read;
-mod region_source;
-mod side_by_side;
-mod soundness;
-mod store;
-mod unchecked;
 mod upgrading;
 mod version;
-mod write;
 
 pub use bits::Bits;
-pub use body::Body;
-pub use body_size::BodySize;
-pub use decoding::{decode, decode_by_threads};
-pub use encoding::encode;
+pub use check::soundness::PIECE;
 pub use fault::Fault;
-pub use front::FRONT_BYTES;
 pub use heap::Heap;
 pub use image::{Image, ImageParts};
-pub use intake::{Failed, FromRead, Intake};
+pub use io::body::Body;
+pub use io::decoding::{decode, decode_by_threads};
+pub use io::encoding::encode;
+pub use io::front::FRONT_BYTES;
+pub use io::front::body_size::BodySize;
+pub use io::front::length_cause::LengthCause;
+pub use io::intake::{Failed, FromRead, Intake};
+pub use io::outlet::{Outlet, ToWrite, give_all};
+pub use io::read::{read_image, read_image_by_threads, read_image_by_workers};
+pub use io::side_by_side::{Extent, body_at};
+pub use io::store::{FileStore, Store};
+pub use io::write::{write_image, write_image_buffered};
 pub use laws::{
     faultless_is_text, faults_of_roots, image_is_valid, live_objects_are_reached,
     marked_parts_are_valid, one_text, reachable_is_the_least_closed, roots_are_null_or_live,
     text_is_faultless,
 };
-pub use length_cause::LengthCause;
-pub use outlet::{Outlet, ToWrite, give_all};
-pub use reach::{mark_from_roots, mark_from_roots_by_workers};
-pub use read::{read_image, read_image_by_threads, read_image_by_workers};
-pub use side_by_side::{Extent, body_at};
-pub use soundness::PIECE;
-pub use store::{FileStore, Store};
+pub use marking::reach::{mark_from_roots, mark_from_roots_by_workers};
 pub use upgrading::{upgrade, upgrade_stream, upgrade_to};
 pub use version::Version;
-pub use write::{write_image, write_image_buffered};

@@ -13,12 +13,13 @@ mod boxes;
 mod finish;
 mod marker;
 mod part;
+pub(crate) mod reach;
 mod rounds;
 mod start;
 
 use crate::bits::Bits;
+use crate::check::crowd::Crowd;
 use crate::check::is_unsound;
-use crate::crowd::Crowd;
 use crate::header;
 use crate::heap::Heap;
 pub(crate) use marker::{Alone, Marker};

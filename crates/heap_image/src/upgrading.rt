@@ -8,10 +8,10 @@ ghost use Rattle.heap_image.specs.Refusals.{IsReason, IsOfReading};
 ghost use Rattle.heap_image.specs.Version.{has_roots};
 ghost use Rattle.heap_image.specs.Upgrade.{upgraded, upgraded_to, in_version_three, IsUpgradeBegun};
 
-use crate::intake::Intake;
-use crate::outlet::Outlet;
-use crate::read::read_image;
-use crate::write::write_image_buffered;
+use crate::io::intake::Intake;
+use crate::io::outlet::Outlet;
+use crate::io::read::read_image;
+use crate::io::write::write_image_buffered;
 use crate::{Fault, Image, ImageParts, Version};
 use std::alloc::{AllocError, Global};
 

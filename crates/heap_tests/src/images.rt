@@ -1,7 +1,18 @@
 //! Tests of images that are read, written, taken apart and rebuilt.
+
+mod buffered;
+pub(crate) mod devices;
+mod failing_once;
+mod length_causes;
+pub(crate) mod refusals;
+pub(crate) mod roots;
+mod stores;
+pub(crate) mod texts;
+mod upgrading;
+mod versions;
+
 use crate::answers::{are_right, comes_through};
 use crate::checks::{equal, equal_bytes, equal_words, holds};
-use crate::texts::{base_text, front};
 use heap_image::{
     Fault, FromRead, Image, ToWrite, decode_by_threads, encode, read_image, write_image,
 };
@@ -10,6 +21,7 @@ use std::alloc::Global;
 use std::process::Abort;
 use std::test::Fail;
 use std::thread::Threads;
+use texts::{base_text, front};
 
 /// The first 32 bytes of the base heap.
 const BASE_FRONT: [u8; 32] = [

@@ -2,9 +2,13 @@
 ghost use Rattle.std.specs.Prelude.{◌≡◌, ◌≤◌, IfOk};
 ghost use Rattle.heap_image.specs.HeapImage.{heap_words};
 
+mod marking;
+mod reached;
+mod seeded_marks;
+
 use crate::answers::are_right;
 use crate::checks::{equal, holds};
-use crate::texts::regions_of;
+use crate::images::texts::regions_of;
 use heap_image::{Fault, Image, decode};
 use heap_samples::{BASE_LIVE, Base, DEAD, Object, base_image, image_of, image_text, plain_words};
 use mark_bitmap::Marks;

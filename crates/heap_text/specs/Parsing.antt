@@ -12,8 +12,8 @@ use Rattle.heap_text.specs.declared.error.TextError.{TextError}
 use Rattle.heap_text.specs.declared.error.TextError.TheVariants.{Memory, Line}
 use Rattle.heap_text.specs.declared.expected.Expected.{Expected}
 use Rattle.heap_text.specs.declared.line_parser.LineParser.{LineParser}
-use Rattle.heap_text.specs.declared.next_line.NextLine.{NextLine}
-use Rattle.heap_text.specs.declared.next_line.NextLine.TheVariants.{Version, RegionLog, Words, Allowance, Roots, Heap}
+use Rattle.heap_text.specs.declared.line_parser.next_line.NextLine.{NextLine}
+use Rattle.heap_text.specs.declared.line_parser.next_line.NextLine.TheVariants.{Version, RegionLog, Words, Allowance, Roots, Heap}
 use Rattle.heap_text.specs.declared.parsed_heap.ParsedHeap.{ParsedHeap}
 use Rattle.heap_text.specs.declared.text_parser.TextParser.{TextParser}
 use Rattle.heap_text.specs.declared.word_list.WordList.{WordList}

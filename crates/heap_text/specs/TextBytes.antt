@@ -1,7 +1,7 @@
 -- The bytes of a line, and how many it can have.
 use Rattle.std.specs.Prelude.{ℕ, ◌+◌, ◌*◌, Bool, ◌&&◌, ◌||◌, ◌==◌, nat_le}
-use Rattle.heap_text.specs.declared.next_line.NextLine.{NextLine}
-use Rattle.heap_text.specs.declared.next_line.NextLine.TheVariants.{Version, RegionLog, Words, Allowance, Roots, Heap}
+use Rattle.heap_text.specs.declared.line_parser.next_line.NextLine.{NextLine}
+use Rattle.heap_text.specs.declared.line_parser.next_line.NextLine.TheVariants.{Version, RegionLog, Words, Allowance, Roots, Heap}
 
 -- a space, a hyphen, an at sign, a digit or a small letter
 abbrev pub is_text_byte : ℕ → Bool

@@ -5,8 +5,8 @@ use Rattle.heap_image.specs.Version.{has_roots}
 use Rattle.heap_text.specs.Text.{number_text, reference_text}
 use Rattle.heap_text.specs.declared.parsed_heap.ParsedHeap.{ParsedHeap}
 use Rattle.heap_text.specs.declared.word_list.WordList.{WordList}
-use Rattle.heap_text.specs.declared.line_error.LineError.{LineError}
-use Rattle.heap_text.specs.declared.line_error.LineError.TheVariants.{Memory, Expected}
+use Rattle.heap_text.specs.declared.line_parser.line_error.LineError.{LineError}
+use Rattle.heap_text.specs.declared.line_parser.line_error.LineError.TheVariants.{Memory, Expected}
 
 -- the words of a list in chunks
 abbrev pub words_of : WordList → List ℕ

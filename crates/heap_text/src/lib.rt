@@ -13,21 +13,15 @@
 #![tactic(auto)]
 
 mod assembling;
-mod dead_line;
 mod error;
 mod expected;
 mod image_bytes;
 mod laws;
-mod line_error;
 mod line_parser;
 mod lines;
-mod next_line;
-mod object_line;
 mod parsed_heap;
 mod reading;
-mod roots_line;
 mod text_parser;
-mod tokens;
 mod word_list;
 mod writing;
 

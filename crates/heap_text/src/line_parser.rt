@@ -2,17 +2,24 @@
 ghost use Rattle.std.specs.Prelude.{◌≡◌, ◌<◌, ◌≤◌, ◌++◌, ◌∷◌, ℕ, Bool, true, false, Some, IsTrue, if◌then◌else◌, codes, decimal};
 ghost use Rattle.heap_image.specs.HeapImage.{HeapImage, IsWithinLimits, version_of};
 ghost use Rattle.heap_image.specs.Version.{Allows, has_roots, max_region_log};
-ghost use Rattle.heap_text.specs.declared.next_line.NextLine.TheVariants.{Roots, Heap};
+ghost use Rattle.heap_text.specs.declared.line_parser.next_line.NextLine.TheVariants.{Roots, Heap};
+
+mod dead_line;
+pub(crate) mod line_error;
+mod next_line;
+mod object_line;
+mod roots_line;
+pub(crate) mod tokens;
 
 use crate::expected::Expected;
-use crate::line_error::LineError;
-use crate::next_line::NextLine;
 use crate::parsed_heap::ParsedHeap;
-use crate::roots_line::parse_roots;
-use crate::tokens::{Tokens, parse_address, parse_labelled};
 use heap_image::Version;
 use heap_image::limits::MIN_REGION_LOG;
+use line_error::LineError;
+use next_line::NextLine;
+use roots_line::parse_roots;
 use std::alloc::Global;
+use tokens::{Tokens, parse_address, parse_labelled};
 
 /// Parses one line after the other, each without its newline.
 #[derive(Drop)]

@@ -2,7 +2,7 @@
 ghost use Rattle.std.specs.Prelude.{◌+◌, ◌≤◌, ◌<◌, IfSome, length};
 ghost use Rattle.heap_text.specs.TextLines.{IsLineOf, ended_lines};
 
-use crate::tokens::{Tokens, parse_address};
+use crate::line_parser::tokens::{Tokens, parse_address};
 
 /// The bytes before the first newline, and those after it.
 fn first_line(text: &[u8]) -> Option<(&[u8], &[u8])>

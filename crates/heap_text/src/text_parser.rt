@@ -9,8 +9,8 @@ ghost use Rattle.heap_text.specs.TextLines.{EndsInLine, IsOfLine, IsWithin, ende
 
 use crate::error::TextError;
 use crate::expected::Expected;
-use crate::line_error::LineError;
 use crate::line_parser::LineParser;
+use crate::line_parser::line_error::LineError;
 use crate::parsed_heap::ParsedHeap;
 use std::alloc::Global;
 

@@ -5,7 +5,7 @@ use Rattle.history.specs.History.{state_of, IsLegal}
 use Rattle.history.specs.Scheduler.{SchedulerView, state_in}
 use Rattle.history.specs.Schedule.{line_of, entries_of}
 use Rattle.history.specs.declared.entry.Entry.{Entry}
-use Rattle.history.specs.declared.line.Line.{Line}
+use Rattle.history.specs.declared.schedule.line.Line.{Line}
 
 -- What contracts see of a book: its moves and its calls, oldest first.
 pub record BookView : Type 0 where

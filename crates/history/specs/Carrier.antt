@@ -5,7 +5,7 @@ use Rattle.summary.specs.NewAddresses.{prefix_end, new_top}
 use Rattle.summary.specs.WordMoves.{origin}
 use Rattle.summary.specs.Updates.{is_late_reference}
 use Rattle.history.specs.WordMachine.{is_redirected}
-use Rattle.history.specs.declared.carrier.Carrier.{Carrier}
+use Rattle.history.specs.declared.machine.carrier.Carrier.{Carrier}
 
 module _ (image : HeapImage) where
   -- these are the origins of the addresses from the prefix end up to the new top

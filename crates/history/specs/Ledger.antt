@@ -11,9 +11,9 @@ use Rattle.history.specs.LineCause.{IsCause}
 use Rattle.history.specs.declared.entry.Entry.{Entry}
 use Rattle.history.specs.declared.event.Event.{Event}
 use Rattle.history.specs.declared.event.Event.TheVariants.{Copy}
-use Rattle.history.specs.declared.ledger.Ledger.{Ledger}
-use Rattle.history.specs.declared.line.Line.{Line}
-use Rattle.history.specs.declared.line_cause.LineCause.{LineCause}
+use Rattle.history.specs.declared.machine.ledger.Ledger.{Ledger}
+use Rattle.history.specs.declared.schedule.line.Line.{Line}
+use Rattle.history.specs.declared.machine.line_cause.LineCause.{LineCause}
 
 -- a ledger of an image and this number of workers
 pub record IsLedger (image : HeapImage) (number : ℕ) (ledger : Ledger) : Type 0 where

@@ -7,10 +7,10 @@ use Rattle.history.specs.ImageMoves.{image_table}
 use Rattle.history.specs.Slide.{Machine, IsMachineStep}
 use Rattle.history.specs.WordMachine.{image_slide, machine_of}
 use Rattle.history.specs.Replay.{IsRefusedAt}
-use Rattle.history.specs.declared.line.Line.{Line}
-use Rattle.history.specs.declared.line_cause.LineCause.{LineCause}
-use Rattle.history.specs.declared.line_cause.LineCause.TheVariants.{NotAllowed, OtherReply}
-use Rattle.history.specs.declared.refused_line.RefusedLine.{RefusedLine}
+use Rattle.history.specs.declared.schedule.line.Line.{Line}
+use Rattle.history.specs.declared.machine.line_cause.LineCause.{LineCause}
+use Rattle.history.specs.declared.machine.line_cause.LineCause.TheVariants.{NotAllowed, OtherReply}
+use Rattle.history.specs.declared.machine.refused_line.RefusedLine.{RefusedLine}
 use Rattle.history.specs.declared.reply.Reply.{Reply}
 
 -- the line's event is a step of the machine with no reply; or it is with this reply, and the line has another

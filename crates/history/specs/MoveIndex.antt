@@ -1,8 +1,8 @@
 -- The index of a table of moves.
 use Rattle.std.specs.Prelude.{◌≡◌, ℕ, ◌<◌, ◌⊎◌, List, length, take, slice_index, slice_index_or, count_by}
 use Rattle.history.specs.MoveTable.{MoveTable, IsMoveTable, IsFirstPlace, region_count, has_source}
-use Rattle.history.specs.declared.readers.Readers.{Readers}
-use Rattle.history.specs.declared.readers.Readers.TheVariants.{Nobody, One, Two}
+use Rattle.history.specs.declared.moves.readers.Readers.{Readers}
+use Rattle.history.specs.declared.moves.readers.Readers.TheVariants.{Nobody, One, Two}
 
 -- the number of these indices
 abbrev pub number_of : Readers → ℕ

@@ -2,13 +2,13 @@
 use Rattle.std.specs.Prelude.{ℕ, ◌<◌, Bool, true, nat_lt, IsTrue, Option, Some, None}
 use Rattle.history.specs.declared.event.Event.{Event}
 use Rattle.history.specs.declared.event.Event.TheVariants.{Claim, Look, Drain, Complete, Settle, Poll, Copy}
-use Rattle.history.specs.declared.line.Line.{Line}
+use Rattle.history.specs.declared.schedule.line.Line.{Line}
 use Rattle.history.specs.declared.reply.Reply.{Reply}
 use Rattle.history.specs.declared.reply.Reply.TheVariants.{Yes, No, Open, Outside, Claimed, Filled, Last, NotLast, Done, All, More}
-use Rattle.history.specs.declared.reply_kind.ReplyKind.{ReplyKind}
-use Rattle.history.specs.declared.reply_kind.ReplyKind.TheVariants as kind
-use Rattle.history.specs.declared.verb.Verb.{Verb}
-use Rattle.history.specs.declared.verb.Verb.TheVariants as verb
+use Rattle.history.specs.declared.schedule.reply_kind.ReplyKind.{ReplyKind}
+use Rattle.history.specs.declared.schedule.reply_kind.ReplyKind.TheVariants as kind
+use Rattle.history.specs.declared.schedule.verb.Verb.{Verb}
+use Rattle.history.specs.declared.schedule.verb.Verb.TheVariants as verb
 
 -- the event of a verb with its numbers; those that it doesn't have are ignored
 abbrev pub event_with : Verb → ℕ → ℕ → Event

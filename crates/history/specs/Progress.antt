@@ -1,6 +1,6 @@
 use Rattle.std.specs.Prelude.{ℕ, Bool, true, false, Option, Some, None}
-use Rattle.history.specs.declared.progress.Progress.{Progress}
-use Rattle.history.specs.declared.progress.Progress.TheVariants.{Unclaimed, Filling, Completed, Settled}
+use Rattle.history.specs.declared.scheduler.progress.Progress.{Progress}
+use Rattle.history.specs.declared.scheduler.progress.Progress.TheVariants.{Unclaimed, Filling, Completed, Settled}
 
 -- the worker that claimed the region
 abbrev pub claimant_of : Progress → Option ℕ

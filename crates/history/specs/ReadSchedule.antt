@@ -3,7 +3,7 @@ use Rattle.std.specs.Prelude.{◌≡◌, ◌≢◌, ℕ, ◌+◌, ◌≤◌, Boo
 use Rattle.history.specs.Schedule.{ScheduleView, is_line}
 use Rattle.history.specs.ScheduleText.{line_text, header_text, schedule_text}
 use Rattle.history.specs.Verb.{has_numbers}
-use Rattle.history.specs.declared.line.Line.{Line}
+use Rattle.history.specs.declared.schedule.line.Line.{Line}
 
 -- a line of a worker below this number, with numbers that a text may have
 abbrev pub is_text_line : ℕ → Line → Bool

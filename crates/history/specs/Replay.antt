@@ -7,7 +7,7 @@ use Rattle.history.specs.ImageMoves.{image_table}
 use Rattle.history.specs.Slide.{IsMachineStep}
 use Rattle.history.specs.WordMachine.{image_slide, machine_of, IsAllowed}
 use Rattle.history.specs.declared.entry.Entry.{Entry}
-use Rattle.history.specs.declared.line.Line.{Line}
+use Rattle.history.specs.declared.schedule.line.Line.{Line}
 
 -- the call of the line, with the line's reply, or with any reply if the line leaves it open
 pub record IsCallOfLine (line : Line) (e : Entry) : Type 0 where

@@ -11,11 +11,11 @@ use Rattle.history.specs.Replay.{IsReplay}
 use Rattle.history.specs.declared.entry.Entry.{Entry}
 use Rattle.history.specs.declared.event.Event.{Event}
 use Rattle.history.specs.declared.event.Event.TheVariants.{Copy}
-use Rattle.history.specs.declared.ledger.Ledger.{Ledger}
-use Rattle.history.specs.declared.line.Line.{Line}
-use Rattle.history.specs.declared.replayed.End.{End}
-use Rattle.history.specs.declared.replayed.End.TheVariants.{Finished, Open}
-use Rattle.history.specs.declared.replayed.Replayed.{Replayed}
+use Rattle.history.specs.declared.machine.ledger.Ledger.{Ledger}
+use Rattle.history.specs.declared.schedule.line.Line.{Line}
+use Rattle.history.specs.declared.machine.replayed.End.{End}
+use Rattle.history.specs.declared.machine.replayed.End.TheVariants.{Finished, Open}
+use Rattle.history.specs.declared.machine.replayed.Replayed.{Replayed}
 
 -- finished with the compacted image if all regions to be filled are settled after these calls, otherwise open
 abbrev pub IsEndOf : HeapImage → List Entry → End → Type 0

@@ -7,7 +7,7 @@ use Rattle.history.specs.declared.event.Event.TheVariants.{Claim, Look, Drain, C
 use Rattle.history.specs.declared.reply.Reply.{Reply}
 use Rattle.history.specs.declared.reply.Reply.TheVariants.{Yes, No, Open, Outside, Claimed, Filled, Last, NotLast, Done, All as AllSettled, More}
 use Rattle.history.specs.declared.entry.Entry.{Entry}
-use Rattle.history.specs.declared.line.Line.{Line}
+use Rattle.history.specs.declared.schedule.line.Line.{Line}
 
 -- the events that a schedule may have; a copy has at least one word
 abbrev pub is_event : Event → Bool

@@ -5,8 +5,8 @@ use Rattle.history.specs.Progress.{claimant_of, is_filled, is_settled}
 use Rattle.history.specs.declared.event.Event.{Event}
 use Rattle.history.specs.declared.event.Illegal.{Illegal}
 use Rattle.history.specs.declared.reply.Reply.{Reply}
-use Rattle.history.specs.declared.progress.Progress.{Progress}
-use Rattle.history.specs.declared.progress.Progress.TheVariants.{Unclaimed}
+use Rattle.history.specs.declared.scheduler.progress.Progress.{Progress}
+use Rattle.history.specs.declared.scheduler.progress.Progress.TheVariants.{Unclaimed}
 
 -- What contracts see of a scheduler.
 pub record SchedulerView : Type 0 where

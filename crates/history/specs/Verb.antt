@@ -1,7 +1,7 @@
 -- The parts of an event's text.
 use Rattle.std.specs.Prelude.{ℕ, ◌^◌, Bool, true, ◌&&◌, nat_lt, List, ◌∷◌, ◌++◌, codes, decimal}
-use Rattle.history.specs.declared.verb.Verb.{Verb}
-use Rattle.history.specs.declared.verb.Verb.TheVariants as verb
+use Rattle.history.specs.declared.schedule.verb.Verb.{Verb}
+use Rattle.history.specs.declared.schedule.verb.Verb.TheVariants as verb
 use Rattle.history.specs.declared.event.Event.{Event}
 use Rattle.history.specs.declared.event.Event.TheVariants.{Claim, Look, Drain, Complete, Settle, Poll, Copy}
 

@@ -2,7 +2,7 @@
 use Rattle.std.specs.Prelude.{◌≡◌, ℕ, ◌≤◌, ◌⊎◌, IsTrue, List, ◌∷◌, ◌++◌, Option, length, slice_range}
 use Rattle.std.specs.Io.KnownBytes.{prepend_known}
 use Rattle.history.specs.Reading.{is_without}
-use Rattle.history.specs.declared.window.Window.{Window}
+use Rattle.history.specs.declared.schedule.window.Window.{Window}
 
 -- the unread bytes lie in the buffer
 pub record IsInRange (w : Window) : Type 0 where

@@ -6,6 +6,12 @@ ghost use Rattle.history.specs.History.{IsLegal, IsOrderly, IsReached, TellsOwn,
 ghost use Rattle.history.specs.WordMachine.{IsAllowed, IsDrainedBeforeWritten};
 ghost use Rattle.history.specs.declared.entry.Entry.{Entry};
 
+pub(crate) mod image_laws;
+pub(crate) mod record_laws;
+pub(crate) mod replay_laws;
+pub(crate) mod text_laws;
+pub(crate) mod whole_histories;
+
 use crate::moves::Moves;
 
 /// For any number of workers and any order of calls: a region is granted at most once, when it has no

@@ -1,6 +1,12 @@
 ghost use Rattle.std.specs.Prelude.{◌≡◌, ◌<◌, IfSome};
 ghost use Rattle.history.specs.MoveTable.{MoveTable, IsMoveTable, IsNextSource, region_count, to_fill, readers_of};
 
+pub(crate) mod given_moves;
+pub(crate) mod indexed_moves;
+mod plan_moves;
+mod readers;
+pub(crate) mod tallies;
+
 /// The regions to be filled, and the other regions from which each of them takes words. Contracts see
 /// one table of plain data: a flag for each region and a list of pairs (destination, source).
 pub trait Moves {

@@ -1,9 +1,22 @@
 ghost use Rattle.std.specs.Prelude.{◌≡◌, ◌<◌, ◌≤◌, ◌↔◌, Some, [], IsTrue, length, slice_get};
 ghost use Rattle.history.specs.Schedule.{IsSchedule, is_line};
 
+mod event_text;
+pub(crate) mod line;
+mod line_text;
+pub(crate) mod packed_line;
+mod reading;
+mod reply_kind;
+mod reply_text;
+pub(crate) mod schedule_device;
+pub(crate) mod schedule_reading;
+pub(crate) mod schedule_text;
+mod verb;
+mod window;
+
 use crate::event::Event;
-use crate::packed_line::PackedLine;
 use crate::reply::Reply;
+use packed_line::PackedLine;
 use std::marker::Model;
 
 /// The most workers that a schedule, a scheduler or a collection can have.

@@ -4,13 +4,18 @@ ghost use Rattle.history.specs.State.{all_or_more, unsettled, may_claim, opening
 ghost use Rattle.history.specs.Progress.{claimant_of, is_filled, is_settled};
 ghost use Rattle.history.specs.Scheduler.{state_in, IsPendingAt, Steps};
 
+pub(crate) mod book;
+pub(crate) mod call_fault;
+pub(crate) mod locked_board;
+mod progress;
+
 use crate::event::{Event, Illegal};
-use crate::given_moves::GivenMoves;
-use crate::indexed_moves::IndexedMoves;
 use crate::moves::Moves;
-use crate::progress::Progress;
+use crate::moves::given_moves::GivenMoves;
+use crate::moves::indexed_moves::IndexedMoves;
+use crate::moves::tallies::{count_readers, count_sources};
 use crate::reply::Reply;
-use crate::tallies::{count_readers, count_sources};
+use progress::Progress;
 use std::alloc::{AllocError, Global};
 use std::marker::Model;
 

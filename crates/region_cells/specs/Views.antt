@@ -1,8 +1,8 @@
 -- How contracts view a region that is read, written or put back.
 use Rattle.std.specs.Prelude.{ℕ, List}
 use Rattle.heap_image.specs.HeapImage.{HeapImage, block_of}
-use Rattle.claim_board.specs.declared.opening.Opening.{Opening}
-use Rattle.claim_board.specs.declared.right.Right.{Right}
+use Rattle.claim_board.specs.declared.tokens.opening.Opening.{Opening}
+use Rattle.claim_board.specs.declared.tokens.right.Right.{Right}
 
 -- a region of an image, by its number
 pub record ImageRegion : Type 0 where

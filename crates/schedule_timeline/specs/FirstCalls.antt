@@ -3,8 +3,8 @@ use Rattle.std.specs.Prelude.{◌≡◌, ℕ, ◌<◌, ◌≤◌, IsTrue, All, L
 use Rattle.history.specs.History.{is_grant}
 use Rattle.history.specs.declared.entry.Entry.{Entry}
 use Rattle.schedule_timeline.specs.Timeline.{does, first_call}
-use Rattle.schedule_timeline.specs.declared.call.Call.{Call}
-use Rattle.schedule_timeline.specs.declared.deed.Deed.{Deed}
+use Rattle.schedule_timeline.specs.declared.timeline.call.Call.{Call}
+use Rattle.schedule_timeline.specs.declared.timeline.deed.Deed.{Deed}
 
 -- the earlier call if there is one, else this one
 abbrev pub earlier_of : Option Call → Call → Option Call

@@ -12,17 +12,17 @@ use Rattle.history.specs.Replay.{IsReplay}
 use Rattle.history.specs.declared.entry.Entry.{Entry}
 use Rattle.history.specs.declared.event.Event.{Event}
 use Rattle.history.specs.declared.event.Event.TheVariants.{Claim, Drain}
-use Rattle.history.specs.declared.replayed.End.{End}
-use Rattle.history.specs.declared.replayed.End.TheVariants as end
+use Rattle.history.specs.declared.machine.replayed.End.{End}
+use Rattle.history.specs.declared.machine.replayed.End.TheVariants as end
 use Rattle.history.specs.declared.reply.Reply.{Reply}
 use Rattle.history.specs.declared.reply.Reply.TheVariants.{Yes, Last}
-use Rattle.schedule_timeline.specs.declared.bar.Bar.{Bar}
-use Rattle.schedule_timeline.specs.declared.call.Call.{Call}
-use Rattle.schedule_timeline.specs.declared.deed.Deed.{Deed}
-use Rattle.schedule_timeline.specs.declared.deed.Deed.TheVariants.{Grant, Completion, Settling}
-use Rattle.schedule_timeline.specs.declared.ending.Ending.{Ending}
-use Rattle.schedule_timeline.specs.declared.ending.Ending.TheVariants.{Finished, Open}
-use Rattle.schedule_timeline.specs.declared.freeing.Freeing.{Freeing}
+use Rattle.schedule_timeline.specs.declared.timeline.bar.Bar.{Bar}
+use Rattle.schedule_timeline.specs.declared.timeline.call.Call.{Call}
+use Rattle.schedule_timeline.specs.declared.timeline.deed.Deed.{Deed}
+use Rattle.schedule_timeline.specs.declared.timeline.deed.Deed.TheVariants.{Grant, Completion, Settling}
+use Rattle.schedule_timeline.specs.declared.timeline.ending.Ending.{Ending}
+use Rattle.schedule_timeline.specs.declared.timeline.ending.Ending.TheVariants.{Finished, Open}
+use Rattle.schedule_timeline.specs.declared.timeline.freeing.Freeing.{Freeing}
 use Rattle.schedule_timeline.specs.declared.timeline.Timeline.{Timeline}
 
 -- the region is there, and is r

@@ -1,9 +1,9 @@
 -- The figures of a timeline, and how they are printed.
 use Rattle.std.specs.Prelude.{◌≡◌, ℕ, List, ◌++◌, codes, decimal, length, count_by, is_some}
-use Rattle.schedule_timeline.specs.declared.bar.Bar.{Bar}
-use Rattle.schedule_timeline.specs.declared.ending.Ending.{Ending}
-use Rattle.schedule_timeline.specs.declared.ending.Ending.TheVariants.{Finished, Open}
-use Rattle.schedule_timeline.specs.declared.freeing.Freeing.{Freeing}
+use Rattle.schedule_timeline.specs.declared.timeline.bar.Bar.{Bar}
+use Rattle.schedule_timeline.specs.declared.timeline.ending.Ending.{Ending}
+use Rattle.schedule_timeline.specs.declared.timeline.ending.Ending.TheVariants.{Finished, Open}
+use Rattle.schedule_timeline.specs.declared.timeline.freeing.Freeing.{Freeing}
 use Rattle.schedule_timeline.specs.declared.figures.TimelineFigures.{TimelineFigures}
 use Rattle.schedule_timeline.specs.declared.timeline.Timeline.{Timeline}
 

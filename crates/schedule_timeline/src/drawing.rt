@@ -1,14 +1,16 @@
 //! Draws a timeline as SVG: a bar for each region, or above [`MAX_BARS`] regions shares of lines by colour.
 ghost use Rattle.std.specs.Prelude.{◌≤◌, ◌^◌};
 
-use crate::bar::Bar;
-use crate::density::draw_density;
+mod density;
+
 use crate::figures::TimelineFigures;
-use crate::freeing::Freeing;
 use crate::names::{Names, write_names};
-use crate::scale::Scale;
 use crate::strips::write_freeing;
 use crate::timeline::Timeline;
+use crate::timeline::bar::Bar;
+use crate::timeline::freeing::Freeing;
+use crate::timeline::scale::Scale;
+use density::draw_density;
 use std::alloc::{AllocError, Global};
 
 /// The width of the drawing. Its text is legible in a page that is 375 points wide.

@@ -1,8 +1,8 @@
 ghost use Rattle.std.specs.Prelude.{◌≡◌};
 ghost use Rattle.schedule_timeline.specs.TimelineFigures.{AreFiguresOf};
 
-use crate::ending::Ending;
 use crate::timeline::Timeline;
+use crate::timeline::ending::Ending;
 use std::fmt;
 
 /// The figures of a timeline, which it prints in its first line.

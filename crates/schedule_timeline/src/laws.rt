@@ -3,7 +3,7 @@ ghost use Rattle.std.specs.Prelude.{ℕ, List};
 ghost use Rattle.heap_image.specs.HeapImage.{HeapImage, region_count};
 ghost use Rattle.history.specs.Replay.{IsReplay};
 ghost use Rattle.history.specs.declared.entry.Entry.{Entry};
-ghost use Rattle.history.specs.declared.line.Line.{Line};
+ghost use Rattle.history.specs.declared.schedule.line.Line.{Line};
 ghost use Rattle.schedule_timeline.specs.FirstCalls.{AreGrantedBelow};
 
 use history::{moves_of_images, what_replays_keep};

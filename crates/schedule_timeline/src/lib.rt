@@ -14,32 +14,19 @@
 //! the README.
 #![tactic(auto)]
 
-mod bar;
-mod call;
-mod deed;
-mod density;
 mod drawing;
-mod ending;
 mod entry_at;
 mod figures;
-mod first_calls;
-mod freeing;
-mod lane;
 pub mod laws;
-mod mark;
 mod names;
 mod page;
-mod page_layout;
-mod page_script;
-mod scale;
-mod share;
 mod strips;
 mod timeline;
 
-pub use bar::Bar;
-pub use call::Call;
-pub use ending::Ending;
 pub use figures::TimelineFigures;
-pub use freeing::Freeing;
 pub use names::Names;
 pub use timeline::Timeline;
+pub use timeline::bar::Bar;
+pub use timeline::call::Call;
+pub use timeline::ending::Ending;
+pub use timeline::freeing::Freeing;

@@ -3,10 +3,13 @@ ghost use Rattle.std.specs.Prelude.{◌≡◌, ◌<◌, ◌-◌, ◌^◌, ◌++�
 ghost use Rattle.history.specs.ScheduleText.{schedule_text};
 ghost use Rattle.schedule_timeline.specs.Page.{Has};
 
+mod page_layout;
+mod page_script;
+
 use crate::names::{Names, write_names};
-use crate::page_layout::{AFTER_SCHEDULE, BEFORE_MOVES, BEFORE_SCHEDULE, HEAD, TAIL};
-use crate::page_script::SCRIPT;
 use history::{Schedule, append_schedule};
+use page_layout::{AFTER_SCHEDULE, BEFORE_MOVES, BEFORE_SCHEDULE, HEAD, TAIL};
+use page_script::SCRIPT;
 use std::alloc::{AllocError, Global};
 use summary::Plan;
 

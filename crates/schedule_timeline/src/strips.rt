@@ -1,10 +1,10 @@
 //! Prints the lanes of a timeline as text: two rows for each worker.
-use crate::freeing::Freeing;
-use crate::lane::Lane;
-use crate::mark::Mark;
-use crate::scale::Scale;
-use crate::share::Share;
 use crate::timeline::Timeline;
+use crate::timeline::freeing::Freeing;
+use crate::timeline::lane::Lane;
+use crate::timeline::mark::Mark;
+use crate::timeline::scale::Scale;
+use crate::timeline::share::Share;
 use heap_map::{Glyphs, Style};
 use std::alloc::{AllocError, Global};
 

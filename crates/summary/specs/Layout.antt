@@ -6,8 +6,8 @@ use Rattle.mark_bitmap.specs.Marks.{is_begin}
 use Rattle.summary.specs.NewAddresses.{prefix_end, new_top}
 use Rattle.summary.specs.RegionData.{partial_words, own_words, region_data}
 use Rattle.summary.specs.declared.region_data.RegionData.{RegionData}
-use Rattle.summary.specs.declared.region_counts.RegionCounts.{RegionCounts}
-use Rattle.summary.specs.declared.layout.Layout.{Layout}
+use Rattle.summary.specs.declared.plan.region_counts.RegionCounts.{RegionCounts}
+use Rattle.summary.specs.declared.plan.layout.Layout.{Layout}
 
 -- The own start of region r: the first address in it at which a live object begins, or its end if none does.
 pub record IsOwnStart (image : HeapImage) (r a : ℕ) : Type 0 where

@@ -24,19 +24,13 @@
 //! allocations succeed, the number of threads that count, and the time that a call takes.
 #![tactic(auto)]
 
-mod counting;
-mod deferred;
 pub mod laws;
-mod layout;
 mod plainly;
 mod plan;
 mod reads;
-mod redirections;
-mod region_counts;
 mod region_data;
 mod region_table;
 mod report_text;
-mod sources;
 mod stride;
 mod survey;
 

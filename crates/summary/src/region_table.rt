@@ -6,10 +6,10 @@ ghost use Rattle.summary.specs.NewAddresses.{prefix_end, new_top};
 ghost use Rattle.summary.specs.Layout.{AreRegionCounts};
 ghost use Rattle.summary.specs.Plan.{AreRegions};
 
-use crate::layout::Layout;
-use crate::region_counts::RegionCounts;
+use crate::plan::layout::Layout;
+use crate::plan::region_counts::RegionCounts;
+use crate::plan::sources::set_sources;
 use crate::region_data::RegionData;
-use crate::sources::set_sources;
 use heap_image::Image;
 use std::alloc::{AllocError, Global};
 use std::marker::Model;

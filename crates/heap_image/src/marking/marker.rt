@@ -7,10 +7,10 @@ ghost use Rattle.heap_image.specs.Soundness.{AreWellFormed};
 
 use super::{Marked, mark, mark_by_crowd};
 use crate::bits::Bits;
-use crate::crowd::Crowd;
+use crate::check::crowd::Crowd;
+use crate::check::live_list::{marked_addresses, marked_by_crowd};
+use crate::check::soundness::sizes_if_sound;
 use crate::heap::Heap;
-use crate::live_list::{marked_addresses, marked_by_crowd};
-use crate::soundness::sizes_if_sound;
 use std::alloc::{AllocError, Global};
 use std::thread::Threads;
 

@@ -7,7 +7,7 @@ ghost use Rattle.heap_image.specs.Rounds.{IsLayout, IsState, HaveTurned, IsSwapp
 use super::boxes::Boxes;
 use super::part::Part;
 use super::start::{part_count, parts_of, root_row, rows_of};
-use crate::crowd::Crowd;
+use crate::check::crowd::Crowd;
 use crate::heap::Heap;
 use std::alloc::{AllocError, Global};
 use std::mem;

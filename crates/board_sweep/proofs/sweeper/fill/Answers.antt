@@ -8,7 +8,7 @@ use Rattle.claim_board.specs.Boards.{moves, mine, worker, caller}
 use Rattle.claim_board.specs.Callers.{Gains}
 use Rattle.claim_board.specs.Drains.{reply_of}
 use Rattle.board_sweep.specs.Tallies.{Adds, none}
-use Rattle.board_sweep.proofs.Tallying.{tally, adds-drain, adds-completion, adds-settling, adds-both}
+use Rattle.board_sweep.proofs.Lemmas.Tallying.{tally, adds-drain, adds-completion, adds-settling, adds-both}
 use Rattle.board_sweep.proofs.sweeper.fill.Goals as goal
 
 pub loop-opening-preserved : goal.loop-opening-preserved

@@ -1,6 +1,6 @@
 use Rattle.std.proofs.Common.{◌∙◌}
 use Rattle.claim_board.specs.Boards.{mine}
-use Rattle.board_sweep.proofs.Sweeping.{swept-one_more}
+use Rattle.board_sweep.proofs.Lemmas.Sweeping.{swept-one_more}
 use Rattle.board_sweep.proofs.sweeper.sweep.Goals as goal
 
 pub loop-region-preserved : goal.loop-region-preserved

@@ -6,7 +6,7 @@ use Rattle.history.specs.MoveTable.{region_count}
 use Rattle.board_sweep.specs.declared.tally.Tally.{Tally}
 use Rattle.board_sweep.specs.Tallies.{claims_in, completions_in}
 use Rattle.board_sweep.specs.Report.{lines_of, report_of}
-use Rattle.board_sweep.proofs.Totals.{lines-of_both}
+use Rattle.board_sweep.proofs.Lemmas.Totals.{lines-of_both}
 use Rattle.board_sweep.proofs.two_workers.text_of.Goals as goal
 use Rattle.board_sweep.proofs.two_workers.text_of.Goals.{then-branch+in_ok-push_str, else-branch}
 

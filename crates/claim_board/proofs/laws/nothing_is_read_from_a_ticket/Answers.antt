@@ -1,4 +1,4 @@
-use Rattle.claim_board.proofs.Apart.{nothing_read}
+use Rattle.claim_board.proofs.Lemmas.Apart.{nothing_read}
 use Rattle.claim_board.proofs.laws.nothing_is_read_from_a_ticket.Goals as goal
 
 pub returns : goal.returns

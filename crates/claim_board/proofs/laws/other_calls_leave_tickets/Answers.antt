@@ -1,4 +1,4 @@
-use Rattle.claim_board.proofs.Sweeps.{leaves_tickets}
+use Rattle.claim_board.proofs.Lemmas.Sweeps.{leaves_tickets}
 use Rattle.claim_board.proofs.laws.other_calls_leave_tickets.Goals as goal
 
 pub returns : goal.returns

@@ -1,4 +1,4 @@
-use Rattle.claim_board.proofs.Sweeps.{none_left}
+use Rattle.claim_board.proofs.Lemmas.Sweeps.{none_left}
 use Rattle.claim_board.proofs.laws.swept_tickets_have_none_left.Goals as goal
 
 pub returns : goal.returns

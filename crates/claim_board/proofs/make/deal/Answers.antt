@@ -1,6 +1,6 @@
 use Rattle.std.proofs.Common.{◌≡◌, ◌+◌, ◌-◌, suc, zero, [], length, vec_len, arith, sym, ap, ◌∙◌, subst}
 use Rattle.claim_board.specs.Boards.{ArePassesFrom}
-use Rattle.claim_board.proofs.Openings.{deals, dealt, dealt_one, new_pass, passes_push}
+use Rattle.claim_board.proofs.Lemmas.Openings.{deals, dealt, dealt_one, new_pass, passes_push}
 use Rattle.claim_board.proofs.make.deal.Goals as goal
 
 pub split_seat-one-requires : goal.split_seat-one-requires

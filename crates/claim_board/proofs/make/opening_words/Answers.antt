@@ -4,7 +4,7 @@ use Rattle.std.proofs.lemmas.List.{get_or_default}
 use Rattle.history.specs.MoveTable.{region_count}
 use Rattle.history.specs.State.{opening, readers_left}
 use Rattle.claim_board.specs.Rule.{word_of}
-use Rattle.claim_board.proofs.Openings.{at_old, at_new, all_readers, opening_word}
+use Rattle.claim_board.proofs.Lemmas.Openings.{at_old, at_new, all_readers, opening_word}
 use Rattle.claim_board.proofs.make.opening_words.Goals as goal
 
 pub opening_word-requires : goal.opening_word-requires

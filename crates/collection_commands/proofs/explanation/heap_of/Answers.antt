@@ -2,7 +2,7 @@ use Rattle.std.proofs.Common.{◌≡◌, ℕ, ◌*◌, ◌^◌, ◌%◌, ◌<◌
 use Rattle.std.proofs.Math.Nat.{mod-eq_of_lt}
 use Rattle.std.specs.List.{concat}
 use Rattle.heap_image.specs.HeapImage.{AreBlocks}
-use Rattle.heap_image.proofs.BlockWords.{length-concat}
+use Rattle.heap_image.proofs.Lemmas.BlockWords.{length-concat}
 use Rattle.collection_commands.proofs.explanation.heap_of.Goals as goal
 
 -- a shift of 64 bits that loses none

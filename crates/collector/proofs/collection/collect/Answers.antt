@@ -3,7 +3,7 @@ use Rattle.heap_image.specs.HeapImage.{HeapImage}
 use Rattle.heap_image.specs.declared.fault.Fault.TheVariants.{Gate}
 use Rattle.claim_board.specs.Boards.{worker_count}
 use Rattle.collector.specs.Halts.{MayRefuse}
-use Rattle.collector.proofs.Failing.{refused_by}
+use Rattle.collector.proofs.Lemmas.Failing.{refused_by}
 use Rattle.collector.proofs.collection.collect.Goals as goal
 
 pub returns-in-Err-collected-clause-gate : goal.returns-in-Err-collected-clause-gate

@@ -2,8 +2,8 @@ use Rattle.std.proofs.Common.{sym, refl, subst}
 use Rattle.history.specs.State.{AllAreSettled}
 use Rattle.history.specs.History.{state_of}
 use Rattle.claim_board.specs.Boards.{moves, identity}
-use Rattle.collector.proofs.Passes.{all_of}
-use Rattle.collector.proofs.Settled.{none_left}
+use Rattle.collector.proofs.Lemmas.Passes.{all_of}
+use Rattle.collector.proofs.Lemmas.Settled.{none_left}
 use Rattle.collector.proofs.collection.finish.Goals as goal
 
 pub finish-requires : goal.finish-requires

@@ -5,7 +5,7 @@ use Rattle.command_line.specs.Request.{IsFor, IsNoUsage}
 use Rattle.command_line.specs.declared.request.Request.{Request}
 use Rattle.command_line.specs.declared.unread.Unread.{Unread}
 use Rattle.command_line.specs.declared.unread.Unread.TheVariants.{Memory}
-use Rattle.command_line.proofs.Calls.{calls_board, met_by_call}
+use Rattle.command_line.proofs.Lemmas.Calls.{calls_board, met_by_call}
 use Rattle.command_line.proofs.reading.read.Goals as goal
 
 pub returns-in-Ok-clause-calls : goal.returns-in-Ok-clause-calls

@@ -2,7 +2,7 @@ use Rattle.std.proofs.Common.{◌∙◌, List, ℕ, ap, sym, subst}
 use Rattle.std.specs.Prelude.{◌++◌, codes, string_bytes}
 use Rattle.heap_dump.specs.ImportFigures.{figures_text}
 use Rattle.heap_commands.specs.Import.{IsLineOf, IsTextOf}
-use Rattle.heap_commands.proofs.Imports.{line_and_histogram}
+use Rattle.heap_commands.proofs.Lemmas.Imports.{line_and_histogram}
 use Rattle.heap_commands.proofs.import.text_of.Goals as goal
 
 pub returns : goal.returns

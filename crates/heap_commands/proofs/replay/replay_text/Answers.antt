@@ -1,7 +1,7 @@
 use Rattle.std.proofs.Common.{ap}
 use Rattle.std.proofs.lemmas.Result.{err_from_is_err_and}
 use Rattle.heap_commands.specs.declared.replay.Unreplayed.{Unreplayed}
-use Rattle.heap_commands.proofs.Unreplayed.{out_of_memory, replay_stopped}
+use Rattle.heap_commands.proofs.Lemmas.Unreplayed.{out_of_memory, replay_stopped}
 use Rattle.heap_commands.proofs.replay.replay_text.Goals as goal
 
 pub returns-in_err-replayed-clause-fault : goal.returns-in_err-replayed-clause-fault

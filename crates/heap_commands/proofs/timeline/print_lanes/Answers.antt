@@ -1,6 +1,6 @@
 use Rattle.std.proofs.Common.{◌∙◌, ap, sym, subst}
 use Rattle.heap_commands.specs.Timeline.{IsTimeline}
-use Rattle.heap_commands.proofs.Timelines.{lanes_are_a_timeline}
+use Rattle.heap_commands.proofs.Lemmas.Timelines.{lanes_are_a_timeline}
 use Rattle.heap_commands.proofs.timeline.print_lanes.Goals as goal
 
 pub returns-in-Ok : goal.returns-in-Ok

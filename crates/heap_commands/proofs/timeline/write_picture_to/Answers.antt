@@ -1,7 +1,7 @@
 use Rattle.std.proofs.Common.{sym, subst}
 use Rattle.std.proofs.lemmas.Result.{IfOk-weaker}
 use Rattle.heap_commands.specs.Timeline.{IsTimeline}
-use Rattle.heap_commands.proofs.Timelines.{figures_are_a_timeline}
+use Rattle.heap_commands.proofs.Lemmas.Timelines.{figures_are_a_timeline}
 use Rattle.heap_commands.proofs.timeline.write_picture_to.Goals as goal
 
 pub returns-in-Ok : goal.returns-in-Ok

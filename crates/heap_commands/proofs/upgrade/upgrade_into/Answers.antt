@@ -12,8 +12,8 @@ use Rattle.heap_image.specs.declared.fault.Fault.TheVariants.{Memory}
 use Rattle.command_support.specs.declared.failure.Failure.{Failure}
 use Rattle.command_support.specs.declared.failure.Failure.TheVariants as failed
 use Rattle.heap_commands.specs.Upgrade.{IsBegun}
-use Rattle.heap_commands.proofs.Unreplayed.{memory_is_a_reason}
-use Rattle.heap_commands.proofs.Upgrades.{version_asked}
+use Rattle.heap_commands.proofs.Lemmas.Unreplayed.{memory_is_a_reason}
+use Rattle.heap_commands.proofs.Lemmas.Upgrades.{version_asked}
 use Rattle.heap_commands.proofs.upgrade.upgrade_into.Goals as goal
 
 pub returns-clause-upgrade : goal.returns-clause-upgrade

@@ -2,7 +2,7 @@ use Rattle.std.proofs.Common.{◌≡◌, ◌<◌, ◌≤◌, ◌+◌, ◌^◌, �
 use Rattle.std.proofs.lemmas.List.{get_or_default}
 use Rattle.std.proofs.lemmas.List.Elements.{All-append}
 use Rattle.std.specs.List.{concat}
-use Rattle.heap_dump.proofs.Concats.{concat_more}
+use Rattle.heap_dump.proofs.Lemmas.Concats.{concat_more}
 use Rattle.heap_dump.proofs.limits.words_of.Goals as goal
 
 pub loop-region-preserved : goal.loop-region-preserved

@@ -1,7 +1,7 @@
 use Rattle.std.proofs.Common.{◌≡◌, ◌*◌, ◌/◌, ◌%◌, ◌^◌, length, ap, ◌∙◌, arith}
 use Rattle.std.proofs.Math.Nat.{mul-mod_left}
-use Rattle.heap_image.proofs.BlockWords.{length-concat, count}
-use Rattle.heap_image.proofs.Parts.{region_some}
+use Rattle.heap_image.proofs.Lemmas.BlockWords.{length-concat, count}
+use Rattle.heap_image.proofs.Lemmas.Parts.{region_some}
 use Rattle.heap_dump.proofs.limits.words_within_limits.Goals as goal
 
 pub returns-clause-limits : goal.returns-clause-limits

@@ -3,7 +3,7 @@ use Rattle.std.proofs.lemmas.List.{get_or_default}
 use Rattle.heap_dump.specs.Totals.{objects_in, sums_in}
 use Rattle.heap_dump.specs.declared.listing.ListedObject.{ListedObject}
 use Rattle.heap_dump.specs.declared.totals.ClassTotals.{ClassTotals}
-use Rattle.heap_dump.proofs.Sums.{each_more}
+use Rattle.heap_dump.proofs.Lemmas.Sums.{each_more}
 use Rattle.heap_dump.proofs.totals.class_totals.Goals as goal
 
 pub loop-object-preserved : goal.loop-object-preserved

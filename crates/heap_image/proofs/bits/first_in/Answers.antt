@@ -3,8 +3,8 @@ use Rattle.std.specs.Prelude.{MatchOption}
 use Rattle.std.specs.List.{position}
 use Rattle.std.proofs.lemmas.List.{length-drop, get_or-drop}
 use Rattle.heap_image.specs.Bits.{has, NoneFrom, IsFirstFrom}
-use Rattle.heap_image.proofs.Masks.{low_mask}
-use Rattle.heap_image.proofs.Firsts.{NoneBefore, nonzero, IsFirstFrom-in_word, IsRest-first, IsRest-behind, NoneBefore-first, NoneBefore-second, NoneBefore-behind, NoneFrom-words, zeros-none, zeros-some, words_behind, found-some}
+use Rattle.heap_image.proofs.Lemmas.Masks.{low_mask}
+use Rattle.heap_image.proofs.Lemmas.Firsts.{NoneBefore, nonzero, IsFirstFrom-in_word, IsRest-first, IsRest-behind, NoneBefore-first, NoneBefore-second, NoneBefore-behind, NoneFrom-words, zeros-none, zeros-some, words_behind, found-some}
 use Rattle.heap_image.proofs.bits.first_in.Goals as goal
 
 pub returns-then-rest-ne0 : goal.returns-then-rest-ne0

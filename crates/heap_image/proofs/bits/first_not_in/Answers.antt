@@ -2,9 +2,9 @@ use Rattle.std.proofs.Common.{◌≡◌, refl, ℕ, ◌+◌, ◌-◌, ◌*◌, �
 use Rattle.std.specs.List.{position}
 use Rattle.std.proofs.lemmas.Bool.{ltb-true}
 use Rattle.std.proofs.lemmas.List.{length-drop, get_or-drop, get_or_default}
-use Rattle.heap_image.proofs.Masks.{low_mask}
-use Rattle.heap_image.proofs.Firsts.{words_behind}
-use Rattle.heap_image.proofs.Absent.{AllBefore, not_full, first-in_word, lack-first, lack-behind, all-first, all-second, all-behind, full-none, full-some, found-lack, first-past}
+use Rattle.heap_image.proofs.Lemmas.Masks.{low_mask}
+use Rattle.heap_image.proofs.Lemmas.Firsts.{words_behind}
+use Rattle.heap_image.proofs.Lemmas.Absent.{AllBefore, not_full, first-in_word, lack-first, lack-behind, all-first, all-second, all-behind, full-none, full-some, found-lack, first-past}
 use Rattle.heap_image.proofs.bits.first_not_in.Goals as goal
 
 pub returns-then-rest-ne0 : goal.returns-then-rest-ne0

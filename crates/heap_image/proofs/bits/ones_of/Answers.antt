@@ -2,7 +2,7 @@ use Rattle.std.proofs.Common.{◌≡◌, ◌*◌, ℕ, ◌+◌, ◌≤◌, List,
 use Rattle.std.specs.Prelude.{count_by}
 use Rattle.std.specs.List.{range_with_len}
 use Rattle.heap_image.specs.Bits.{has}
-use Rattle.heap_image.proofs.Counts.{count-next, count-le}
+use Rattle.heap_image.proofs.Lemmas.Counts.{count-next, count-le}
 use Rattle.heap_image.proofs.bits.ones_of.Goals as goal
 
 pub overflow_add-count : goal.overflow_add-count

@@ -1,6 +1,6 @@
 use Rattle.std.proofs.Common.{◌≡◌, ◌+◌, length, ◌∙◌, ap, arith}
 use Rattle.heap_image.specs.Bits.{has}
-use Rattle.heap_image.proofs.Raised.{raised, raised_more, raised_all, length-raised, has_raised, has_raised-zero}
+use Rattle.heap_image.proofs.Lemmas.Raised.{raised, raised_more, raised_all, length-raised, has_raised, has_raised-zero}
 use Rattle.heap_image.proofs.bits.shift_words_up.Goals as goal
 use Rattle.heap_image.proofs.bits.shift_words_up.Goals.{In_ok-push-2}
 

@@ -1,5 +1,5 @@
 use Rattle.std.proofs.Common.{◌≡◌, ◌++◌, drop}
-use Rattle.heap_image.proofs.Raised.{raised}
+use Rattle.heap_image.proofs.Lemmas.Raised.{raised}
 use Rattle.heap_image.proofs.bits.shift_words_up.Given as goal
 
 -- what is made so far, and what is to come

@@ -4,9 +4,9 @@ use Rattle.std.specs.List.{range_with_len}
 use Rattle.heap_image.specs.HeapImage.{HeapImage, with_live, is_unsound}
 use Rattle.heap_image.specs.Header.{references_of}
 use Rattle.heap_image.specs.ImageText.{is_dangling, fields_of}
-use Rattle.heap_image.proofs.Fields.{dangling_searched, dangling_kept}
-use Rattle.heap_image.proofs.Finds.{find_none_more, find-pairs}
-use Rattle.heap_image.proofs.Objects.{unsound_tested, end_more, overlaps_more, header_first}
+use Rattle.heap_image.proofs.Lemmas.Fields.{dangling_searched, dangling_kept}
+use Rattle.heap_image.proofs.Lemmas.Finds.{find_none_more, find-pairs}
+use Rattle.heap_image.proofs.Lemmas.Objects.{unsound_tested, end_more, overlaps_more, header_first}
 use Rattle.heap_image.proofs.check.check_objects.Goals as goal
 use Rattle.heap_image.proofs.check.check_objects.Goals.{then-is_none+in-Some, then-is_none+in-None, else-is_none}
 

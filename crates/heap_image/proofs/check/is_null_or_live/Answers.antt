@@ -1,7 +1,7 @@
 use Rattle.std.proofs.Common.{ℕ, ◌<◌, ◌∙◌, arith}
 use Rattle.std.proofs.lemmas.Bool.{lt-leb}
 use Rattle.heap_image.specs.HeapImage.{heap_words}
-use Rattle.heap_image.proofs.References.{leads_nowhere}
+use Rattle.heap_image.proofs.Lemmas.References.{leads_nowhere}
 use Rattle.heap_image.proofs.check.is_null_or_live.Goals as goal
 
 pub returns-else-reference-len : goal.returns-else-reference-len

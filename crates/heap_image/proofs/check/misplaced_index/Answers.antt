@@ -1,7 +1,7 @@
 use Rattle.std.proofs.Common.{◌≡◌, ◌+◌, ◌-◌, true, false, get_or, length, ap, sym, arith, below_more}
 use Rattle.heap_image.specs.ImageText.{is_misplaced}
-use Rattle.heap_image.proofs.Finds.{find_least_from_zero, find_none_in_range}
-use Rattle.heap_image.proofs.LiveOrder.{placed, too_low, too_high}
+use Rattle.heap_image.proofs.Lemmas.Finds.{find_least_from_zero, find_none_in_range}
+use Rattle.heap_image.proofs.Lemmas.LiveOrder.{placed, too_low, too_high}
 use Rattle.heap_image.proofs.check.misplaced_index.Goals as goal
 use Rattle.heap_image.proofs.check.misplaced_index.Goals.{then-a-next-via-then-a-next, then-a-next-via-else-a-next+then-a-words}
 

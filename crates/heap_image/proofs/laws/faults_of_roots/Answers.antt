@@ -1,5 +1,5 @@
-use Rattle.heap_image.proofs.InOrder.{reachable-in_order}
-use Rattle.heap_image.proofs.RootedFaults.{dangling_is_beyond}
+use Rattle.heap_image.proofs.Lemmas.InOrder.{reachable-in_order}
+use Rattle.heap_image.proofs.Lemmas.RootedFaults.{dangling_is_beyond}
 use Rattle.heap_image.proofs.laws.faults_of_roots.Goals as goal
 
 pub returns-clause-order : goal.returns-clause-order

@@ -1,4 +1,4 @@
-use Rattle.heap_image.proofs.RootsToLive.{live_roots}
+use Rattle.heap_image.proofs.Lemmas.RootsToLive.{live_roots}
 use Rattle.heap_image.proofs.laws.live_objects_are_reached.Goals as goal
 
 pub returns : goal.returns

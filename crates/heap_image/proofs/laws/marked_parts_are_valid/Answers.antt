@@ -5,8 +5,8 @@ use Rattle.heap_image.specs.ImageText.{first_some, from_tail, live_list_faults}
 use Rattle.heap_image.specs.Version.{has_roots}
 use Rattle.heap_image.specs.declared.version.Version.{Version}
 use Rattle.heap_image.specs.declared.version.Version.TheVariants.{One, Two, Three}
-use Rattle.heap_image.proofs.FromTail.{from_tail-IsValid, rooted_faults, rooted_live}
-use Rattle.heap_image.proofs.Refusing.{no_fault_of_parts, parts_are}
+use Rattle.heap_image.proofs.Lemmas.FromTail.{from_tail-IsValid, rooted_faults, rooted_live}
+use Rattle.heap_image.proofs.Lemmas.Refusing.{no_fault_of_parts, parts_are}
 use Rattle.heap_image.proofs.laws.marked_parts_are_valid.Goals as goal
 
 -- in a version with roots the numbers after the words are the roots

@@ -1,4 +1,4 @@
-use Rattle.heap_image.proofs.Reaches.{reachable-IsClosed, reachable-least, reachable-ascending}
+use Rattle.heap_image.proofs.Lemmas.Reaches.{reachable-IsClosed, reachable-least, reachable-ascending}
 use Rattle.heap_image.proofs.laws.reachable_is_the_least_closed.Goals as goal
 
 pub returns-clause-closed : goal.returns-clause-closed

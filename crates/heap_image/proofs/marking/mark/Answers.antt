@@ -1,6 +1,6 @@
 use Rattle.std.proofs.Common.{◌+◌, ◌/◌, length, ap, ◌∙◌}
 use Rattle.std.proofs.lemmas.List.{length-replicate}
-use Rattle.heap_image.proofs.MarkingSteps.{marking_begins, clear_bits}
+use Rattle.heap_image.proofs.Lemmas.MarkingSteps.{marking_begins, clear_bits}
 use Rattle.heap_image.proofs.marking.mark.Goals as goal
 
 pub finish-requires-clause-marking : goal.finish-requires-clause-marking

@@ -1,5 +1,5 @@
 use Rattle.std.proofs.Common.{sym, ◌∙◌}
-use Rattle.heap_image.proofs.Upgrades.{upgraded-same}
+use Rattle.heap_image.proofs.Lemmas.Upgrades.{upgraded-same}
 use Rattle.heap_image.proofs.upgrading.upgrade.Goals as goal
 
 pub returns-then-has_roots-clause-upgraded : goal.returns-then-has_roots-clause-upgraded

@@ -2,7 +2,7 @@ use Rattle.std.proofs.Common.{ℕ, ◌+◌, sym, ◌∙◌, ap, Some}
 use Rattle.std.specs.Prelude.{map, option_map}
 use Rattle.heap_image.specs.HeapImage.{HeapImage, versioned_image_of}
 use Rattle.heap_image.specs.declared.version.Version.TheVariants.{Two}
-use Rattle.heap_image.proofs.Upgrades.{upgraded-IsValid, upgraded-rootless}
+use Rattle.heap_image.proofs.Lemmas.Upgrades.{upgraded-IsValid, upgraded-rootless}
 use Rattle.heap_image.proofs.upgrading.with_roots.Goals as goal
 
 pub into_image-requires : goal.into_image-requires

@@ -1,4 +1,4 @@
-use Rattle.heap_image.proofs.Parts.{region_few}
+use Rattle.heap_image.proofs.Lemmas.Parts.{region_few}
 use Rattle.heap_maker.proofs.regions.region_of.Goals as goal
 
 pub new-requires-clause-at_most : goal.new-requires-clause-at_most

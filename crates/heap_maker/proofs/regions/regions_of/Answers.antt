@@ -3,7 +3,7 @@ use Rattle.std.proofs.lemmas.List.{append-nil}
 use Rattle.std.proofs.lemmas.List.Elements.{All-append, All-push}
 use Rattle.std.proofs.lemmas.List.Folds.{concat-append}
 use Rattle.std.specs.List.{concat}
-use Rattle.heap_image.proofs.BlockWords.{length-concat}
+use Rattle.heap_image.proofs.Lemmas.BlockWords.{length-concat}
 use Rattle.heap_maker.proofs.regions.regions_of.Goals as goal
 
 pub loop-r-preserved : goal.loop-r-preserved

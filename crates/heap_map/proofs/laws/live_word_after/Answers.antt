@@ -5,7 +5,7 @@ use Rattle.heap_image.specs.HeapImage.{is_live_word}
 use Rattle.summary.specs.Compaction.{compact}
 use Rattle.summary.specs.LiveObjects.{object_at, object_count}
 use Rattle.summary.specs.NewAddresses.{prefix_end}
-use Rattle.heap_map.proofs.Placed.{end, goes-up, place, stays-put}
+use Rattle.heap_map.proofs.Lemmas.Placed.{end, goes-up, place, stays-put}
 use Rattle.heap_map.proofs.laws.live_word_after.Goals as goal
 
 pub returns-clause-moved : goal.returns-clause-moved

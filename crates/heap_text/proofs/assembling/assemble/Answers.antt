@@ -1,6 +1,6 @@
 use Rattle.std.proofs.Common.{inr, ap, Err}
 use Rattle.std.proofs.lemmas.Result.{err_from_is_err_and}
-use Rattle.heap_text.proofs.ImageSteps.{memory_only, text_accepted}
+use Rattle.heap_text.proofs.Lemmas.ImageSteps.{memory_only, text_accepted}
 use Rattle.heap_text.proofs.assembling.assemble.Goals as goal
 
 pub returns-in_err-heap-clause-only : goal.returns-in_err-heap-clause-only

@@ -3,8 +3,8 @@ use Rattle.std.proofs.lemmas.Result.{err_from_is_err_and}
 use Rattle.heap_text.specs.Text.{text_of}
 use Rattle.heap_text.specs.declared.error.AssembleError.TheVariants.{Text}
 use Rattle.heap_text.specs.declared.error.TextError.{TextError}
-use Rattle.heap_text.proofs.DeviceSteps.{from_accepted, given_whole}
-use Rattle.heap_text.proofs.ImageSteps.{memory_only}
+use Rattle.heap_text.proofs.Lemmas.DeviceSteps.{from_accepted, given_whole}
+use Rattle.heap_text.proofs.Lemmas.ImageSteps.{memory_only}
 use Rattle.heap_text.proofs.assembling.assemble_from.Goals as goal
 
 pub returns-in_err-heap-clause-only : goal.returns-in_err-heap-clause-only

@@ -3,8 +3,8 @@ use Rattle.heap_image.specs.Version.{has_roots}
 use Rattle.heap_image.specs.HeapImage.{HeapImage}
 use Rattle.heap_text.specs.ImageBytes.{bytes_left, Gives}
 use Rattle.heap_text.specs.Text.{text_of}
-use Rattle.heap_text.proofs.ImageSteps.{bytes_are, tail_few, tails_same}
-use Rattle.heap_text.proofs.PartSteps.{not_named}
+use Rattle.heap_text.proofs.Lemmas.ImageSteps.{bytes_are, tail_few, tails_same}
+use Rattle.heap_text.proofs.Lemmas.PartSteps.{not_named}
 use Rattle.heap_text.proofs.assembling.build_image.Goals as goal
 
 pub returns-in_err-check_live_objects-clause-accepts : goal.returns-in_err-check_live_objects-clause-accepts

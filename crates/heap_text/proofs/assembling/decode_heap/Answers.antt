@@ -1,7 +1,7 @@
 use Rattle.std.proofs.Common.{Some}
-use Rattle.heap_image.proofs.WholeBytes.{decodes_only}
+use Rattle.heap_image.proofs.Lemmas.WholeBytes.{decodes_only}
 use Rattle.heap_text.specs.ImageBytes.{bytes_left}
-use Rattle.heap_text.proofs.ImageSteps.{fault_only, image_only}
+use Rattle.heap_text.proofs.Lemmas.ImageSteps.{fault_only, image_only}
 use Rattle.heap_text.proofs.assembling.decode_heap.Goals as goal
 
 pub returns-in-Ok-clause-accepts : goal.returns-in-Ok-clause-accepts

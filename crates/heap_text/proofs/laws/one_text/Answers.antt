@@ -1,4 +1,4 @@
-use Rattle.heap_text.proofs.OneText.{one_image}
+use Rattle.heap_text.proofs.Lemmas.OneText.{one_image}
 use Rattle.heap_text.proofs.laws.one_text.Goals as goal
 
 pub returns : goal.returns

@@ -1,5 +1,5 @@
 use Rattle.std.proofs.Common.{◌+◌, ◌-◌, length}
-use Rattle.heap_text.proofs.TextSteps.{after_newline}
+use Rattle.heap_text.proofs.Lemmas.TextSteps.{after_newline}
 use Rattle.heap_text.proofs.lines.first_line.Goals as goal
 
 pub returns-then-byte-eq10-clause-rest : goal.returns-then-byte-eq10-clause-rest

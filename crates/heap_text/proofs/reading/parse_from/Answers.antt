@@ -1,11 +1,11 @@
 use Rattle.std.proofs.Common.{◌≡◌, ◌∙◌, ◌++◌, [], List, ℕ, Option, Ok, ap, sym, subst, length, arith}
 use Rattle.std.proofs.lemmas.Result.{err_from_is_err_and}
 use Rattle.heap_text.specs.TextLines.{EndsInLine, IsWithin}
-use Rattle.heap_text.proofs.TextSteps.{about_all, about_none, more_given, none_given}
+use Rattle.heap_text.proofs.Lemmas.TextSteps.{about_all, about_none, more_given, none_given}
 use Rattle.heap_text.specs.Parsing.{IsWaiting}
 use Rattle.heap_text.specs.Text.{text_of}
-use Rattle.heap_text.proofs.DeviceSteps.{at_end_of, next_piece, no_line_accepted, text_from}
-use Rattle.heap_text.proofs.PartSteps.{some_same}
+use Rattle.heap_text.proofs.Lemmas.DeviceSteps.{at_end_of, next_piece, no_line_accepted, text_from}
+use Rattle.heap_text.proofs.Lemmas.PartSteps.{some_same}
 use Rattle.heap_text.proofs.reading.parse_from.Goals as goal
 
 pub loop-parser-init : goal.loop-parser-init

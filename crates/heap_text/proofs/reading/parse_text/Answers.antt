@@ -1,6 +1,6 @@
 use Rattle.std.proofs.Common.{[], ◌∙◌, append-nil}
 use Rattle.std.proofs.lemmas.Result.{err_from_is_err_and}
-use Rattle.heap_text.proofs.ImageSteps.{text_error}
+use Rattle.heap_text.proofs.Lemmas.ImageSteps.{text_error}
 use Rattle.heap_text.proofs.reading.parse_text.Goals as goal
 
 pub returns-in_err-parse_lines-clause-accepts : goal.returns-in_err-parse_lines-clause-accepts

@@ -1,4 +1,4 @@
-use Rattle.history.proofs.DrainedBefore.{drained_before}
+use Rattle.history.proofs.Lemmas.DrainedBefore.{drained_before}
 use Rattle.history.proofs.laws.drained_before_written.Goals as goal
 
 pub returns : goal.returns

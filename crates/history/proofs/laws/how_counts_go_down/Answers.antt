@@ -1,4 +1,4 @@
-use Rattle.history.proofs.Countdown.{counts_down}
+use Rattle.history.proofs.Lemmas.Countdown.{counts_down}
 use Rattle.history.proofs.laws.how_counts_go_down.Goals as goal
 
 pub returns : goal.returns

@@ -1,4 +1,4 @@
-use Rattle.history.proofs.Pairs.{IsSlide, slide_of}
+use Rattle.history.proofs.Lemmas.Pairs.{IsSlide, slide_of}
 use Rattle.history.proofs.laws.pairs_slide_down.Goals as goal
 
 pub returns : goal.returns

@@ -1,4 +1,4 @@
-use Rattle.history.proofs.Own.{own_calls}
+use Rattle.history.proofs.Lemmas.Own.{own_calls}
 use Rattle.history.proofs.laws.what_own_calls_tell.Goals as goal
 
 pub returns : goal.returns

@@ -1,6 +1,6 @@
 use Rattle.std.proofs.Common.{◌≡◌, ◌+◌, length, refl, sym, ◌∙◌, rules}
 use Rattle.mark_bitmap.specs.Marks.{IsMarkedPart}
-use Rattle.mark_bitmap.proofs.PartBits.{join_parts}
+use Rattle.mark_bitmap.proofs.Lemmas.PartBits.{join_parts}
 use Rattle.mark_bitmap.proofs.mark_builder.+parts.Goals as goal
 
 pub returns-clause-marked : goal.returns-clause-marked

@@ -5,7 +5,7 @@ use Rattle.std.proofs.lemmas.Fn.{always_returns_same}
 use Rattle.std.proofs.lemmas.Grind.{get_or_default_zero}
 use Rattle.std.proofs.lemmas.List.Sorted.{IsPartitionedBy-ltb}
 use Rattle.heap_image.specs.HeapImage.{HeapImage}
-use Rattle.mark_bitmap.proofs.PartBits.{ascending}
+use Rattle.mark_bitmap.proofs.Lemmas.PartBits.{ascending}
 use Rattle.mark_bitmap.proofs.objects.first_from.Goals as goal
 
 pub returns : goal.returns

@@ -3,7 +3,7 @@ use Rattle.std.specs.List.{list_any}
 use Rattle.std.proofs.Math.Seq.{take-add}
 use Rattle.std.proofs.lemmas.List.Folds.{list_any-append}
 use Rattle.heap_image.specs.HeapImage.{HeapImage, end_of}
-use Rattle.mark_bitmap.proofs.PartBits.{none_set, none_ends_before, those_before_end}
+use Rattle.mark_bitmap.proofs.Lemmas.PartBits.{none_set, none_ends_before, those_before_end}
 use Rattle.mark_bitmap.proofs.objects.mark_ends.Goals as goal
 
 pub loop-piece-init : goal.loop-piece-init

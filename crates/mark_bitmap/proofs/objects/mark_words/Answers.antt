@@ -2,7 +2,7 @@ use Rattle.std.proofs.Common.{◌≡◌, ℕ, ◌+◌, ◌*◌, ◌<◌, length,
 use Rattle.std.proofs.lemmas.List.{length-set}
 use Rattle.heap_image.specs.HeapImage.{HeapImage, is_live_word}
 use Rattle.mark_bitmap.specs.Marks.{continues_at}
-use Rattle.mark_bitmap.proofs.Runs.{one, byte-is, has-set, part_word-is}
+use Rattle.mark_bitmap.proofs.Lemmas.Runs.{one, byte-is, has-set, part_word-is}
 use Rattle.mark_bitmap.proofs.objects.mark_words.Goals as goal
 
 pub loop-i-init : goal.loop-i-init

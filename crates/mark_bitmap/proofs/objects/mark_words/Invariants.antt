@@ -2,7 +2,7 @@ use Rattle.std.proofs.Common.{◌≡◌, ℕ, ◌+◌, ◌*◌, ◌<◌, length}
 use Rattle.heap_image.specs.HeapImage.{is_live_word}
 use Rattle.heap_image.specs.Bits.{has}
 use Rattle.mark_bitmap.specs.Marks.{continues_at}
-use Rattle.mark_bitmap.proofs.Runs.{one}
+use Rattle.mark_bitmap.proofs.Lemmas.Runs.{one}
 use Rattle.mark_bitmap.proofs.objects.mark_words.Given as goal
 
 abbrev pub invariant-loop-i : goal.invariant-loop-i

@@ -1,8 +1,8 @@
 use Rattle.std.proofs.Common.{◌/◌, ◌%◌, ◌||◌, ◌&&◌, get_or, refl, ap, ◌∙◌, arith, eqb}
 use Rattle.heap_image.specs.Bits.{has}
-use Rattle.heap_image.proofs.Places.{same_place}
-use Rattle.heap_image.proofs.Words.{has-mask}
-use Rattle.heap_image.proofs.Masks.{one_bit, one_bit-bit}
+use Rattle.heap_image.proofs.Lemmas.Places.{same_place}
+use Rattle.heap_image.proofs.Lemmas.Words.{has-mask}
+use Rattle.heap_image.proofs.Lemmas.Masks.{one_bit, one_bit-bit}
 use Rattle.mark_bitmap.proofs.part_bits.insert.Goals as goal
 
 pub returns-clause-bits : goal.returns-clause-bits

@@ -5,7 +5,7 @@ use Rattle.std.proofs.lemmas.List.Elements.{All-push}
 use Rattle.std.proofs.lemmas.List.Folds.{concat-append}
 use Rattle.std.specs.List.{concat}
 use Rattle.std.specs.Prelude.{All}
-use Rattle.heap_image.proofs.Parts.{region_few}
+use Rattle.heap_image.proofs.Lemmas.Parts.{region_few}
 use Rattle.pcompact_c.proofs.heap_words.regions_of.Goals as goal
 
 pub region_of-requires-clause-few : goal.region_of-requires-clause-few

@@ -1,7 +1,7 @@
 use Rattle.std.proofs.Common.{rules}
 use Rattle.std.proofs.Common.{◌+◌, ap, ◌∙◌, arith}
 use Rattle.raw_region.specs.Region.{with_words, part}
-use Rattle.raw_region.proofs.Parts.{with_words-more}
+use Rattle.raw_region.proofs.Lemmas.Parts.{with_words-more}
 use Rattle.raw_region.proofs.chunks.move_down.Goals as goal
 
 pub loop-moved-preserved : goal.loop-moved-preserved

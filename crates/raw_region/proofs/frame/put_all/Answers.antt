@@ -4,7 +4,7 @@ use Rattle.std.specs.List.{range_with_len}
 use Rattle.std.proofs.lemmas.List.FromFn.{length-map-range_with_len, map-range_with_len_more}
 use Rattle.raw_region.specs.Cutting.{IsCut}
 use Rattle.raw_region.specs.Frame.{place_of, IsRest}
-use Rattle.raw_region.proofs.Frames.{rest-of-cut}
+use Rattle.raw_region.proofs.Lemmas.Frames.{rest-of-cut}
 use Rattle.raw_region.proofs.frame.put_all.Goals as goal
 
 pub add-requires : goal.add-requires

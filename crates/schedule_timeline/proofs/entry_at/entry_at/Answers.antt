@@ -5,11 +5,11 @@ use Rattle.history.specs.Schedule.{line_of}
 use Rattle.history.specs.declared.entry.Entry.{Entry}
 use Rattle.history.specs.declared.event.Event.{Event}
 use Rattle.history.specs.declared.event.Event.TheVariants.{Claim}
-use Rattle.history.specs.declared.line.Line.{Line}
+use Rattle.history.specs.declared.schedule.line.Line.{Line}
 use Rattle.history.specs.declared.reply.Reply.{Reply}
 use Rattle.history.specs.declared.reply.Reply.TheVariants.{Yes, Done}
 use Rattle.schedule_timeline.specs.Log.{log_of}
-use Rattle.schedule_timeline.proofs.Replies.{a_call_for_each_line}
+use Rattle.schedule_timeline.proofs.Lemmas.Replies.{a_call_for_each_line}
 use Rattle.schedule_timeline.proofs.entry_at.entry_at.Goals as goal
 
 -- the default for places past the end

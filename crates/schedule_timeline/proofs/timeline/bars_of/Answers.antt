@@ -6,11 +6,11 @@ use Rattle.history.specs.History.{is_grant}
 use Rattle.history.specs.declared.entry.Entry.{Entry}
 use Rattle.history.specs.declared.event.Event.TheVariants.{Claim}
 use Rattle.history.specs.declared.reply.Reply.TheVariants.{Yes}
-use Rattle.schedule_timeline.specs.declared.call.Call.{Call}
+use Rattle.schedule_timeline.specs.declared.timeline.call.Call.{Call}
 use Rattle.schedule_timeline.specs.Log.{log_of}
 use Rattle.schedule_timeline.specs.Timeline.{bar_if, bar_of, call_at, granted_region, is_region}
-use Rattle.schedule_timeline.proofs.Bars.{bar_same, none_more, one_more}
-use Rattle.schedule_timeline.proofs.Replies.{a_call_for_each_line, all_calls, call_there}
+use Rattle.schedule_timeline.proofs.Lemmas.Bars.{bar_same, none_more, one_more}
+use Rattle.schedule_timeline.proofs.Lemmas.Replies.{a_call_for_each_line, all_calls, call_there}
 use Rattle.schedule_timeline.proofs.timeline.bars_of.Goals as goal
 use Rattle.schedule_timeline.proofs.timeline.bars_of.Goals.{in-Some+in_ok-push, in_default}
 

@@ -4,11 +4,11 @@ use Rattle.std.specs.List.{enumerate_from, filter_map}
 use Rattle.history.specs.declared.entry.Entry.{Entry}
 use Rattle.history.specs.declared.event.Event.TheVariants.{Claim}
 use Rattle.history.specs.declared.reply.Reply.TheVariants.{Yes}
-use Rattle.schedule_timeline.specs.declared.call.Call.{Call}
+use Rattle.schedule_timeline.specs.declared.timeline.call.Call.{Call}
 use Rattle.schedule_timeline.specs.Log.{log_of}
 use Rattle.schedule_timeline.specs.Timeline.{call_at, freed_pair, freeing_if, freeing_of}
-use Rattle.schedule_timeline.proofs.Bars.{freeing_same, none_more, one_more, taken}
-use Rattle.schedule_timeline.proofs.Replies.{a_call_for_each_line, all_calls, call_there}
+use Rattle.schedule_timeline.proofs.Lemmas.Bars.{freeing_same, none_more, one_more, taken}
+use Rattle.schedule_timeline.proofs.Lemmas.Replies.{a_call_for_each_line, all_calls, call_there}
 use Rattle.schedule_timeline.proofs.timeline.freeings_of.Goals as goal
 use Rattle.schedule_timeline.proofs.timeline.freeings_of.Goals.{in-Some+in_ok-push, in_default}
 

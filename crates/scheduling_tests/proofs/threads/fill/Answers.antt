@@ -5,7 +5,7 @@ use Rattle.history.specs.MoveTable.{MoveTable, IsMoveTable, reads}
 use Rattle.claim_board.specs.Boards.{moves, caller}
 use Rattle.claim_board.specs.Callers.{Gains}
 use Rattle.claim_board.specs.Drains.{reply_of}
-use Rattle.claim_board.proofs.Others.{gains_call}
+use Rattle.claim_board.proofs.Lemmas.Others.{gains_call}
 use Rattle.scheduling_tests.proofs.threads.fill.Goals as goal
 
 pub drain-requires-clause-ticket : goal.drain-requires-clause-ticket

@@ -2,7 +2,7 @@ use Rattle.std.proofs.Common.{if◌then◌else◌}
 use Rattle.std.specs.Prelude.{is_some}
 use Rattle.history.specs.declared.event.Event.TheVariants.{Claim}
 use Rattle.history.specs.declared.reply.Reply.TheVariants.{Yes, No}
-use Rattle.claim_board.proofs.Others.{leaves_call}
+use Rattle.claim_board.proofs.Lemmas.Others.{leaves_call}
 use Rattle.scheduling_tests.proofs.tickets.claims.Goals as goal
 
 pub returns-clause-others : goal.returns-clause-others

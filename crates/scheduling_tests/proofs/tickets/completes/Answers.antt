@@ -1,7 +1,7 @@
 use Rattle.std.proofs.Common.{◌≢◌, ℕ, sym, subst}
 use Rattle.history.specs.declared.event.Event.TheVariants.{Complete}
 use Rattle.history.specs.declared.reply.Reply.TheVariants.{Done}
-use Rattle.claim_board.proofs.Others.{leaves_call}
+use Rattle.claim_board.proofs.Lemmas.Others.{leaves_call}
 use Rattle.scheduling_tests.proofs.tickets.completes.Goals as goal
 
 pub returns-clause-others : goal.returns-clause-others

@@ -2,7 +2,7 @@ use Rattle.std.proofs.Common.{◌≡◌, ◌≢◌, ℕ, sym, ◌∙◌, subst}
 use Rattle.history.specs.declared.event.Event.TheVariants.{Drain}
 use Rattle.claim_board.specs.Boards.{moves, caller}
 use Rattle.claim_board.specs.Drains.{reply_of}
-use Rattle.claim_board.proofs.Others.{leaves_call, leaves_twice}
+use Rattle.claim_board.proofs.Lemmas.Others.{leaves_call, leaves_twice}
 use Rattle.scheduling_tests.proofs.tickets.drains.Goals as goal
 
 pub loop-opening-preserved : goal.loop-opening-preserved

@@ -1,5 +1,5 @@
 use Rattle.history.specs.declared.event.Event.TheVariants.{Look}
-use Rattle.claim_board.proofs.Others.{leaves_call}
+use Rattle.claim_board.proofs.Lemmas.Others.{leaves_call}
 use Rattle.scheduling_tests.proofs.tickets.looks.Goals as goal
 
 pub returns-clause-others : goal.returns-clause-others

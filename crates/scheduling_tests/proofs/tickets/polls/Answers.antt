@@ -1,7 +1,7 @@
 use Rattle.std.proofs.Common.{if◌then◌else◌}
 use Rattle.history.specs.declared.event.Event.TheVariants.{Poll}
 use Rattle.history.specs.declared.reply.Reply.TheVariants.{All, More}
-use Rattle.claim_board.proofs.Others.{leaves_call}
+use Rattle.claim_board.proofs.Lemmas.Others.{leaves_call}
 use Rattle.scheduling_tests.proofs.tickets.polls.Goals as goal
 
 pub returns-clause-others : goal.returns-clause-others

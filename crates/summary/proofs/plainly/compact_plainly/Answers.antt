@@ -4,8 +4,8 @@ use Rattle.std.specs.List.{range_with_len}
 use Rattle.heap_image.specs.HeapImage.{IsValid, region_count}
 use Rattle.summary.specs.Compaction.{compacted_word}
 use Rattle.summary.specs.RegionData.{region_addresses}
-use Rattle.summary.proofs.PlainWords.{map-range-more, parts-of_blocks}
-use Rattle.summary.proofs.Compacted.{compact-IsValid}
+use Rattle.summary.proofs.Lemmas.PlainWords.{map-range-more, parts-of_blocks}
+use Rattle.summary.proofs.Lemmas.Compacted.{compact-IsValid}
 use Rattle.summary.proofs.plainly.compact_plainly.Goals as goal
 
 pub loop-r-preserved : goal.loop-r-preserved

@@ -4,7 +4,7 @@ use Rattle.std.proofs.lemmas.List.Edits.{fill_by_more}
 use Rattle.std.specs.Prelude.{map}
 use Rattle.std.specs.List.{range_with_len}
 use Rattle.summary.specs.Compaction.{compacted_word}
-use Rattle.summary.proofs.PlainWords.{map-from}
+use Rattle.summary.proofs.Lemmas.PlainWords.{map-from}
 use Rattle.summary.proofs.plainly.compacted_region.Goals as goal
 
 pub loop-i-preserved : goal.loop-i-preserved

@@ -1,6 +1,6 @@
 use Rattle.std.proofs.Common.{◌≡◌, ℕ, ◌+◌, ◌*◌, ◌/◌, ◌≤◌, ◌<◌, min, ap, arith, ◌∙◌, subst, sym}
 use Rattle.summary.specs.Fillers.{filler_limit}
-use Rattle.summary.proofs.Fillers.{gap_at-run}
+use Rattle.summary.proofs.Lemmas.Fillers.{gap_at-run}
 use Rattle.summary.proofs.plainly.gap_at.Goals as goal
 
 pub returns-then-is_live_word-clause-value : goal.returns-then-is_live_word-clause-value

@@ -2,7 +2,7 @@ use Rattle.std.proofs.Common.{◌≡◌, ℕ, ◌≤◌, List, take, ltb, subst,
 use Rattle.std.specs.Prelude.{fold, filter}
 use Rattle.heap_image.specs.HeapImage.{HeapImage, IsValid, heap_words}
 use Rattle.summary.specs.NewAddresses.{next_after, prefix_end}
-use Rattle.summary.proofs.Nexts.{next-inside}
+use Rattle.summary.proofs.Lemmas.Nexts.{next-inside}
 use Rattle.summary.proofs.plainly.next_at.Goals as goal
 
 -- the next free address lies in the heap

@@ -1,5 +1,5 @@
 use Rattle.std.proofs.Common.{arith, sym}
-use Rattle.summary.proofs.PlainWords.{origin-found, origin-missed, nowhere-in_prefix}
+use Rattle.summary.proofs.Lemmas.PlainWords.{origin-found, origin-missed, nowhere-in_prefix}
 use Rattle.summary.proofs.plainly.origin.Goals as goal
 
 pub returns-then-p-place-clause-value : goal.returns-then-p-place-clause-value

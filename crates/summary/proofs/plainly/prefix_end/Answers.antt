@@ -4,9 +4,9 @@ use Rattle.std.specs.Prelude.{count_by}
 use Rattle.std.specs.List.{range_with_len}
 use Rattle.heap_image.specs.HeapImage.{region_words, is_dead_word, last_end}
 use Rattle.summary.specs.NewAddresses.{greatest, prefix_end, dead_words_below, is_allowed}
-use Rattle.summary.proofs.Addresses.{prefix_end-le}
-use Rattle.summary.proofs.Prefix.{greatest-le}
-use Rattle.summary.proofs.PlainWords.{dead-step, prefix-allowed, prefix-refused}
+use Rattle.summary.proofs.Lemmas.Addresses.{prefix_end-le}
+use Rattle.summary.proofs.Lemmas.Prefix.{greatest-le}
+use Rattle.summary.proofs.Lemmas.PlainWords.{dead-step, prefix-allowed, prefix-refused}
 use Rattle.summary.proofs.plainly.prefix_end.Goals as goal
 use Rattle.summary.proofs.plainly.prefix_end.Goals.{then-dead-allowance, else-dead-allowance}
 

@@ -2,8 +2,8 @@ use Rattle.std.proofs.Common.{◌≡◌, ℕ, ◌*◌, ◌<◌, List, length, re
 use Rattle.heap_image.specs.HeapImage.{HeapImage, start_of, region_count}
 use Rattle.summary.specs.Reads.{BeginAt}
 use Rattle.summary.specs.declared.region_data.RegionData.{RegionData}
-use Rattle.summary.proofs.Regions.{region_at}
-use Rattle.summary.proofs.SourceRows.{begin_in_prefix, begin_at_source, begin_nowhere, begin_out_of_range}
+use Rattle.summary.proofs.Lemmas.Regions.{region_at}
+use Rattle.summary.proofs.Lemmas.SourceRows.{begin_in_prefix, begin_at_source, begin_nowhere, begin_out_of_range}
 use Rattle.summary.proofs.reads.first_read.Goals as goal
 
 -- a number below that of the regions

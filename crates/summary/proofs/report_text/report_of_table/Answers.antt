@@ -5,8 +5,8 @@ use Rattle.summary.specs.RegionData.{region_data}
 use Rattle.summary.specs.Reads.{no_data}
 use Rattle.summary.specs.declared.region_data.RegionData.{RegionData}
 use Rattle.summary.specs.Report.{row_of}
-use Rattle.summary.proofs.Regions.{region_at}
-use Rattle.summary.proofs.Lines.{flat_map-more}
+use Rattle.summary.proofs.Lemmas.Regions.{region_at}
+use Rattle.summary.proofs.Lemmas.Lines.{flat_map-more}
 use Rattle.summary.proofs.report_text.report_of_table.Goals as goal
 
 pub loop-r-preserved : goal.loop-r-preserved

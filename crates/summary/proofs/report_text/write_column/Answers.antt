@@ -1,7 +1,7 @@
 use Rattle.std.proofs.Common.{◌≡◌, ◌∙◌, ap, List, ℕ, ◌++◌, subst}
 use Rattle.std.specs.Prelude.{OnOk, string_bytes}
 use Rattle.std.specs.Fmt.{styled_decimal}
-use Rattle.summary.proofs.Lines.{column}
+use Rattle.summary.proofs.Lemmas.Lines.{column}
 use Rattle.summary.proofs.report_text.write_column.Goals as goal
 
 pub returns : goal.returns

@@ -2,7 +2,7 @@ use Rattle.std.proofs.Common.{◌≡◌, ◌∙◌, ap, List, [], ℕ, ◌++◌,
 use Rattle.std.specs.Prelude.{string_bytes, decimal, codes}
 use Rattle.std.specs.Option.{option_map_or}
 use Rattle.summary.specs.Report.{in_column}
-use Rattle.summary.proofs.Lines.{joined}
+use Rattle.summary.proofs.Lemmas.Lines.{joined}
 use Rattle.summary.proofs.report_text.write_line.Goals as goal
 
 pub returns : goal.returns

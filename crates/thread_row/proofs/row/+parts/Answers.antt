@@ -1,7 +1,7 @@
 use Rattle.std.proofs.Common.{◌≡◌, ◌++◌, length, sym, subst}
 use Rattle.std.specs.Fork.{AcceptsAt, ChangesAt}
 use Rattle.thread_row.specs.Parts.{HoldFrom, BecomeFrom}
-use Rattle.thread_row.proofs.Cut.{hold_first, hold_rest, become_both}
+use Rattle.thread_row.proofs.Lemmas.Cut.{hold_first, hold_rest, become_both}
 use Rattle.thread_row.proofs.row.+parts.Goals as goal
 
 pub Row::work-work_both-requires-clause-rest : goal.Row::work-work_both-requires-clause-rest

@@ -1,5 +1,5 @@
 use Rattle.std.specs.Fork.{ChangesAt}
-use Rattle.thread_row.proofs.Cut.{become_each}
+use Rattle.thread_row.proofs.Lemmas.Cut.{become_each}
 use Rattle.thread_row.proofs.row.for_each_mut.Goals as goal
 
 pub returns : goal.returns

@@ -4,7 +4,7 @@ use Rattle.heap_image.specs.HeapImage.{HeapImage, HasLiveList}
 use Rattle.summary.specs.RegionData.{data_words, first_target, last_target}
 use Rattle.summary.specs.WordMoves.{reads}
 use Rattle.work_order.specs.Chains.{IsLongestAfter}
-use Rattle.work_order.proofs.Steps.{after-both, after-none, one-of-two, via}
+use Rattle.work_order.proofs.Lemmas.Steps.{after-both, after-none, one-of-two, via}
 use Rattle.work_order.proofs.chains.longest_after.Goals as goal
 
 pub returns-in_default-clause-longest : goal.returns-in_default-clause-longest

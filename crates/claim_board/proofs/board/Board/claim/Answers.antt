@@ -5,12 +5,12 @@ use Rattle.history.specs.declared.reply.Reply.{Reply}
 use Rattle.history.specs.declared.reply.Reply.TheVariants.{Yes, No}
 use Rattle.history.specs.State.{IsFilling}
 use Rattle.history.specs.History.{state_of}
-use Rattle.claim_board.specs.declared.key.Key.{Key}
-use Rattle.claim_board.specs.declared.view.View.{View}
+use Rattle.claim_board.specs.declared.rule.key.Key.{Key}
+use Rattle.claim_board.specs.declared.rule.view.View.{View}
 use Rattle.claim_board.specs.Rule.{Extends, claim_reply}
 use Rattle.claim_board.specs.Views.{worker_of, seen_of, mine_of}
-use Rattle.claim_board.proofs.Spends.{claimed_now, all_left}
-use Rattle.claim_board.proofs.Grants.{granted}
+use Rattle.claim_board.proofs.Lemmas.Spends.{claimed_now, all_left}
+use Rattle.claim_board.proofs.Lemmas.Grants.{granted}
 use Rattle.claim_board.proofs.board.Board.claim.Goals as goal
 
 -- The word found was 0, so the step granted the region.

@@ -6,7 +6,7 @@ use Rattle.history.specs.MoveTable.{reads}
 use Rattle.history.specs.History.{state_of}
 use Rattle.claim_board.specs.Rule.{drain_reply}
 use Rattle.claim_board.specs.Views.{worker_of, seen_of, mine_of}
-use Rattle.claim_board.proofs.Spends.{Fills, drained_now, some_left}
+use Rattle.claim_board.proofs.Lemmas.Spends.{Fills, drained_now, some_left}
 use Rattle.claim_board.proofs.board.Board.drain.Goals as goal
 
 pub overflow_sub-ticket : goal.overflow_sub-ticket

@@ -1,7 +1,7 @@
 use Rattle.std.proofs.Common.{◌≡◌, [], ◌∷◌, ◌++◌, length, vec_len, true≢false, append_assoc, refl, sym, ap, ◌∙◌, subst, arith}
 use Rattle.claim_board.specs.Boards.{AllOf}
-use Rattle.claim_board.proofs.Meets.{gathers}
-use Rattle.claim_board.proofs.Gathers.{all_of_front, covers_one, covers_more, all_stand}
+use Rattle.claim_board.proofs.Lemmas.Meets.{gathers}
+use Rattle.claim_board.proofs.Lemmas.Gathers.{all_of_front, covers_one, covers_more, all_stand}
 use Rattle.claim_board.proofs.board.Board.finish.Goals as goal
 use Rattle.claim_board.proofs.board.Board.finish.Goals.{else-count-workers-via-then-count-workers+else-unsettled-eq0, else-count-workers-via-else-count-workers}
 

@@ -3,7 +3,7 @@ use Rattle.history.specs.declared.event.Event.TheVariants.{Poll}
 use Rattle.claim_board.specs.declared.pass.Pass.{Pass}
 use Rattle.claim_board.specs.Rule.{poll_reply}
 use Rattle.claim_board.specs.Boards.{AllOf}
-use Rattle.claim_board.proofs.Gathers.{Covers}
+use Rattle.claim_board.proofs.Lemmas.Gathers.{Covers}
 use Rattle.claim_board.proofs.board.Board.finish.Given as goal
 
 abbrev pub invariant-loop-pass : goal.invariant-loop-pass

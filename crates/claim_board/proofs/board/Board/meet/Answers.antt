@@ -1,5 +1,5 @@
 use Rattle.std.proofs.Common.{ap, ◌∙◌, arith}
-use Rattle.claim_board.proofs.Meets.{notes, informs}
+use Rattle.claim_board.proofs.Lemmas.Meets.{notes, informs}
 use Rattle.claim_board.proofs.board.Board.meet.Goals as goal
 
 pub split_seat-from_a-requires : goal.split_seat-from_a-requires

@@ -1,8 +1,8 @@
 use Rattle.std.proofs.Common.{◌≡◌, ℕ, List, [], ◌∷◌, length, suc, refl, arith, sym, subst}
 use Rattle.history.specs.MoveTable.{region_count}
 use Rattle.claim_board.specs.Rule.{Kept, all_workers}
-use Rattle.claim_board.specs.declared.key.Key.{Key}
-use Rattle.claim_board.proofs.Openings.{opens}
+use Rattle.claim_board.specs.declared.rule.key.Key.{Key}
+use Rattle.claim_board.proofs.Lemmas.Openings.{opens}
 use Rattle.claim_board.proofs.board.Board.new.Goals as goal
 
 pub of_words-requires : goal.of_words-requires

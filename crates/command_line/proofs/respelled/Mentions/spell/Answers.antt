@@ -1,7 +1,7 @@
 use Rattle.std.proofs.Common.{IsTrue, sym, ap, ◌∙◌, rules}
 use Rattle.std.specs.Prelude.{string_bytes}
 use Rattle.command_line.specs.Respelling.{mentions}
-use Rattle.command_line.proofs.Spelled.{mentions_itself, kept, passed, replaced}
+use Rattle.command_line.proofs.Lemmas.Spelled.{mentions_itself, kept, passed, replaced}
 use Rattle.command_line.proofs.respelled.Mentions.spell.Goals as goal
 use Rattle.command_line.proofs.respelled.Mentions.spell.Goals.{in-Some+then-not-is_there+in_ok-from_str-in-Some+in_ok-push-in-Some, in-Some+else-not-is_there, in_default+in_ok-from_str-in_default+in_ok-push-in_default}
 

@@ -2,7 +2,7 @@ use Rattle.std.proofs.Common.{◌≡◌, get_or, false, sym, ◌∙◌}
 use Rattle.std.proofs.lemmas.List.{get_or_default}
 use Rattle.heap_dump.specs.Totals.{gap_before, padding_before, wide_gap_before}
 use Rattle.heap_dump.specs.declared.listing.ListedObject.{ListedObject}
-use Rattle.heap_dump.proofs.Gaps.{end_more, gap_here, most_more, padding_here, sum_more, wide_here}
+use Rattle.heap_dump.proofs.Lemmas.Gaps.{end_more, gap_here, most_more, padding_here, sum_more, wide_here}
 use Rattle.heap_dump.proofs.dead_words.DeadWords.of.Goals as goal
 
 pub loop-object-preserved : goal.loop-object-preserved

@@ -1,4 +1,4 @@
-use Rattle.heap_image.proofs.Parts.{region_few}
+use Rattle.heap_image.proofs.Lemmas.Parts.{region_few}
 use Rattle.heap_dump.proofs.heap.UnsealedHeap.new.Goals as goal
 
 pub new-requires-clause-at_most : goal.new-requires-clause-at_most

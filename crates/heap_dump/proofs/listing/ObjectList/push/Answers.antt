@@ -1,7 +1,7 @@
 use Rattle.std.proofs.Common.{◌+◌, refl, sym, subst}
 use Rattle.heap_dump.specs.declared.listing.ListedObject.{ListedObject}
 use Rattle.heap_dump.specs.Listing.{AreObjectsBefore}
-use Rattle.heap_dump.proofs.Listings.{before_more, dead_more, live_more}
+use Rattle.heap_dump.proofs.Lemmas.Listings.{before_more, dead_more, live_more}
 use Rattle.heap_dump.proofs.listing.ObjectList.push.Goals as goal
 
 pub returns-then-is_live-clause-objects : goal.returns-then-is_live-clause-objects

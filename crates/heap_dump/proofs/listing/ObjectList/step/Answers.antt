@@ -1,6 +1,6 @@
 use Rattle.std.proofs.Common.{◌≡◌, ◌∙◌, sym}
 use Rattle.heap_image.specs.HeapImage.{word_at}
-use Rattle.heap_dump.proofs.Listings.{before_zero}
+use Rattle.heap_dump.proofs.Lemmas.Listings.{before_zero}
 use Rattle.heap_dump.proofs.listing.ObjectList.step.Goals as goal
 
 pub returns-then-header-eq0-clause-objects : goal.returns-then-header-eq0-clause-objects

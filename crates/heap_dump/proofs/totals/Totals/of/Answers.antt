@@ -1,7 +1,7 @@
 use Rattle.std.proofs.Common.{get_or, take, false, ◌∙◌}
 use Rattle.std.proofs.lemmas.List.{get_or_default}
 use Rattle.heap_dump.specs.declared.listing.ListedObject.{ListedObject}
-use Rattle.heap_dump.proofs.Sums.{sums_more}
+use Rattle.heap_dump.proofs.Lemmas.Sums.{sums_more}
 use Rattle.heap_dump.proofs.totals.Totals.of.Goals as goal
 
 pub loop-object-preserved : goal.loop-object-preserved

@@ -1,4 +1,4 @@
-use Rattle.heap_dump.proofs.Sums.{with_dead, with_live}
+use Rattle.heap_dump.proofs.Lemmas.Sums.{with_dead, with_live}
 use Rattle.heap_dump.proofs.totals.Totals.with.Goals as goal
 
 pub returns-then-object : goal.returns-then-object

@@ -3,7 +3,7 @@ use Rattle.std.specs.Prelude.{count_by}
 use Rattle.std.specs.List.{range_with_len}
 use Rattle.std.proofs.lemmas.List.{get_or-take, get_or-drop, length-take-le, length-drop}
 use Rattle.heap_image.specs.Bits.{has}
-use Rattle.heap_image.proofs.Counts.{count-part, count-ends, count-le}
+use Rattle.heap_image.proofs.Lemmas.Counts.{count-part, count-ends, count-le}
 use Rattle.heap_image.proofs.bits.Bits.count.Goals as goal
 
 -- the words from one index up to another

@@ -3,7 +3,7 @@ use Rattle.std.specs.Prelude.{count_by}
 use Rattle.std.specs.List.{range_with_len}
 use Rattle.std.proofs.lemmas.Grind.{get_or_default_zero}
 use Rattle.heap_image.specs.Bits.{has, room}
-use Rattle.heap_image.proofs.Counts.{count-below}
+use Rattle.heap_image.proofs.Lemmas.Counts.{count-below}
 use Rattle.heap_image.proofs.bits.Bits.count_below.Goals as goal
 
 pub returns : goal.returns

@@ -1,7 +1,7 @@
 use Rattle.std.proofs.Common.{◌/◌, ◌%◌, ◌||◌, ◌&&◌, ap, ◌∙◌, arith, eqb}
 use Rattle.heap_image.specs.Bits.{has}
-use Rattle.heap_image.proofs.Places.{same_place}
-use Rattle.heap_image.proofs.Masks.{one_bit-bit}
+use Rattle.heap_image.proofs.Lemmas.Places.{same_place}
+use Rattle.heap_image.proofs.Lemmas.Masks.{one_bit-bit}
 use Rattle.heap_image.proofs.bits.Bits.insert.Goals as goal
 
 pub returns-clause-bits : goal.returns-clause-bits

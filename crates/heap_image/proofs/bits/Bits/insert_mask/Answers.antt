@@ -2,7 +2,7 @@ use Rattle.std.proofs.Common.{◌≡◌, ◌<◌, ◌/◌, ◌%◌, ◌||◌, �
 use Rattle.std.specs.Int.{bit_at}
 use Rattle.std.proofs.lemmas.Grind.{get_or_default_zero}
 use Rattle.heap_image.specs.Bits.{has}
-use Rattle.heap_image.proofs.Words.{has-mask}
+use Rattle.heap_image.proofs.Lemmas.Words.{has-mask}
 use Rattle.heap_image.proofs.bits.Bits.insert_mask.Goals as goal
 
 pub returns-clause-bits : goal.returns-clause-bits

@@ -1,7 +1,7 @@
 use Rattle.std.proofs.Common.{◌*◌, ◌^◌, ◌<◌, length, sym, ◌∙◌, ap, arith}
 use Rattle.std.proofs.Math.Nat.{mod-eq_of_lt}
 use Rattle.heap_image.specs.HeapImage.{heap_words}
-use Rattle.heap_image.proofs.BlockWords.{length-concat}
+use Rattle.heap_image.proofs.Lemmas.BlockWords.{length-concat}
 use Rattle.heap_image.proofs.heap.Heap.len.Goals as goal
 
 pub returns-clause-value : goal.returns-clause-value

@@ -3,8 +3,8 @@ use Rattle.std.proofs.lemmas.List.{get_or_default, get_or-take, get_or-drop}
 use Rattle.std.proofs.lemmas.Nat.{mod_below}
 use Rattle.std.specs.List.{concat}
 use Rattle.heap_image.specs.HeapImage.{FormHeap, HeapImage, heap_words, image_of, word_at}
-use Rattle.heap_image.proofs.BlockWords.{block_below, word_behind}
-use Rattle.heap_image.proofs.Parts.{region_some, place_by_mask}
+use Rattle.heap_image.proofs.Lemmas.BlockWords.{block_below, word_behind}
+use Rattle.heap_image.proofs.Lemmas.Parts.{region_some, place_by_mask}
 use Rattle.heap_image.proofs.heap.Heap.row.Goals as goal
 
 -- the first address is inside

@@ -2,8 +2,8 @@ use Rattle.std.proofs.Common.{◌≡◌, ◌<◌, length, ℕ, ◌/◌, ◌%◌,
 use Rattle.std.proofs.lemmas.List.{get_or_default}
 use Rattle.std.proofs.lemmas.Nat.{mod_below}
 use Rattle.heap_image.specs.HeapImage.{heap_words, word_at}
-use Rattle.heap_image.proofs.BlockWords.{block_below, word_by_block}
-use Rattle.heap_image.proofs.Parts.{region_some, place_by_mask}
+use Rattle.heap_image.proofs.Lemmas.BlockWords.{block_below, word_by_block}
+use Rattle.heap_image.proofs.Lemmas.Parts.{region_some, place_by_mask}
 use Rattle.heap_image.proofs.heap.Heap.word.Goals as goal
 
 pub bounds-self-inside-a : goal.bounds-self-inside-a

@@ -5,7 +5,7 @@ use Rattle.std.proofs.lemmas.List.{same_lists, get_or_default}
 use Rattle.std.proofs.lemmas.List.FromFn.{length-map-range_with_len, get_or-map-range_with_len}
 use Rattle.heap_image.specs.HeapImage.{AreValidParts, region_count, block_of, versioned_image_of}
 use Rattle.heap_image.specs.declared.version.Version.{Version}
-use Rattle.heap_image.proofs.Parts.{count_by_blocks, block_by_blocks}
+use Rattle.heap_image.proofs.Lemmas.Parts.{count_by_blocks, block_by_blocks}
 use Rattle.heap_image.proofs.image.Image.into_parts.Goals as goal
 
 -- the blocks of an image are those of its regions

@@ -1,7 +1,7 @@
 use Rattle.std.proofs.Common.{◌*◌, ◌%◌, ◌^◌, ap, ◌∙◌}
 use Rattle.std.specs.Prelude.{option_map}
 use Rattle.heap_image.specs.HeapImage.{heap_words}
-use Rattle.heap_image.proofs.Parts.{len_fits}
+use Rattle.heap_image.proofs.Lemmas.Parts.{len_fits}
 use Rattle.heap_image.proofs.image.Image.len.Goals as goal
 
 pub returns-clause-value : goal.returns-clause-value

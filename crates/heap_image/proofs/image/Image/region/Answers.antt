@@ -2,7 +2,7 @@ use Rattle.std.proofs.Common.{◌<◌, ap, ◌∙◌, sym, subst, arith, []}
 use Rattle.std.proofs.lemmas.List.{get_or_default}
 use Rattle.std.specs.Prelude.{option_map}
 use Rattle.heap_image.specs.HeapImage.{region_count, block_of}
-use Rattle.heap_image.proofs.Parts.{count_by_blocks, block_by_blocks}
+use Rattle.heap_image.proofs.Lemmas.Parts.{count_by_blocks, block_by_blocks}
 use Rattle.heap_image.proofs.image.Image.region.Goals as goal
 
 pub index-requires : goal.index-requires

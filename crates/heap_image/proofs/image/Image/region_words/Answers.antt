@@ -1,4 +1,4 @@
-use Rattle.heap_image.proofs.Parts.{region_few}
+use Rattle.heap_image.proofs.Lemmas.Parts.{region_few}
 use Rattle.heap_image.proofs.image.Image.region_words.Goals as goal
 
 pub returns-clause-few : goal.returns-clause-few

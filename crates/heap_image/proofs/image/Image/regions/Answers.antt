@@ -1,7 +1,7 @@
 use Rattle.std.proofs.Common.{ap, ◌∙◌, sym, arith}
 use Rattle.std.specs.Prelude.{option_map}
 use Rattle.heap_image.specs.HeapImage.{region_count}
-use Rattle.heap_image.proofs.Parts.{count_by_blocks, few_blocks}
+use Rattle.heap_image.proofs.Lemmas.Parts.{count_by_blocks, few_blocks}
 use Rattle.heap_image.proofs.image.Image.regions.Goals as goal
 
 pub overflow_cast-result : goal.overflow_cast-result

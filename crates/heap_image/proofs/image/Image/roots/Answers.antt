@@ -1,7 +1,7 @@
 use Rattle.std.proofs.Common.{◌≡◌, ◌<◌, ◌^◌, [], length, ap, sym, ◌∙◌, subst}
 use Rattle.std.specs.Prelude.{All, IsTrue, option_map}
 use Rattle.heap_image.specs.HeapImage.{HeapImage, IsValid, roots_or, roots_of, is_null_or_live}
-use Rattle.heap_image.proofs.RootLive.{roots-few, roots-live}
+use Rattle.heap_image.proofs.Lemmas.RootLive.{roots-few, roots-live}
 use Rattle.heap_image.proofs.image.Image.roots.Goals as goal
 
 pub returns-in-Some-clause-live : goal.returns-in-Some-clause-live

@@ -1,4 +1,4 @@
-use Rattle.heap_image.proofs.MarkingSteps.{marking_last, marking_last-well}
+use Rattle.heap_image.proofs.Lemmas.MarkingSteps.{marking_last, marking_last-well}
 use Rattle.heap_image.proofs.marking.Marking.finish.Goals as goal
 
 pub returns-clause-reached : goal.returns-clause-reached

@@ -4,7 +4,7 @@ use Rattle.std.specs.Prelude.{IsTrue, All}
 use Rattle.heap_image.specs.Header.{references_of}
 use Rattle.heap_image.specs.HeapImage.{leads_to}
 use Rattle.heap_image.specs.Marking.{IsGrown}
-use Rattle.heap_image.proofs.Following.{unsound_is, followed_none, followed_row, followed_all, noted_row, noted_all}
+use Rattle.heap_image.proofs.Lemmas.Following.{unsound_is, followed_none, followed_row, followed_all, noted_row, noted_all}
 use Rattle.heap_image.proofs.marking.Marking.follow.Goals as goal
 
 pub returns-then-is_unsound-clause-grown : goal.returns-then-is_unsound-clause-grown

@@ -3,7 +3,7 @@ use Rattle.std.proofs.lemmas.Bool.{eqb-true}
 use Rattle.std.specs.Vec.{vec_len}
 use Rattle.heap_image.specs.HeapImage.{HeapImage, heap_words}
 use Rattle.heap_image.specs.Marking.{IsMarking, AreStacked, waiting_addresses, unmarked}
-use Rattle.heap_image.proofs.MarkingSteps.{none_left, batch_inside}
+use Rattle.heap_image.proofs.Lemmas.MarkingSteps.{none_left, batch_inside}
 use Rattle.heap_image.proofs.marking.Marking.follow_all.Goals as goal
 
 pub take_batch-requires-clause-inside : goal.take_batch-requires-clause-inside

@@ -5,8 +5,8 @@ use Rattle.std.specs.Prelude.{All}
 use Rattle.heap_image.specs.HeapImage.{HeapImage}
 use Rattle.heap_image.specs.Marking.{IsMarking, unmarked, waiting_addresses}
 use Rattle.heap_image.specs.declared.marking.Waiting.{Waiting}
-use Rattle.heap_image.proofs.Growth.{all_left}
-use Rattle.heap_image.proofs.MarkingSteps.{batch_followed, addresses_push, none_left}
+use Rattle.heap_image.proofs.Lemmas.Growth.{all_left}
+use Rattle.heap_image.proofs.Lemmas.MarkingSteps.{batch_followed, addresses_push, none_left}
 use Rattle.heap_image.proofs.marking.Marking.follow_batch.Goals as goal
 
 pub loop-object-init : goal.loop-object-init

@@ -5,8 +5,8 @@ use Rattle.heap_image.specs.HeapImage.{HeapImage}
 use Rattle.heap_image.specs.Bits.{has}
 use Rattle.heap_image.specs.Marking.{IsMarking, AreStacked, waiting_addresses}
 use Rattle.heap_image.specs.declared.marking.Waiting.{Waiting}
-use Rattle.heap_image.proofs.Growth.{all_left}
-use Rattle.heap_image.proofs.MarkingSteps.{batch_taken, addresses_push, stacked_last}
+use Rattle.heap_image.proofs.Lemmas.Growth.{all_left}
+use Rattle.heap_image.proofs.Lemmas.MarkingSteps.{batch_taken, addresses_push, stacked_last}
 use Rattle.heap_image.proofs.marking.Marking.take_batch.Goals as goal
 
 pub loop-self-init : goal.loop-self-init

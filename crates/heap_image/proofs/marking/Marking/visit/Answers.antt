@@ -1,6 +1,6 @@
 use Rattle.std.proofs.Common.{◌≡◌, ℕ, ◌+◌, ◌-◌, ◌<◌, false, sym, ◌∙◌, arith}
 use Rattle.heap_image.specs.Bits.{has}
-use Rattle.heap_image.proofs.Growth.{grown_push}
+use Rattle.heap_image.proofs.Lemmas.Growth.{grown_push}
 use Rattle.heap_image.proofs.marking.Marking.visit.Goals as goal
 
 pub returns-clause-grown : goal.returns-clause-grown

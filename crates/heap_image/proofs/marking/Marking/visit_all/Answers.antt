@@ -7,7 +7,7 @@ use Rattle.std.specs.List.{list_any}
 use Rattle.std.proofs.lemmas.List.Folds.{list_any_more}
 use Rattle.heap_image.specs.HeapImage.{leads_to}
 use Rattle.heap_image.specs.Marking.{IsGrown}
-use Rattle.heap_image.proofs.Growth.{grown_more}
+use Rattle.heap_image.proofs.Lemmas.Growth.{grown_more}
 use Rattle.heap_image.proofs.marking.Marking.visit_all.Goals as goal
 
 pub loop-reference-preserved : goal.loop-reference-preserved

@@ -5,7 +5,7 @@ use Rattle.std.proofs.lemmas.List.Folds.{list_any_more}
 use Rattle.heap_image.specs.HeapImage.{leads_to}
 use Rattle.heap_image.specs.Boxes.{arrives_anywhere}
 use Rattle.heap_image.specs.Marking.{IsGrown}
-use Rattle.heap_image.proofs.Growth.{grown_more, grown_as}
+use Rattle.heap_image.proofs.Lemmas.Growth.{grown_more, grown_as}
 use Rattle.heap_image.proofs.marking.Marking.visit_rows.Goals as goal
 
 pub loop-boxes-preserved : goal.loop-boxes-preserved

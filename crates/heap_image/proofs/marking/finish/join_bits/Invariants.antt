@@ -1,4 +1,4 @@
-use Rattle.heap_image.proofs.Joins.{AreJoined}
+use Rattle.heap_image.proofs.Lemmas.Joins.{AreJoined}
 use Rattle.heap_image.proofs.marking.finish.join_bits.Given as goal
 
 abbrev pub invariant-loop-part : goal.invariant-loop-part

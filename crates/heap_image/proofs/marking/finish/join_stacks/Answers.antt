@@ -1,6 +1,6 @@
 use Rattle.std.proofs.Common.{◌≡◌, ◌+◌, ◌<◌, ◌++◌, [], List, ℕ, length, sym, ◌∙◌, ap, subst, arith}
 use Rattle.heap_image.specs.declared.marking.part.Part.{Part}
-use Rattle.heap_image.proofs.Finish.{AreStackedUp, stacked_none, stacked_more}
+use Rattle.heap_image.proofs.Lemmas.Finish.{AreStackedUp, stacked_none, stacked_more}
 use Rattle.heap_image.proofs.marking.finish.join_stacks.Goals as goal
 
 pub loop-part-init : goal.loop-part-init

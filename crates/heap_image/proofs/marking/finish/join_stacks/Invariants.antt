@@ -1,4 +1,4 @@
-use Rattle.heap_image.proofs.Finish.{AreStackedUp}
+use Rattle.heap_image.proofs.Lemmas.Finish.{AreStackedUp}
 use Rattle.heap_image.proofs.marking.finish.join_stacks.Given as goal
 
 abbrev pub invariant-loop-part : goal.invariant-loop-part

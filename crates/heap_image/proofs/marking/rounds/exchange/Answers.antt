@@ -1,5 +1,5 @@
 use Rattle.std.proofs.Common.{arith}
-use Rattle.heap_image.proofs.Exchanges.{exchanged_more, exchanged_all}
+use Rattle.heap_image.proofs.Lemmas.Exchanges.{exchanged_more, exchanged_all}
 use Rattle.heap_image.proofs.marking.rounds.exchange.Goals as goal
 
 pub loop-k-preserved : goal.loop-k-preserved

@@ -1,4 +1,4 @@
-use Rattle.heap_image.proofs.Exchanges.{AreExchangedTo}
+use Rattle.heap_image.proofs.Lemmas.Exchanges.{AreExchangedTo}
 use Rattle.heap_image.proofs.marking.rounds.exchange.Given as goal
 
 abbrev pub invariant-loop-k : goal.invariant-loop-k

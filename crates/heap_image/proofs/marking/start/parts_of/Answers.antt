@@ -3,7 +3,7 @@ use Rattle.std.proofs.lemmas.List.{length_push}
 use Rattle.heap_image.specs.HeapImage.{heap_words}
 use Rattle.heap_image.specs.Rounds.{AreParts, IsPartAt, IsUnmarked}
 use Rattle.heap_image.specs.declared.marking.part.Part.{Part}
-use Rattle.heap_image.proofs.Starts.{each_push, part_begins}
+use Rattle.heap_image.proofs.Lemmas.Starts.{each_push, part_begins}
 use Rattle.heap_image.proofs.marking.start.parts_of.Goals as goal
 
 pub loop-k-preserved : goal.loop-k-preserved

@@ -1,6 +1,6 @@
 use Rattle.std.proofs.Common.{◌≡◌, ◌+◌, ◌-◌, ℕ, arith}
 use Rattle.std.proofs.lemmas.Result.{on_ok_weaker}
-use Rattle.heap_image.proofs.Starts.{rooted}
+use Rattle.heap_image.proofs.Lemmas.Starts.{rooted}
 use Rattle.heap_image.proofs.marking.start.send_root.Goals as goal
 
 pub returns-clause-sent : goal.returns-clause-sent

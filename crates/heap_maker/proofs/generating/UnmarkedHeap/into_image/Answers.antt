@@ -3,7 +3,7 @@ use Rattle.heap_image.specs.HeapImage.{HeapImage, image_of, reachable}
 use Rattle.heap_image.specs.Version.{Allows, has_roots}
 use Rattle.heap_image.specs.declared.version.Version.TheVariants.{Two}
 use Rattle.heap_image.specs.ImageText.{from_tail, first_some, live_list_faults}
-use Rattle.heap_maker.proofs.Valid.{fitting, listed-valid, listed_allows, listed_is_one}
+use Rattle.heap_maker.proofs.Lemmas.Valid.{fitting, listed-valid, listed_allows, listed_is_one}
 use Rattle.heap_maker.proofs.generating.UnmarkedHeap.into_image.Goals as goal
 
 pub into_image-requires-clause-valid : goal.into_image-requires-clause-valid

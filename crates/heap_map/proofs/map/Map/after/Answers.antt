@@ -7,7 +7,7 @@ use Rattle.summary.specs.Compaction.{compact, compacted_word}
 use Rattle.summary.specs.NewAddresses.{new_top, prefix_end}
 use Rattle.heap_map.specs.declared.cell.Cell.{Cell}
 use Rattle.heap_map.specs.Cells.{cell_at, cell_start}
-use Rattle.heap_map.proofs.Placed.{cell-same, starts-ascend}
+use Rattle.heap_map.proofs.Lemmas.Placed.{cell-same, starts-ascend}
 use Rattle.heap_map.proofs.map.Map.after.Goals as goal
 
 pub cell-requires : goal.cell-requires

@@ -6,7 +6,7 @@ use Rattle.heap_image.specs.HeapImage.{HeapImage, heap_words, last_end, live_wor
 use Rattle.summary.specs.NewAddresses.{prefix_end}
 use Rattle.heap_map.specs.declared.cell.Cell.{Cell}
 use Rattle.heap_map.specs.Cells.{cell_at, cell_start}
-use Rattle.heap_map.proofs.Placed.{cell-same, starts-ascend}
+use Rattle.heap_map.proofs.Lemmas.Placed.{cell-same, starts-ascend}
 use Rattle.heap_map.proofs.map.Map.before.Goals as goal
 
 pub cell-requires : goal.cell-requires

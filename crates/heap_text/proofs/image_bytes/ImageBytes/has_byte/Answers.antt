@@ -2,7 +2,7 @@ use Rattle.std.proofs.Common.{rules, ◌≡◌, ◌∙◌, ◌++◌, ℕ, List, 
 use Rattle.std.proofs.lemmas.List.{drop_all, drop_at, length-take-le}
 use borrow.Rule.Slice.PartMut.{put_mid}
 use Rattle.heap_text.specs.ImageBytes.{numbers_left}
-use Rattle.heap_text.proofs.ByteSteps.{number_bytes_left}
+use Rattle.heap_text.proofs.Lemmas.ByteSteps.{number_bytes_left}
 use Rattle.heap_text.proofs.image_bytes.ImageBytes.has_byte.Goals as goal
 
 last_put : (xs ys : List ℕ) → length xs ≡ 32 → drop 24 (put_mid 24 8 xs ys) ≡ ys

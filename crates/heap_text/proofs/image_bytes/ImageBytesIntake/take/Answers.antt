@@ -1,6 +1,6 @@
 use Rattle.std.proofs.Common.{◌∙◌, ◌++◌, ℕ, List, ap, sym, take, arith}
 use Rattle.heap_text.specs.ImageBytes.{bytes_left}
-use Rattle.heap_text.proofs.ByteSteps.{byte_given}
+use Rattle.heap_text.proofs.Lemmas.ByteSteps.{byte_given}
 use Rattle.heap_text.proofs.image_bytes.ImageBytesIntake.take.Goals as goal
 
 pub returns-in_default-clause-bytes : goal.returns-in_default-clause-bytes

@@ -1,7 +1,7 @@
 use Rattle.std.proofs.Common.{[], subst}
 use Rattle.heap_text.specs.Parsing.{ExpectsAt}
-use Rattle.heap_text.specs.declared.next_line.NextLine.{NextLine}
-use Rattle.heap_text.proofs.ParseSteps.{at_version_more, at_region_log_more, at_words_more, at_allowance_more, at_roots_more}
+use Rattle.heap_text.specs.declared.line_parser.next_line.NextLine.{NextLine}
+use Rattle.heap_text.proofs.Lemmas.ParseSteps.{at_version_more, at_region_log_more, at_words_more, at_allowance_more, at_roots_more}
 use Rattle.heap_text.proofs.line_parser.LineParser.finish.Goals as goal
 
 pub returns-in-Version : goal.returns-in-Version

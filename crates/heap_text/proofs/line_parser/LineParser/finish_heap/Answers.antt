@@ -1,5 +1,5 @@
 use Rattle.std.proofs.Common.{arith}
-use Rattle.heap_text.proofs.ParseSteps.{heap_end, contents}
+use Rattle.heap_text.proofs.Lemmas.ParseSteps.{heap_end, contents}
 use Rattle.heap_text.proofs.line_parser.LineParser.finish_heap.Goals as goal
 
 pub returns-then-here-self : goal.returns-then-here-self

@@ -1,7 +1,7 @@
 use Rattle.std.proofs.Common.{◌≡◌, sym, ◌∙◌}
 use Rattle.heap_text.specs.Parsing.{HasHead}
-use Rattle.heap_text.proofs.PartSteps.{none_some, some_same}
-use Rattle.heap_text.proofs.ParseSteps.{allowance_line, front_ends}
+use Rattle.heap_text.proofs.Lemmas.PartSteps.{none_some, some_same}
+use Rattle.heap_text.proofs.Lemmas.ParseSteps.{allowance_line, front_ends}
 use Rattle.heap_text.proofs.line_parser.LineParser.parse_allowance.Goals as goal
 
 pub returns-in_default : goal.returns-in_default

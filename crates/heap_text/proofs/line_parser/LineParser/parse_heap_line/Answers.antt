@@ -5,9 +5,9 @@ use Rattle.std.proofs.lemmas.Bool.{cases_Bool}
 use Rattle.heap_image.specs.HeapImage.{heap_words}
 use Rattle.heap_text.specs.Words.{dead_part, data_part, references_part}
 use Rattle.heap_text.specs.Text.{number_text}
-use Rattle.heap_text.proofs.HeapLines.{heap_line, points_ahead, IsDeadLine, IsObjectLine}
-use Rattle.heap_text.proofs.ParseSteps.{object_parsed, dead_parsed}
-use Rattle.heap_text.proofs.PartSteps.{accepts_with, dead_token, named, none_some, not_named, object_not_dead, object_token, place_of, some_same, true_not_false}
+use Rattle.heap_text.proofs.Lemmas.HeapLines.{heap_line, points_ahead, IsDeadLine, IsObjectLine}
+use Rattle.heap_text.proofs.Lemmas.ParseSteps.{object_parsed, dead_parsed}
+use Rattle.heap_text.proofs.Lemmas.PartSteps.{accepts_with, dead_token, named, none_some, not_named, object_not_dead, object_token, place_of, some_same, true_not_false}
 use Rattle.heap_text.proofs.line_parser.LineParser.parse_heap_line.Goals as goal
 
 pub returns-then-not-is_address : goal.returns-then-not-is_address

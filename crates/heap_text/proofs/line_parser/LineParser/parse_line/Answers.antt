@@ -1,7 +1,7 @@
 use Rattle.std.proofs.Common.{◌++◌, ◌∷◌, sym, ◌∙◌, subst}
 use Rattle.heap_text.specs.Parsing.{ExpectsAt}
-use Rattle.heap_text.specs.declared.next_line.NextLine.{NextLine}
-use Rattle.heap_text.proofs.PartSteps.{accepts_map}
+use Rattle.heap_text.specs.declared.line_parser.next_line.NextLine.{NextLine}
+use Rattle.heap_text.proofs.Lemmas.PartSteps.{accepts_map}
 use Rattle.heap_text.proofs.line_parser.LineParser.parse_line.Goals as goal
 
 pub returns-in-Version : goal.returns-in-Version

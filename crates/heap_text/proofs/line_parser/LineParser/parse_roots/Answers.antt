@@ -3,8 +3,8 @@ use Rattle.std.specs.Prelude.{flat_map}
 use Rattle.std.specs.List.{AllByRecursion}
 use Rattle.heap_image.specs.HeapImage.{roots_of}
 use Rattle.heap_text.specs.Text.{reference_text}
-use Rattle.heap_text.proofs.ParseSteps.{roots_line_is, roots_token, roots_after, roots_low, roots_few, heap_begins}
-use Rattle.heap_text.proofs.PartSteps.{accepts_error, other_name}
+use Rattle.heap_text.proofs.Lemmas.ParseSteps.{roots_line_is, roots_token, roots_after, roots_low, roots_few, heap_begins}
+use Rattle.heap_text.proofs.Lemmas.PartSteps.{accepts_error, other_name}
 use Rattle.std.proofs.lemmas.Result.{err_from_is_err_and}
 use Rattle.heap_text.proofs.line_parser.LineParser.parse_roots.Goals as goal
 

@@ -1,6 +1,6 @@
 use Rattle.std.proofs.Common.{sym, ◌∙◌}
-use Rattle.heap_text.proofs.PartSteps.{none_some, some_same}
-use Rattle.heap_text.proofs.ParseSteps.{version_line}
+use Rattle.heap_text.proofs.Lemmas.PartSteps.{none_some, some_same}
+use Rattle.heap_text.proofs.Lemmas.ParseSteps.{version_line}
 use Rattle.heap_text.proofs.line_parser.LineParser.parse_version.Goals as goal
 
 pub returns-in_default : goal.returns-in_default

@@ -1,7 +1,7 @@
 use Rattle.std.proofs.Common.{◌≡◌, ℕ, inl, inr, refl, sym, ap, ◌∙◌, subst, length, get_or, replicate, arith, codes, append-nil}
 use Rattle.std.specs.Prelude.{option_map}
 use Rattle.heap_text.specs.Words.{HasPushed, dead_part}
-use Rattle.heap_text.proofs.PartSteps.{accepts_error, dead_after, dead_part_next, dead_part_none, first_fits, named, not_named, none_some, of_not_words, some_same}
+use Rattle.heap_text.proofs.Lemmas.PartSteps.{accepts_error, dead_after, dead_part_next, dead_part_none, first_fits, named, not_named, none_some, of_not_words, some_same}
 use Rattle.std.proofs.lemmas.Result.{err_from_is_err_and}
 use Rattle.heap_text.proofs.parsed_heap.ParsedHeap.parse_dead.Goals as goal
 

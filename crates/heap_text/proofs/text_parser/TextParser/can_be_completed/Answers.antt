@@ -2,7 +2,7 @@ use Rattle.std.proofs.Common.{◌≡◌, ℕ, List, true, sym, subst, length-dro
 use Rattle.std.specs.List.{list_all}
 use Rattle.std.proofs.lemmas.List.{take_rest}
 use Rattle.heap_text.specs.TextBytes.{is_text_byte}
-use Rattle.heap_text.proofs.WaitSteps.{plain_from, unfinished}
+use Rattle.heap_text.proofs.Lemmas.WaitSteps.{plain_from, unfinished}
 use Rattle.heap_text.proofs.text_parser.TextParser.can_be_completed.Goals as goal
 
 pub returns-then-len-longest_line : goal.returns-then-len-longest_line

@@ -1,4 +1,4 @@
-use Rattle.heap_text.proofs.WaitSteps.{at_end, nothing_unfinished}
+use Rattle.heap_text.proofs.Lemmas.WaitSteps.{at_end, nothing_unfinished}
 use Rattle.heap_text.proofs.text_parser.TextParser.finish.Goals as goal
 
 pub returns-then-begin-text-clause-accepts : goal.returns-then-begin-text-clause-accepts

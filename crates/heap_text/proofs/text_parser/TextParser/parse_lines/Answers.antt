@@ -2,9 +2,9 @@ use Rattle.std.proofs.Common.{◌+◌, ◌++◌, ℕ, List, refl, sym, subst, dr
 use Rattle.std.proofs.lemmas.Result.{err_from_is_err_and}
 use Rattle.heap_text.specs.Parsing.{Expects}
 use Rattle.heap_text.specs.TextLines.{EndsInLine}
-use Rattle.heap_text.proofs.ImageSteps.{text_error}
-use Rattle.heap_text.proofs.TextSteps.{ends_after_byte, ends_after_newline}
-use Rattle.heap_text.proofs.WaitSteps.{line_alone, line_at, waits_after_byte}
+use Rattle.heap_text.proofs.Lemmas.ImageSteps.{text_error}
+use Rattle.heap_text.proofs.Lemmas.TextSteps.{ends_after_byte, ends_after_newline}
+use Rattle.heap_text.proofs.Lemmas.WaitSteps.{line_alone, line_at, waits_after_byte}
 use Rattle.heap_text.proofs.text_parser.TextParser.parse_lines.Goals.{then-text-place-eq10+in_ok-parse_line, else-text-place-eq10}
 use Rattle.heap_text.proofs.text_parser.TextParser.parse_lines.Goals as goal
 

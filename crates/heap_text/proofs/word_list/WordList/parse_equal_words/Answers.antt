@@ -1,7 +1,7 @@
 use Rattle.std.proofs.Common.{◌≡◌, ◌∙◌, ℕ, [], Some, sym, subst, true, replicate, append-nil, arith, is_some}
 use Rattle.heap_text.specs.Words.{HasPushed}
 use Rattle.heap_text.specs.Text.{number_text}
-use Rattle.heap_text.proofs.PartSteps.{none_some, some_same, true_not_false}
+use Rattle.heap_text.proofs.Lemmas.PartSteps.{none_some, some_same, true_not_false}
 use Rattle.heap_text.proofs.word_list.WordList.parse_equal_words.Goals as goal
 
 pub returns-in_default : goal.returns-in_default

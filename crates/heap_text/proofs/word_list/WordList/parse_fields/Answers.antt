@@ -1,7 +1,7 @@
 use Rattle.std.proofs.Common.{◌++◌, inl, inr, ℕ, List, refl, sym, ◌∙◌, subst, arith, codes}
 use Rattle.std.specs.Prelude.{option_map}
 use Rattle.heap_text.specs.Words.{Accepts, HasPushed}
-use Rattle.heap_text.proofs.PartSteps.{fields_next, fields_none, pushed_none, named, not_named, refs_not_data, some_none}
+use Rattle.heap_text.proofs.Lemmas.PartSteps.{fields_next, fields_none, pushed_none, named, not_named, refs_not_data, some_none}
 use Rattle.heap_text.proofs.word_list.WordList.parse_fields.Goals as goal
 
 pub returns-in_default : goal.returns-in_default

@@ -1,6 +1,6 @@
 use Rattle.std.proofs.Common.{◌&&◌, refl, arith}
 use Rattle.std.specs.Prelude.{◌==◌, option_map}
-use Rattle.heap_text.proofs.PartSteps.{numbers_begin, numbers_missing, numbers_step, numbers_wrong, numbers_end, some_none}
+use Rattle.heap_text.proofs.Lemmas.PartSteps.{numbers_begin, numbers_missing, numbers_step, numbers_wrong, numbers_end, some_none}
 use Rattle.heap_text.proofs.word_list.WordList.parse_numbers.Goals as goal
 
 pub returns-in_default-clause-accepts : goal.returns-in_default-clause-accepts

@@ -2,7 +2,7 @@ use Rattle.std.proofs.Common.{◌≡◌, ◌+◌, ◌^◌, ◌<◌, ◌≤◌, �
 use Rattle.std.specs.Prelude.{flat_map}
 use Rattle.std.specs.List.{AllByRecursion}
 use Rattle.heap_text.specs.Text.{number_text}
-use Rattle.heap_text.proofs.PartSteps.{AreNumbers}
+use Rattle.heap_text.proofs.Lemmas.PartSteps.{AreNumbers}
 use Rattle.heap_text.proofs.word_list.WordList.parse_numbers.Given as goal
 
 abbrev pub invariant-loop-token : goal.invariant-loop-token

@@ -1,6 +1,6 @@
 use Rattle.std.proofs.Common.{refl, sym, codes}
 use Rattle.std.specs.Prelude.{option_map}
-use Rattle.heap_text.proofs.PartSteps.{references_begin, references_missing, references_step, references_data, references_end, not_named, some_none}
+use Rattle.heap_text.proofs.Lemmas.PartSteps.{references_begin, references_missing, references_step, references_data, references_end, not_named, some_none}
 use Rattle.heap_text.proofs.word_list.WordList.parse_references.Goals as goal
 
 pub returns-in_default : goal.returns-in_default

@@ -3,7 +3,7 @@ use Rattle.std.specs.Prelude.{flat_map}
 use Rattle.std.specs.List.{AllByRecursion}
 use Rattle.heap_text.specs.Text.{reference_text}
 use Rattle.heap_text.specs.Words.{data_part}
-use Rattle.heap_text.proofs.PartSteps.{AreReferences}
+use Rattle.heap_text.proofs.Lemmas.PartSteps.{AreReferences}
 use Rattle.heap_text.proofs.word_list.WordList.parse_references.Given as goal
 
 abbrev pub invariant-loop-token : goal.invariant-loop-token

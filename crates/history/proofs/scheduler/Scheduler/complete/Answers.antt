@@ -4,9 +4,9 @@ use Rattle.std.proofs.lemmas.List.{get_or_default}
 use Rattle.std.proofs.lemmas.Bool.{both_ways}
 use Rattle.history.specs.MoveTable.{region_count}
 use Rattle.history.specs.Scheduler.{SchedulerView, state_in, IsKept, sources_left}
-use Rattle.history.specs.declared.progress.Progress.TheVariants.{Unclaimed, Filling}
+use Rattle.history.specs.declared.scheduler.progress.Progress.TheVariants.{Unclaimed, Filling}
 use Rattle.history.specs.declared.event.Event.TheVariants.{Complete}
-use Rattle.history.proofs.Stepping.{refused, none_left, begun_inside, filling_of, completes}
+use Rattle.history.proofs.Lemmas.Stepping.{refused, none_left, begun_inside, filling_of, completes}
 use Rattle.history.proofs.scheduler.Scheduler.complete.Goals as goal
 use Rattle.history.proofs.scheduler.Scheduler.complete.Goals.{then-not-is_at-via-then-not-is_at, then-not-is_at-via-else-not-is_at+then-index-gt0}
 

@@ -4,10 +4,10 @@ use Rattle.std.proofs.lemmas.List.{get_or_default}
 use Rattle.std.proofs.lemmas.Bool.{ne_eqb}
 use Rattle.history.specs.Progress.{claimant_of, is_filled}
 use Rattle.history.specs.Scheduler.{SchedulerView, IsKept, IsPendingAt}
-use Rattle.history.specs.declared.progress.Progress.TheVariants.{Unclaimed, Filling}
+use Rattle.history.specs.declared.scheduler.progress.Progress.TheVariants.{Unclaimed, Filling}
 use Rattle.history.specs.declared.reply.Reply.{Reply}
 use Rattle.history.specs.declared.reply.Reply.TheVariants.{Last, NotLast}
-use Rattle.history.proofs.Stepping.{IsOpen, open_of, Drains, drains}
+use Rattle.history.proofs.Lemmas.Stepping.{IsOpen, open_of, Drains, drains}
 use Rattle.history.proofs.scheduler.Scheduler.drain.Goals as goal
 use Rattle.history.proofs.scheduler.Scheduler.drain.Goals.{then-left-eq0, else-left-eq0}
 

@@ -3,7 +3,7 @@ use Rattle.std.proofs.lemmas.Bool.{eqb-true, eq-eqb}
 use Rattle.std.specs.Prelude.{IsTrue, ◌==◌, ◌↔◌}
 use Rattle.history.specs.State.{AllAreSettled}
 use Rattle.history.specs.Scheduler.{SchedulerView, state_in, IsKept}
-use Rattle.history.proofs.Orders.{all_settled, none_unsettled}
+use Rattle.history.proofs.Lemmas.Orders.{all_settled, none_unsettled}
 use Rattle.history.proofs.scheduler.Scheduler.is_done.Goals as goal
 
 pub returns : goal.returns

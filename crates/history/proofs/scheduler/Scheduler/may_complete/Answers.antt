@@ -6,9 +6,9 @@ use Rattle.history.specs.MoveTable.{region_count}
 use Rattle.history.specs.State.{Allows}
 use Rattle.history.specs.Progress.{claimant_of, is_filled}
 use Rattle.history.specs.Scheduler.{SchedulerView, state_in, IsKept, sources_left}
-use Rattle.history.specs.declared.progress.Progress.TheVariants.{Unclaimed, Filling}
+use Rattle.history.specs.declared.scheduler.progress.Progress.TheVariants.{Unclaimed, Filling}
 use Rattle.history.specs.declared.event.Event.TheVariants.{Complete}
-use Rattle.history.proofs.Stepping.{all_read, none_left, begun_inside}
+use Rattle.history.proofs.Lemmas.Stepping.{all_read, none_left, begun_inside}
 use Rattle.history.proofs.scheduler.Scheduler.may_complete.Goals as goal
 
 pub returns-then-is_at : goal.returns-then-is_at

@@ -1,8 +1,8 @@
 use Rattle.std.proofs.Common.{◌≡◌, ℕ, List, length, replicate, false, ap, ◌∙◌}
 use Rattle.history.specs.MoveTable.{region_count}
 use Rattle.history.specs.Scheduler.{SchedulerView}
-use Rattle.history.specs.declared.progress.Progress.TheVariants.{Unclaimed}
-use Rattle.history.proofs.Openings.{IsOpening, opening_kept}
+use Rattle.history.specs.declared.scheduler.progress.Progress.TheVariants.{Unclaimed}
+use Rattle.history.proofs.Lemmas.Openings.{IsOpening, opening_kept}
 use Rattle.history.proofs.scheduler.Scheduler.new.Goals as goal
 
 pub invariant_of-result : goal.invariant_of-result

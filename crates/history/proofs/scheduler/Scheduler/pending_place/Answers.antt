@@ -3,7 +3,7 @@ use Rattle.std.specs.Prelude.{slice_index_or}
 use Rattle.std.proofs.lemmas.List.{get_or_default}
 use Rattle.history.specs.MoveIndex.{IsPlaceOf}
 use Rattle.history.specs.Scheduler.{SchedulerView, IsKept, IsPendingAt}
-use Rattle.history.proofs.Stepping.{drained_pair, open_of}
+use Rattle.history.proofs.Lemmas.Stepping.{drained_pair, open_of}
 use Rattle.history.proofs.scheduler.Scheduler.pending_place.Goals as goal
 
 pub returns-then-index-clause-none : goal.returns-then-index-clause-none

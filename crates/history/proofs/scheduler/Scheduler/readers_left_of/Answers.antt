@@ -4,7 +4,7 @@ use Rattle.std.proofs.lemmas.List.{get_or_default}
 use Rattle.history.specs.MoveTable.{region_count}
 use Rattle.history.specs.State.{readers_left}
 use Rattle.history.specs.Scheduler.{SchedulerView, state_in, IsKept}
-use Rattle.history.proofs.Stepping.{few_left}
+use Rattle.history.proofs.Lemmas.Stepping.{few_left}
 use Rattle.history.proofs.scheduler.Scheduler.readers_left_of.Goals as goal
 
 pub overflow_cast-result : goal.overflow_cast-result

@@ -1,8 +1,8 @@
 use Rattle.std.proofs.Common.{◌≡◌}
 use Rattle.std.specs.Prelude.{slice_index_or}
 use Rattle.history.specs.Scheduler.{SchedulerView, IsKept}
-use Rattle.history.specs.declared.progress.Progress.TheVariants.{Unclaimed, Completed}
-use Rattle.history.proofs.Stepping.{settles}
+use Rattle.history.specs.declared.scheduler.progress.Progress.TheVariants.{Unclaimed, Completed}
+use Rattle.history.proofs.Lemmas.Stepping.{settles}
 use Rattle.history.proofs.scheduler.Scheduler.settle.Goals as goal
 
 pub overflow_sub-self : goal.overflow_sub-self

@@ -3,9 +3,9 @@ use Rattle.std.proofs.lemmas.Nat.{mod_below, pow_below}
 use Rattle.std.proofs.Math.Nat.{div-add-mod'}
 use Rattle.heap_image.specs.HeapImage.{is_live_word}
 use Rattle.mark_bitmap.specs.Marks.{block_words}
-use Rattle.mark_bitmap.proofs.BlockStarts.{block_inside}
-use Rattle.heap_image.proofs.Counts.{count-le}
-use Rattle.heap_image.proofs.Parts.{region_some}
+use Rattle.mark_bitmap.proofs.Lemmas.BlockStarts.{block_inside}
+use Rattle.heap_image.proofs.Lemmas.Counts.{count-le}
+use Rattle.heap_image.proofs.Lemmas.Parts.{region_some}
 use Rattle.mark_bitmap.proofs.marks.Marks.block_live.Goals as goal
 
 -- a block begins within its region

@@ -1,7 +1,7 @@
 use Rattle.std.proofs.Common.{ℕ, ◌*◌, ◌%◌, ◌^◌, ◌<◌, min, ◌∙◌, ap, arith}
 use Rattle.std.proofs.lemmas.Nat.{one_shl}
 use Rattle.mark_bitmap.specs.Marks.{block_words}
-use Rattle.mark_bitmap.proofs.BlockStarts.{block_log}
+use Rattle.mark_bitmap.proofs.Lemmas.BlockStarts.{block_log}
 use Rattle.mark_bitmap.proofs.marks.Marks.block_words.Goals as goal
 
 pub returns-clause-value : goal.returns-clause-value

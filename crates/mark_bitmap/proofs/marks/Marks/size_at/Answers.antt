@@ -3,7 +3,7 @@ use Rattle.std.proofs.lemmas.Bool.{true≢false}
 use Rattle.heap_image.specs.HeapImage.{HeapImage, size_at, end_of}
 use Rattle.heap_image.specs.Bits.{has, IsFirstFrom, NoneFrom}
 use Rattle.mark_bitmap.specs.Marks.{is_begin, is_end}
-use Rattle.mark_bitmap.proofs.Apart.{end-first, begin-some, IsFirstFrom-unique, IsFirstFrom-same}
+use Rattle.mark_bitmap.proofs.Lemmas.Apart.{end-first, begin-some, IsFirstFrom-unique, IsFirstFrom-same}
 use Rattle.mark_bitmap.proofs.marks.Marks.size_at.Goals as goal
 
 pub unreachable-requires : goal.unreachable-requires

@@ -1,8 +1,8 @@
 use Rattle.std.proofs.Common.{arith}
 use Rattle.heap_image.specs.HeapImage.{HeapImage, IsValid, is_live_word}
 use Rattle.mark_bitmap.specs.Marks.{AreMarks, is_end}
-use Rattle.mark_bitmap.proofs.PartBits.{all_bits}
-use Rattle.mark_bitmap.proofs.Runs.{live-inside, end-inside}
+use Rattle.mark_bitmap.proofs.Lemmas.PartBits.{all_bits}
+use Rattle.mark_bitmap.proofs.Lemmas.Runs.{live-inside, end-inside}
 use Rattle.mark_bitmap.proofs.marks.Marks.with_bits.Goals as goal
 
 pub invariant_of-result : goal.invariant_of-result

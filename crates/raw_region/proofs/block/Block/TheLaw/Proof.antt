@@ -14,7 +14,7 @@ use denote.Struct.Laws.{RawPtr-copy, usize-copy}
 use denote.Struct.Lending.{lent_at, lent_at_shr_laws, Lends-lies, Lends-said, Lends-first, Lends-both, of_Lends}
 use Rattle.raw_region.specs.Block.{right, is_length}
 use Rattle.raw_region.specs.contracts.block.Block as C
-use Rattle.raw_region.proofs.Number.{word_laws}
+use Rattle.raw_region.proofs.Lemmas.Number.{word_laws}
 use Rattle.raw_region.proofs.block.Block.TheLaw.Statement.{statement}
 
 pub shares : statement

@@ -1,5 +1,5 @@
 -- `into_room` moves the two fields, and gives the words up.
-use Rattle.raw_region.proofs.Steps.{refl, sym, ap, [], ◌∷◌, ◌<◌, ◌^◌, arith, proved, full_share, id⊢, ftrue, w64, Val, vptr, vint, tables, ‵, ◌⊛◌, ◌$◌, ◌∵◌, !, qed, done, keep, drop, use1, split, join, fsplit, fjoin, flt_i, flt_l, suffices, agg, enter, of_opd, stop, fld, no_more, and_then, returns, alloc_all, pass_all, free_all, look_at, get, get_in, sets, sub, whole, Array, u64, yes, Ptr, block_ptr, in_a_block, plain, nothing, Stays, walk_of, says, stay_dropped, ends_at}
+use Rattle.raw_region.proofs.Lemmas.Steps.{refl, sym, ap, [], ◌∷◌, ◌<◌, ◌^◌, arith, proved, full_share, id⊢, ftrue, w64, Val, vptr, vint, tables, ‵, ◌⊛◌, ◌$◌, ◌∵◌, !, qed, done, keep, drop, use1, split, join, fsplit, fjoin, flt_i, flt_l, suffices, agg, enter, of_opd, stop, fld, no_more, and_then, returns, alloc_all, pass_all, free_all, look_at, get, get_in, sets, sub, whole, Array, u64, yes, Ptr, block_ptr, in_a_block, plain, nothing, Stays, walk_of, says, stay_dropped, ends_at}
 use mir.Syntax.{ty_int, ty_array}
 use mir.Val.{vstruct, vcons, vnil}
 use base.Fml.{froom}
@@ -15,8 +15,8 @@ use Rattle.raw_region.specs.Rooms.{room_of}
 use Rattle.raw_region.specs.contracts.block.Block as B
 use Rattle.raw_region.specs.contracts.room.Room as R
 use Rattle.raw_region.proofs.block.Block.TheLaws.{lowers}
-use Rattle.raw_region.proofs.Heap.{forgotten}
-use Rattle.raw_region.proofs.Rooms.{RoomFields, fields_of}
+use Rattle.raw_region.proofs.Lemmas.Heap.{forgotten}
+use Rattle.raw_region.proofs.Lemmas.Rooms.{RoomFields, fields_of}
 
 abbrev stayed : Stays f.ended.signature.params f.ended.kept
 stayed = (stay_dropped (plain (λ _. B.the_row)) yes, tt)

@@ -1,5 +1,5 @@
 -- `words` reads the two fields, and hands out the `&` to the words that the `&` to the block holds.
-use Rattle.raw_region.proofs.Steps.{refl, sym, ap, subst, List, [], ◌∷◌, ℕ, ◌+◌, ◌*◌, ◌<◌, ◌^◌, arith, length, proved, ftrue, fhide, flft, named, Val, tables, fact, ‵, raw, ◌⊛◌, at_ret, ◌$◌, ◌∵◌, !, qed, done, move, keep, drop, use1, split, join, fsplit, fjoin, feq_i, feq_l, flt_i, flt_l, suffices, agg, enter, of_opd, load, look, stop, fld, no_more, and_then, first, blocks, exec, returns, alloc_all, pass_all, free_all, look_at, get, through, sets, sets_last, env, RefOf, yes, block_of, count_of, InBlock, ShrRef, shr_vals, shr_Tells, plain, slice_val, nothing, heard, Stays, walk_of, stay_dropped, Goes-dropped, ends_at}
+use Rattle.raw_region.proofs.Lemmas.Steps.{refl, sym, ap, subst, List, [], ◌∷◌, ℕ, ◌+◌, ◌*◌, ◌<◌, ◌^◌, arith, length, proved, ftrue, fhide, flft, named, Val, tables, fact, ‵, raw, ◌⊛◌, at_ret, ◌$◌, ◌∵◌, !, qed, done, move, keep, drop, use1, split, join, fsplit, fjoin, feq_i, feq_l, flt_i, flt_l, suffices, agg, enter, of_opd, load, look, stop, fld, no_more, and_then, first, blocks, exec, returns, alloc_all, pass_all, free_all, look_at, get, through, sets, sets_last, env, RefOf, yes, block_of, count_of, InBlock, ShrRef, shr_vals, shr_Tells, plain, slice_val, nothing, heard, Stays, walk_of, stay_dropped, Goes-dropped, ends_at}
 use denote.Memory.{hidden_shr}
 use denote.Opens.{unhide, hide}
 use denote.Struct.Lending.{in_block_says, lent_out}
@@ -9,7 +9,7 @@ use Rattle.raw_region.specs.contracts.block.Block.words as f
 use Rattle.raw_region.proofs.block.Block.words.Statement.{statement}
 use Rattle.raw_region.proofs.block.Block.words.Code as code
 use Rattle.raw_region.specs.contracts.block.Block as B
-use Rattle.raw_region.proofs.Fields.{Plain, plain_of, shows_at, shows_len}
+use Rattle.raw_region.proofs.Lemmas.Fields.{Plain, plain_of, shows_at, shows_len}
 
 abbrev stayed : Stays f.ended.signature.params f.ended.kept
 stayed = (stay_dropped (RefOf (0 ∷ []) tt (plain (λ _. B.the_row)) (λ _. tt)) yes, tt)

@@ -1,5 +1,5 @@
 -- `words_mut` opens the block, lends its words, and leaves the rest of the block to whoever ends that borrow.
-use Rattle.raw_region.proofs.Steps.{◌≡◌, refl, sym, ap, ◌∙◌, List, [], ◌∷◌, ℕ, ◌*◌, ◌<◌, ◌^◌, arith, length, proved, Ura, full_share, ent, sep, id⊢, GName, Fml, ftrue, fsep, flft, named, Val, tables, Logic, sem, ‵, raw, ◌⊛◌, some, later, at_ret, ◌$◌, ◌∵◌, !, qed, done, move, keep, use1, split, join, fsplit, fsplit3, fjoin, fpack, feq_i, feq_l, flt_i, flt_l, pick, await, rewrite, suffices, frame, group, sub, whole, look_in, agg, enter, of_opd, load, stop, fld, no_more, and_then, first, blocks, exec, returns, alloc_all, pass_all, free_all, look_at, get, through, sets, sets_last, env, Array, u64, no, Ptr, block_ptr, in_a_block, MutRef, mut_vals, mut_Tells, plain, mut_ref_to, MutSlice, slice_val, nothing, Stays, walk_of, says, stay_dropped, Goes-spent_ref, ends_at}
+use Rattle.raw_region.proofs.Lemmas.Steps.{◌≡◌, refl, sym, ap, ◌∙◌, List, [], ◌∷◌, ℕ, ◌*◌, ◌<◌, ◌^◌, arith, length, proved, Ura, full_share, ent, sep, id⊢, GName, Fml, ftrue, fsep, flft, named, Val, tables, Logic, sem, ‵, raw, ◌⊛◌, some, later, at_ret, ◌$◌, ◌∵◌, !, qed, done, move, keep, use1, split, join, fsplit, fsplit3, fjoin, fpack, feq_i, feq_l, flt_i, flt_l, pick, await, rewrite, suffices, frame, group, sub, whole, look_in, agg, enter, of_opd, load, stop, fld, no_more, and_then, first, blocks, exec, returns, alloc_all, pass_all, free_all, look_at, get, through, sets, sets_last, env, Array, u64, no, Ptr, block_ptr, in_a_block, MutRef, mut_vals, mut_Tells, plain, mut_ref_to, MutSlice, slice_val, nothing, Stays, walk_of, says, stay_dropped, Goes-spent_ref, ends_at}
 use denote.ArrayMemory.{Array-apart, Array-whole}
 use denote.FollowSlice.{Elements, lends_Elements}
 use denote.Follow.{follows}
@@ -17,7 +17,7 @@ use Rattle.raw_region.proofs.block.Block.words_mut.Statement.{statement}
 use Rattle.raw_region.proofs.block.Block.words_mut.Code as code
 use Rattle.raw_region.specs.contracts.block.Block as B
 use Rattle.raw_region.proofs.block.Block.TheLaws.{lowers}
-use Rattle.raw_region.proofs.Fields.{Plain, plain_of}
+use Rattle.raw_region.proofs.Lemmas.Fields.{Plain, plain_of}
 
 abbrev stayed : Stays f.ended.signature.params f.ended.kept
 stayed = (stay_dropped (mut_ref_to (0 ∷ []) tt (plain (λ _. B.the_row))) no, tt)

@@ -3,7 +3,7 @@ use Rattle.std.proofs.lemmas.Iterator.Consumers.{YieldsList-turn}
 use Rattle.std.proofs.lemmas.Iterator.Adapters.{YieldsList-from_vec}
 use Rattle.std.proofs.lemmas.List.{length_push}
 use Rattle.raw_region.specs.Frame.{part_of, IsPart}
-use Rattle.raw_region.proofs.Frames.{IsJoined, slot-at, can-join, joined}
+use Rattle.raw_region.proofs.Lemmas.Frames.{IsJoined, slot-at, can-join, joined}
 use Rattle.raw_region.proofs.frame.Frame.end.Goals as goal
 
 pub join-whole-requires : goal.join-whole-requires

@@ -1,5 +1,5 @@
 use Rattle.std.proofs.Common.{length}
-use Rattle.raw_region.proofs.Frames.{IsJoined}
+use Rattle.raw_region.proofs.Lemmas.Frames.{IsJoined}
 use Rattle.raw_region.proofs.frame.Frame.end.Given as goal
 
 abbrev pub invariant-loop-slot : goal.invariant-loop-slot

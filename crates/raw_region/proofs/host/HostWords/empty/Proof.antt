@@ -1,12 +1,12 @@
 -- `empty` makes words that hold nothing.
-use Rattle.raw_region.proofs.Steps.{[], ◌∷◌, refl, lit<, proved, ftrue, ‵, ◌⊛◌, ◌$◌, ◌∵◌, !, qed, drop, split, suffices, done, agg, enter, lit, no_more, and_then, returns, alloc_all, pass_all, free_all, look_at, sets, nothing, Stays, walk_of, says, ends_at}
+use Rattle.raw_region.proofs.Lemmas.Steps.{[], ◌∷◌, refl, lit<, proved, ftrue, ‵, ◌⊛◌, ◌$◌, ◌∵◌, !, qed, drop, split, suffices, done, agg, enter, lit, no_more, and_then, returns, alloc_all, pass_all, free_all, look_at, sets, nothing, Stays, walk_of, says, ends_at}
 use mathlib.Core.Bool.{false}
 use types.Run.{false_lit}
 use denote.RawPtr.{null_ptr}
 use Rattle.raw_region.specs.contracts.host.HostWords.empty as f
 use Rattle.raw_region.proofs.host.HostWords.empty.Statement.{statement}
 use Rattle.raw_region.proofs.host.HostWords.empty.Code as code
-use Rattle.raw_region.proofs.Held.{word, host_in}
+use Rattle.raw_region.proofs.Lemmas.Held.{word, host_in}
 
 abbrev stayed : Stays f.ended.signature.params f.ended.kept
 stayed = tt

@@ -1,5 +1,5 @@
 -- `of` moves a block's two fields, and what they own goes with them.
-use Rattle.raw_region.proofs.Steps.{[], ◌∷◌, refl, sym, proved, ftrue, tables, ‵, ◌⊛◌, ◌$◌, ◌∵◌, !, qed, move, drop, split, join, fsplit, suffices, done, agg, whole, sub, enter, of_opd, stop, fld, no_more, and_then, returns, alloc_all, pass_all, free_all, look_at, get, get_in, sets, yes, Ptr, block_ptr, plain, nothing, Stays, walk_of, says, stay_dropped, ends_at}
+use Rattle.raw_region.proofs.Lemmas.Steps.{[], ◌∷◌, refl, sym, proved, ftrue, tables, ‵, ◌⊛◌, ◌$◌, ◌∵◌, !, qed, move, drop, split, join, fsplit, suffices, done, agg, whole, sub, enter, of_opd, stop, fld, no_more, and_then, returns, alloc_all, pass_all, free_all, look_at, get, get_in, sets, yes, Ptr, block_ptr, plain, nothing, Stays, walk_of, says, stay_dropped, ends_at}
 use mathlib.Core.Bool.{true}
 use Rattle.core.specs.declared.option.Option.TheVariants.{None as Nothing}
 use mathlib.Core.Path.{◌≡◌}
@@ -16,7 +16,7 @@ use Rattle.raw_region.proofs.block.Block.TheLaws.{lowers}
 use Rattle.raw_region.specs.contracts.host.HostWords.of as f
 use Rattle.raw_region.proofs.host.HostWords.of.Statement.{statement}
 use Rattle.raw_region.proofs.host.HostWords.of.Code as code
-use Rattle.raw_region.proofs.Held.{word, host_in, opened}
+use Rattle.raw_region.proofs.Lemmas.Held.{word, host_in, opened}
 
 abbrev stayed : Stays f.ended.signature.params f.ended.kept
 stayed = (stay_dropped (plain (λ _. B.the_row)) yes, tt)

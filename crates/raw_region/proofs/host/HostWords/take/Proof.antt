@@ -1,5 +1,5 @@
 -- `take` makes the block again.
-use Rattle.raw_region.proofs.Steps.{◌≡◌, [], ◌∷◌, refl, sym, proved, ftrue, w64, Val, vptr, vint, tables, fact, ‵, raw, ◌⊛◌, ◌$◌, ◌∵◌, !, qed, move, drop, split, join, fjoin, rewrite, suffices, done, agg, whole, sub, enter, of_opd, stop, fld, no_more, and_then, returns, alloc_all, pass_all, free_all, look_at, get, get_in, sets, yes, Ptr, block_ptr, plain, nothing, heard, Stays, walk_of, says, stay_dropped, ends_at}
+use Rattle.raw_region.proofs.Lemmas.Steps.{◌≡◌, [], ◌∷◌, refl, sym, proved, ftrue, w64, Val, vptr, vint, tables, fact, ‵, raw, ◌⊛◌, ◌$◌, ◌∵◌, !, qed, move, drop, split, join, fjoin, rewrite, suffices, done, agg, whole, sub, enter, of_opd, stop, fld, no_more, and_then, returns, alloc_all, pass_all, free_all, look_at, get, get_in, sets, yes, Ptr, block_ptr, plain, nothing, heard, Stays, walk_of, says, stay_dropped, ends_at}
 use mathlib.Core.Bool.{Bool, true}
 use Rattle.core.specs.declared.option.Option.TheVariants.{None as Nothing}
 use mir.Val.{vstruct, vcons, vnil}
@@ -14,8 +14,8 @@ use Rattle.raw_region.proofs.host.HostWords.TheLaws.{lowers}
 use Rattle.raw_region.specs.contracts.host.HostWords.take as f
 use Rattle.raw_region.proofs.host.HostWords.take.Statement.{statement}
 use Rattle.raw_region.proofs.host.HostWords.take.Code as code
-use Rattle.raw_region.proofs.Fields.{Plain, plain_of}
-use Rattle.raw_region.proofs.Held.{host_out, opened}
+use Rattle.raw_region.proofs.Lemmas.Fields.{Plain, plain_of}
+use Rattle.raw_region.proofs.Lemmas.Held.{host_out, opened}
 
 abbrev stayed : Stays f.ended.signature.params f.ended.kept
 stayed = (stay_dropped (plain (λ _. Host.the_row)) yes, tt)

@@ -2,7 +2,7 @@ use Rattle.std.proofs.Common.{◌≡◌, ◌≤◌, length, replicate, ℕ, true
 use Rattle.std.proofs.lemmas.Bool.{le-leb}
 use Rattle.std.proofs.lemmas.List.{length-replicate}
 use Rattle.raw_region.specs.Region.{shown_words}
-use Rattle.raw_region.proofs.Seen.{length-shown_words, shown_words-cleared, shown_words-zeros}
+use Rattle.raw_region.proofs.Lemmas.Seen.{length-shown_words, shown_words-cleared, shown_words-zeros}
 use Rattle.raw_region.proofs.region.Region.clear.Goals as goal
 use Rattle.raw_region.proofs.region.Region.clear.Goals.{then-words-gt-HIDDEN_WORDS, else-words-gt-HIDDEN_WORDS}
 

@@ -1,6 +1,6 @@
 use Rattle.std.proofs.Common.{◌≡◌, length, replicate, ℕ, true, false, None, ◌∙◌, ap, sym, subst}
 use Rattle.raw_region.specs.RegionBlock.{IsAtHome}
-use Rattle.raw_region.proofs.Seen.{hides-lent, shown_words-cleared, shown_words-kept}
+use Rattle.raw_region.proofs.Lemmas.Seen.{hides-lent, shown_words-cleared, shown_words-kept}
 use Rattle.raw_region.proofs.region.Region.into_host.Goals as goal
 use Rattle.raw_region.proofs.region.Region.into_host.Goals.{then-hides, else-hides}
 

@@ -1,6 +1,6 @@
 use Rattle.std.proofs.Common.{◌≡◌, length, replicate, ℕ, Bool, true, List, ◌∙◌, ap, sym}
 use Rattle.raw_region.specs.Region.{hides, shown_words}
-use Rattle.raw_region.proofs.Seen.{length-shown_words, shown_words-cleared}
+use Rattle.raw_region.proofs.Lemmas.Seen.{length-shown_words, shown_words-cleared}
 use Rattle.raw_region.proofs.region.Region.is_cleared.Goals as goal
 
 cleared : (b : Bool) (ws got now : List ℕ) (found : Bool) → shown_words b ws ≡ now → got ≡ ws → found ≡ hides b got → found ≡ true → now ≡ replicate (length now) 0

@@ -1,7 +1,7 @@
 use Rattle.std.proofs.Common.{◌≡◌, ◌≤◌, length, replicate, take, ℕ, Bool, true, false, List, ◌∙◌, ap, sym, subst}
 use Rattle.std.proofs.lemmas.List.{take-replicate}
 use Rattle.raw_region.specs.Region.{hides, shown_words}
-use Rattle.raw_region.proofs.Seen.{hides-lent, length-shown_words, shown_words-cleared, shown_words-kept}
+use Rattle.raw_region.proofs.Lemmas.Seen.{hides-lent, length-shown_words, shown_words-cleared, shown_words-kept}
 use Rattle.raw_region.proofs.region.Region.words.Goals as goal
 
 -- The words of a region are as many as its block has.

@@ -1,6 +1,6 @@
 use Rattle.std.proofs.Common.{length, replicate, ℕ, true, false, ◌∙◌, ap, sym, refl}
 use Rattle.raw_region.specs.Region.{shown_words}
-use Rattle.raw_region.proofs.Seen.{hides-lent, shown_words-cleared, shown_words-kept}
+use Rattle.raw_region.proofs.Lemmas.Seen.{hides-lent, shown_words-cleared, shown_words-kept}
 use Rattle.raw_region.proofs.region.Region.words_mut.Goals as goal
 use Rattle.raw_region.proofs.region.Region.words_mut.Goals.{then-hides, else-hides}
 

@@ -1,5 +1,5 @@
 -- `allocate` asks for the room.
-use Rattle.raw_region.proofs.Steps.{refl, [], ◌∷◌, ◌*◌, ◌≤◌, ◌<◌, ◌^◌, arith, lit<, proved, id⊢, ftrue, flft, named, w64, Val, vptr, vint, tables, fact, ‵, raw, ◌⊛◌, some, later, at_ret, ◌$◌, ◌∵◌, !, qed, done, move, keep, drop, use0, use1, split, join, fjoin, flt_i, pick, await, suffices, agg, whole, enter, of_opd, lit, bin, stop, fld, no_more, and_then, first, exec, returns, alloc_all, pass_all, free_all, look_at, get, get_in, sets, sets_last, env, u64, usize, RefOf, yes, block_ptr, ShrRef, shr_vals, shr_Tells, plain, nothing, heard, Stays, walk_of, says, stay_dropped, Goes-dropped, ends_at}
+use Rattle.raw_region.proofs.Lemmas.Steps.{refl, [], ◌∷◌, ◌*◌, ◌≤◌, ◌<◌, ◌^◌, arith, lit<, proved, id⊢, ftrue, flft, named, w64, Val, vptr, vint, tables, fact, ‵, raw, ◌⊛◌, some, later, at_ret, ◌$◌, ◌∵◌, !, qed, done, move, keep, drop, use0, use1, split, join, fjoin, flt_i, pick, await, suffices, agg, whole, enter, of_opd, lit, bin, stop, fld, no_more, and_then, first, exec, returns, alloc_all, pass_all, free_all, look_at, get, get_in, sets, sets_last, env, u64, usize, RefOf, yes, block_ptr, ShrRef, shr_vals, shr_Tells, plain, nothing, heard, Stays, walk_of, says, stay_dropped, Goes-dropped, ends_at}
 use mathlib.Core.Bool.{true, false}
 use contract.Monad.{fact_i}
 use contract.Running.{tables_of}
@@ -36,8 +36,8 @@ use Rattle.raw_region.specs.contracts.room.Room.allocate as f
 use Rattle.raw_region.proofs.room.Room.allocate.Statement.{statement}
 use Rattle.raw_region.proofs.room.Room.allocate.Code as code
 use Rattle.raw_region.specs.contracts.room.Room as B
-use Rattle.raw_region.proofs.Rooms.{RoomFields, fields_of}
-use Rattle.raw_region.proofs.Heap.{layout_of, told}
+use Rattle.raw_region.proofs.Lemmas.Rooms.{RoomFields, fields_of}
+use Rattle.raw_region.proofs.Lemmas.Heap.{layout_of, told}
 
 abbrev stayed : Stays f.ended.signature.params f.ended.kept
 stayed = (stay_dropped (RefOf (0 ∷ []) tt (plain (λ _. G.the_row)) (λ _. tt)) yes, (stay_dropped (plain (λ _. usize)) yes, tt))

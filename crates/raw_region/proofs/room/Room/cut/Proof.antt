@@ -1,6 +1,6 @@
 -- `cut` parts a room, and makes a room of each part.
-use Rattle.raw_region.proofs.Steps.{◌≡◌, refl, sym, ap, [], ◌∷◌, ℕ, ◌+◌, ◌-◌, ◌*◌, ◌≤◌, ◌<◌, ◌^◌, arith, proved, id⊢, ftrue, w64, Val, vptr, vint, tables, fact, ‵, raw, ◌⊛◌, at_ret, ◌$◌, ◌∵◌, !, qed, done, move, use1, use2, split, join, fsplit, fjoin, flt_i, flt_l, suffices, agg, enter, of_opd, lit, bin, stop, fld, no_more, and_then, first, blocks, exec, returns, alloc_all, pass_all, free_all, look_at, get, get_in, sets, sets_last, env, sub, whole, usize, yes, Ptr, block_ptr, in_a_block, plain, nothing, heard, Stays, walk_of, says, stay_dropped, Goes-dropped, ends_at}
-use Rattle.raw_region.proofs.Steps.{drop as let_go}
+use Rattle.raw_region.proofs.Lemmas.Steps.{◌≡◌, refl, sym, ap, [], ◌∷◌, ℕ, ◌+◌, ◌-◌, ◌*◌, ◌≤◌, ◌<◌, ◌^◌, arith, proved, id⊢, ftrue, w64, Val, vptr, vint, tables, fact, ‵, raw, ◌⊛◌, at_ret, ◌$◌, ◌∵◌, !, qed, done, move, use1, use2, split, join, fsplit, fjoin, flt_i, flt_l, suffices, agg, enter, of_opd, lit, bin, stop, fld, no_more, and_then, first, blocks, exec, returns, alloc_all, pass_all, free_all, look_at, get, get_in, sets, sets_last, env, sub, whole, usize, yes, Ptr, block_ptr, in_a_block, plain, nothing, heard, Stays, walk_of, says, stay_dropped, Goes-dropped, ends_at}
+use Rattle.raw_region.proofs.Lemmas.Steps.{drop as let_go}
 use Rattle.core.specs.declared.option.Option.TheVariants.{None as Nothing}
 use mir.Val.{vstruct, vcons, vnil}
 use prog.Wp.{WpFn}
@@ -20,7 +20,7 @@ use Rattle.raw_region.proofs.room.Room.cut.Code as code
 use Rattle.raw_region.specs.contracts.room.Room as B
 use Rattle.raw_region.proofs.room.Room.TheLaws.{lowers}
 use Rattle.raw_region.specs.Cutting.{end_of}
-use Rattle.raw_region.proofs.Rooms.{RoomFields, fields_of, room-cut}
+use Rattle.raw_region.proofs.Lemmas.Rooms.{RoomFields, fields_of, room-cut}
 
 abbrev stayed : Stays f.ended.signature.params f.ended.kept
 stayed = (stay_dropped (plain (λ _. B.the_row)) yes, (stay_dropped (plain (λ _. usize)) yes, tt))

@@ -1,5 +1,5 @@
 -- `join` glues two rooms that lie side by side.
-use Rattle.raw_region.proofs.Steps.{◌≡◌, refl, sym, ap, ◌∙◌, [], ◌∷◌, ◌+◌, ◌*◌, ◌<◌, ◌^◌, arith, proved, id⊢, ftrue, w64, Val, vptr, vint, tables, fact, ‵, raw, ◌⊛◌, ◌$◌, ◌∵◌, !, qed, done, move, drop, use2, split, join, fsplit, fjoin, flt_i, flt_l, rewrite, suffices, agg, enter, of_opd, bin, stop, fld, no_more, and_then, returns, alloc_all, pass_all, free_all, look_at, get, get_in, sets, sub, whole, yes, Ptr, block_ptr, in_a_block, plain, nothing, heard, Stays, walk_of, says, stay_dropped, ends_at}
+use Rattle.raw_region.proofs.Lemmas.Steps.{◌≡◌, refl, sym, ap, ◌∙◌, [], ◌∷◌, ◌+◌, ◌*◌, ◌<◌, ◌^◌, arith, proved, id⊢, ftrue, w64, Val, vptr, vint, tables, fact, ‵, raw, ◌⊛◌, ◌$◌, ◌∵◌, !, qed, done, move, drop, use2, split, join, fsplit, fjoin, flt_i, flt_l, rewrite, suffices, agg, enter, of_opd, bin, stop, fld, no_more, and_then, returns, alloc_all, pass_all, free_all, look_at, get, get_in, sets, sub, whole, yes, Ptr, block_ptr, in_a_block, plain, nothing, heard, Stays, walk_of, says, stay_dropped, ends_at}
 use mir.Val.{vstruct, vcons, vnil}
 use prog.Wp.{WpFn}
 use types.Kit.{prop, regoal}
@@ -14,7 +14,7 @@ use Rattle.raw_region.proofs.room.Room.join.Statement.{statement}
 use Rattle.raw_region.proofs.room.Room.join.Code as code
 use Rattle.raw_region.specs.contracts.room.Room as B
 use Rattle.raw_region.proofs.room.Room.TheLaws.{lowers}
-use Rattle.raw_region.proofs.Rooms.{RoomFields, fields_of, room-join}
+use Rattle.raw_region.proofs.Lemmas.Rooms.{RoomFields, fields_of, room-join}
 
 abbrev stayed : Stays f.ended.signature.params f.ended.kept
 stayed = (stay_dropped (plain (λ _. B.the_row)) yes, (stay_dropped (plain (λ _. B.the_row)) yes, tt))

@@ -1,5 +1,5 @@
 -- `release` gives the words up, and gives the room back with the right to free it.
-use Rattle.raw_region.proofs.Steps.{refl, ap, List, [], ◌∷◌, ◌*◌, ◌<◌, ◌^◌, arith, lit<, proved, id⊢, ftrue, flft, named, w64, Val, vint, vunit, tables, fact, ‵, raw, ◌⊛◌, some, later, at_ret, ◌$◌, ◌∵◌, !, qed, done, move, keep, drop, use0, use1, split, join, group, fsplit, fjoin, feq_i, feq_l, flt_l, pick, await, suffices, sub, whole, enter, of_opd, lit, unit_lit, bin, stop, fld, no_more, and_then, first, blocks, exec, returns, alloc_all, pass_all, free_all, look_at, get, get_in, sets, env, u64, usize, RefOf, yes, ShrRef, shr_vals, shr_Tells, plain, nothing, Stays, walk_of, stay_dropped, Goes-dropped, ends_at}
+use Rattle.raw_region.proofs.Lemmas.Steps.{refl, ap, List, [], ◌∷◌, ◌*◌, ◌<◌, ◌^◌, arith, lit<, proved, id⊢, ftrue, flft, named, w64, Val, vint, vunit, tables, fact, ‵, raw, ◌⊛◌, some, later, at_ret, ◌$◌, ◌∵◌, !, qed, done, move, keep, drop, use0, use1, split, join, group, fsplit, fjoin, feq_i, feq_l, flt_l, pick, await, suffices, sub, whole, enter, of_opd, lit, unit_lit, bin, stop, fld, no_more, and_then, first, blocks, exec, returns, alloc_all, pass_all, free_all, look_at, get, get_in, sets, env, u64, usize, RefOf, yes, ShrRef, shr_vals, shr_Tells, plain, nothing, Stays, walk_of, stay_dropped, Goes-dropped, ends_at}
 use mathlib.Core.Path.{◌≡◌, subst, sym}
 use denote.Steps.{heard}
 use lib.Dec.{T}
@@ -33,7 +33,7 @@ use Rattle.raw_region.proofs.room.Room.release.Statement.{statement}
 use Rattle.raw_region.proofs.room.Room.release.Code as code
 use Rattle.raw_region.specs.contracts.room.Room as B
 use Rattle.raw_region.proofs.room.Room.TheLaws.{lowers}
-use Rattle.raw_region.proofs.Heap.{layout_of}
+use Rattle.raw_region.proofs.Lemmas.Heap.{layout_of}
 
 abbrev stayed : Stays f.ended.signature.params f.ended.kept
 stayed = (stay_dropped (plain (λ _. B.the_row)) yes, (stay_dropped (RefOf (0 ∷ []) tt (plain (λ _. G.the_row)) (λ _. tt)) yes, tt))

@@ -1,5 +1,5 @@
 -- `zeroed` writes a room full of zeros in a loop, and makes a block of it.
-use Rattle.raw_region.proofs.Steps.{◌≡◌, refl, sym, ap, List, [], ◌∷◌, ℕ, zero, suc, ◌+◌, ◌-◌, ◌*◌, ◌≤◌, ◌<◌, ◌^◌, arith, length, replicate, lit<, proved, Ura, full_share, SProp, id⊢, ftrue, fat, froom, w64, ty_int, ty_array, Val, vptr, vint, tables, Logic, ‵, ◌⊛◌, at_ret, Sq, ◌$◌, ◌∵◌, !, qed, done, move, keep, drop, use0, use1, use2, split, join, fjoin, feq_i, flt_i, rewrite, suffices, agg, whole, enter, of_opd, lit, bin, init, stop, fld, no_more, and_then, assigns_last, first, blocks, branches, skips, exec, returns, alloc_all, pass_all, free_all, look_at, get, get_in, through, sets, sets_last, env, Array, u64, yes, block_ptr, plain, nothing, Stays, walk_of, says, stay_dropped, ends_at}
+use Rattle.raw_region.proofs.Lemmas.Steps.{◌≡◌, refl, sym, ap, List, [], ◌∷◌, ℕ, zero, suc, ◌+◌, ◌-◌, ◌*◌, ◌≤◌, ◌<◌, ◌^◌, arith, length, replicate, lit<, proved, Ura, full_share, SProp, id⊢, ftrue, fat, froom, w64, ty_int, ty_array, Val, vptr, vint, tables, Logic, ‵, ◌⊛◌, at_ret, Sq, ◌$◌, ◌∵◌, !, qed, done, move, keep, drop, use0, use1, use2, split, join, fjoin, feq_i, flt_i, rewrite, suffices, agg, whole, enter, of_opd, lit, bin, init, stop, fld, no_more, and_then, assigns_last, first, blocks, branches, skips, exec, returns, alloc_all, pass_all, free_all, look_at, get, get_in, through, sets, sets_last, env, Array, u64, yes, block_ptr, plain, nothing, Stays, walk_of, says, stay_dropped, ends_at}
 use mathlib.Core.WellFounded.InvImage
 use lib.Dec.{ltb→lt, nltb→le}
 use lib.WfN.{lt-wf_rel}
@@ -31,8 +31,8 @@ use types.Part.{sub}
 use denote.RawPtr.{Ptr, room_for, in_a_block}
 use Rattle.raw_region.specs.Block.{Deed, right}
 use types.Kit.{fsplit, flt_l}
-use Rattle.raw_region.proofs.Fields.{Plain, plain_of}
-use Rattle.raw_region.proofs.Heap.{zeros_more}
+use Rattle.raw_region.proofs.Lemmas.Fields.{Plain, plain_of}
+use Rattle.raw_region.proofs.Lemmas.Heap.{zeros_more}
 
 abbrev stayed : Stays f.ended.signature.params f.ended.kept
 stayed = (stay_dropped (plain (λ _. R.the_row)) yes, tt)

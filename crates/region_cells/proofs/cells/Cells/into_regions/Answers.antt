@@ -12,8 +12,8 @@ use Rattle.summary.specs.RegionData.{fill_count}
 use Rattle.region_cells.specs.Blocks.{moved_block}
 use Rattle.region_cells.specs.Cells.{place_of, places, image_in}
 use Rattle.region_cells.specs.Views.{ImageRegion}
-use Rattle.region_cells.proofs.Blocks.{block_left}
-use Rattle.region_cells.proofs.Places.{length-places, place-at}
+use Rattle.region_cells.proofs.Lemmas.Blocks.{block_left}
+use Rattle.region_cells.proofs.Lemmas.Places.{length-places, place-at}
 use Rattle.region_cells.proofs.cells.Cells.into_regions.Goals as goal
 
 -- an iterator that returned an item may be called again

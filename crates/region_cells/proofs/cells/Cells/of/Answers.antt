@@ -3,7 +3,7 @@ use Rattle.std.proofs.lemmas.List.FromFn.{length-map-range_with_len}
 use Rattle.heap_image.specs.HeapImage.{region_count, block_of}
 use Rattle.summary.specs.RegionData.{fill_count}
 use Rattle.region_cells.specs.Cells.{image_in, places}
-use Rattle.region_cells.proofs.Places.{image_in-places}
+use Rattle.region_cells.proofs.Lemmas.Places.{image_in-places}
 use Rattle.region_cells.proofs.cells.Cells.of.Goals as goal
 
 pub put_all-requires-clause-room : goal.put_all-requires-clause-room

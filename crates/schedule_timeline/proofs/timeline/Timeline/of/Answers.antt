@@ -2,11 +2,11 @@ use Rattle.std.proofs.Common.{◌≡◌, ◌∙◌, ℕ, List, ap, sym, subst}
 use Rattle.heap_image.specs.HeapImage.{HeapImage, region_count}
 use Rattle.history.specs.Replayed.{IsEndOf}
 use Rattle.history.specs.declared.entry.Entry.{Entry}
-use Rattle.history.specs.declared.replayed.End.{End}
-use Rattle.history.specs.declared.replayed.End.TheVariants as end
+use Rattle.history.specs.declared.machine.replayed.End.{End}
+use Rattle.history.specs.declared.machine.replayed.End.TheVariants as end
 use Rattle.schedule_timeline.specs.FirstCalls.{AreGrantedBelow}
 use Rattle.schedule_timeline.specs.Timeline.{EndsAs, bars_of, ending_of, freeings_of}
-use Rattle.schedule_timeline.proofs.Replies.{history_has_replies, log_of_history}
+use Rattle.schedule_timeline.proofs.Lemmas.Replies.{history_has_replies, log_of_history}
 use Rattle.schedule_timeline.proofs.timeline.Timeline.of.Goals as goal
 
 -- a replay ends as its calls do

@@ -1,4 +1,4 @@
-use Rattle.summary.proofs.Compacted.{compact-reachable}
+use Rattle.summary.proofs.Lemmas.Compacted.{compact-reachable}
 use Rattle.summary.proofs.laws.compaction.compaction_keeps_the_reachable.Goals as goal
 
 pub returns : goal.returns

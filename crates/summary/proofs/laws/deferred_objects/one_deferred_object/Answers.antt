@@ -1,5 +1,5 @@
 use Rattle.summary.proofs.laws.deferred_objects.one_deferred_object.Goals as goal
-use Rattle.summary.proofs.Objects.{deferred-one, deferred-told, deferred-Some, deferred-None}
+use Rattle.summary.proofs.Lemmas.Objects.{deferred-one, deferred-told, deferred-Some, deferred-None}
 
 pub returns : goal.returns
 returns c = record { one = deferred-one; told = deferred-told; object = deferred-Some; none = deferred-None }

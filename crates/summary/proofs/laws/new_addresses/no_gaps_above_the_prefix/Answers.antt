@@ -1,5 +1,5 @@
 use Rattle.summary.proofs.laws.new_addresses.no_gaps_above_the_prefix.Goals as goal
-use Rattle.summary.proofs.Runs.{place-of}
+use Rattle.summary.proofs.Lemmas.Runs.{place-of}
 
 pub returns : goal.returns
 returns c = place-of

@@ -1,5 +1,5 @@
 use Rattle.summary.proofs.laws.word_moves.moves_by_counting.Goals as goal
-use Rattle.summary.proofs.Moves.{word_moves-live}
+use Rattle.summary.proofs.Lemmas.Moves.{word_moves-live}
 
 pub returns : goal.returns
 returns c = word_moves-live

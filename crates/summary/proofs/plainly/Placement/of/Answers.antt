@@ -2,7 +2,7 @@ use Rattle.std.proofs.Common.{◌∙◌, ap}
 use Rattle.std.proofs.lemmas.List.{take_all}
 use Rattle.std.specs.Prelude.{map}
 use Rattle.summary.specs.NewAddresses.{new_address, next_at}
-use Rattle.summary.proofs.PlainWords.{next_at-top}
+use Rattle.summary.proofs.Lemmas.PlainWords.{next_at-top}
 use Rattle.summary.proofs.plainly.Placement.of.Goals as goal
 
 pub returns : goal.returns

@@ -3,7 +3,7 @@ use Rattle.std.proofs.lemmas.List.FromFn.{length-map-range_with_len, get_or-map-
 use Rattle.std.specs.Prelude.{Option, slice_index_or}
 use Rattle.heap_image.specs.HeapImage.{region_count}
 use Rattle.summary.specs.RegionData.{deferred}
-use Rattle.summary.proofs.OutOfRange.{deferred-out_of_range}
+use Rattle.summary.proofs.Lemmas.OutOfRange.{deferred-out_of_range}
 use Rattle.summary.proofs.plan.Plan.deferred.Goals as goal
 
 pub index-requires : goal.index-requires

@@ -1,7 +1,7 @@
 use Rattle.std.proofs.Common.{◌≡◌, ◌∙◌, ap, arith}
 use Rattle.std.specs.Int.{div_ceil}
 use Rattle.summary.specs.RegionData.{fill_count}
-use Rattle.summary.proofs.Steps.{fill_count-le}
+use Rattle.summary.proofs.Lemmas.Steps.{fill_count-le}
 use Rattle.summary.proofs.plan.Plan.fill_regions.Goals as goal
 
 pub overflow_cast-result : goal.overflow_cast-result

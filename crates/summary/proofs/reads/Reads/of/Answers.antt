@@ -1,7 +1,7 @@
 use Rattle.std.proofs.Common.{◌≡◌, ◌+◌, ◌*◌, ◌∙◌, ap, arith}
 use Rattle.std.specs.Prelude.{max, min, length}
 use Rattle.heap_image.specs.HeapImage.{start_of, region_words}
-use Rattle.summary.proofs.SourceRows.{table_in_order, sources_of_table}
+use Rattle.summary.proofs.Lemmas.SourceRows.{table_in_order, sources_of_table}
 use Rattle.summary.proofs.reads.Reads.of.Goals as goal
 
 pub invariant_of-result : goal.invariant_of-result

@@ -1,6 +1,6 @@
 use Rattle.std.proofs.Common.{◌≡◌, ◌+◌, ◌<◌, [], ◌∷◌, length, sym, ◌∙◌, ap, arith}
 use Rattle.summary.specs.Reads.{sources_below}
-use Rattle.summary.proofs.ReadSteps.{none_left, next_is, none_below, next_below}
+use Rattle.summary.proofs.Lemmas.ReadSteps.{none_left, next_is, none_below, next_below}
 use Rattle.summary.proofs.reads.ReadsIterator.next.Goals as goal
 
 pub returns-in_err-source-clause-steps : goal.returns-in_err-source-clause-steps

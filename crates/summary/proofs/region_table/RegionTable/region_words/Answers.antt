@@ -1,5 +1,5 @@
 use Rattle.std.proofs.Common.{◌≤◌, arith}
-use Rattle.heap_image.proofs.Parts.{region_few}
+use Rattle.heap_image.proofs.Lemmas.Parts.{region_few}
 use Rattle.summary.proofs.region_table.RegionTable.region_words.Goals as goal
 
 pub returns-clause-few : goal.returns-clause-few

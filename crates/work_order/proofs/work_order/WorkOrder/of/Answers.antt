@@ -5,7 +5,7 @@ use Rattle.heap_image.specs.HeapImage.{HeapImage}
 use Rattle.summary.specs.RegionData.{fill_count}
 use Rattle.summary.specs.WordMoves.{is_to_fill}
 use Rattle.work_order.specs.Chains.{IsLongestChain}
-use Rattle.work_order.proofs.Steps.{longest-chain, no-chain, no-word}
+use Rattle.work_order.proofs.Lemmas.Steps.{longest-chain, no-chain, no-word}
 use Rattle.work_order.proofs.work_order.WorkOrder.of.Goals as goal
 
 pub invariant_of-result : goal.invariant_of-result

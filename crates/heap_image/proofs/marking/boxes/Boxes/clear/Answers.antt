@@ -1,6 +1,6 @@
 use Rattle.std.proofs.Common.{◌∙◌, arith}
 use Rattle.std.proofs.lemmas.List.{length-set}
-use Rattle.heap_image.proofs.Rows.{empty_more}
+use Rattle.heap_image.proofs.Lemmas.Rows.{empty_more}
 use Rattle.heap_image.proofs.marking.boxes.Boxes.clear.Goals as goal
 
 pub loop-k-preserved : goal.loop-k-preserved

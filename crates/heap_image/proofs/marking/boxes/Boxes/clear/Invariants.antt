@@ -1,5 +1,5 @@
 use Rattle.std.proofs.Common.{◌≡◌, map, length}
-use Rattle.heap_image.proofs.Rows.{EmptyBelow}
+use Rattle.heap_image.proofs.Lemmas.Rows.{EmptyBelow}
 use Rattle.heap_image.proofs.marking.boxes.Boxes.clear.Given as goal
 
 abbrev pub invariant-loop-k : goal.invariant-loop-k

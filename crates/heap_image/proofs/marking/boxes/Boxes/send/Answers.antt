@@ -2,7 +2,7 @@ use Rattle.std.proofs.Common.{◌∙◌, ◌++◌, [], ◌∷◌, ap, length, ma
 use Rattle.std.proofs.Math.ListN.{set}
 use Rattle.std.proofs.lemmas.List.{length-map}
 use Rattle.heap_image.specs.Boxes.{HasMore}
-use Rattle.heap_image.proofs.Rows.{has_more}
+use Rattle.heap_image.proofs.Lemmas.Rows.{has_more}
 use Rattle.heap_image.proofs.marking.boxes.Boxes.send.Goals as goal
 
 pub returns-clause-sent : goal.returns-clause-sent

@@ -3,11 +3,11 @@ use Rattle.std.specs.Prelude.{All, IsTrue}
 use Rattle.std.specs.List.{list_any}
 use Rattle.heap_image.specs.Header.{references_of}
 use Rattle.heap_image.specs.HeapImage.{heap_words, is_unsound, references_at, refers_to, leads_to}
-use Rattle.heap_image.proofs.Following.{unsound_is, row_more, row_at, behind_row, first_fields, noted_row, noted_all}
+use Rattle.heap_image.proofs.Lemmas.Following.{unsound_is, row_more, row_at, behind_row, first_fields, noted_row, noted_all}
 use Rattle.heap_image.specs.Spread.{IsSpread}
 use Rattle.heap_image.specs.declared.marking.part.Part.{Part}
-use Rattle.heap_image.proofs.Spreads.{spread_more, spread_as, spread_flag, part_kept}
-use Rattle.heap_image.proofs.Running.{spread_none}
+use Rattle.heap_image.proofs.Lemmas.Spreads.{spread_more, spread_as, spread_flag, part_kept}
+use Rattle.heap_image.proofs.Lemmas.Running.{spread_none}
 use Rattle.heap_image.proofs.marking.part.Part.follow.Goals as goal
 
 pub returns-then-is_unsound-clause-spread : goal.returns-then-is_unsound-clause-spread

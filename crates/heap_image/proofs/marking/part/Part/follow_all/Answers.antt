@@ -2,7 +2,7 @@ use Rattle.std.proofs.Common.{◌++◌, arith}
 use Rattle.heap_image.specs.HeapImage.{HeapImage}
 use Rattle.heap_image.specs.Marking.{waiting_addresses}
 use Rattle.heap_image.specs.declared.marking.part.Part.{Part}
-use Rattle.heap_image.proofs.Running.{running_cut, waiting_cut}
+use Rattle.heap_image.proofs.Lemmas.Running.{running_cut, waiting_cut}
 use Rattle.heap_image.proofs.marking.part.Part.follow_all.Goals as goal
 
 pub take_batch-requires-clause-inside : goal.take_batch-requires-clause-inside

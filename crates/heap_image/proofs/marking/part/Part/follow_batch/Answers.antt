@@ -3,13 +3,13 @@ use Rattle.std.proofs.lemmas.List.{length_push, append-nil, get_or_append_left, 
 use Rattle.std.proofs.lemmas.List.Elements.{Contains-push}
 use Rattle.std.specs.Prelude.{All}
 use Rattle.heap_image.specs.HeapImage.{HeapImage, heap_words, refers_to}
-use Rattle.heap_image.proofs.MarkingSteps.{none_left}
+use Rattle.heap_image.proofs.Lemmas.MarkingSteps.{none_left}
 use Rattle.heap_image.specs.Marking.{waiting_addresses}
 use Rattle.heap_image.specs.Spread.{AreWaitingIn, IsRunning}
 use Rattle.heap_image.specs.declared.marking.part.Part.{Part}
 use Rattle.heap_image.specs.declared.marking.Waiting.{Waiting}
-use Rattle.heap_image.proofs.Spreads.{part_kept}
-use Rattle.heap_image.proofs.Running.{running_next, waiting_last, waiting_next}
+use Rattle.heap_image.proofs.Lemmas.Spreads.{part_kept}
+use Rattle.heap_image.proofs.Lemmas.Running.{running_next, waiting_last, waiting_next}
 use Rattle.heap_image.proofs.marking.part.Part.follow_batch.Goals as goal
 
 last_fetched : (heap : List ℕ) (batch rest : List Waiting) (w : Waiting) → batch ≡ rest ++ w ∷ [] → All (λ w. w.header ≡ get_or heap w.address 0) batch → (w.header ≡ get_or heap w.address 0) × All (λ w. w.header ≡ get_or heap w.address 0) rest

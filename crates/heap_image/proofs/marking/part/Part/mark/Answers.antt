@@ -1,7 +1,7 @@
 use Rattle.std.proofs.Common.{◌≡◌, ◌+◌, ◌-◌, false, refl, sym, ◌∙◌}
 use Rattle.heap_image.specs.Bits.{has}
 use Rattle.heap_image.specs.declared.marking.part.Part.{Part}
-use Rattle.heap_image.proofs.Spreads.{spread_mark}
+use Rattle.heap_image.proofs.Lemmas.Spreads.{spread_mark}
 use Rattle.heap_image.proofs.marking.part.Part.mark.Goals as goal
 
 pub returns-clause-spread : goal.returns-clause-spread

@@ -1,6 +1,6 @@
 use Rattle.std.proofs.Common.{inr}
 use Rattle.heap_image.specs.declared.marking.part.Part.{Part}
-use Rattle.heap_image.proofs.Running.{running_worked}
+use Rattle.heap_image.proofs.Lemmas.Running.{running_worked}
 use Rattle.heap_image.proofs.marking.part.Part.round.Goals as goal
 
 pub returns-in-Ok : goal.returns-in-Ok

@@ -3,8 +3,8 @@ use Rattle.std.proofs.lemmas.Result.{on_ok_weaker}
 use Rattle.heap_image.specs.HeapImage.{leads_to}
 use Rattle.heap_image.specs.Spread.{IsSpread, IsIn, is_in}
 use Rattle.heap_image.specs.declared.marking.part.Part.{Part}
-use Rattle.heap_image.proofs.Spreads.{spread_as}
-use Rattle.heap_image.proofs.Running.{target_in}
+use Rattle.heap_image.proofs.Lemmas.Spreads.{spread_as}
+use Rattle.heap_image.proofs.Lemmas.Running.{target_in}
 use Rattle.heap_image.proofs.marking.part.Part.take.Goals as goal
 
 pub returns-clause-spread : goal.returns-clause-spread

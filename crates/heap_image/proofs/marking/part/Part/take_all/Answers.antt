@@ -6,8 +6,8 @@ use Rattle.heap_image.specs.HeapImage.{leads_to}
 use Rattle.heap_image.specs.Boxes.{arrives, leads}
 use Rattle.heap_image.specs.Spread.{is_in}
 use Rattle.heap_image.specs.declared.marking.part.Part.{Part}
-use Rattle.heap_image.proofs.Spreads.{spread_more, spread_as, part_kept}
-use Rattle.heap_image.proofs.Running.{and_over, in_same}
+use Rattle.heap_image.proofs.Lemmas.Spreads.{spread_more, spread_as, part_kept}
+use Rattle.heap_image.proofs.Lemmas.Running.{and_over, in_same}
 use Rattle.heap_image.proofs.marking.part.Part.take_all.Goals as goal
 
 pub loop-boxes-preserved : goal.loop-boxes-preserved

@@ -5,8 +5,8 @@ use Rattle.std.proofs.lemmas.List.Folds.{list_any_more}
 use Rattle.heap_image.specs.HeapImage.{leads_to}
 use Rattle.heap_image.specs.Spread.{is_in}
 use Rattle.heap_image.specs.declared.marking.part.Part.{Part}
-use Rattle.heap_image.proofs.Spreads.{spread_more, spread_as, part_kept}
-use Rattle.heap_image.proofs.Running.{and_over, in_same}
+use Rattle.heap_image.proofs.Lemmas.Spreads.{spread_more, spread_as, part_kept}
+use Rattle.heap_image.proofs.Lemmas.Running.{and_over, in_same}
 use Rattle.heap_image.proofs.marking.part.Part.take_box.Goals as goal
 
 pub loop-reference-preserved : goal.loop-reference-preserved

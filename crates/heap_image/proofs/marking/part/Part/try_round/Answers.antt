@@ -3,7 +3,7 @@ use Rattle.std.proofs.lemmas.Result.{on_ok_weaker}
 use Rattle.heap_image.specs.Boxes.{arrives}
 use Rattle.heap_image.specs.Spread.{IsSpread, is_in}
 use Rattle.heap_image.specs.declared.marking.part.Part.{Part}
-use Rattle.heap_image.proofs.Running.{running_begins}
+use Rattle.heap_image.proofs.Lemmas.Running.{running_begins}
 use Rattle.heap_image.proofs.marking.part.Part.try_round.Goals as goal
 
 pub follow_all-requires-clause-inside : goal.follow_all-requires-clause-inside

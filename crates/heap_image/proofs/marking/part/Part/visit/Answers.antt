@@ -3,7 +3,7 @@ use Rattle.std.proofs.lemmas.Result.{on_ok_weaker}
 use Rattle.heap_image.specs.HeapImage.{leads_to}
 use Rattle.heap_image.specs.Spread.{IsSpread}
 use Rattle.heap_image.specs.declared.marking.part.Part.{Part}
-use Rattle.heap_image.proofs.Spreads.{spread_send}
+use Rattle.heap_image.proofs.Lemmas.Spreads.{spread_send}
 use Rattle.heap_image.proofs.marking.part.Part.visit.Goals as goal
 
 pub returns-then-a-self-2-clause-spread : goal.returns-then-a-self-2-clause-spread

@@ -7,7 +7,7 @@ use Rattle.std.specs.List.{list_any}
 use Rattle.std.proofs.lemmas.List.Folds.{list_any_more}
 use Rattle.heap_image.specs.HeapImage.{leads_to}
 use Rattle.heap_image.specs.declared.marking.part.Part.{Part}
-use Rattle.heap_image.proofs.Spreads.{spread_more, spread_as, spread_flag, part_kept}
+use Rattle.heap_image.proofs.Lemmas.Spreads.{spread_more, spread_as, spread_flag, part_kept}
 use Rattle.heap_image.proofs.marking.part.Part.visit_all.Goals as goal
 
 pub loop-reference-preserved : goal.loop-reference-preserved

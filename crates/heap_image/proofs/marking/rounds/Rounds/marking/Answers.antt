@@ -6,7 +6,7 @@ use Rattle.heap_image.specs.Boxes.{arrives_anywhere}
 use Rattle.heap_image.specs.Marking.{IsGrown}
 use Rattle.heap_image.specs.Rounds.{WaitsIn, mark_of}
 use Rattle.heap_image.specs.declared.marking.part.Part.{Part}
-use Rattle.heap_image.proofs.Finish.{layout_covers, marking_goes_on}
+use Rattle.heap_image.proofs.Lemmas.Finish.{layout_covers, marking_goes_on}
 use Rattle.heap_image.proofs.marking.rounds.Rounds.marking.Goals as goal
 
 pub join_bits-requires-clause-covers : goal.join_bits-requires-clause-covers

@@ -3,7 +3,7 @@ use Rattle.std.specs.Prelude.{All}
 use Rattle.heap_image.specs.HeapImage.{HeapImage}
 use Rattle.heap_image.specs.Rounds.{IsLayout, IsState, HaveTurned, AreExchanged}
 use Rattle.heap_image.specs.declared.marking.part.Part.{Part}
-use Rattle.heap_image.proofs.Turns.{turned_layout, turned_state, written}
+use Rattle.heap_image.proofs.Lemmas.Turns.{turned_layout, turned_state, written}
 use Rattle.heap_image.proofs.marking.rounds.Rounds.turn.Goals as goal
 
 -- the parts and rows after a round, as the code leaves them

@@ -1,0 +1,51 @@
+-- Passes gathered in one seat.
+use Rattle.std.proofs.Common.{◌≡◌, ℕ, suc, List, [], ◌∷◌, ◌++◌, length, arith, refl, sym, ap, ◌∙◌, subst}
+use Rattle.atomic_table.specs.Seated.{TableId}
+use Rattle.history.specs.declared.entry.Entry.{Entry}
+use Rattle.history.specs.History.{BeginsWith, calls_by}
+use Rattle.claim_board.specs.declared.pass.Pass.{Pass}
+use Rattle.claim_board.specs.declared.rule.view.Hold.{Hold}
+use Rattle.claim_board.specs.declared.rule.view.View.{View}
+use Rattle.claim_board.specs.Views.{AllFit, IsPassView, worker_of, seen_of, mine_of}
+use Rattle.claim_board.specs.Boards.{board_of, AllOf, AllStand, ArePassesFrom}
+
+pub all_of_front : (z : TableId) (ps : List Pass) (p : Pass) → AllOf z (ps ++ p ∷ []) → AllOf z ps × (board_of p ≡ z)
+all_of_front z [] p all = (tt, all.0)
+all_of_front z (q ∷ qs) p all = let r = all_of_front z qs p all.1 in ((all.0, r.0), r.1)
+
+fit_parts : (n : ℕ) (log : List Entry) (xs ys : List Hold) → AllFit n log (xs ++ ys) → AllFit n log xs × AllFit n log ys
+fit_parts n log [] ys fits = (tt, fits)
+fit_parts n log (x ∷ xs) ys fits = let r = fit_parts n log xs ys fits.1 in ((fits.0, r.0), r.1)
+
+stands : (n : ℕ) (log : List Entry) (v : View) → IsPassView v → AllFit n log v.holds → BeginsWith log (seen_of v) × (calls_by (worker_of v) log ≡ mine_of v)
+stands n log v is fits = let f = subst (λ (u : View). AllFit n log u.holds) is fits in (f.0.begins, f.0.calls)
+
+-- what the seat's workers say about the gathered passes
+abbrev pub Covers : ℕ → List Hold → List Pass → Type 0
+Covers n hs ps = (log : List Entry) → AllFit n log hs → AllStand log ps
+
+pub covers_one : (n : ℕ) (p : Pass) → IsPassView p.place.me.0 → Covers n p.place.me.0.holds (p ∷ [])
+covers_one n p is log fits = (stands n log p.place.me.0 is fits, tt)
+
+pub covers_more : (n : ℕ) (hs hs' : List Hold) (p : Pass) (ps : List Pass) → IsPassView p.place.me.0 → hs' ≡ hs ++ p.place.me.0.holds → Covers n hs ps → Covers n hs' (p ∷ ps)
+covers_more n hs hs' p ps is more covers log fits =
+    let f = fit_parts n log hs p.place.me.0.holds (subst (AllFit n log) more fits) in
+    (stands n log p.place.me.0 is f.1, covers log f.0)
+
+empty_of : (ps : List Pass) → length ps ≡ 0 → ps ≡ []
+empty_of [] e = refl
+empty_of (p ∷ ps) e = absurd (omega arith)
+
+-- once no pass is left, all were gathered
+pub all_stand : (n : ℕ) (log : List Entry) (hs : List Hold) (all left popped : List Pass) → length left ≡ 0 → all ≡ left ++ popped → Covers n hs popped → AllFit n log hs → AllStand log all
+all_stand n log hs all left popped none is covers fits = subst (AllStand log) (sym (is ∙ ap (λ l. l ++ popped) (empty_of left none))) (covers log fits)
+
+-- new passes are of their board
+pub are_all : (z : TableId) (k : ℕ) (ps : List Pass) → ArePassesFrom z k ps → AllOf z ps
+are_all z k [] are = tt
+are_all z k (p ∷ ps) are = (are.0.0, are_all z (suc k) ps are.1)
+
+-- one pass more
+pub all_push : (z : TableId) (ps : List Pass) (p : Pass) → AllOf z ps → board_of p ≡ z → AllOf z (ps ++ p ∷ [])
+all_push z [] p all is = (is, tt)
+all_push z (q ∷ qs) p all is = (all.0, all_push z qs p all.1 is)

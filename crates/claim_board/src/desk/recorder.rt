@@ -1,0 +1,33 @@
+//! `Recorder`: a board under a lock that keeps its calls.
+ghost use Rattle.history.specs.Schedule.{IsHistory};
+ghost use Rattle.history.specs.Scheduler.{ArePairCounts};
+
+use crate::rule::key::Key;
+use history::{LockedBoard, Schedule};
+use std::snapshot::Snapshot;
+
+/// A board under a lock that keeps each call with its reply, for a schedule. Threads share it by
+/// `&Recorder`; each calls it with the number of a worker.
+#[derive(Drop)]
+pub struct Recorder {
+    pub(crate) board: LockedBoard,
+    /// For each region, the number of other regions that it reads.
+    pub(crate) sources: Vec<usize>,
+    /// The moves and the number of workers, for proofs only.
+    pub(crate) key: Snapshot<Key>,
+    ghost counted: { ArePairCounts key.value.moves (λ pair. pair.0) key.value.moves.pairs sources.items },
+}
+
+impl Recorder {
+    /// All calls so far, each with its reply.
+    pub fn into_schedule(self) -> Schedule
+        ensures { IsHistory result }
+    {
+        let Recorder {
+            board,
+            sources: _,
+            key: _,
+        } = self;
+        board.into_schedule()
+    }
+}

@@ -1,0 +1,17 @@
+pub mod Joined
+pub mod Gaps
+pub mod FirstPlace
+pub mod Placing
+pub mod Strides
+pub mod Telling
+pub mod Queues
+pub mod Passes
+pub mod Settled
+pub mod Failing
+pub mod Reasons
+pub mod Streams
+pub mod Losses
+pub mod Upgrades
+pub mod Tallies
+pub mod Visits
+pub mod Comparing

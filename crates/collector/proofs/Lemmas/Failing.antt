@@ -1,0 +1,32 @@
+-- The causes of a collection's fault.
+use Rattle.std.proofs.Common.{◌≡◌, ℕ, ◌<◌, List, ◌++◌, length, take, get_or, sym, ap, ◌∙◌, subst, inl, inr, ◌⊎◌, Err}
+use Rattle.std.specs.Prelude.{All, IfErr}
+use Rattle.std.proofs.Math.Seq.{take-append_seam}
+use Rattle.heap_image.specs.HeapImage.{HeapImage}
+use Rattle.heap_image.specs.declared.fault.Fault.{Fault}
+use Rattle.heap_image.specs.declared.fault.Fault.TheVariants.{Overwritten, Gate}
+use Rattle.fill.specs.FillFaults.{IsOverwritten}
+use Rattle.collector.specs.declared.workers.worker.Worker.{Worker}
+use Rattle.collector.specs.declared.workers.worker.Halt.TheVariants.{Failed}
+use Rattle.collector.specs.Halts.{MayHalt, MayRefuse}
+
+-- a worker that failed has its fault in the list
+abbrev pub HasFailed : {S : Type 0} → List (Worker S) → Fault → Type 0
+HasFailed {S = S} workers fault = (k : ℕ) × (w : Worker S) × (k < length workers) × (get_or workers k w ≡ w) × (w.end ≡ Err (Failed fault))
+
+-- the front of a longer list
+pub front_of : {X : Type 0} (n : ℕ) (xs rest : List X) → n ≡ length xs → take n (xs ++ rest) ≡ xs
+front_of n xs rest whole = ap (λ (k : ℕ). take k (xs ++ rest)) whole ∙ take-append_seam xs rest
+
+-- a fault that a worker met has one of the causes of a halt
+pub cause_of : {S : Type 0} (may_fail : Fault → Type 0) (may_refuse : ℕ → Type 0) (regions : ℕ) (workers : List (Worker S)) (fault : Fault)
+    → All (λ w. IfErr w.end (MayHalt may_fail may_refuse regions)) workers → HasFailed workers fault → MayHalt may_fail may_refuse regions (Failed fault)
+cause_of {S = S} may_fail may_refuse regions workers fault causes failed =
+    subst (λ e. IfErr e (MayHalt may_fail may_refuse regions)) failed.4
+    (subst (λ (w : Worker S). IfErr w.end (MayHalt may_fail may_refuse regions)) failed.3 (causes failed.0 failed.1 failed.2))
+
+-- if it is the gate's, the gate may refuse
+pub refused_by : (may_refuse : ℕ → ℕ → Type 0) (workers : ℕ) (image : HeapImage) (fault : Fault) → fault ≡ Gate
+    → IsOverwritten fault ⊎ ((fault ≡ Gate) × MayRefuse may_refuse workers image) → MayRefuse may_refuse workers image
+refused_by may_refuse workers image fault gate (inl old) = absurd (let f : Gate ≡ Overwritten old.0 = sym gate ∙ old.1 in cc)
+refused_by may_refuse workers image fault gate (inr refused) = refused.1

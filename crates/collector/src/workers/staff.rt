@@ -1,0 +1,77 @@
+ghost use Rattle.std.specs.Prelude.{◌≡◌, ◌<◌, ◌≤◌, [], map, vec_len, IfOk, length};
+ghost use Rattle.std.specs.Vec.{vec_capacity};
+
+use super::ready::{Ready, Thief};
+use super::worker::{Halt, Worker};
+use std::alloc::{AllocError, Global};
+use summary::Plan;
+use summary::laws::plans::planned_image_is_valid;
+use summary::laws::region_data::regions_to_fill;
+
+/// The workers of a collection before they begin, and a handle to the queue of each.
+#[derive(Drop)]
+pub(crate) struct Staff<S> {
+    pub(crate) workers: Vec<Worker<S>>,
+    pub(crate) thieves: Vec<Thief>,
+    /// Empty, with room for the seats of all workers, which are collected at the end.
+    pub(crate) seats: Vec<S>,
+    ghost handles: { vec_len thieves ≡ vec_len workers },
+    ghost no_seats: { seats.items ≡ [] },
+    ghost room: { vec_len workers ≤ vec_capacity seats },
+}
+
+impl<S: Drop> Staff<S> {
+    /// Makes a worker for each seat, and deals the regions to fill that have no pending readers to the workers in turn.
+    ///
+    /// Each queue has room for all regions to fill. Fails if memory runs out.
+    pub(crate) fn new(alloc: Global, plan: &Plan, seats: Vec<S>) -> Result<Staff<S>, AllocError>
+        ensures seats { IfOk result (λ staff. map (λ w. w.seat) staff.workers.items ≡ seats.items) }
+    {
+        let count = seats.len();
+        let mut workers = Vec::with_capacity(alloc, count)?;
+        let mut thieves = Vec::with_capacity(alloc, count)?;
+        let emptied = Vec::with_capacity(alloc, count)?;
+        for seat in seats {
+            let ready = first_regions(alloc, plan, workers.len(), count)?;
+            thieves.push(ready.thief()?)?;
+            workers.push(Worker {
+                seat,
+                ready,
+                end: Err(Halt::Stopped),
+            })?;
+        }
+        Ok(Staff {
+            workers,
+            thieves,
+            seats: emptied,
+        })
+    }
+}
+
+/// The queue with which worker `number` begins: of the regions to fill that have no pending readers, counted from 0,
+/// those whose place is `number` modulo `workers`.
+fn first_regions(
+    alloc: Global,
+    plan: &Plan,
+    number: usize,
+    workers: usize,
+) -> Result<Ready, AllocError>
+    requires { number < workers }
+{
+    regions_to_fill();
+    planned_image_is_valid(plan);
+    let fill_regions = plan.fill_regions();
+    let mut ready = Ready::new(alloc, fill_regions as usize)?;
+    let mut place = 0;
+    for region in 0..fill_regions {
+        if plan.region(region).count > 0 {
+            continue;
+        }
+        if place % workers == number {
+            let queued = ready.push(region);
+            prove!(queued);
+        }
+        place += 1;
+    }
+    Ok(ready)
+}

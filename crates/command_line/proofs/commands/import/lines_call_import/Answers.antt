@@ -1,0 +1,15 @@
+use Rattle.std.proofs.Common.{refl}
+use Rattle.clap.proofs.OnLiterals.{clap_on_literals}
+use Rattle.command_line.proofs.commands.import.lines_call_import.Goals as goal
+
+pub returns-clause-line : goal.returns-clause-line
+unfolding clap_on_literals
+returns-clause-line c = (refl, refl)
+
+pub returns-clause-options : goal.returns-clause-options
+unfolding clap_on_literals
+returns-clause-options c = (refl, refl)
+
+pub returns-clause-lists : goal.returns-clause-lists
+unfolding clap_on_literals
+returns-clause-lists c = (refl, refl)

@@ -1,5 +1,0 @@
-use Rattle.command_support.proofs.Heads.{bytes_read-unchanged}
-use Rattle.command_support.proofs.head.unchanged_heads_stay.Goals as goal
-
-pub returns : goal.returns
-returns c = bytes_read-unchanged

@@ -1,0 +1,13 @@
+pub mod Blocks
+pub mod Cleared
+pub mod Late
+pub mod Writing
+pub mod Slides
+pub mod WrittenTo
+pub mod Redirects
+pub mod Steps
+pub mod Gaps
+pub mod Draining
+pub mod Parts
+pub mod Reaching
+pub mod Targets

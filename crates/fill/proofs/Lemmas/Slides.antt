@@ -1,0 +1,120 @@
+-- New addresses of runs of live words, and the words there.
+use Rattle.std.proofs.Common.{◌≡◌, ℕ, zero, suc, ◌+◌, ◌-◌, ◌≤◌, ◌<◌, Bool, true, false, ◌&&◌, List, [], ◌∷◌, length, get_or, refl, sym, ◌∙◌, ap, subst, arith, ltb}
+use Rattle.std.proofs.lemmas.Bool.{cond-true, cond-false, lt-ltb, le-ltb, and_right}
+use Rattle.std.specs.Prelude.{Some, Option}
+use Rattle.std.specs.List.{list_any}
+use Rattle.heap_image.specs.HeapImage.{HeapImage, HasLiveList, heap_words, word_at, is_live_word, live_words}
+use Rattle.summary.specs.NewAddresses.{prefix_end, new_top}
+use Rattle.summary.specs.WordMoves.{slid, origin}
+use Rattle.summary.specs.Compaction.{written, carried, is_reference_of, redirected}
+use Rattle.summary.proofs.Lemmas.Addresses.{new_top-live_words, prefix_end-le}
+use Rattle.summary.proofs.Lemmas.Counts.{count_by-more_yes}
+use Rattle.summary.proofs.Lemmas.Destinations.{count_by-none}
+use Rattle.summary.proofs.Lemmas.Origin.{origin-slid}
+use Rattle.summary.proofs.Lemmas.Words.{live_words-add, live_words-le, slid-high, slid-le, slid-below, live_below}
+use Rattle.raw_region.specs.Region.{part, with_words as put}
+use Rattle.fill.specs.WordBlocks.{IsSplitAt, Shows}
+use Rattle.summary.specs.Compaction.{word_by}
+use Rattle.fill.specs.CopiedWords.{copied_word}
+use Rattle.fill.proofs.Lemmas.Writing.{split_more, length-part, get_or-part}
+
+module _ (image : HeapImage) where
+  abbrev B : ℕ
+  B = prefix_end image
+
+  pub live_words-none : (a b : ℕ) → a ≤ b → ((q : ℕ) → a ≤ q → q < b → is_live_word image q ≡ false) → live_words image a b ≡ 0
+  live_words-none a b l dead = count_by-none (is_live_word image) a (b - a) (λ q m n. dead q m (omega arith))
+
+  pub live_words-run : (a n : ℕ) → ((q : ℕ) → a ≤ q → q < a + n → is_live_word image q ≡ true) → live_words image a (a + n) ≡ n
+  live_words-run a zero live = let few = live_words-le image a (a + 0) in omega arith
+  live_words-run a (suc n) live =
+      let e : a + suc n ≡ a + n + 1 = omega arith in
+      let before = live_words-run a n (λ q l m. live q l (omega arith)) in
+      let more : live_words image a (a + n + 1) ≡ live_words image a (a + n) + 1 = count_by-more_yes (is_live_word image) a (a + n) (omega arith) (live (a + n) (omega arith) (omega arith)) in
+      ap (live_words image a) e ∙ omega arith
+
+  pub slid-from : (a b : ℕ) → B ≤ a → a ≤ b → slid image b ≡ slid image a + live_words image a b
+  slid-from a b l m =
+      let one = slid-high image a l in
+      let two = slid-high image b (omega arith) in
+      let cut = live_words-add image B a b l m in
+      omega arith
+
+  pub slid-gap : (a b : ℕ) → B ≤ a → a ≤ b → ((q : ℕ) → a ≤ q → q < b → is_live_word image q ≡ false) → slid image b ≡ slid image a
+  slid-gap a b l m dead = let e = slid-from a b l m in let none = live_words-none a b m dead in omega arith
+
+  pub slid-run : (a n : ℕ) → B ≤ a → ((q : ℕ) → a ≤ q → q < a + n → is_live_word image q ≡ true) → slid image (a + n) ≡ slid image a + n
+  slid-run a n l live = let e = slid-from a (a + n) l (omega arith) in let some = live_words-run a n live in omega arith
+
+  -- past the dead words before a run, and past n words of it
+  pub slid-past : (from a n to : ℕ) → B ≤ from → from ≤ a → to ≡ slid image from → ((q : ℕ) → from ≤ q → q < a → is_live_word image q ≡ false)
+      → ((q : ℕ) → a ≤ q → q < a + n → is_live_word image q ≡ true) → (to ≡ slid image a) × (to + n ≡ slid image (a + n))
+  slid-past from a n to l m e dead live =
+      let gap = slid-gap from a l m dead in
+      let run = slid-run a n (omega arith) live in
+      (omega arith, omega arith)
+
+  pub slid-monotone : (a b : ℕ) → B ≤ a → a ≤ b → slid image a ≤ slid image b
+  slid-monotone a b l m = let e = slid-from a b l m in omega arith
+
+  carried-none : (q : ℕ) → carried image (λ _. false) q ≡ word_at image q
+  carried-none q = cond-false (list_any (λ a. is_reference_of image a q && false) image.live) (redirected image (word_at image q)) (word_at image q) (none image.live)
+    where
+      none : (xs : List ℕ) → list_any (λ a. is_reference_of image a q && false) xs ≡ false
+      none [] = refl
+      none (x ∷ xs) = rw (and_right (is_reference_of image x q) false refl) (none xs)
+
+  pub word_by-above : (test : ℕ → Bool) (p : ℕ) → new_top image ≤ p → word_by image test p ≡ word_at image p
+  word_by-above test p l = cond-false (ltb p (new_top image)) (written image test (origin image p) p) (word_at image p) (le-ltb p (new_top image) l)
+
+  pub word_by-below : (test : ℕ → Bool) (p : ℕ) (o : Option ℕ) → p < new_top image → origin image p ≡ o → word_by image test p ≡ written image test o p
+  word_by-below test p o l e = cond-true (ltb p (new_top image)) (written image test (origin image p) p) (word_at image p) (lt-ltb p (new_top image) l) ∙ ap (λ o. written image test o p) e
+
+module _ (image : HeapImage) (sound : HasLiveList image) where
+  abbrev P : ℕ
+  P = prefix_end image
+
+  pub slid-all : slid image (heap_words image) ≡ new_top image
+  slid-all = let e = new_top-live_words image sound in let l = prefix_end-le image sound in slid-high image (heap_words image) l ∙ sym e
+
+  pub word_by-slid : (test : ℕ → Bool) (q : ℕ) → is_live_word image q ≡ true → word_by image test (slid image q) ≡ carried image test q
+  word_by-slid test q live = word_by-below image test (slid image q) (Some q) (slid-below image sound q live) (origin-slid image sound q (live_below image sound q live) live)
+
+  -- the new address of a live word gets that word
+  pub copied-slid : (q : ℕ) → is_live_word image q ≡ true → copied_word image (slid image q) ≡ word_at image q
+  copied-slid q live = word_by-slid (λ _. false) q live ∙ carried-none image q
+
+  -- so the new addresses of a run get its words
+  pub copied-run : (a n p : ℕ) → P ≤ a → p ≡ slid image a → ((q : ℕ) → a ≤ q → q < a + n → is_live_word image q ≡ true) → (j : ℕ) → j < n → copied_word image (p + j) ≡ word_at image (a + j)
+  copied-run a n p l e live j m =
+      let to = slid-run image a j l (λ q b c. live q b (omega arith)) in
+      let same : p + j ≡ slid image (a + j) = omega arith in
+      ap (copied_word image) same ∙ copied-slid (a + j) (live (a + j) (omega arith) (omega arith))
+
+  -- a run of live words written at its new address
+  pub split_run : (start : ℕ) (xs zs : List ℕ) (a n p : ℕ) → IsSplitAt (copied_word image) (word_at image) start xs p → P ≤ a → p ≡ slid image a
+      → ((q : ℕ) → a ≤ q → q < a + n → is_live_word image q ≡ true) → start ≤ p → p + n ≤ start + length xs
+      → length zs ≡ n → ((j : ℕ) → j < n → get_or zs j 0 ≡ word_at image (a + j)) → IsSplitAt (copied_word image) (word_at image) start (put xs (p - start) zs) (p + n)
+  split_run start xs zs a n p h l e live low high long each =
+      let same : p + length zs ≡ p + n = omega arith in
+      subst (IsSplitAt (copied_word image) (word_at image) start (put xs (p - start) zs)) same
+      (split_more (copied_word image) (word_at image) start xs zs p h low (omega arith) (λ j m. each j (omega arith) ∙ sym (copied-run a n p l e live j (omega arith))))
+
+  -- the same for a part of a source that begins at `first`
+  pub split_copy : (start : ℕ) (xs : List ℕ) (first : ℕ) (ys : List ℕ) (a n p : ℕ) → IsSplitAt (copied_word image) (word_at image) start xs p → Shows (word_at image) first ys → P ≤ a → p ≡ slid image a
+      → ((q : ℕ) → a ≤ q → q < a + n → is_live_word image q ≡ true) → start ≤ p → p + n ≤ start + length xs → first ≤ a → a + n ≤ first + length ys
+      → IsSplitAt (copied_word image) (word_at image) start (put xs (p - start) (part ys (a - first) n)) (p + n)
+  split_copy start xs first ys a n p h shows l e live low high under over =
+      split_run start xs (part ys (a - first) n) a n p h l e live low high (length-part ys (a - first) n (omega arith)) (λ j m.
+      let same : first + (a - first + j) ≡ a + j = omega arith in
+      get_or-part ys (a - first) n j m ∙ shows (a - first + j) (omega arith) ∙ ap (word_at image) same)
+
+  -- the same for words of the block itself that are not yet overwritten
+  pub split_slide : (start : ℕ) (xs : List ℕ) (a n p : ℕ) → IsSplitAt (copied_word image) (word_at image) start xs p → P ≤ a → p ≡ slid image a
+      → ((q : ℕ) → a ≤ q → q < a + n → is_live_word image q ≡ true) → start ≤ p → a + n ≤ start + length xs
+      → IsSplitAt (copied_word image) (word_at image) start (put xs (p - start) (part xs (a - start) n)) (p + n)
+  split_slide start xs a n p h l e live low over =
+      let down = slid-le image a in
+      split_run start xs (part xs (a - start) n) a n p h l e live low (omega arith) (length-part xs (a - start) n (omega arith)) (λ j m.
+      let same : start + (a - start + j) ≡ a + j = omega arith in
+      get_or-part xs (a - start) n j m ∙ h.above (a - start + j) (omega arith) (omega arith) ∙ ap (word_at image) same)

@@ -1,0 +1,15 @@
+use Rattle.std.proofs.Common.{◌≡◌, ◌+◌, length}
+use Rattle.std.specs.List.{concat}
+use Rattle.heap_image.specs.HeapImage.{FormHeap, start_of}
+use Rattle.heap_image.specs.Header.{references_of}
+use Rattle.summary.specs.Compaction.{moved_word}
+use Rattle.fill.specs.MovedHeap.{words_from}
+use Rattle.fill.proofs.Lemmas.Late.{late_up_to}
+use Rattle.fill.proofs.cleanup.deferred.update_region.Given as goal
+
+abbrev pub invariant-loop-p : goal.invariant-loop-p
+invariant-loop-p l = record {
+  heap : FormHeap l.plan.region_log l.regions;
+  end : l.p-end ≡ l.start + references_of (moved_word l.plan l.begin);
+  words : concat l.regions ≡ words_from l.plan l.first (length l.regions) (late_up_to l.plan l.d l.begin (start_of l.plan l.first + l.p));
+}

@@ -1,0 +1,173 @@
+use Rattle.std.proofs.Common.{◌≡◌, ◌+◌, ◌-◌, ◌≤◌, ◌<◌, ℕ, List, length, min, sym, ◌∙◌, ap, subst, arith}
+use Rattle.heap_image.specs.HeapImage.{HeapImage, HasLiveList, word_at, region_words, start_of, block_of}
+use Rattle.summary.specs.NewAddresses.{prefix_end}
+use Rattle.summary.specs.WordMoves.{slid}
+use Rattle.region_cells.specs.Views.{Writing, source_words}
+use Rattle.fill.specs.WordBlocks.{IsSplitAt, Shows}
+use Rattle.fill.specs.CopiedWords.{copied_word, written_to}
+use Rattle.fill.specs.Targets.{SameTarget, Becomes, IsCopied}
+use Rattle.fill.specs.SourceRegions.{IsNextOtherSource}
+use Rattle.fill.proofs.Lemmas.Targets.{same_target, still_block, written_on, copied_from}
+use Rattle.fill.proofs.Lemmas.Slides.{slid-past, slid-monotone, split_copy}
+use Rattle.fill.proofs.Lemmas.WrittenTo.{source_behind, written_to-read, written_to-between, shows_start, length_start}
+use Rattle.fill.proofs.region.after_prefix.AfterPrefix.copy_source.Goals as goal
+use Rattle.fill.proofs.region.after_prefix.AfterPrefix.copy_source.Goals.{After-span-read}
+
+-- the source, and how far the region is written before it
+module _ (c : After-span-read) where
+  abbrev image : HeapImage
+  image = c.args.self.now.site.guide.now
+
+  abbrev d : ℕ
+  d = c.args.self.now.site.region
+
+  abbrev s : ℕ
+  s = c.args.s
+
+  abbrev R : ℕ
+  R = region_words image
+
+  next : IsNextOtherSource image d c.requires.next.0 s
+  next = c.requires.next.1
+
+  before : IsCopied image d c.requires.next.0 c.args.to c.args.target.now
+  before = c.requires.next.2
+
+  own : d < c.requires.next.0
+  own = next.own
+
+  ordered : c.requires.next.0 ≤ s
+  ordered = next.ordered
+
+  behind : prefix_end image ≤ start_of image s
+  behind = source_behind image c.span-read.ensures.valid d s (omega (arith, own, ordered)) c.args.self.now.after_prefix
+
+  place : c.args.to ≡ written_to image (start_of image d) (start_of image s)
+  place = before.place ∙ written_to-between image c.span-read.ensures.valid d c.requires.next.0 s c.args.self.now.after_prefix (omega (arith, own)) ordered (omega (arith, next.inside)) next.between
+
+  on : (slid image (start_of image s) ≤ written_to image (start_of image d) (start_of image s)) × (written_to image (start_of image d) (start_of image s) ≤ slid image (start_of image s + R))
+      × (written_to image (start_of image d) (start_of image s + R) ≡ min (start_of image d + R) (slid image (start_of image s + R)))
+  on = written_to-read image c.span-read.ensures.valid.live_list d s behind next.read
+
+  -- the words that are read
+  read_words : source_words c.args.source.now ≡ block_of image s
+  read_words = ap (λ m. block_of m c.args.source.now.opening.source) c.requires.source.image ∙ ap (block_of image) c.requires.source.region
+
+  read_shows : Shows (word_at image) c.span-read.result.start (source_words c.args.source.now)
+  read_shows = subst (λ (n : ℕ). Shows (word_at image) n (source_words c.args.source.now)) (sym c.span-read.ensures.start)
+      (subst (λ (xs : List ℕ). Shows (word_at image) (start_of image s) xs) (sym read_words) (shows_start image c.span-read.ensures.valid s next.inside))
+
+  read_long : length (source_words c.args.source.now) ≡ R
+  read_long = ap length read_words ∙ length_start image c.span-read.ensures.valid s next.inside
+
+  -- once the source or the region is at its end
+  reached : (to : ℕ) (after : Writing) → SameTarget c.args.target.now after → IsSplitAt (copied_word image) (word_at image) c.args.self.now.site.span.start after.words to
+      → to ≡ min c.args.self.now.site.span.end (slid image c.span-read.result.end) → Becomes (IsCopied image d (s + 1) to) c.args.target.now after
+  reached to after same split end = copied_from image d s c.args.self.now.site.span.start to c.args.target.now after c.args.self.now.site.start before.block same split
+      (end ∙ ap (λ m. min m (slid image c.span-read.result.end)) c.args.self.now.site.end ∙ ap (λ m. min (start_of image d + R) (slid image m)) c.span-read.ensures.end ∙ sym on.2)
+
+pub span-read-requires : goal.span-read-requires
+span-read-requires c = c.requires.next.1.inside
+
+pub first_from-from-requires-clause-region : goal.first_from-from-requires-clause-region
+first_from-from-requires-clause-region c =
+    let at = (goal.at.first_from-from-requires-clause-region c).After-span-read in
+    record { inside = (next at).inside; after_prefix = behind at }
+
+pub first_from-from-requires-clause-low : goal.first_from-from-requires-clause-low
+first_from-from-requires-clause-low c =
+    let at = (goal.at.first_from-from-requires-clause-low c).After-span-read in
+    let image : HeapImage = c.args.self.now.site.guide.now in
+    let low : slid image (start_of image c.args.s) ≤ written_to image (start_of image c.args.self.now.site.region) (start_of image c.args.s) = (on at).0 in
+    omega (arith, place at)
+
+pub first_from-from-requires-clause-high : goal.first_from-from-requires-clause-high
+first_from-from-requires-clause-high c =
+    let at = (goal.at.first_from-from-requires-clause-high c).After-span-read in
+    let image : HeapImage = c.args.self.now.site.guide.now in
+    let high : written_to image (start_of image c.args.self.now.site.region) (start_of image c.args.s) ≤ slid image (start_of image c.args.s + region_words image) = (on at).1 in
+    omega (arith, place at)
+
+pub loop-from-init : goal.loop-from-init
+loop-from-init c =
+    let at = (goal.at.loop-from-init c).After-span-read in
+    let site = c.args.self.now.site in
+    let image : HeapImage = site.guide.now in
+    let from = c.first_from-from.ensures in
+    let read = c.span-read.ensures in
+    record {
+      after = omega (arith, from.after, read.start);
+      inside = omega (arith, from.inside, read.end);
+      after_prefix = omega (arith, from.after, behind at);
+      place = sym from.place;
+      low = omega (arith, place at, site.start);
+      high = omega (arith, place at, site.start, site.end);
+      split = subst (λ (n : ℕ). IsSplitAt (copied_word image) (word_at image) n c.args.target.now.words c.args.to) (sym site.start) (before at).split;
+      same = same_target c.args.target.now;
+    }
+
+pub copy_into-requires-clause-source : goal.copy_into-requires-clause-source
+copy_into-requires-clause-source c =
+    let r = c.next_run-run.ensures in
+    let same : region_words c.args.source.now.image ≡ region_words c.args.self.now.site.guide.now = ap region_words c.requires.source.image in
+    let n : c.min-n.result ≤ c.next_run-run.result.end - c.next_run-run.result.begin = omega arith in
+    let up = r.within in
+    let far = r.after in
+    let low = c.loop-from.invariant.after in
+    omega (arith, c.span-read.ensures.start, c.span-read.ensures.end)
+
+pub copy_into-requires-clause-room : goal.copy_into-requires-clause-room
+copy_into-requires-clause-room c =
+    let at = (goal.at.copy_into-requires-clause-room c).After-span-read in
+    let site = c.args.self.now.site in
+    let h = c.loop-from.invariant in
+    let same : region_words c.loop-from.target.image ≡ region_words site.guide.now = ap region_words (h.same.image ∙ (before at).block.image) in
+    let n : c.min-n.result ≤ site.span.end - c.loop-from.to = omega arith in
+    omega (arith, h.low, h.high, site.start, site.end)
+
+pub loop-from-preserved : goal.loop-from-preserved
+loop-from-preserved c =
+    let at = (goal.at.loop-from-preserved c).After-span-read in
+    let site = c.args.self.now.site in
+    let image : HeapImage = site.guide.now in
+    let sound : HasLiveList image = c.span-read.ensures.valid.live_list in
+    let h = c.loop-from.invariant in
+    let r = c.next_run-run.ensures in
+    let n : ℕ = c.min-n.result in
+    let a : ℕ = c.next_run-run.result.begin in
+    let over : n ≤ c.next_run-run.result.end - a = omega arith in
+    let fits : n ≤ site.span.end - c.loop-from.to = omega arith in
+    let up : c.next_run-run.result.end ≤ c.span-read.result.end = r.within in
+    let on : a ≤ c.next_run-run.result.end = r.ordered in
+    let far : c.loop-from.from ≤ a = r.after in
+    let live = λ (q : ℕ) (l : a ≤ q) (m : q < a + n). (let below : q < c.next_run-run.result.end = omega arith in r.live q l below) in
+    let past = slid-past image c.loop-from.from a n c.loop-from.to h.after_prefix far h.place r.dead live in
+    let now = still_block image c.args.target.now c.loop-from.target (before at).block h.same in
+    let written = written_on image (copied_word image) (word_at image) site.span.start (c.loop-from.to + n) c.args.target.now c.loop-from.target c.copy_into.new.target _ (before at).block h.same
+    c.copy_into.ensures.value c.copy_into.ensures.length
+    (split_copy image sound site.span.start c.loop-from.target.words c.span-read.result.start (source_words c.args.source.now) a n c.loop-from.to h.split (read_shows at) (omega arith) past.0 live (omega arith)
+    (omega (arith, now.long, site.start, site.end)) (omega arith) (omega (arith, read_long at, c.span-read.ensures.start, c.span-read.ensures.end))) in
+    record {
+      after = omega arith;
+      inside = omega arith;
+      after_prefix = omega arith;
+      place = past.1;
+      low = omega arith;
+      high = omega arith;
+      split = written.1;
+      same = written.0;
+    }
+
+pub returns-after-loop-from : goal.returns-after-loop-from
+returns-after-loop-from c =
+    let h = c.loop-from.invariant in
+    let image : HeapImage = c.args.self.now.site.guide.now in
+    let last : c.loop-from.from ≡ c.span-read.result.end = omega (arith, h.inside) in
+    let there : slid image c.loop-from.from ≡ slid image c.span-read.result.end = ap (slid image) last in
+    reached (goal.at.returns-after-loop-from c).After-span-read c.loop-from.to c.loop-from.target h.same h.split (omega (arith, h.place, h.high))
+
+pub returns-else-to-write : goal.returns-else-to-write
+returns-else-to-write c =
+    let h = c.loop-from.invariant in
+    let up = slid-monotone c.args.self.now.site.guide.now c.loop-from.from c.span-read.result.end h.after_prefix h.inside in
+    reached (goal.at.returns-else-to-write c).After-span-read c.loop-from.to c.loop-from.target h.same h.split (omega (arith, h.place, h.high))

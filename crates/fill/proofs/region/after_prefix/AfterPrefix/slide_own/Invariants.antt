@@ -1,0 +1,22 @@
+use Rattle.std.proofs.Common.{◌-◌, ◌≡◌, ◌≤◌}
+use Rattle.heap_image.specs.HeapImage.{word_at}
+use Rattle.summary.specs.NewAddresses.{prefix_end}
+use Rattle.summary.specs.WordMoves.{slid}
+use Rattle.fill.specs.WordBlocks.{IsSplitAt}
+use Rattle.fill.specs.CopiedWords.{copied_word}
+use Rattle.fill.specs.Targets.{SameTarget}
+use Rattle.fill.proofs.region.after_prefix.AfterPrefix.slide_own.Given as goal
+
+abbrev pub invariant-loop-from : goal.invariant-loop-from
+invariant-loop-from l = record {
+  after : l.self.site.span.start ≤ l.from;
+  inside : l.from ≤ l.self.site.span.end;
+  after_prefix : prefix_end l.self.site.guide.now ≤ l.from;
+  place : l.to ≡ slid l.self.site.guide.now l.from;
+  low : l.self.site.span.start ≤ l.to;
+  split : IsSplitAt (copied_word l.self.site.guide.now) (word_at l.self.site.guide.now) l.self.site.span.start l.target.words l.to;
+  same : SameTarget l.initial.target l.target;
+}
+
+abbrev pub decreases-loop-from : goal.decreases-loop-from
+decreases-loop-from l = l.self.site.span.end - l.from

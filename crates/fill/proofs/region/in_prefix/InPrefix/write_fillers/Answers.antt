@@ -1,0 +1,74 @@
+use Rattle.std.proofs.Common.{◌≡◌, ◌+◌, ◌-◌, ◌≤◌, ◌<◌, ℕ, List, inl, inr, sym, subst, arith}
+use Rattle.std.proofs.lemmas.Bool.{cases_lt}
+use Rattle.heap_image.specs.HeapImage.{HeapImage, HasLiveList, region_words, start_of, word_at}
+use Rattle.summary.proofs.Lemmas.Regions.{prefix_region}
+use Rattle.fill.specs.WordBlocks.{Shows}
+use Rattle.fill.specs.CopiedWords.{copied_word}
+use Rattle.fill.proofs.Lemmas.Targets.{same_target, target_over, still_block, unwritten_block}
+use Rattle.fill.proofs.Lemmas.Writing.{split_none, split_all}
+use Rattle.fill.proofs.Lemmas.WrittenTo.{shows_start}
+use Rattle.fill.proofs.Lemmas.Gaps.{split_stays}
+use Rattle.fill.proofs.region.in_prefix.InPrefix.write_fillers.Goals as goal
+
+pub loop-at-init : goal.loop-at-init
+loop-at-init c =
+    let image : HeapImage = c.args.self.now.site.guide.now in
+    let at : c.args.self.now.site.span.start ≡ start_of image c.args.self.now.site.region = c.args.self.now.site.start in
+    let inside = c.args.self.now.site.inside in
+    let shows : Shows (word_at image) (c.args.self.now.site.span.start) c.args.target.now.words =
+    subst (λ (m : ℕ). Shows (word_at image) m c.args.target.now.words) (sym at)
+    (subst (λ (xs : List ℕ). Shows (word_at image) (start_of image c.args.self.now.site.region) xs) (sym c.requires.words) (shows_start image c.image_is_valid.ensures c.args.self.now.site.region inside)) in
+    record {
+      low = omega arith;
+      high = omega arith;
+      split = split_none (copied_word image) (word_at image) (c.args.self.now.site.span.start) c.args.target.now.words shows;
+      same = same_target c.args.target.now;
+    }
+
+pub write_gap-requires-clause-target : goal.write_gap-requires-clause-target
+write_gap-requires-clause-target c =
+    let site = c.args.self.now.site in
+    still_block site.guide.now c.args.target.now c.loop-at.target (unwritten_block site.guide.now site.region c.args.target.now c.image_is_valid.ensures site.inside c.requires) c.loop-at.invariant.same
+
+pub loop-at-smaller : goal.loop-at-smaller
+loop-at-smaller c =
+    let r = c.next_run-run.ensures in
+    let on : c.loop-at.at ≤ c.next_run-run.result.begin = r.after in
+    let up : c.next_run-run.result.begin ≤ c.next_run-run.result.end = r.ordered in
+    let within : c.next_run-run.result.end ≤ c.args.self.now.site.span.end = r.within in
+    let test : c.loop-at.at < c.args.self.now.site.span.end = c.loop-at-test.true in
+    let more : c.loop-at.at < c.next_run-run.result.end = elim (cases_lt c.next_run-run.result.begin c.args.self.now.site.span.end) [
+      | inl less ↦ let some : c.next_run-run.result.begin < c.next_run-run.result.end = r.some less in omega arith
+      | inr over ↦ omega arith
+    ] in
+    let smaller : c.args.self.now.site.span.end - c.next_run-run.result.end < c.args.self.now.site.span.end - c.loop-at.at = omega arith in
+    smaller
+
+pub loop-at-preserved : goal.loop-at-preserved
+loop-at-preserved c =
+    let image : HeapImage = c.args.self.now.site.guide.now in
+    let sound : HasLiveList image = c.image_is_valid.ensures.live_list in
+    let start : ℕ = c.args.self.now.site.span.start in
+    let r = c.next_run-run.ensures in
+    let h = c.loop-at.invariant in
+    let on : c.loop-at.at ≤ c.next_run-run.result.begin = r.after in
+    let up : c.next_run-run.result.begin ≤ c.next_run-run.result.end = r.ordered in
+    let within : c.next_run-run.result.end ≤ c.args.self.now.site.span.end = r.within in
+    let fits = prefix_region image c.args.self.now.site.region c.args.self.now.in_prefix in
+    let long : c.args.self.now.site.span.end ≡ start_of image c.args.self.now.site.region + region_words image = c.args.self.now.site.end in
+    let low : start ≤ c.loop-at.at = h.low in
+    record {
+      low = omega arith;
+      high = omega arith;
+      split = split_stays image sound start c.write_gap.new.target.words c.next_run-run.result.begin c.next_run-run.result.end c.write_gap.ensures.now up (omega arith) (λ q l m. r.live q l m);
+      same = target_over c.args.target.now c.loop-at.target c.write_gap.new.target h.same c.write_gap.ensures.same;
+    }
+
+pub returns : goal.returns
+returns c =
+    let site = c.args.self.now.site in
+    let image : HeapImage = site.guide.now in
+    let h = c.loop-at.invariant in
+    let block = still_block image c.args.target.now c.loop-at.target (unwritten_block image site.region c.args.target.now c.image_is_valid.ensures site.inside c.requires) h.same in
+    let end : site.span.end ≤ c.loop-at.at = c.loop-at-test.false in
+    record { same = h.same; now = split_all (copied_word image) (word_at image) site.span.start c.loop-at.target.words c.loop-at.at h.split (omega (arith, block.long, site.start, site.end)) }

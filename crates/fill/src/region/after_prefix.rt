@@ -1,0 +1,136 @@
+ghost use Rattle.std.specs.Prelude.{◌≡◌, ℕ, ◌+◌, ◌<◌, ◌≤◌, false};
+ghost use Rattle.heap_image.specs.HeapImage.{region_count, start_of};
+ghost use Rattle.summary.specs.NewAddresses.{prefix_end};
+ghost use Rattle.summary.specs.WordMoves.{reads};
+ghost use Rattle.summary.specs.Compaction.{moved_word};
+ghost use Rattle.fill.specs.WordBlocks.{IsSplitAt, Shows};
+ghost use Rattle.fill.specs.CopiedWords.{copied_word, reaches};
+ghost use Rattle.fill.specs.Objects.{IsBetween};
+ghost use Rattle.fill.specs.Targets.{Becomes, IsBlockOf, IsUnwritten, IsCopied, IsMoved};
+ghost use Rattle.fill.specs.SourceRegions.{IsNextOtherSource, IsReadOf};
+
+use super::site::Site;
+use heap_image::header::size;
+use region_cells::{Source, Target};
+
+/// Whether a source has words for the target region at `start..limit`: its live words go to `first..after`.
+fn reaches(start: u64, limit: u64, first: u64, after: u64) -> bool
+    ensures { result ≡ reaches start limit first after }
+{
+    first < limit && (start < after && first < after)
+}
+
+/// A region after the dense prefix, which is filled with its own words and those of regions above it.
+#[derive(Drop)]
+pub(crate) struct AfterPrefix<'a> {
+    pub(crate) site: Site<'a>,
+    pub(crate) ghost after_prefix: { prefix_end site.guide.now ≤ start_of site.guide.now site.region },
+}
+
+impl AfterPrefix<'_> {
+    /// Whether the region has words for itself.
+    fn reads_itself(&self) -> bool
+        ensures { result ≡ reads self.now.site.guide.now self.now.site.region self.now.site.region }
+    {
+        let guide = self.site.guide;
+        guide.image_is_valid();
+        let first = guide.destination(self.site.region);
+        let after = guide.destination_after(self.site.region);
+        reaches(self.site.span.start, self.site.span.end, first, after)
+    }
+
+    /// Slides the region's own words down. Returns the address up to which the region is written.
+    pub(crate) fn slide_own(&self, target: &mut Target<'_>) -> u64
+        requires { IsUnwritten self.now.site.guide.now self.now.site.region target.old }
+        ensures { Becomes (IsCopied self.now.site.guide.now self.now.site.region (self.now.site.region + 1) result) target.old target.new }
+    {
+        let guide = self.site.guide;
+        let span = self.site.span;
+        guide.image_is_valid();
+        if !self.reads_itself() {
+            return span.start;
+        }
+        let mut from = guide.first_from(self.site.region, span.start);
+        let mut to = span.start;
+        while from < span.end {
+            let run = guide.next_run(from, span.end);
+            let n = run.end - run.begin;
+            let first = (run.begin - span.start) as usize;
+            target.slide(first, (to - span.start) as usize, n as usize);
+            to += n;
+            from = run.end;
+        }
+        to
+    }
+
+    /// Copies the words that come from source `s`. On entry the words from all regions below `s` are copied, and the
+    /// region is written up to `to`. Returns the address up to which it is written afterwards.
+    pub(crate) fn copy_source(
+        &self,
+        source: &Source<'_>,
+        s: u32,
+        target: &mut Target<'_>,
+        to: u64,
+    ) -> u64
+        requires source { IsReadOf self.now.site.guide.now s source.now }
+        requires next { (from : ℕ) × IsNextOtherSource self.now.site.guide.now self.now.site.region from s × IsCopied self.now.site.guide.now self.now.site.region from to target.old }
+        ensures { Becomes (IsCopied self.now.site.guide.now self.now.site.region (s + 1) result) target.old target.new }
+    {
+        let guide = self.site.guide;
+        let read = guide.span(s);
+        let write = self.site.span;
+        let mut from = guide.first_from(s, to);
+        let mut to = to;
+        while from < read.end && to < write.end {
+            let run = guide.next_run(from, read.end);
+            let n = (run.end - run.begin).min(write.end - to);
+            let first = (run.begin - read.start) as usize;
+            source.copy_into(target, first, (to - write.start) as usize, n as usize);
+            to += n;
+            from = run.begin + n;
+        }
+        to
+    }
+
+    /// Redirects the references of the live objects that lie wholly in the region. The words from all regions below
+    /// `from` are copied, the region is written up to `to`, and the other regions have no words for it.
+    pub(crate) fn redirect_objects(&self, target: &mut Target<'_>, from: u32, to: u64)
+        requires own { self.now.site.region < from }
+        requires within { from ≤ region_count self.now.site.guide.now }
+        requires last { (t : ℕ) → from ≤ t → t < region_count self.now.site.guide.now → reads self.now.site.guide.now self.now.site.region t ≡ false }
+        requires copied { IsCopied self.now.site.guide.now self.now.site.region from to target.old }
+        ensures { Becomes (IsMoved self.now.site.guide.now self.now.site.region) target.old target.new }
+    {
+        let guide = self.site.guide;
+        guide.image_is_valid();
+        let s = guide.source(self.site.region);
+        let first = guide.first_from(s, self.site.span.start);
+        let last = guide.span(from - 1).end;
+        if let Some(a) = guide.next_object(first, last) {
+            self.redirect_row(target, guide.new_address(a));
+        }
+    }
+
+    /// Redirects the references of the live objects that lie wholly in the region. They are adjacent, and the first
+    /// begins at `at`.
+    fn redirect_row(&self, target: &mut Target<'_>, at: u64)
+        requires low { self.now.site.span.start ≤ at }
+        requires between { IsBetween self.now.site.guide.now at }
+        requires target { IsBlockOf self.now.site.guide.now target.old }
+        requires split { IsSplitAt (moved_word self.now.site.guide.now) (copied_word self.now.site.guide.now) self.now.site.span.start target.old.words at }
+        ensures { Becomes (λ w. Shows (moved_word self.now.site.guide.now) self.now.site.span.start w.words) target.old target.new }
+    {
+        let span = self.site.span;
+        self.site.guide.image_is_valid();
+        let limit = self.site.guide.plan().new_top().min(span.end);
+        let mut at = at;
+        while at < limit {
+            let header = target.get((at - span.start) as usize);
+            let next = at + u64::from(size(header));
+            if next <= span.end {
+                self.site.redirect_object(target, at);
+            }
+            at = next;
+        }
+    }
+}

@@ -1,0 +1,75 @@
+ghost use Rattle.std.specs.Prelude.{◌≡◌, ℕ, ◌+◌, ◌<◌, ◌≤◌};
+ghost use Rattle.heap_image.specs.HeapImage.{heap_words, region_words, region_count, start_of, size_at};
+ghost use Rattle.summary.specs.NewAddresses.{prefix_end, new_top};
+ghost use Rattle.summary.specs.RegionData.{fill_count};
+ghost use Rattle.summary.specs.Compaction.{moved_word};
+ghost use Rattle.fill.specs.WordBlocks.{IsSplitAt};
+ghost use Rattle.fill.specs.CopiedWords.{copied_word};
+ghost use Rattle.fill.specs.Objects.{IsMovedTo, IsEarlyAt};
+ghost use Rattle.fill.specs.Targets.{Becomes, IsBlockOf};
+
+use super::after_prefix::AfterPrefix;
+use super::guide::Guide;
+use super::in_prefix::InPrefix;
+use super::span::Span;
+use heap_image::header::references;
+use region_cells::Target;
+use summary::laws::region_data::regions_to_fill;
+
+/// The region to fill: its number, its addresses, and the guide to its words.
+#[derive(Clone, Copy)]
+pub(crate) struct Site<'a> {
+    pub(crate) guide: &'a Guide<'a>,
+    pub(crate) region: u32,
+    pub(crate) span: Span,
+    pub(crate) ghost inside: { region < region_count guide.now },
+    pub(crate) ghost to_fill: { start_of guide.now region < new_top guide.now },
+    pub(crate) ghost start: { span.start ≡ start_of guide.now region },
+    pub(crate) ghost end: { span.end ≡ start_of guide.now region + region_words guide.now },
+    pub(crate) ghost in_heap: { span.end ≤ heap_words guide.now },
+}
+
+impl<'a> Site<'a> {
+    pub(crate) fn of(guide: &'a Guide<'a>, region: u32) -> Site<'a>
+        requires { region < fill_count guide.now }
+        ensures guide { result.guide.now ≡ guide.now }
+        ensures region { result.region ≡ region }
+    {
+        guide.image_is_valid();
+        regions_to_fill();
+        Site {
+            guide,
+            region,
+            span: guide.span(region),
+        }
+    }
+
+    pub(crate) fn in_prefix(self) -> InPrefix<'a>
+        requires { self.span.start < prefix_end self.guide.now }
+        ensures { result.site ≡ self.entry }
+    {
+        InPrefix { site: self }
+    }
+
+    pub(crate) fn after_prefix(self) -> AfterPrefix<'a>
+        requires { prefix_end self.guide.now ≤ self.span.start }
+        ensures { result.site ≡ self.entry }
+    {
+        AfterPrefix { site: self }
+    }
+
+    /// Redirects the references of the live object whose new address is `at`. Its new words lie wholly in the region.
+    pub(crate) fn redirect_object(&self, target: &mut Target<'_>, at: u64)
+        requires object { IsEarlyAt self.now.guide.now at self.now.span.end }
+        requires low { self.now.span.start ≤ at }
+        requires target { IsBlockOf self.now.guide.now target.old }
+        requires split { IsSplitAt (moved_word self.now.guide.now) (copied_word self.now.guide.now) self.now.span.start target.old.words at }
+        ensures { Becomes (λ w. (a : ℕ) → IsMovedTo self.now.guide.now at a → IsSplitAt (moved_word self.now.guide.now) (copied_word self.now.guide.now)
+            self.now.span.start w.words (at + size_at self.now.guide.now a)) target.old target.new }
+    {
+        self.guide.image_is_valid();
+        let first = (at - self.span.start) as usize;
+        let count = references(target.get(first)) as usize;
+        target.redirect(self.guide.plan(), first + 1, count);
+    }
+}

@@ -1,0 +1,5 @@
+pub mod Timelines
+pub mod Unreplayed
+pub mod Texts
+pub mod Imports
+pub mod Upgrades

@@ -1,5 +1,0 @@
-use Rattle.heap_commands.proofs.Texts.{join2}
-use Rattle.heap_commands.proofs.histogram.push_notes.Goals as goal
-
-pub returns : goal.returns
-returns c = join2 _ _ _ _ _ c.in_ok-writeln.ensures.bytes c.in_ok-writeln-2.ensures.bytes

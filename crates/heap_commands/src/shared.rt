@@ -1,0 +1,5 @@
+//! What several commands share.
+
+pub(crate) mod inputs;
+pub(crate) mod live_share;
+pub(crate) mod versions;

@@ -1,0 +1,103 @@
+//! The heap of an image before its live objects are marked.
+ghost use Rattle.std.specs.Prelude.{◌≡◌, true, IfOk, ◌≢◌};
+ghost use Rattle.std.specs.List.Sorted.{IsStrictlyIncreasing};
+ghost use Rattle.heap_image.specs.HeapImage.{IsValid, heap_words, roots_of};
+ghost use Rattle.heap_image.specs.Version.{IsChosen, has_roots};
+ghost use Rattle.heap_dump.specs.ImportFigures.{AreFiguresOf};
+
+use super::UnsealedHeap;
+use super::roots::roots_to;
+use crate::error::ImportError;
+use crate::figures::ImportFigures;
+use crate::limits::words_within_limits;
+use crate::options::Regions;
+use heap_image::{Fault, Image, ImageParts, mark_from_roots, marked_parts_are_valid};
+use std::alloc::Global;
+
+/// A heap whose objects have their headers, and its roots.
+#[derive(Drop)]
+pub(crate) struct Draft {
+    pub(crate) heap: UnsealedHeap,
+    /// The addresses of the objects to which roots lead.
+    pub(crate) roots: Vec<u64>,
+    pub(crate) objects: u64,
+    /// How many gaps were dropped because they are too wide.
+    pub(crate) dropped_gaps: u64,
+    /// How many references and roots lead to objects that are missing from the dump.
+    pub(crate) unresolved: u64,
+}
+
+/// An imported heap.
+#[derive(Drop)]
+pub struct Imported {
+    /// The image, of version 2 or 3.
+    pub image: Image,
+    /// Its counts.
+    pub figures: ImportFigures,
+}
+
+impl Draft {
+    /// Marks the heap from its roots, and returns the image. A heap that has other regions than requested is rejected, and
+    /// so are more roots than an image can count.
+    pub(crate) fn into_image(
+        self,
+        alloc: Global,
+        requested: Regions,
+        allowance: u64,
+    ) -> Result<Imported, ImportError>
+        ensures valid { IfOk result (λ imported. IsValid imported.image) }
+        ensures rooted { IfOk result (λ imported. has_roots imported.image.version ≡ true) }
+        ensures version { IfOk result (λ imported. IsChosen requested.version requested.log (heap_words imported.image)
+            imported.image.version) }
+        ensures region_log { IfOk result (λ imported. imported.image.region_log ≡ requested.log) }
+        ensures roots { IfOk result (λ imported. IsStrictlyIncreasing (roots_of imported.image)) }
+        ensures allowance { IfOk result (λ imported. imported.image.allowance ≡ allowance) }
+        ensures figures { IfOk result (λ imported. AreFiguresOf imported.image imported.figures) }
+        ensures no_device { result ≢ Err ImportError.Input }
+    {
+        let Draft {
+            heap,
+            roots,
+            objects,
+            dropped_gaps,
+            unresolved,
+        } = self;
+        let (region_log, regions) = heap.into_parts();
+        if region_log != requested.log {
+            return Err(ImportError::NoHeap(Fault::RegionLog));
+        }
+        let words = words_within_limits(region_log, regions.as_slice())?;
+        let version = requested.version_for(words)?;
+        let roots = roots_to(alloc, roots.as_slice(), words)?;
+        if roots.len() > u32::MAX as usize {
+            return Err(ImportError::TooManyRoots(roots.len() as u64));
+        }
+        let live = match mark_from_roots(alloc, region_log, regions.as_slice(), roots.as_slice()) {
+            Ok(live) => live,
+            Err(Fault::Memory) => return Err(ImportError::Memory),
+            Err(fault) => return Err(ImportError::NoHeap(fault)),
+        };
+        let figures = ImportFigures {
+            words,
+            objects,
+            roots: roots.len() as u64,
+            live: live.len() as u64,
+            dead: objects.saturating_sub(live.len() as u64),
+            dropped_gaps,
+            unresolved,
+        };
+        marked_parts_are_valid();
+        let parts = ImageParts {
+            version,
+            region_log,
+            allowance,
+            regions,
+            live,
+            roots: Some(roots),
+        };
+        Ok(Imported {
+            image: parts.into_image(),
+            figures,
+        })
+    }
+}

@@ -1,0 +1,57 @@
+//! The classes of the objects of a heap.
+use super::class_names::ClassNames;
+use super::class_number::CLASS_OBJECTS;
+use super::texts::Texts;
+use crate::heap::{UnsealedHeap, size};
+use crate::inventory::Inventory;
+use std::alloc::{AllocError, Global};
+
+/// The class number of each object, in the order of addresses, and the names of the classes. It is empty unless classes
+/// are wanted.
+#[derive(Drop)]
+pub(crate) struct ObjectClasses {
+    pub(crate) numbers: Vec<u32>,
+    pub(crate) names: ClassNames,
+}
+
+impl ObjectClasses {
+    /// Names the classes with these numbers. Class objects become instances of `java.lang.Class`, if that is loaded.
+    pub(crate) fn of(
+        alloc: Global,
+        inventory: &Inventory,
+        numbers: Vec<u32>,
+        texts: Texts,
+    ) -> Result<ObjectClasses, AllocError> {
+        let names = ClassNames::of(alloc, inventory, texts)?;
+        let mut classes = ObjectClasses { numbers, names };
+        let number = classes.names.number_of_class_objects();
+        for kept in classes.numbers.as_mut_slice() {
+            if *kept == CLASS_OBJECTS {
+                *kept = number;
+            }
+        }
+        Ok(classes)
+    }
+
+    /// Keeps the classes of the objects at these addresses, which ascend. The objects of the heap have no gaps.
+    pub(crate) fn keep(&mut self, heap: &UnsealedHeap, survivors: &[u64]) {
+        let mut at = 0u64;
+        let mut kept = 0usize;
+        for index in 0..self.numbers.len() {
+            if survivors.get(kept) == Some(&at) {
+                self.copy(index, kept);
+                kept = kept.saturating_add(1);
+            }
+            at = at.saturating_add(size(heap.word(at)).max(1));
+        }
+        self.numbers.truncate(kept);
+    }
+
+    fn copy(&mut self, from: usize, to: usize) {
+        if let Some(number) = self.numbers.get(from).copied() {
+            if let Some(kept) = self.numbers.get_mut(to) {
+                *kept = number;
+            }
+        }
+    }
+}

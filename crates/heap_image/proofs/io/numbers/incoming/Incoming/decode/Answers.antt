@@ -1,0 +1,18 @@
+use Rattle.std.proofs.Common.{◌≡◌, ◌-◌, ◌*◌, ◌+◌, ◌++◌, take, drop, length, arith, ap, sym, ◌∙◌, length-take}
+use Rattle.heap_image.specs.ImageText.{numbers}
+use Rattle.std.specs.Prelude.{slice_range}
+use Rattle.heap_image.proofs.Lemmas.Reading.{slice_split}
+use Rattle.std.proofs.lemmas.List.{take_at}
+use Rattle.heap_image.proofs.io.numbers.incoming.Incoming.decode.Goals as goal
+
+pub returns-clause-bytes : goal.returns-clause-bytes
+returns-clause-bytes c =
+    let n = c.min-n.result in
+    let start = c.args.self.now.start in
+    let end = c.args.self.now.end in
+    let bytes = c.args.self.now.bytes in
+    let least = c.min-n.ensures in
+    let range = c.requires in
+    let long : length c.read_all.new.words ≡ n = let t = length-take n c.args.words.now in c.read_all.auto.words ∙ omega arith in
+    slice_split bytes (8 * start) (8 * (start + n)) (8 * end) (omega arith) (omega arith)
+    ∙ ap (λ p. p ++ slice_range bytes (8 * (start + n)) (8 * end)) (ap (λ k. take k (drop (8 * start) bytes)) (let e : 8 * (start + n) - 8 * start ≡ 8 * start + 8 * n - 8 * start = omega arith in e) ∙ sym c.read_all.ensures ∙ ap numbers (sym (take_at c.read_all.new.words (drop n c.args.words.now) n long)))

@@ -1,0 +1,237 @@
+//! Checks a live list in parallel, and notes the sizes of its objects.
+//!
+//! Threads take the objects in pieces of 64: they first read all headers of a piece, so that the cache misses overlap,
+//! and then the references, a row of words at a time. References are looked up in a bit set with a bit for null and for
+//! each reference to a live object. If the objects are known to be well-formed, only their headers are read. The result
+//! only says whether all objects are sound: `check` finds the first fault.
+ghost use Rattle.std.specs.Prelude.{◌≡◌, ◌<◌, ◌≤◌, ◌+◌, ◌*◌, ◌/◌, ◌%◌, ℕ, All, IfSome, IsTrue, OnOk, IfOk, length, [], min, slice_index, slice_index_or};
+ghost use Rattle.heap_image.specs.HeapImage.{HasLiveList, heap_words, size_at, with_live, word_at};
+ghost use Rattle.heap_image.specs.Bits.{has, room};
+ghost use Rattle.heap_image.specs.Sizes.{AreSizes};
+ghost use Rattle.heap_image.specs.Soundness.{AreNoted, AreTargetsOrWellFormed, IsSoundObject};
+
+use super::crowd::Crowd;
+use super::is_unsound;
+use crate::bits::Bits;
+use crate::header;
+use crate::heap::Heap;
+use std::alloc::{AllocError, Global};
+use std::thread::Threads;
+use thread_row::for_each_mut;
+
+/// The number of objects of a piece.
+pub const PIECE: usize = 64;
+
+/// The least number of pieces that are worth a thread.
+const LEAST_PIECES: usize = 16;
+
+/// The sizes in words of the live objects, if all of them are sound. The crowd visits each object once. Returns `None`
+/// also if memory runs out.
+///
+/// `targets` has the bits of null and of the references to live objects. It is `None` for objects that are known to be
+/// well-formed: then only overlaps are possible, and no reference is looked up.
+pub(crate) fn sizes_if_sound<T: Threads + Sync>(
+    alloc: Global,
+    heap: &Heap<'_>,
+    live: &[u64],
+    targets: Option<&Bits>,
+    crowd: &Crowd<'_, T>,
+) -> Option<Vec<[u32; PIECE]>>
+    requires inside { All (λ a. a < heap_words heap.now) live.now }
+    requires targets { AreTargetsOrWellFormed (with_live heap.now live.now) targets }
+    ensures sound { IfSome result (λ _. HasLiveList (with_live heap.now live.now)) }
+    ensures sizes { IfSome result (λ sizes. AreSizes (with_live heap.now live.now) sizes.items) }
+{
+    let Ok(sizes) = note_all_sizes(alloc, heap, live, targets, crowd) else {
+        return None;
+    };
+    if are_all_noted(sizes.as_slice(), live.len()) {
+        Some(sizes)
+    } else {
+        None
+    }
+}
+
+/// The size of each sound live object, and 0 for each unsound one.
+fn note_all_sizes<T: Threads + Sync>(
+    alloc: Global,
+    heap: &Heap<'_>,
+    live: &[u64],
+    targets: Option<&Bits>,
+    crowd: &Crowd<'_, T>,
+) -> Result<Vec<[u32; PIECE]>, AllocError>
+    requires inside { All (λ a. a < heap_words heap.now) live.now }
+    requires targets { AreTargetsOrWellFormed (with_live heap.now live.now) targets }
+    ensures room { IfOk result (λ sizes. length live.now ≤ 64 * length sizes.items) }
+    ensures noted { IfOk result (λ sizes. (p : ℕ) → p < length sizes.items
+        → AreNoted (with_live heap.now live.now) p (slice_index_or sizes.items p [])) }
+{
+    let mut sizes = vec![in alloc; [0u32; PIECE]; live.len().div_ceil(PIECE)]?;
+    let count = crowd.most.min(sizes.len() / LEAST_PIECES).max(1);
+    let note = |piece: usize, sizes: &mut [u32; PIECE]|
+        requires { All (λ a. a < heap_words heap.now) live.now
+            × AreTargetsOrWellFormed (with_live heap.now live.now) targets × (64 * piece < length live.now) }
+        ensures { AreNoted (with_live heap.entry.now live.entry.now) piece sizes.new }
+    { note_sizes(heap, live, targets, piece, sizes) };
+    for_each_mut(crowd.threads, sizes.as_mut_slice(), count, &note);
+    Ok(sizes)
+}
+
+/// Notes the sizes of the sound live objects of a piece.
+fn note_sizes(
+    heap: &Heap<'_>,
+    live: &[u64],
+    targets: Option<&Bits>,
+    piece: usize,
+    sizes: &mut [u32; PIECE],
+)
+    requires inside { All (λ a. a < heap_words heap.now) live.now }
+    requires targets { AreTargetsOrWellFormed (with_live heap.now live.now) targets }
+    requires piece { 64 * piece < length live.now }
+    ensures { AreNoted (with_live heap.now live.now) piece sizes.new }
+{
+    let from = piece * PIECE;
+    let to = live.len().min(from + PIECE);
+    let headers = headers_of(heap, &live[from..to]);
+    for i in from..to {
+        sizes[i - from] = size_if_sound(heap, live, targets, i, headers[i - from]);
+    }
+}
+
+/// Whether the sizes of all objects are noted.
+fn are_all_noted(sizes: &[[u32; PIECE]], objects: usize) -> bool
+    requires { objects ≤ 64 * length sizes.now }
+    ensures { IsTrue result → (i : ℕ) → i < objects
+        → 0 < slice_index (slice_index_or sizes.now (i / 64) []) (i % 64) }
+{
+    let whole = objects / PIECE;
+    let mut all = true;
+    for piece in 0..whole {
+        all &= are_noted(&sizes[piece]);
+    }
+    let rest = objects % PIECE;
+    all && (rest == 0 || are_noted(&sizes[whole][..rest]))
+}
+
+/// Whether each of these sizes is noted, that is, above 0. Taking the least of them compiles to vector instructions.
+fn are_noted(sizes: &[u32]) -> bool
+    ensures { IsTrue result → (k : ℕ) → k < length sizes.now → 0 < slice_index sizes.now k }
+{
+    let mut least = u32::MAX;
+    for size in sizes {
+        least = least.min(*size);
+    }
+    least > 0
+}
+
+/// The size of the live object with this index and this header, or 0 if it isn't sound.
+#[inline]
+fn size_if_sound(
+    heap: &Heap<'_>,
+    live: &[u64],
+    targets: Option<&Bits>,
+    i: usize,
+    header: u64,
+) -> u32
+    requires inside { All (λ a. a < heap_words heap.now) live.now }
+    requires targets { AreTargetsOrWellFormed (with_live heap.now live.now) targets }
+    requires index { i < length live.now }
+    requires header { header ≡ word_at heap.now (slice_index live.now i) }
+    ensures sound { 0 < result → IsSoundObject (with_live heap.now live.now) i }
+    ensures size { 0 < result → result ≡ size_at (with_live heap.now live.now) (slice_index live.now i) }
+{
+    if is_sound(heap, live, targets, i, header) {
+        header::size(header)
+    } else {
+        0
+    }
+}
+
+/// The headers of a few objects, and zeros after them. The loop does nothing else, so that the cache misses overlap.
+#[inline]
+fn headers_of(heap: &Heap<'_>, objects: &[u64]) -> [u64; PIECE]
+    requires inside { All (λ a. a < heap_words heap.now) objects.now }
+    requires few { length objects.now ≤ 64 }
+    ensures { (i : ℕ) → i < length objects.now → slice_index result i ≡ word_at heap.now (slice_index objects.now i) }
+{
+    let mut headers = [0; PIECE];
+    for (i, &a) in objects.iter().enumerate() {
+        headers[i] = heap.word(a);
+    }
+    headers
+}
+
+/// Whether the live object with this index and this header fits in the heap, ends before the next one begins, and has
+/// only references that are null or lead to live objects.
+#[inline]
+fn is_sound(heap: &Heap<'_>, live: &[u64], targets: Option<&Bits>, i: usize, header: u64) -> bool
+    requires inside { All (λ a. a < heap_words heap.now) live.now }
+    requires targets { AreTargetsOrWellFormed (with_live heap.now live.now) targets }
+    requires index { i < length live.now }
+    requires header { header ≡ word_at heap.now (slice_index live.now i) }
+    ensures { IsTrue result → IsSoundObject (with_live heap.now live.now) i }
+{
+    let a = live[i];
+    if is_unsound(header, a, heap.len()) {
+        return false;
+    }
+    let end = a + u64::from(header::size(header));
+    if i + 1 < live.len() && end > live[i + 1] {
+        return false;
+    }
+    are_sound_references(
+        heap,
+        targets,
+        a + 1,
+        a + 1 + u64::from(header::references(header)),
+    )
+}
+
+/// Whether each word from `from` up to `to` is one of these references, or nothing is known of it because there are
+/// none to compare it with.
+#[inline]
+fn are_sound_references(heap: &Heap<'_>, targets: Option<&Bits>, from: u64, to: u64) -> bool
+    requires inside { to ≤ heap_words heap.now }
+    requires room { IfSome targets (λ bits. heap_words heap.now + 1 < room bits.now) }
+    ensures { IsTrue result → IfSome targets.entry (λ bits. (p : ℕ) → from ≤ p → p < to
+        → IsTrue (has bits.now (min (word_at heap.now p) (heap_words heap.now + 1)))) }
+{
+    match targets {
+        Some(targets) => lead_to_targets(heap, targets, from, to),
+        None => true,
+    }
+}
+
+/// Whether each word from `from` up to `to` is one of these references. A reference that leads out of the heap is
+/// looked up as the least such reference.
+#[inline]
+fn lead_to_targets(heap: &Heap<'_>, targets: &Bits, from: u64, to: u64) -> bool
+    requires inside { to ≤ heap_words heap.now }
+    requires room { heap_words heap.now + 1 < room targets.now }
+    ensures { IsTrue result → (p : ℕ) → from ≤ p → p < to
+        → IsTrue (has targets.now (min (word_at heap.now p) (heap_words heap.now + 1))) }
+{
+    let beyond = heap.len() + 1;
+    let mut all = true;
+    let mut next = from;
+    while next < to {
+        let row = heap.row(next, to);
+        all &= has_all(targets, row, beyond);
+        next += row.len() as u64;
+    }
+    all
+}
+
+/// Whether each of these references, reduced to at most `highest`, is in a set.
+#[inline]
+fn has_all(targets: &Bits, references: &[u64], highest: u64) -> bool
+    requires { highest < room targets.now }
+    ensures { IsTrue result → (k : ℕ) → k < length references.now
+        → IsTrue (has targets.now (min (slice_index references.now k) highest)) }
+{
+    let mut all = true;
+    for reference in references {
+        all &= targets.has((*reference).min(highest));
+    }
+    all
+}

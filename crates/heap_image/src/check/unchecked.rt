@@ -1,0 +1,128 @@
+//! The live objects of an image that was read, and their check.
+ghost use Rattle.std.specs.Prelude.{◌≡◌, ◌<◌, ◌≤◌, ◌^◌, ◌⊎◌, Some, None, All, length, IfOk, IfSome, OnOk, IfErr, IsTrue, option_map};
+ghost use Rattle.heap_image.specs.Bits.{MarkBegins};
+ghost use Rattle.heap_image.specs.Sizes.{AreSizes};
+ghost use Rattle.heap_image.specs.Soundness.{AreWellFormed};
+ghost use Rattle.heap_image.specs.HeapImage.{heap_words, with_live};
+ghost use Rattle.heap_image.specs.ImageText.{from_tail, first_some, first_object_fault, live_list_faults};
+
+use super::crowd::Crowd;
+use super::soundness::{PIECE, sizes_if_sound};
+use super::{check_live, misplaced_index};
+use crate::bits::Bits;
+use crate::heap::Heap;
+use crate::marking::Marker;
+use crate::marking::reach::{Reached, find_reachable};
+use crate::{Fault, Version};
+use std::alloc::Global;
+use std::thread::Threads;
+
+/// The live objects of an image that was read, before they are checked.
+#[derive(Drop)]
+pub(crate) struct Found {
+    /// Their addresses, ascending.
+    pub(crate) live: Vec<u64>,
+    /// The same addresses as bits.
+    pub(crate) begins: Bits,
+    /// Whether each of these objects is known to have a sound header and only references that are null or to one of
+    /// them.
+    pub(crate) well_formed: bool,
+    /// The roots, in an image of version 2 or 3.
+    pub(crate) roots: Option<Vec<u64>>,
+}
+
+/// Finds the live objects of a heap. `tail` is what follows the words in a text of this version: the roots, from which
+/// the marker marks, or the live list.
+pub(crate) fn find_live_objects<M: Marker>(
+    alloc: Global,
+    heap: &Heap<'_>,
+    version: Version,
+    tail: Vec<u64>,
+    marker: &M,
+) -> Result<Found, Fault>
+    requires marker { M.may_start }
+    requires few { length tail.items ≤ heap_words heap.now }
+    requires fits { length tail.items < 2 ^ 32 }
+    ensures live { let image = from_tail version (with_live heap.now tail.items) in
+        IfOk result (λ found. found.live.items ≡ image.live) }
+    ensures roots { let image = from_tail version (with_live heap.now tail.items) in
+        IfOk result (λ found. option_map (λ v. v.items) found.roots ≡ image.roots) }
+    ensures inside { IfOk result (λ found. All (λ a. a < heap_words heap.now) found.live.items) }
+    ensures begins { IfOk result
+        (λ found. MarkBegins found.live.items (heap_words heap.now) found.begins) }
+    ensures well_formed { IfOk result (λ found. IsTrue found.well_formed
+        → AreWellFormed (with_live heap.now found.live.items)) }
+    // Only faults of the objects are left.
+    ensures ordered { let image = from_tail version (with_live heap.now tail.items) in
+        IfOk result (λ found. first_some (live_list_faults image)
+        ≡ first_object_fault (with_live heap.now found.live.items)) }
+    ensures fault { let image = from_tail version (with_live heap.now tail.items) in
+        IfErr result (λ fault. (fault ≡ Fault.Memory) ⊎ (first_some (live_list_faults image) ≡ Some fault)) }
+{
+    if version.has_roots() {
+        let Reached {
+            live,
+            begins,
+            well_formed,
+        } = find_reachable(alloc, heap, tail.as_slice(), marker)?;
+        let roots = Some(tail);
+        return Ok(Found {
+            live,
+            begins,
+            well_formed,
+            roots,
+        });
+    }
+    let words = heap.len();
+    if let Some(index) = misplaced_index(tail.as_slice(), words) {
+        return Err(Fault::LiveOrder(index));
+    }
+    let begins = Bits::of(alloc, tail.as_slice(), words)?;
+    Ok(Found {
+        live: tail,
+        begins,
+        well_formed: false,
+        roots: None,
+    })
+}
+
+impl Found {
+    /// Checks the live objects of their heap and returns their first fault. One thread visits each object once.
+    pub(crate) fn check(&self, heap: &Heap<'_>) -> Result<(), Fault>
+        requires inside { All (λ a. a < heap_words heap.now) self.now.live.items }
+        requires begins { MarkBegins self.now.live.items (heap_words heap.now) self.now.begins }
+        requires well_formed { IsTrue self.now.well_formed → AreWellFormed (with_live heap.now self.now.live.items) }
+        ensures ok { OnOk result
+            (first_object_fault (with_live heap.now self.now.live.items) ≡ None) }
+        ensures fault { IfErr result
+            (λ fault. first_object_fault (with_live heap.now self.now.live.items) ≡ Some fault) }
+    {
+        check_live(heap, self.live.as_slice(), &self.begins, self.well_formed)
+    }
+
+    /// The sizes of the live objects, if the crowd finds all of them sound. If they are known to be well-formed
+    /// already, it looks for overlaps alone. Returns `None` also if memory runs out.
+    pub(crate) fn sizes_if_sound<T: Threads + Sync>(
+        &self,
+        alloc: Global,
+        heap: &Heap<'_>,
+        crowd: &Crowd<'_, T>,
+    ) -> Option<Vec<[u32; PIECE]>>
+        requires inside { All (λ a. a < heap_words heap.now) self.now.live.items }
+        requires begins { MarkBegins self.now.live.items (heap_words heap.now) self.now.begins }
+        requires well_formed { IsTrue self.now.well_formed → AreWellFormed (with_live heap.now self.now.live.items) }
+        ensures ok { IfSome result
+            (λ _. first_object_fault (with_live heap.now self.now.live.items) ≡ None) }
+        ensures sizes { IfSome result
+            (λ sizes. AreSizes (with_live heap.now self.now.live.items) sizes.items) }
+    {
+        let live = self.live.as_slice();
+        if self.well_formed {
+            return sizes_if_sound(alloc, heap, live, None, crowd);
+        }
+        match self.begins.shift_up(alloc) {
+            Ok(targets) => sizes_if_sound(alloc, heap, live, Some(&targets), crowd),
+            Err(_) => None,
+        }
+    }
+}

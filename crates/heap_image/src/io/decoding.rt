@@ -1,0 +1,87 @@
+//! Decodes an image from bytes in memory.
+ghost use Rattle.std.specs.Prelude.{◌≡◌, ◌≢◌, ◌⊎◌, ◌≤◌, ◌+◌, ◌*◌, ◌<◌, Some, None, Ok, Err, length, IfOk, OnOk, IfErr};
+ghost use Rattle.heap_image.specs.HeapImage.{HeapImage, IsValid};
+ghost use Rattle.heap_image.specs.ImageText.{text, first_fault, first_some, layout_faults};
+
+use super::front::{FRONT_BYTES, Front};
+use super::intake::{Failed, Intake};
+use super::read::{read_image, read_image_by_threads};
+use crate::{Fault, Image};
+use std::alloc::Global;
+use std::thread::Threads;
+
+/// Decodes the text of an image, or returns the first fault of the bytes: 1 to 10 or 17, or 11 if memory runs out. For
+/// faults 1 to 5 no memory is allocated. Runs in the caller's thread alone.
+pub fn decode(alloc: Global, bytes: &[u8]) -> Result<Image, Fault>
+    ensures text { IfOk result (λ image. IsValid image × (bytes.now ≡ text image)) }
+    // The text of a valid image is rejected only if memory runs out.
+    ensures only { (image : HeapImage) → IsValid image → bytes.now ≡ text image
+        → (result ≡ Ok image) ⊎ (result ≡ Err Fault.Memory) }
+    ensures fault { IfErr result
+        (λ fault. (fault ≡ Fault.Memory) ⊎ (first_fault bytes.now ≡ Some fault)) }
+    ensures memory { IfErr result
+        (λ fault. fault ≡ Fault.Memory → first_some (layout_faults bytes.now) ≡ None) }
+{
+    layout_fault(bytes)?;
+    read_image(alloc, &mut Bytes(bytes))
+}
+
+/// Like [`decode`], but checks the live objects in as many threads as there are processors. The result does not depend
+/// on their number.
+pub fn decode_by_threads(
+    alloc: Global,
+    bytes: &[u8],
+    threads: &(impl Threads + Sync),
+) -> Result<Image, Fault>
+    ensures text { IfOk result (λ image. IsValid image × (bytes.now ≡ text image)) }
+    // The text of a valid image is rejected only if memory runs out.
+    ensures only { (image : HeapImage) → IsValid image → bytes.now ≡ text image
+        → (result ≡ Ok image) ⊎ (result ≡ Err Fault.Memory) }
+    ensures fault { IfErr result
+        (λ fault. (fault ≡ Fault.Memory) ⊎ (first_fault bytes.now ≡ Some fault)) }
+    ensures memory { IfErr result
+        (λ fault. fault ≡ Fault.Memory → first_some (layout_faults bytes.now) ≡ None) }
+{
+    layout_fault(bytes)?;
+    read_image_by_threads(alloc, &mut Bytes(bytes), threads)
+}
+
+/// The first of the faults 1 to 5 that these bytes have, if any.
+fn layout_fault(bytes: &[u8]) -> Result<(), Fault>
+    ensures ok { OnOk result (first_some (layout_faults bytes.now) ≡ None) }
+    ensures fault { IfErr result (λ fault. first_some (layout_faults bytes.now) ≡ Some fault) }
+    ensures memory { IfErr result (λ fault. fault ≢ Fault.Memory) }
+{
+    if bytes.len() < FRONT_BYTES {
+        return Err(Fault::TruncatedHeader);
+    }
+    let front = Front::parse(&bytes[..FRONT_BYTES])?;
+    if bytes.len() < front.text_len() {
+        return Err(Fault::TruncatedBody);
+    }
+    Ok(())
+}
+
+/// An intake from memory, which never fails.
+#[derive(Drop)]
+struct Bytes<'a>(&'a [u8]);
+
+impl Intake for Bytes<'_> {
+    ghost use Rattle.std.specs.Prelude.{Some, false};
+
+    ghost left = { λ bytes. Some bytes.0.now };
+
+    ghost has_failed = { λ _. false };
+
+    fn take(&mut self, buffer: &mut [u8]) -> Result<usize, Failed> {
+        let n = self.0.len().min(buffer.len());
+        let (taken, rest) = self.0.split_at(n);
+        buffer[..n].copy_from_slice(taken);
+        self.0 = rest;
+        Ok(n)
+    }
+
+    fn failed(&self) -> bool {
+        false
+    }
+}

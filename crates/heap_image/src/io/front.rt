@@ -1,0 +1,186 @@
+//! The front: the first 32 bytes of an image's text.
+ghost use Rattle.std.specs.Prelude.{◌≡◌, ◌≢◌, ◌<◌, ◌≤◌, ◌^◌, ◌+◌, ◌*◌, length, take, is_some, Some, IfOk, IfErr, IfNone, IfSome, option_map};
+ghost use Rattle.std.specs.Str.{bytes_eq};
+ghost use Rattle.heap_image.specs.ImageText.{front, front_faults, first_some, magic, encoded_region_log, encoded_count, encoded_version, encoded_words};
+ghost use Rattle.heap_image.specs.HeapImage.{IsWithinLimits};
+ghost use Rattle.heap_image.specs.Version.{Allows, max_region_log};
+ghost use Rattle.heap_image.specs.LengthCause.{length_causes, first_length_cause};
+ghost use Rattle.heap_image.specs.Refusals.{IsOfFront};
+
+pub(crate) mod body_size;
+pub(crate) mod length_cause;
+
+use super::numbers::{u32_at, u64_at};
+use crate::limits::MIN_REGION_LOG;
+use crate::{Fault, LengthCause, Version};
+use body_size::BodySize;
+use byteorder::{ByteOrder, LittleEndian};
+
+/// The number of bytes of a front.
+pub const FRONT_BYTES: usize = 32;
+
+/// The fields of the first 32 bytes of a text.
+#[derive(Clone, Copy)]
+pub(crate) struct Front {
+    pub(crate) version: Version,
+    pub(crate) region_log: u32,
+    /// The number of live addresses or, if the image has roots, of roots.
+    pub(crate) count: u32,
+    /// The number of words of the heap.
+    pub(crate) words: u64,
+    pub(crate) allowance: u64,
+}
+
+impl Front {
+    /// Parses a front, or returns its first fault.
+    pub(crate) fn parse(bytes: &[u8]) -> Result<Front, Fault>
+        requires { length bytes.now ≡ 32 }
+        ensures bytes { IfOk result
+            (λ parsed. bytes.now ≡ front parsed.version parsed.region_log parsed.count parsed.words parsed.allowance) }
+        ensures limits { IfOk result
+            (λ parsed. IsWithinLimits parsed.region_log parsed.words parsed.count) }
+        ensures allowed { IfOk result (λ parsed. Allows parsed.version parsed.region_log parsed.words) }
+        ensures fit { IfOk result (λ parsed. parsed.allowance < 2 ^ 64) }
+        ensures counted { IfOk result (λ parsed. parsed.count < 2 ^ 32) }
+        ensures fault { IfErr result (λ fault. first_some (front_faults bytes.now) ≡ Some fault) }
+        ensures of_front { IfErr result IsOfFront }
+    {
+        let parsed = Front::parse_unvalidated(bytes)?;
+        match parsed.length_cause() {
+            None => Ok(parsed),
+            Some(_) => Err(Fault::Length),
+        }
+    }
+
+    /// Parses a front whose sizes may be outside the limits of the format. The faults are a wrong magic and a wrong
+    /// region log.
+    pub(crate) fn parse_unvalidated(bytes: &[u8]) -> Result<Front, Fault>
+        requires { length bytes.now ≡ 32 }
+        ensures bytes { IfOk result
+            (λ parsed. bytes.now ≡ front parsed.version parsed.region_log parsed.count parsed.words parsed.allowance) }
+        ensures version { IfOk result (λ parsed. parsed.version ≡ encoded_version bytes.now) }
+        ensures region_log { IfOk result (λ parsed. parsed.region_log ≡ encoded_region_log bytes.now) }
+        ensures count { IfOk result (λ parsed. parsed.count ≡ encoded_count bytes.now) }
+        ensures words { IfOk result (λ parsed. parsed.words ≡ encoded_words bytes.now) }
+        ensures low { IfOk result (λ parsed. 3 ≤ parsed.region_log) }
+        ensures high { IfOk result (λ parsed. parsed.region_log ≤ 20) }
+        ensures allowed { IfOk result (λ parsed. parsed.region_log ≤ max_region_log parsed.version) }
+        ensures fit { IfOk result (λ parsed. parsed.allowance < 2 ^ 64) }
+        ensures counted { IfOk result (λ parsed. parsed.count < 2 ^ 32) }
+        // The only fault that such a front can have is 4.
+        ensures length { IfOk result (λ parsed. first_some (front_faults bytes.now)
+            ≡ option_map (λ cause. Fault.Length) (first_length_cause bytes.now)) }
+        ensures fault { IfErr result (λ fault. first_some (front_faults bytes.now) ≡ Some fault) }
+        ensures of_front { IfErr result IsOfFront }
+        ensures not_length { IfErr result (λ fault. fault ≢ Fault.Length) }
+    {
+        let Some(version) = named_version(bytes) else {
+            return Err(Fault::Magic);
+        };
+        let region_log = u32_at(bytes, 8);
+        if region_log < MIN_REGION_LOG || region_log > version.max_region_log() {
+            return Err(Fault::RegionLog);
+        }
+        Ok(Front {
+            version,
+            region_log,
+            count: u32_at(bytes, 12),
+            words: u64_at(bytes, 16),
+            allowance: u64_at(bytes, 24),
+        })
+    }
+
+    /// The size of the body that follows this front.
+    pub(crate) fn body_size(&self) -> BodySize
+        requires { IsWithinLimits self.now.region_log self.now.words self.now.count }
+        ensures region_log { result.region_log ≡ self.now.region_log }
+        ensures regions { result.regions * 2 ^ self.now.region_log ≡ self.now.words }
+        ensures numbers { result.numbers ≡ self.now.count }
+    {
+        BodySize {
+            region_log: self.region_log,
+            regions: (self.words >> self.region_log) as usize,
+            numbers: self.count as usize,
+        }
+    }
+
+    /// The number of bytes of the text, front and body.
+    pub(crate) fn text_len(&self) -> usize
+        requires { IsWithinLimits self.now.region_log self.now.words self.now.count }
+        ensures { result ≡ 32 + 8 * self.now.words + 8 * self.now.count }
+    {
+        FRONT_BYTES + 8 * self.words as usize + 8 * self.count as usize
+    }
+
+    /// Encodes the front.
+    pub(crate) fn to_bytes(self) -> [u8; FRONT_BYTES]
+        ensures { result ≡ front self.version self.region_log self.count self.words self.allowance }
+    {
+        let mut bytes = [0; FRONT_BYTES];
+        bytes[..8].copy_from_slice(&self.version.magic());
+        LittleEndian::write_u32(&mut bytes[8..12], self.region_log);
+        LittleEndian::write_u32(&mut bytes[12..16], self.count);
+        LittleEndian::write_u64(&mut bytes[16..24], self.words);
+        LittleEndian::write_u64(&mut bytes[24..32], self.allowance);
+        bytes
+    }
+
+    /// The first condition of fault 4 that holds, if one does.
+    #[tactic(auto, using(crate::proofs::Lemmas::Parts::place_by_mask))]
+    pub(crate) fn length_cause(&self) -> Option<LengthCause>
+        requires low { 3 ≤ self.now.region_log }
+        requires high { self.now.region_log ≤ 20 }
+        requires allowed { self.now.region_log ≤ max_region_log self.now.version }
+        ensures first { result ≡ first_some (length_causes self.now.version self.now.region_log self.now.count self.now.words) }
+        ensures none { IfNone result
+            (IsWithinLimits self.now.region_log self.now.words self.now.count) }
+        ensures allowed { IfNone result
+            (Allows self.now.version self.now.region_log self.now.words) }
+    {
+        let max_words = self.version.max_words();
+        let max_regions = self.version.max_regions();
+        if self.words == 0 {
+            return Some(LengthCause::NoWords);
+        }
+        if self.words & ((1 << self.region_log) - 1) != 0 {
+            return Some(LengthCause::PartialRegion);
+        }
+        if self.words > max_words {
+            return Some(LengthCause::TooManyWords(max_words));
+        }
+        if self.words >> self.region_log > max_regions {
+            return Some(LengthCause::TooManyRegions(max_regions));
+        }
+        if u64::from(self.count) > self.words {
+            return Some(LengthCause::CountAboveWords);
+        }
+        None
+    }
+}
+
+/// The version that the magic of a front names.
+fn named_version(bytes: &[u8]) -> Option<Version>
+    requires { 8 ≤ length bytes.now }
+    ensures version { IfSome result (λ version. version ≡ encoded_version bytes.now) }
+    ensures known { is_some result ≡ bytes_eq (take 8 bytes.now) (magic (encoded_version bytes.now)) }
+{
+    if has_magic(bytes, Version::Three) {
+        return Some(Version::Three);
+    }
+    if has_magic(bytes, Version::Two) {
+        return Some(Version::Two);
+    }
+    if has_magic(bytes, Version::One) {
+        return Some(Version::One);
+    }
+    None
+}
+
+/// Whether a front begins with the magic of this version.
+fn has_magic(bytes: &[u8], version: Version) -> bool
+    requires { 8 ≤ length bytes.now }
+    ensures { result ≡ bytes_eq (take 8 bytes.now) (magic version) }
+{
+    let magic = version.magic();
+    bytes[..8] == magic[..]
+}

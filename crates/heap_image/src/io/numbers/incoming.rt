@@ -1,0 +1,118 @@
+//! A buffer for the numbers of a body while they are read.
+ghost use Rattle.std.specs.Prelude.{◌≡◌, ◌<◌, ◌≤◌, ◌+◌, ◌*◌, ◌^◌, ◌||◌, ◌⊎◌, ◌++◌, ℕ, All, List, [], length, take, OnOk, IfErr, IfSome, IsErrOf};
+ghost use Rattle.std.specs.Io.KnownBytes.{Consumes, IsAtEnd};
+ghost use Rattle.heap_image.specs.ImageText.{numbers};
+ghost use Rattle.heap_image.specs.Device.{is_io};
+
+use crate::Fault;
+use crate::io::intake::{Intake, fill};
+use crate::io::numbers::read_all;
+
+/// The most numbers that are requested at a time.
+const ROOM: usize = 2048;
+
+const ROOM_BYTES: usize = 8 * ROOM;
+
+/// Reads the 64-bit numbers of a body. It requests their bytes in large pieces, and no byte after them.
+#[derive(Drop)]
+pub(crate) struct Incoming {
+    bytes: [u8; ROOM_BYTES],
+    /// The buffered numbers are those from `start` to `end` of `bytes`.
+    start: usize,
+    end: usize,
+    /// The number of numbers that are still to be requested.
+    due: usize,
+}
+
+impl Incoming {
+    ghost use Rattle.heap_image.specs.Incoming.{IsInRange, FallsShort, expected, unread_bytes, known_rest};
+
+    /// An empty buffer for `due` numbers.
+    pub(crate) fn new(due: usize) -> Incoming
+        ensures due { result.due ≡ due }
+        ensures none_held { result.start ≡ result.end }
+        ensures in_range { IsInRange result }
+    {
+        Incoming {
+            bytes: [0; ROOM_BYTES],
+            start: 0,
+            end: 0,
+            due,
+        }
+    }
+
+    /// Reads the next numbers into `words`, whose contents are unspecified after a fault.
+    pub(crate) fn read<R: Intake>(&mut self, reader: &mut R, words: &mut [u64]) -> Result<(), Fault>
+        requires in_range { IsInRange self.old }
+        requires enough { length words.old ≤ expected self.old }
+        ensures in_range { OnOk result (IsInRange self.new) }
+        ensures bytes { OnOk result (Consumes
+            (known_rest self.old (R.left reader.old))
+            (known_rest self.new (R.left reader.new))
+            (numbers words.new)) }
+        ensures expected { OnOk result (expected self.new + length words.new ≡ expected self.old) }
+        ensures fit { All (λ w. w < 2 ^ 64) words.new }
+        ensures truncated { result ≡ Err Fault.TruncatedBody → FallsShort
+            (known_rest self.old (R.left reader.old)) (R.left reader.new) (expected self.old) }
+        ensures fault { IfErr result (λ fault. (fault ≡ Fault.TruncatedBody) ⊎ (fault ≡ Fault.Io)) }
+        ensures lost { (came : List ℕ) × Consumes (R.left reader.old) (R.left reader.new) came }
+        ensures failed { R.has_failed reader.new ≡ (is_io result || R.has_failed reader.old) }
+    {
+        let mut done = 0;
+        while done < words.len() {
+            self.top_up(reader)?;
+            done += self.decode(&mut words[done..]);
+        }
+        Ok(())
+    }
+
+    /// If the buffer is empty, requests as many numbers as it has room for.
+    pub(crate) fn top_up<R: Intake>(&mut self, reader: &mut R) -> Result<(), Fault>
+        requires { IsInRange self.old }
+        ensures in_range { OnOk result (IsInRange self.new) }
+        ensures some { OnOk result (0 < expected self.old → self.new.start < self.new.end) }
+        ensures came { OnOk result
+            (self.old.start ≡ self.old.end → 0 < self.old.due
+            → IfSome (R.left reader.old) (λ rest. 0 < length rest)) }
+        ensures bytes { OnOk result (Consumes
+            (known_rest self.old (R.left reader.old))
+            (known_rest self.new (R.left reader.new))
+            []) }
+        ensures expected { OnOk result (expected self.new ≡ expected self.old) }
+        ensures truncated { result ≡ Err Fault.TruncatedBody → FallsShort
+            (known_rest self.old (R.left reader.old)) (R.left reader.new) (expected self.old) }
+        ensures fault { IfErr result (λ fault. (fault ≡ Fault.TruncatedBody) ⊎ (fault ≡ Fault.Io)) }
+        ensures lost { (came : List ℕ) × Consumes (R.left reader.old) (R.left reader.new) came }
+        ensures failed { R.has_failed reader.new ≡ (is_io result || R.has_failed reader.old) }
+    {
+        if self.start < self.end {
+            return Ok(());
+        }
+        let n = self.due.min(ROOM);
+        let came = fill(reader, &mut self.bytes[..8 * n])?;
+        if came < 8 * n {
+            return Err(Fault::TruncatedBody);
+        }
+        self.start = 0;
+        self.end = n;
+        self.due -= n;
+        Ok(())
+    }
+
+    /// Moves as many buffered numbers into `words` as fit, and returns how many.
+    fn decode(&mut self, words: &mut [u64]) -> usize
+        requires { IsInRange self.old }
+        ensures in_range { IsInRange self.new }
+        ensures within { result ≤ length words.new }
+        ensures some { self.old.start < self.old.end → 0 < length words.new → 0 < result }
+        ensures bytes { unread_bytes self.old
+            ≡ numbers (take result words.new) ++ unread_bytes self.new }
+        ensures expected { expected self.new + result ≡ expected self.old }
+    {
+        let n = (self.end - self.start).min(words.len());
+        let from = 8 * self.start;
+        read_all(&self.bytes[from..from + 8 * n], &mut words[..n]);
+        self.start += n;
+        n
+    }
+}

@@ -1,0 +1,375 @@
+//! Reads an image from a device: first its front, then its body, then the check of its live objects.
+ghost use Rattle.std.specs.Prelude.{◌≡◌, ◌≢◌, ◌<◌, ◌≤◌, ◌+◌, ◌*◌, ◌++◌, ◌⊎◌, ◌↔◌, ◌||◌, ◌^◌, ℕ, List, All, Option, Some, None, [], false, length, IfOk, OnOk, IfErr, IfSome, IsErrOf, IsTrue, option_map};
+ghost use Rattle.std.specs.List.{concat};
+ghost use Rattle.std.specs.Io.KnownBytes.{Consumes, IsAtEnd};
+ghost use Rattle.heap_image.specs.Body.{IsBody, body_words};
+ghost use Rattle.heap_image.specs.Device.{is_io};
+ghost use Rattle.heap_image.specs.HeapImage.{FormHeap, IsValid, IsWithinLimits, AreBlocks, image_of};
+ghost use Rattle.heap_image.specs.Version.{Allows};
+ghost use Rattle.heap_image.specs.ImageText.{text, listed_text, front, numbers, front_faults, first_object_fault, first_some};
+ghost use Rattle.heap_image.specs.Reading.{HasFittingNumbers, IsFound, numbers_of};
+ghost use Rattle.heap_image.specs.Sizes.{AreSizes};
+ghost use Rattle.heap_image.specs.Refusals.{IsReason, IsOfReading, IsOfBody, LeavesRest};
+ghost use Rattle.heap_image.specs.Incoming.{IsInRange, FallsShort, expected, known_rest};
+ghost use Rattle.heap_image.specs.RegionSource.{HasRegions};
+
+use super::body::Body;
+use super::front::{FRONT_BYTES, Front};
+use super::intake::{Intake, fill};
+use super::region_source::RegionSource;
+use crate::check::crowd::Crowd;
+use crate::check::soundness::PIECE;
+use crate::check::unchecked::{Found, find_live_objects};
+use crate::heap::Heap;
+use crate::io::front::body_size::BodySize;
+use crate::io::numbers::incoming::Incoming;
+use crate::marking::{Alone, Marker};
+use crate::{Fault, Image, ImageParts};
+use raw_region::Region;
+use rayon::current_num_threads;
+use std::alloc::Global;
+use std::thread::Threads;
+
+/// Reads an image up to the end of the input, and decides as [`decode`](crate::decode) does for these bytes. Runs in
+/// the caller's thread alone.
+///
+/// Faults 2 to 4 come before any byte after the first 32 is requested, and faults 6 to 9 and 17 before any byte after
+/// the body. Memory is allocated only once the first byte after the front has arrived. Fault 13 comes when the device
+/// fails, which is not asked again. After a fault the bytes read so far are lost.
+pub fn read_image<R: Intake>(alloc: Global, reader: &mut R) -> Result<Image, Fault>
+    ensures valid { IfOk result (λ image. IsValid image) }
+    // The whole input is the text of the image.
+    ensures text { IfOk result
+        (λ image. Consumes (R.left reader.old) (R.left reader.new) (text image)) }
+    ensures end { OnOk result (IsAtEnd (R.left reader.new)) }
+    // Memory ran out, the device failed, or this is the first fault of the input.
+    ensures fault { IfErr result
+        (λ fault. IfSome (R.left reader.old) (λ input. IsReason input fault)) }
+    // This holds even if the input is not known.
+    ensures kind { IfErr result IsOfReading }
+    ensures left { IfErr result (λ fault. IfSome (R.left reader.old)
+        (λ input. LeavesRest fault input (R.left reader.new))) }
+    // Memory is allocated only once a byte after a front without fault has arrived.
+    ensures memory { IfErr result
+        (λ fault. fault ≡ Fault.Memory → IfSome (R.left reader.old)
+        (λ input. (32 < length input) × (first_some (front_faults input) ≡ None))) }
+    ensures io { R.has_failed reader.new ≡ is_io result }
+{
+    let read = read_unchecked(alloc, reader, &Alone)?;
+    let checked = read.found.check(&read.heap());
+    read.finish(reader, checked, None)
+}
+
+/// Like [`read_image`], but marks and checks the live objects in as many threads as there are processors. The result does not
+/// depend on their number.
+pub fn read_image_by_threads<R: Intake>(
+    alloc: Global,
+    reader: &mut R,
+    threads: &(impl Threads + Sync),
+) -> Result<Image, Fault>
+    ensures valid { IfOk result (λ image. IsValid image) }
+    // The whole input is the text of the image.
+    ensures text { IfOk result
+        (λ image. Consumes (R.left reader.old) (R.left reader.new) (text image)) }
+    ensures end { OnOk result (IsAtEnd (R.left reader.new)) }
+    // Memory ran out, the device failed, or this is the first fault of the input.
+    ensures fault { IfErr result
+        (λ fault. IfSome (R.left reader.old) (λ input. IsReason input fault)) }
+    // This holds even if the input is not known.
+    ensures kind { IfErr result IsOfReading }
+    ensures left { IfErr result (λ fault. IfSome (R.left reader.old)
+        (λ input. LeavesRest fault input (R.left reader.new))) }
+    // Memory is allocated only once a byte after a front without fault has arrived.
+    ensures memory { IfErr result
+        (λ fault. fault ≡ Fault.Memory → IfSome (R.left reader.old)
+        (λ input. (32 < length input) × (first_some (front_faults input) ≡ None))) }
+    ensures io { R.has_failed reader.new ≡ is_io result }
+{
+    read_image_by_workers(alloc, reader, current_num_threads(threads), threads)
+}
+
+/// Like [`read_image`], but marks and checks the live objects in at most `workers` threads, the caller's included; 0
+/// counts as 1. The result does not depend on their number.
+pub fn read_image_by_workers<R: Intake>(
+    alloc: Global,
+    reader: &mut R,
+    workers: usize,
+    threads: &(impl Threads + Sync),
+) -> Result<Image, Fault>
+    ensures valid { IfOk result (λ image. IsValid image) }
+    // The whole input is the text of the image.
+    ensures text { IfOk result
+        (λ image. Consumes (R.left reader.old) (R.left reader.new) (text image)) }
+    ensures end { OnOk result (IsAtEnd (R.left reader.new)) }
+    // Memory ran out, the device failed, or this is the first fault of the input.
+    ensures fault { IfErr result
+        (λ fault. IfSome (R.left reader.old) (λ input. IsReason input fault)) }
+    // This holds even if the input is not known.
+    ensures kind { IfErr result IsOfReading }
+    ensures left { IfErr result (λ fault. IfSome (R.left reader.old)
+        (λ input. LeavesRest fault input (R.left reader.new))) }
+    // Memory is allocated only once a byte after a front without fault has arrived.
+    ensures memory { IfErr result
+        (λ fault. fault ≡ Fault.Memory → IfSome (R.left reader.old)
+        (λ input. (32 < length input) × (first_some (front_faults input) ≡ None))) }
+    ensures io { R.has_failed reader.new ≡ is_io result }
+{
+    let crowd = Crowd {
+        threads,
+        most: workers,
+    };
+    let read = read_unchecked(alloc, reader, &crowd)?;
+    let sizes = read.found.sizes_if_sound(alloc, &read.heap(), &crowd);
+    // Most images are sound. Otherwise one thread looks for the first fault.
+    let checked = match &sizes {
+        Some(_) => Ok(()),
+        None => read.found.check(&read.heap()),
+    };
+    read.finish(reader, checked, sizes)
+}
+
+/// An image that was read up to the end of its body. Its live objects are found, but not checked.
+#[derive(Drop)]
+struct Unchecked {
+    front: Front,
+    regions: Vec<Region>,
+    found: Found,
+}
+
+/// Reads an image up to the end of its body, and finds its live objects.
+fn read_unchecked<R: Intake, M: Marker>(
+    alloc: Global,
+    reader: &mut R,
+    marker: &M,
+) -> Result<Unchecked, Fault>
+    requires { M.may_start }
+    ensures fits { IfOk result (λ read. HasFittingNumbers read.front.version (numbers_of read)) }
+    ensures blocks { IfOk result (λ read. AreBlocks read.front.region_log read.regions.items) }
+    ensures text { IfOk result
+        (λ read. Consumes (R.left reader.old) (R.left reader.new) (listed_text read.front.version (numbers_of read))) }
+    ensures found { IfOk result IsFound }
+    ensures fault { IfErr result
+        (λ fault. IfSome (R.left reader.old) (λ input. IsReason input fault)) }
+    ensures kind { IfErr result IsOfReading }
+    ensures left { IfErr result (λ fault. IfSome (R.left reader.old)
+        (λ input. LeavesRest fault input (R.left reader.new))) }
+    ensures memory { IfErr result
+        (λ fault. fault ≡ Fault.Memory → IfSome (R.left reader.old)
+        (λ input. (32 < length input) × (first_some (front_faults input) ≡ None))) }
+    ensures io { R.has_failed reader.new ≡ is_io result }
+{
+    let front = read_front(reader)?;
+    let Body { regions, tail } = read_body(alloc, reader, front)?;
+    let heap = Heap::new(regions.as_slice(), front.region_log);
+    let found = find_live_objects(alloc, &heap, front.version, tail, marker)?;
+    Ok(Unchecked {
+        front,
+        regions,
+        found,
+    })
+}
+
+impl Unchecked {
+    /// The words of the heap.
+    fn heap(&self) -> Heap<'_>
+        requires { FormHeap self.now.front.region_log self.now.regions.items }
+        ensures { result ≡ image_of self.now.front.region_log 0 self.now.regions.items [] }
+    {
+        Heap::new(self.regions.as_slice(), self.front.region_log)
+    }
+
+    /// Returns the image, if `checked` is no fault and no byte follows. The image keeps `sizes`, the sizes of its live
+    /// objects, if they are known.
+    ///
+    /// In the clauses, `before` is what the device had left before the image was read.
+    fn finish<R: Intake>(
+        self,
+        reader: &mut R,
+        checked: Result<(), Fault>,
+        sizes: Option<Vec<[u32; PIECE]>>,
+    ) -> Result<Image, Fault>
+        requires fits { HasFittingNumbers self.front.version (numbers_of self) }
+        requires blocks { AreBlocks self.front.region_log self.regions.items }
+        requires found { IsFound self }
+        requires ok { OnOk checked
+            (first_object_fault (image_of self.front.region_log 0 self.regions.items self.found.live.items) ≡ None) }
+        requires why { IfErr checked
+            (λ fault. first_object_fault (image_of self.front.region_log 0 self.regions.items self.found.live.items) ≡ Some fault) }
+        requires sizes { IfSome sizes
+            (λ sizes. AreSizes (image_of self.front.region_log 0 self.regions.items self.found.live.items) sizes.items) }
+        requires works { R.has_failed reader.old ≡ false }
+        ensures valid { IfOk result (λ image. IsValid image) }
+        ensures text { (before : Option (List ℕ)) → Consumes before (R.left reader.old) (listed_text self.front.version (numbers_of self))
+            → IfOk result (λ image. Consumes before (R.left reader.new) (text image)) }
+        ensures end { OnOk result (IsAtEnd (R.left reader.new)) }
+        ensures fault { (before : Option (List ℕ)) → Consumes before (R.left reader.old) (listed_text self.front.version (numbers_of self))
+            → IfErr result (λ fault. IfSome before (λ input. IsReason input fault)) }
+        ensures kind { IfErr result IsOfReading }
+        ensures left { (before : Option (List ℕ)) → Consumes before (R.left reader.old) (listed_text self.front.version (numbers_of self))
+            → IfErr result (λ fault. IfSome before (λ input. LeavesRest fault input (R.left reader.new))) }
+        ensures memory { IfErr result (λ fault. fault ≢ Fault.Memory) }
+        ensures io { R.has_failed reader.new ≡ is_io result }
+    {
+        checked?;
+        if fill(reader, &mut [0; 1])? > 0 {
+            return Err(Fault::Trailing);
+        }
+        let Unchecked {
+            front,
+            regions,
+            found,
+        } = self;
+        let parts = ImageParts {
+            version: front.version,
+            region_log: front.region_log,
+            allowance: front.allowance,
+            regions,
+            live: found.live,
+            roots: found.roots,
+        };
+        Ok(parts.with_seen(Some(found.begins), sizes))
+    }
+}
+
+/// Reads the first 32 bytes, and no byte after them.
+fn read_front<R: Intake>(reader: &mut R) -> Result<Front, Fault>
+    ensures bytes { IfOk result
+        (λ parsed. Consumes (R.left reader.old) (R.left reader.new)
+        (front parsed.version parsed.region_log parsed.count parsed.words parsed.allowance)) }
+    ensures limits { IfOk result
+        (λ parsed. IsWithinLimits parsed.region_log parsed.words parsed.count) }
+    ensures allowed { IfOk result (λ parsed. Allows parsed.version parsed.region_log parsed.words) }
+    ensures fit { IfOk result (λ parsed. parsed.allowance < 2 ^ 64) }
+    ensures counted { IfOk result (λ parsed. parsed.count < 2 ^ 32) }
+    ensures fault { IfErr result
+        (λ fault. IfSome (R.left reader.old) (λ input. IsReason input fault)) }
+    ensures left { IfErr result (λ fault. IfSome (R.left reader.old)
+        (λ input. LeavesRest fault input (R.left reader.new))) }
+    ensures kind { IfErr result IsOfReading }
+    ensures memory { IfErr result (λ fault. fault ≢ Fault.Memory) }
+    ensures failed { R.has_failed reader.new ≡ is_io result }
+{
+    let mut bytes = [0; FRONT_BYTES];
+    if fill(reader, &mut bytes)? < FRONT_BYTES {
+        return Err(Fault::TruncatedHeader);
+    }
+    Front::parse(&bytes)
+}
+
+/// Reads the body that follows this front, and no byte after it: at once if the device can do that, and otherwise in
+/// order.
+fn read_body<R: Intake>(alloc: Global, reader: &mut R, front: Front) -> Result<Body, Fault>
+    requires { IsWithinLimits front.region_log front.words front.count }
+    ensures bytes { IfOk result
+        (λ body. Consumes (R.left reader.old) (R.left reader.new)
+        (numbers (concat body.regions.items) ++ numbers body.tail.items)) }
+    ensures regions { IfOk result (λ body. AreBlocks front.region_log body.regions.items) }
+    ensures fit { IfOk result (λ body. All (λ w. w < 2 ^ 64) (concat body.regions.items)) }
+    ensures words { IfOk result (λ body. length (concat body.regions.items) ≡ front.words) }
+    ensures tail { IfOk result (λ body. length body.tail.items ≡ front.count) }
+    ensures tail_fit { IfOk result (λ body. All (λ a. a < 2 ^ 64) body.tail.items) }
+    ensures truncated { result ≡ Err Fault.TruncatedBody → FallsShort
+        (R.left reader.old) (R.left reader.new) (front.words + front.count) }
+    ensures memory { result ≡ Err Fault.Memory
+        → IfSome (R.left reader.old) (λ rest. 0 < length rest) }
+    ensures fault { IfErr result IsOfBody }
+    ensures lost { (came : List ℕ) × Consumes (R.left reader.old) (R.left reader.new) came }
+    ensures failed { R.has_failed reader.new ≡ (is_io result || R.has_failed reader.old) }
+{
+    let size = front.body_size();
+    match reader.take_body(alloc, size) {
+        Some(body) => Ok(body),
+        None => read_body_in_order(alloc, reader, size),
+    }
+}
+
+/// Reads a body of this size, and no byte after it. It allocates no memory before a byte has arrived.
+fn read_body_in_order<R: Intake>(
+    alloc: Global,
+    reader: &mut R,
+    size: BodySize,
+) -> Result<Body, Fault>
+    requires log { size.region_log ≤ 20 }
+    requires some { 0 < body_words size }
+    requires few { body_words size ≤ 137438953472 }
+    ensures body { IfOk result (IsBody size (R.left reader.old) (R.left reader.new)) }
+    ensures truncated { result ≡ Err Fault.TruncatedBody → FallsShort
+        (R.left reader.old) (R.left reader.new) (body_words size) }
+    ensures memory { result ≡ Err Fault.Memory
+        → IfSome (R.left reader.old) (λ rest. 0 < length rest) }
+    ensures fault { IfErr result IsOfBody }
+    ensures lost { (came : List ℕ) × Consumes (R.left reader.old) (R.left reader.new) came }
+    ensures failed { R.has_failed reader.new ≡ (is_io result || R.has_failed reader.old) }
+{
+    let mut incoming = Incoming::new(size.words());
+    incoming.top_up(reader)?;
+    let source = RegionSource::new(alloc, None);
+    Body::read(&source, &mut incoming, reader, size)
+}
+
+/// Reads the words of `count` regions of this source. If each is a block of its own, it takes memory as the words come:
+/// for at most one region more than have come, and for twice as many blocks.
+pub(crate) fn read_regions<R: Intake>(
+    source: &RegionSource<'_>,
+    incoming: &mut Incoming,
+    reader: &mut R,
+    region_log: u32,
+    count: usize,
+) -> Result<Vec<Region>, Fault>
+    requires log { region_log ≤ 20 }
+    requires in_range { IsInRange incoming.old }
+    requires source { HasRegions source.now region_log count }
+    requires enough { count * 2 ^ region_log ≤ expected incoming.old }
+    ensures in_range { OnOk result (IsInRange incoming.new) }
+    ensures bytes { IfOk result
+        (λ regions. Consumes (known_rest incoming.old (R.left reader.old))
+        (known_rest incoming.new (R.left reader.new)) (numbers (concat regions.items))) }
+    ensures regions { IfOk result (λ regions. AreBlocks region_log regions.items) }
+    ensures count { IfOk result (λ regions. length regions.items ≡ count) }
+    ensures fit { IfOk result (λ regions. All (λ w. w < 2 ^ 64) (concat regions.items)) }
+    ensures words { IfOk result (λ regions. length (concat regions.items) ≡ count * 2 ^ region_log) }
+    ensures expected { OnOk result
+        (expected incoming.new + count * 2 ^ region_log ≡ expected incoming.old) }
+    ensures truncated { result ≡ Err Fault.TruncatedBody → FallsShort
+        (known_rest incoming.old (R.left reader.old)) (R.left reader.new) (expected incoming.old) }
+    ensures fault { IfErr result IsOfBody }
+    ensures lost { (came : List ℕ) × Consumes (R.left reader.old) (R.left reader.new) came }
+    ensures failed { R.has_failed reader.new ≡ (is_io result || R.has_failed reader.old) }
+{
+    let mut regions = Vec::new(source.alloc);
+    for r in 0..count {
+        regions.push(read_region(source, incoming, reader, region_log, r)?)?;
+    }
+    Ok(regions)
+}
+
+/// Reads the words of the region with this number.
+fn read_region<R: Intake>(
+    source: &RegionSource<'_>,
+    incoming: &mut Incoming,
+    reader: &mut R,
+    region_log: u32,
+    index: usize,
+) -> Result<Region, Fault>
+    requires log { region_log ≤ 20 }
+    requires in_range { IsInRange incoming.old }
+    requires source { HasRegions source.now region_log (index + 1) }
+    requires enough { 2 ^ region_log ≤ expected incoming.old }
+    ensures in_range { OnOk result (IsInRange incoming.new) }
+    ensures bytes { IfOk result
+        (λ region. Consumes (known_rest incoming.old (R.left reader.old))
+        (known_rest incoming.new (R.left reader.new)) (numbers region)) }
+    ensures whole { IfOk result (λ region. length region ≡ 2 ^ region_log) }
+    ensures fit { IfOk result (λ region. All (λ w. w < 2 ^ 64) region) }
+    ensures expected { OnOk result
+        (expected incoming.new + 2 ^ region_log ≡ expected incoming.old) }
+    ensures truncated { result ≡ Err Fault.TruncatedBody → FallsShort
+        (known_rest incoming.old (R.left reader.old)) (R.left reader.new) (expected incoming.old) }
+    ensures fault { IfErr result IsOfBody }
+    ensures lost { (came : List ℕ) × Consumes (R.left reader.old) (R.left reader.new) came }
+    ensures failed { R.has_failed reader.new ≡ (is_io result || R.has_failed reader.old) }
+{
+    let mut region = source.region(index, region_log)?;
+    incoming.read(reader, region.words_mut())?;
+    Ok(region)
+}

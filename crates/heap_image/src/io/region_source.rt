@@ -1,0 +1,78 @@
+//! Where the regions of a body come from.
+ghost use Rattle.std.specs.Prelude.{◌≡◌, ◌+◌, ◌<◌, ◌≤◌, ◌^◌, None, length, IfOk, IfErr, IfSome};
+ghost use Rattle.heap_image.specs.Body.{body_words};
+ghost use Rattle.heap_image.specs.RegionSource.{HasRegions, IsPoolOf};
+
+use crate::Fault;
+use crate::io::front::body_size::BodySize;
+use raw_region::{Region, RegionPool};
+use std::alloc::{AllocError, Global};
+
+/// No allocation has as many words.
+const TOO_MANY_WORDS: usize = 1 << 60;
+
+/// Where the regions of a body come from: a pool, or else each is a block of its own.
+#[derive(Clone, Copy)]
+pub(crate) struct RegionSource<'a> {
+    pub(crate) alloc: Global,
+    pool: Option<&'a RegionPool>,
+    /// The number in the pool of the first region.
+    first: usize,
+}
+
+impl<'a> RegionSource<'a> {
+    /// Regions of this pool, from its first on, if there is one.
+    pub(crate) fn new(alloc: Global, pool: Option<&'a RegionPool>) -> RegionSource<'a>
+        ensures pool { result.pool ≡ pool.entry }
+        ensures first { result.first ≡ 0 }
+    {
+        RegionSource {
+            alloc,
+            pool,
+            first: 0,
+        }
+    }
+
+    /// The regions after the first `count`.
+    pub(crate) fn after(self, count: usize) -> RegionSource<'a>
+        requires { self.first + count < 2 ^ 64 }
+        ensures pool { result.pool ≡ self.entry.pool }
+        ensures first { result.first ≡ self.entry.first + count }
+    {
+        RegionSource {
+            first: self.first + count,
+            ..self
+        }
+    }
+
+    /// The region with this number, of `2 ^ region_log` words. Fault 11 if memory runs out, or if it is out of the pool.
+    #[tactic(auto, using(crate::proofs::Lemmas::Parts::region_few))]
+    pub(crate) fn region(&self, index: usize, region_log: u32) -> Result<Region, Fault>
+        requires log { region_log ≤ 20 }
+        requires has { HasRegions self.now region_log (index + 1) }
+        ensures length { IfOk result (λ region. length region ≡ 2 ^ region_log) }
+        ensures fault { IfErr result (λ fault. fault ≡ Fault.Memory) }
+    {
+        match self.pool {
+            Some(pool) => pool.take(self.first + index).ok_or(Fault::Memory),
+            None => Ok(Region::new(self.alloc, 1 << region_log)?),
+        }
+    }
+}
+
+/// Allocates the regions of a body of this size at once, if it has any. The only error is that memory runs out.
+#[tactic(auto, using(crate::proofs::Lemmas::Parts::region_few))]
+pub(crate) fn pool_for(alloc: Global, size: BodySize) -> Result<Option<RegionPool>, AllocError>
+    requires log { size.region_log ≤ 20 }
+    requires fits { body_words size < 2 ^ 64 }
+    ensures { IfOk result (λ pool. IfSome pool (IsPoolOf size)) }
+{
+    if size.regions == 0 {
+        return Ok(None);
+    }
+    if size.words() >= TOO_MANY_WORDS {
+        return Err(AllocError);
+    }
+    let pool = RegionPool::new(alloc, size.regions, 1 << size.region_log)?;
+    Ok(Some(pool))
+}

@@ -1,0 +1,157 @@
+//! Finds the live objects of a heap with roots.
+ghost use Rattle.std.specs.Prelude.{◌≡◌, ◌<◌, ◌≤◌, ◌^◌, ◌⊎◌, Some, None, [], All, length, find, nat_lt, slice_index, IfOk, OnOk, IfErr, IsTrue};
+ghost use Rattle.std.specs.List.{concat, range_with_len};
+ghost use Rattle.heap_image.specs.declared.version.Version.TheVariants.{Two};
+ghost use Rattle.heap_image.specs.HeapImage.{FormHeap, heap_words, image_of, reachable, with_live};
+ghost use Rattle.heap_image.specs.ImageText.{first_some, from_tail, live_list_faults, misplaced_root};
+ghost use Rattle.heap_image.specs.Bits.{MarkBegins};
+ghost use Rattle.heap_image.specs.Soundness.{AreWellFormed};
+
+use super::{Alone, Marker};
+use crate::Fault;
+use crate::bits::Bits;
+use crate::check::check_live;
+use crate::check::crowd::Crowd;
+use crate::heap::Heap;
+use raw_region::Region;
+use std::alloc::Global;
+use std::thread::Threads;
+
+/// Returns the addresses of all objects that are reachable from the roots, ascending, or the first fault: 17 if a root
+/// is above the number of words, and 7, 8 or 9 of the reachable objects. No image has more than 2^32 - 1 roots: more of
+/// them are fault 11, as memory that runs out.
+///
+/// The heap lies in regions of `2 ^ region_log` words each, from address 0 on. A root is 0, which is null, or 1 plus an
+/// address. An object without a sound header is reachable itself, but nothing is through its references. Fault 11 comes
+/// if memory runs out. Runs in the caller's thread alone, in time linear in the words, the roots and the references.
+pub fn mark_from_roots(
+    alloc: Global,
+    region_log: u32,
+    regions: &[Region],
+    roots: &[u64],
+) -> Result<Vec<u64>, Fault>
+    requires heap { FormHeap region_log regions.now }
+    requires few { length roots.now ≤ length (concat regions.now) }
+    ensures live { IfOk result (λ live. live.items ≡ reachable (image_of region_log 0 regions.now []) roots.now) }
+    ensures ok { let faults = live_list_faults (from_tail Two (image_of region_log 0 regions.now roots.now)) in
+        OnOk result (first_some faults ≡ None) }
+    ensures fault { let faults = live_list_faults (from_tail Two (image_of region_log 0 regions.now roots.now)) in
+        IfErr result (λ fault. (fault ≡ Fault.Memory) ⊎ (first_some faults ≡ Some fault)) }
+{
+    let heap = Heap::new(regions, region_log);
+    find_and_check(alloc, &heap, roots, &Alone)
+}
+
+/// Like [`mark_from_roots`], but marks a large heap in at most `workers` threads, the caller's included; 0 counts as 1.
+/// The result does not depend on their number.
+pub fn mark_from_roots_by_workers(
+    alloc: Global,
+    region_log: u32,
+    regions: &[Region],
+    roots: &[u64],
+    workers: usize,
+    threads: &(impl Threads + Sync),
+) -> Result<Vec<u64>, Fault>
+    requires heap { FormHeap region_log regions.now }
+    requires few { length roots.now ≤ length (concat regions.now) }
+    ensures live { IfOk result (λ live. live.items ≡ reachable (image_of region_log 0 regions.now []) roots.now) }
+    ensures ok { let faults = live_list_faults (from_tail Two (image_of region_log 0 regions.now roots.now)) in
+        OnOk result (first_some faults ≡ None) }
+    ensures fault { let faults = live_list_faults (from_tail Two (image_of region_log 0 regions.now roots.now)) in
+        IfErr result (λ fault. (fault ≡ Fault.Memory) ⊎ (first_some faults ≡ Some fault)) }
+{
+    let heap = Heap::new(regions, region_log);
+    let crowd = Crowd {
+        threads,
+        most: workers,
+    };
+    find_and_check(alloc, &heap, roots, &crowd)
+}
+
+/// Returns the addresses of the objects that are reachable from the roots of a heap, ascending, or the first fault.
+fn find_and_check<M: Marker>(
+    alloc: Global,
+    heap: &Heap<'_>,
+    roots: &[u64],
+    marker: &M,
+) -> Result<Vec<u64>, Fault>
+    requires marker { M.may_start }
+    requires few { length roots.now ≤ heap_words heap.now }
+    ensures live { IfOk result (λ live. live.items ≡ reachable heap.now roots.now) }
+    ensures ok { OnOk result (first_some (live_list_faults (from_tail Two (with_live heap.now roots.now))) ≡ None) }
+    ensures fault { let faults = live_list_faults (from_tail Two (with_live heap.now roots.now)) in
+        IfErr result (λ fault. (fault ≡ Fault.Memory) ⊎ (first_some faults ≡ Some fault)) }
+{
+    if roots.len() > u32::MAX as usize {
+        return Err(Fault::Memory);
+    }
+    let Reached {
+        live,
+        begins,
+        well_formed,
+    } = find_reachable(alloc, heap, roots, marker)?;
+    if well_formed && marker.are_apart(alloc, heap, live.as_slice()) {
+        return Ok(live);
+    }
+    check_live(heap, live.as_slice(), &begins, well_formed)?;
+    Ok(live)
+}
+
+/// The objects that are reachable from the roots of a heap, before they are checked.
+#[derive(Drop)]
+pub(crate) struct Reached {
+    /// Their addresses, ascending.
+    pub(crate) live: Vec<u64>,
+    /// The same addresses as bits.
+    pub(crate) begins: Bits,
+    /// Whether each of these objects is known to have a sound header and only references that are null or to one of
+    /// them.
+    pub(crate) well_formed: bool,
+}
+
+/// Finds what is reachable from the roots of a heap. Fault 17 comes if a root is above the number of words.
+pub(crate) fn find_reachable<M: Marker>(
+    alloc: Global,
+    heap: &Heap<'_>,
+    roots: &[u64],
+    marker: &M,
+) -> Result<Reached, Fault>
+    requires marker { M.may_start }
+    requires few { length roots.now ≤ heap_words heap.now }
+    requires fits { length roots.now < 2 ^ 32 }
+    ensures live { IfOk result (λ reached. reached.live.items ≡ reachable heap.now roots.now) }
+    ensures inside { IfOk result (λ reached. All (λ a. a < heap_words heap.now) reached.live.items) }
+    ensures begins { IfOk result
+        (λ reached. MarkBegins reached.live.items (heap_words heap.now) reached.begins) }
+    ensures well_formed { IfOk result
+        (λ reached. IsTrue reached.well_formed → AreWellFormed (with_live heap.now reached.live.items)) }
+    ensures roots { OnOk result (misplaced_root (from_tail Two (with_live heap.now roots.now)) ≡ None) }
+    ensures fault { let faults = live_list_faults (from_tail Two (with_live heap.now roots.now)) in
+        IfErr result (λ fault. (fault ≡ Fault.Memory) ⊎ (first_some faults ≡ Some fault)) }
+{
+    let words = heap.len();
+    if let Some(index) = misplaced_root(roots, words) {
+        return Err(Fault::Root(index));
+    }
+    let marked = marker.mark(alloc, heap, roots)?;
+    let live = marker.list(alloc, &marked.bits)?;
+    Ok(Reached {
+        live,
+        begins: marked.bits,
+        well_formed: marked.well_formed,
+    })
+}
+
+/// The first index of a root that is above the number of words.
+fn misplaced_root(roots: &[u64], words: u64) -> Option<u32>
+    requires few { length roots.now ≤ words }
+    requires fits { length roots.now < 2 ^ 32 }
+    ensures { result ≡ find (λ i. nat_lt words (slice_index roots.now i)) (range_with_len 0 (length roots.now)) }
+{
+    for (index, root) in roots.iter().enumerate() {
+        if *root > words {
+            return Some(index as u32);
+        }
+    }
+    None
+}

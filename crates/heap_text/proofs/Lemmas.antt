@@ -1,0 +1,13 @@
+pub mod TextSteps
+pub mod TokenSteps
+pub mod WordTexts
+pub mod PartSteps
+pub mod OneText
+pub mod LineSteps
+pub mod HeapLines
+pub mod ParseSteps
+pub mod ImageSteps
+pub mod WaitSteps
+pub mod LineBytes
+pub mod ByteSteps
+pub mod DeviceSteps

@@ -1,5 +1,0 @@
-use Rattle.history.proofs.Following.{IsFollowed}
-use Rattle.history.proofs.checking.followed.Given as goal
-
-abbrev pub invariant-loop-i : goal.invariant-loop-i
-invariant-loop-i l = IsFollowed l.plan l.schedule l.i l.ledger

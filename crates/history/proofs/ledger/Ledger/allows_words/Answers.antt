@@ -1,6 +1,0 @@
-use Rattle.history.proofs.ledger.Ledger.allows_words.Goals as goal
-
-pub returns-in-Drain : goal.returns-in-Drain
-returns-in-Drain c w tells =
-    let out = c.is_copied_out.ensures w tells in
-    rw c.in-Drain.is out

@@ -1,4 +1,0 @@
-use Rattle.history.proofs.ledger.note.Goals as goal
-
-pub bounds-written-region : goal.bounds-written-region
-bounds-written-region c = (c.requires c.in-Copy.region c.in-Copy.words c.in-Copy.is).0

@@ -1,5 +1,0 @@
-use Rattle.history.proofs.Carrying.{AreFlagsOf, late_test}
-use Rattle.history.proofs.references.late_references.Given as goal
-
-abbrev pub invariant-loop-a : goal.invariant-loop-a
-invariant-loop-a l = AreFlagsOf l.image (late_test l.image) l.a-index l.flags.items

@@ -1,5 +1,0 @@
-use Rattle.history.proofs.TextLaws.{no_schedule}
-use Rattle.history.proofs.text_laws.malformed_is_no_schedule.Goals as goal
-
-pub returns : goal.returns
-returns c = no_schedule

@@ -1,5 +1,0 @@
-use Rattle.history.proofs.Windows.{passed}
-use Rattle.history.proofs.window.Window.pass.Goals as goal
-
-pub returns-clause-passed : goal.returns-clause-passed
-returns-clause-passed c = λ front rest same is. passed c.args.self.now.bytes front rest c.args.self.now.start c.args.self.now.end c.args.count c.requires.held same is

@@ -1,0 +1,4 @@
+pub mod Apart
+pub mod Runs
+pub mod BlockStarts
+pub mod PartBits

@@ -1,0 +1,10 @@
+pub mod Fields
+pub mod Frames
+pub mod Heap
+pub mod Held
+pub mod Number
+pub mod Parts
+pub mod Rooms
+pub mod RoomsSent
+pub mod Seen
+pub mod Steps

@@ -1,0 +1,4 @@
+pub mod Calls
+pub mod Replies
+pub mod Tables
+pub mod Bars

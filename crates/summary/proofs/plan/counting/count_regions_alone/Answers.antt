@@ -1,0 +1,21 @@
+use Rattle.std.proofs.Common.{◌≡◌, [], ◌∷◌, ◌++◌, ◌∙◌, ap, arith}
+use Rattle.std.specs.Prelude.{map}
+use Rattle.std.specs.List.{range_with_len}
+use Rattle.heap_image.specs.HeapImage.{region_count}
+use Rattle.summary.specs.Layout.{region_counts}
+use Rattle.summary.proofs.Lemmas.PlainWords.{map-range-more}
+use Rattle.summary.proofs.plan.counting.count_regions_alone.Goals as goal
+
+pub loop-r-preserved : goal.loop-r-preserved
+loop-r-preserved c =
+    let image = c.args.image.now in
+    c.in_ok-push.ensures.items
+    ∙ ap (λ counts. counts ++ c.counts_of.result ∷ []) c.loop-r.invariant
+    ∙ ap (λ count. map (region_counts image) (range_with_len 0 c.loop-r.r) ++ count ∷ []) c.counts_of.ensures
+    ∙ map-range-more (region_counts image) c.loop-r.r
+
+pub returns : goal.returns
+returns c =
+    let image = c.args.image.now in
+    let all : c.loop-r.r ≡ region_count image = let low = c.loop-r-test.false in let high = c.loop-r.auto.r-end in let is = c.regions-r-end.ensures.value in omega arith in
+    c.loop-r.invariant ∙ ap (λ n. map (region_counts image) (range_with_len 0 n)) all

@@ -1,0 +1,14 @@
+use Rattle.std.proofs.Common.{◌≡◌, ℕ, ◌<◌, ◌≤◌, map}
+use Rattle.std.specs.List.{range_with_len}
+use Rattle.heap_image.specs.HeapImage.{start_of}
+use Rattle.summary.specs.LiveObjects.{object_count, object_at}
+use Rattle.summary.specs.NewAddresses.{new_address}
+use Rattle.summary.specs.RegionData.{deferred}
+use Rattle.summary.proofs.plan.deferred.deferred_addresses.Given as goal
+
+abbrev pub invariant-loop-d : goal.invariant-loop-d
+invariant-loop-d l = record {
+  made : l.addresses.items ≡ map (deferred l.image) (range_with_len 0 l.d);
+  within : l.placed ≤ object_count l.image;
+  known : (i : ℕ) → i < l.placed → new_address l.image (object_at l.image i) < start_of l.image l.d;
+}

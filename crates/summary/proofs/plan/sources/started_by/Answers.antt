@@ -1,0 +1,85 @@
+use Rattle.std.proofs.Common.{◌≡◌, ◌+◌, ◌*◌, ap, sym, ◌∙◌, arith, subst}
+use Rattle.std.proofs.lemmas.Grind.{div_ceil_times}
+use Rattle.std.specs.Int.{div_ceil}
+use Rattle.heap_image.specs.HeapImage.{region_words}
+use Rattle.summary.specs.RegionData.{destination, data_words}
+use Rattle.summary.specs.Sources.{StartsOnly}
+use Rattle.summary.specs.declared.region_data.RegionData.{RegionData}
+use Rattle.summary.proofs.Lemmas.Layouts.{data-le}
+use Rattle.summary.proofs.Lemmas.Regions.{region_some}
+use Rattle.summary.proofs.Lemmas.Telling.{destination-le, starts-only, starts-none}
+use Rattle.summary.proofs.plan.sources.started_by.Goals as goal
+
+pub overflow_mul-d : goal.overflow_mul-d
+overflow_mul-d c =
+    let image = c.args.image.now in
+    let n = c.region_words-region_words.ensures in
+    let s = c.args.s in
+    let to : c.args.region.now.destination ≡ destination image s = ap (λ (k : RegionData). k.destination) (sym c.requires.region) in
+    let d : c.div_ceil-d.result ≡ div_ceil (destination image s) (region_words image) =
+    c.div_ceil-d.ensures ∙ ap (λ m. div_ceil m c.region_words-region_words.result) to ∙ ap (div_ceil (destination image s)) n.value in
+    let product : c.div_ceil-d.result * c.region_words-region_words.result ≡ div_ceil (destination image s) (region_words image) * region_words image =
+    ap (λ m. m * c.region_words-region_words.result) d ∙ ap (λ m. div_ceil (destination image s) (region_words image) * m) n.value in
+    let high = (div_ceil_times (destination image s) (region_words image) (region_some image)).1 in
+    let low = destination-le image n.valid s c.requires.inside in
+    let few = n.valid.limits.few_words in
+    let small = n.few in
+    let same = n.value in
+    omega arith
+
+pub overflow_add-region : goal.overflow_add-region
+overflow_add-region c =
+    let image = c.args.image.now in
+    let n = c.region_words-region_words.ensures in
+    let s = c.args.s in
+    let to : c.args.region.now.destination ≡ destination image s = ap (λ (k : RegionData). k.destination) (sym c.requires.region) in
+    let words : c.from.result + c.from-2.result ≡ data_words image s =
+    ap (λ m. m + c.from-2.result) c.from.ensures ∙ ap (λ m. c.args.region.now.partial + m) c.from-2.ensures ∙ ap (λ (k : RegionData). k.partial + k.live) (sym c.requires.region) in
+    let low = destination-le image n.valid s c.requires.inside in
+    let few_data = data-le image n.valid s in
+    let few = n.valid.limits.few_words in
+    let small = n.few in
+    let same = n.value in
+    omega arith
+
+pub returns-then-region-prefix : goal.returns-then-region-prefix
+returns-then-region-prefix c =
+    let image = c.args.image.now in
+    let n = c.region_words-region_words.ensures in
+    let s = c.args.s in
+    let to : c.args.region.now.destination ≡ destination image s = ap (λ (k : RegionData). k.destination) (sym c.requires.region) in
+    let prefix = c.requires.prefix in
+    let below = c.if-region-prefix.true in
+    λ d. starts-none image n.valid s d (λ above _. let no : ⊥ = omega arith in no)
+
+pub returns-then-d-region_words : goal.returns-then-d-region_words
+returns-then-d-region_words c =
+    let image = c.args.image.now in
+    let n = c.region_words-region_words.ensures in
+    let s = c.args.s in
+    let to : c.args.region.now.destination ≡ destination image s = ap (λ (k : RegionData). k.destination) (sym c.requires.region) in
+    let words : c.from.result + c.from-2.result ≡ data_words image s =
+    ap (λ m. m + c.from-2.result) c.from.ensures ∙ ap (λ m. c.args.region.now.partial + m) c.from-2.ensures ∙ ap (λ (k : RegionData). k.partial + k.live) (sym c.requires.region) in
+    let d : c.div_ceil-d.result ≡ div_ceil (destination image s) (region_words image) =
+    c.div_ceil-d.ensures ∙ ap (λ m. div_ceil m c.region_words-region_words.result) to ∙ ap (div_ceil (destination image s)) n.value in
+    let product : c.div_ceil-d.result * c.region_words-region_words.result ≡ div_ceil (destination image s) (region_words image) * region_words image =
+    ap (λ m. m * c.region_words-region_words.result) d ∙ ap (λ m. div_ceil (destination image s) (region_words image) * m) n.value in
+    let prefix = c.requires.prefix in
+    let above = c.if-region-prefix.false in
+    let below = c.if-d-region_words.true in
+    subst (StartsOnly image s) (sym d) (starts-only image n.valid s c.requires.inside (omega arith) (omega arith))
+
+pub returns-else-d-region_words : goal.returns-else-d-region_words
+returns-else-d-region_words c =
+    let image = c.args.image.now in
+    let n = c.region_words-region_words.ensures in
+    let s = c.args.s in
+    let to : c.args.region.now.destination ≡ destination image s = ap (λ (k : RegionData). k.destination) (sym c.requires.region) in
+    let words : c.from.result + c.from-2.result ≡ data_words image s =
+    ap (λ m. m + c.from-2.result) c.from.ensures ∙ ap (λ m. c.args.region.now.partial + m) c.from-2.ensures ∙ ap (λ (k : RegionData). k.partial + k.live) (sym c.requires.region) in
+    let d : c.div_ceil-d.result ≡ div_ceil (destination image s) (region_words image) =
+    c.div_ceil-d.ensures ∙ ap (λ m. div_ceil m c.region_words-region_words.result) to ∙ ap (div_ceil (destination image s)) n.value in
+    let product : c.div_ceil-d.result * c.region_words-region_words.result ≡ div_ceil (destination image s) (region_words image) * region_words image =
+    ap (λ m. m * c.region_words-region_words.result) d ∙ ap (λ m. div_ceil (destination image s) (region_words image) * m) n.value in
+    let past = c.if-d-region_words.false in
+    λ d'. starts-none image n.valid s d' (λ _ below. let no : ⊥ = omega arith in no)

@@ -1,5 +1,0 @@
-use Rattle.summary.proofs.Telling.{Told}
-use Rattle.summary.proofs.sources.set_sources.Given as goal
-
-abbrev pub invariant-loop-s : goal.invariant-loop-s
-invariant-loop-s l = Told l.image l.s l.regions
