@@ -12,7 +12,7 @@ use heap_image::{Fault, FromRead, Image, Intake, read_image_by_threads};
 use std::alloc::{AllocError, Global};
 use std::rt::Files;
 use std::thread::Threads;
-use summary::Survey;
+use summary::{Plan, Survey};
 use work_order::WorkOrder;
 
 /// Returns what `order` prints of the image in a file.
@@ -67,7 +67,16 @@ fn order_of(
     ensures fault { IfErr result (λ fault. fault ≡ Fault.Memory) }
 {
     let survey = Survey::of(alloc, image, threads)?;
-    Ok(WorkOrder::of(alloc, survey.plan())?)
+    order_in(alloc, survey.plan())
+}
+
+/// The order of work in a plan. The only fault is that memory runs out.
+fn order_in(alloc: Global, plan: &Plan) -> Result<WorkOrder, Fault>
+    ensures chain { IfOk result (λ order. IsLongestChain plan.now order.chain) }
+    ensures words { IfOk result (λ order. order.words ≡ new_top plan.now) }
+    ensures fault { IfErr result (λ fault. fault ≡ Fault.Memory) }
+{
+    Ok(WorkOrder::of(alloc, plan)?)
 }
 
 /// The line for an order of work.

@@ -80,7 +80,7 @@ pub fn replay_text<R: Intake, S: Intake, T: Threads + Sync>(
         (S.left source.old) unreplayed.fault) }
 {
     let replayed = replay_from(alloc, input, source, threads)?;
-    Ok(text_of(alloc, &replayed)?)
+    text_of(alloc, &replayed)
 }
 
 /// Reads an image and a schedule, and replays the schedule on a copy of the image.
@@ -117,10 +117,11 @@ fn replay_on(
     }
 }
 
-/// The lines of a replay, and how it ended.
-fn text_of(alloc: Global, replayed: &Replayed) -> Result<Vec<u8>, AllocError>
-    ensures { IfOk result (λ text. text.items
+/// The lines of a replay, and how it ended. The only fault is that memory runs out.
+fn text_of(alloc: Global, replayed: &Replayed) -> Result<Vec<u8>, Unreplayed>
+    ensures text { IfOk result (λ text. text.items
         ≡ schedule_text replayed.now.lines ++ end_line replayed.now.ended) }
+    ensures fault { IfErr result (λ unreplayed. unreplayed.fault ≡ Memory) }
 {
     let mut text = write_schedule(alloc, &replayed.lines)?;
     text.extend_from_slice(end_line(&replayed.ended).as_bytes())?;

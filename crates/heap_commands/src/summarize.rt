@@ -7,7 +7,7 @@ use crate::shared::inputs::open_image;
 use command_line::Summary;
 use command_support::{Screen, Trouble, WorkDone};
 use heap_image::{Fault, FromRead, Image, Intake, read_image_by_threads};
-use std::alloc::{AllocError, Global};
+use std::alloc::Global;
 use std::rt::Files;
 use std::thread::Threads;
 use summary::{Plan, Survey};
@@ -57,12 +57,13 @@ fn summary_text(
     ensures fault { IfErr result (λ fault. fault ≡ Fault.Memory) }
 {
     let survey = Survey::of(alloc, image, threads)?;
-    Ok(text_of(alloc, survey.plan(), headed)?)
+    text_of(alloc, survey.plan(), headed)
 }
 
 /// The ends of the dense prefix and of the compacted heap, perhaps the names of the columns, then a line for each region.
-fn text_of(alloc: Global, plan: &Plan, headed: bool) -> Result<String, AllocError>
-    ensures { IfOk result (λ text. string_bytes text ≡ summary_of headed plan.now) }
+fn text_of(alloc: Global, plan: &Plan, headed: bool) -> Result<String, Fault>
+    ensures summary { IfOk result (λ text. string_bytes text ≡ summary_of headed plan.now) }
+    ensures fault { IfErr result (λ fault. fault ≡ Fault.Memory) }
 {
     let mut text = String::new(alloc);
     writeln!(text, "prefix {} top {}", plan.prefix_end(), plan.new_top())?;

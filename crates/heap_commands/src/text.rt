@@ -1,11 +1,12 @@
 ghost use Rattle.std.specs.Prelude.{◌≡◌, codes, ℕ, List, IfOk, IfErr, IfSome};
 ghost use Rattle.heap_image.specs.Refusals.{IsReason};
+ghost use Rattle.heap_text.specs.Text.{text_of};
 ghost use Rattle.heap_commands.specs.Text.{AreLines, AreLinesOf};
 
 use crate::shared::inputs::open_image;
 use command_line::{Shape, Text};
 use command_support::{Trouble, WorkDone};
-use heap_image::{Fault, FromRead, Intake, read_image_by_threads};
+use heap_image::{Fault, FromRead, Image, Intake, read_image_by_threads};
 use heap_text::write_text;
 use std::alloc::Global;
 use std::rt::Files;
@@ -35,5 +36,13 @@ pub fn lines_of<R: Intake, T: Threads + Sync>(
     ensures fault { IfErr result (λ fault. IfSome (R.left input.old) (λ bytes. IsReason bytes fault)) }
 {
     let image = read_image_by_threads(alloc, input, threads)?;
-    Ok(write_text(alloc, &image)?)
+    lines_of_image(alloc, &image)
+}
+
+/// The text of an image. The only fault is that memory runs out.
+fn lines_of_image(alloc: Global, image: &Image) -> Result<Vec<u8>, Fault>
+    ensures lines { IfOk result (λ lines. lines.items ≡ text_of image.now) }
+    ensures fault { IfErr result (λ fault. fault ≡ Fault.Memory) }
+{
+    Ok(write_text(alloc, image)?)
 }
