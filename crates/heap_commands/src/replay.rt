@@ -79,10 +79,25 @@ pub fn replay_text<R: Intake, S: Intake, T: Threads + Sync>(
     ensures fault { IfErr result (λ unreplayed. IsUnreplayed (R.left input.old) (R.left input.new)
         (S.left source.old) unreplayed.fault) }
 {
+    let replayed = replay_from(alloc, input, source, threads)?;
+    text_of(alloc, &replayed)
+}
+
+/// Reads an image and a schedule, and replays the schedule on a copy of the image.
+fn replay_from<R: Intake, S: Intake, T: Threads + Sync>(
+    alloc: Global,
+    input: &mut R,
+    source: &mut S,
+    threads: &T,
+) -> Result<Replayed, Unreplayed>
+    ensures replay { IfOk result (λ replayed. IsReplayOf (R.left input.old) (R.left input.new)
+        (S.left source.old) (schedule_text replayed.lines ++ end_line replayed.ended)) }
+    ensures fault { IfErr result (λ unreplayed. IsUnreplayed (R.left input.old) (R.left input.new)
+        (S.left source.old) unreplayed.fault) }
+{
     let image = read_image_by_threads(alloc, input, threads)?;
     let schedule = schedule_in(alloc, source)?;
-    let replayed = replay_on(alloc, &image, schedule, threads)?;
-    Ok(text_of(alloc, &replayed)?)
+    replay_on(alloc, &image, schedule, threads)
 }
 
 /// Replays a schedule on an image. The schedule is dropped once its replay, which has its own copy, is made.
@@ -102,10 +117,11 @@ fn replay_on(
     }
 }
 
-/// The lines of a replay, and how it ended.
-fn text_of(alloc: Global, replayed: &Replayed) -> Result<Vec<u8>, AllocError>
-    ensures { IfOk result (λ text. text.items
+/// The lines of a replay, and how it ended. The only fault is that memory runs out.
+fn text_of(alloc: Global, replayed: &Replayed) -> Result<Vec<u8>, Unreplayed>
+    ensures text { IfOk result (λ text. text.items
         ≡ schedule_text replayed.now.lines ++ end_line replayed.now.ended) }
+    ensures fault { IfErr result (λ unreplayed. unreplayed.fault ≡ Memory) }
 {
     let mut text = write_schedule(alloc, &replayed.lines)?;
     text.extend_from_slice(end_line(&replayed.ended).as_bytes())?;

@@ -4,6 +4,7 @@ ghost use Rattle.heap_image.specs.declared.fault.Fault.{Fault};
 ghost use Rattle.history.specs.ScheduleText.{schedule_text};
 ghost use Rattle.schedule_timeline.specs.Page.{Has};
 ghost use Rattle.schedule_timeline.specs.Timeline.{IsTimelineOf};
+ghost use Rattle.schedule_timeline.specs.TimelineFigures.{BeginsWithFigures};
 ghost use Rattle.heap_commands.specs.Timeline.{HasLanes, HasPicture, IsFollowed, IsPictureOf, IsTimeline};
 ghost use Rattle.heap_commands.specs.Unreplayed.{IsReplayRefused, IsUnreplayed};
 
@@ -194,8 +195,16 @@ pub fn lanes_text<R: Intake, S: Intake, T: AllocGlobal + Threads + Sync>(
         (S.left source.old) unreplayed.fault) }
 {
     let followed = follow(rt, input, source)?;
+    lanes_of(rt.alloc(), &followed, lanes)
+}
+
+/// The lanes of a schedule on its image, as text. The only fault is that memory runs out.
+fn lanes_of(alloc: Global, followed: &Followed, lanes: Lanes) -> Result<String, Unreplayed>
+    ensures lanes { IfOk result (λ text. BeginsWithFigures followed.now.timeline (string_bytes text)) }
+    ensures fault { IfErr result (λ unreplayed. unreplayed.fault ≡ Fault.Memory) }
+{
     let Lanes { style, width } = lanes;
-    Ok(followed.timeline.text(rt.alloc(), style, width)?)
+    Ok(followed.timeline.text(alloc, style, width)?)
 }
 
 /// Reads an image from `input` and a schedule from `source`, and writes a drawing or a page of the schedule. Returns
@@ -248,16 +257,17 @@ fn make_picture<R: Intake, S: Intake, T: AllocGlobal + Threads + Sync>(
         (S.left source.old) unreplayed.fault) }
 {
     let followed = follow(rt, input, source)?;
-    Ok(picture_of(rt.alloc(), &followed, wanted)?)
+    picture_of(rt.alloc(), &followed, wanted)
 }
 
-/// Makes the picture of a schedule on its image.
+/// Makes the picture of a schedule on its image. The only fault is that memory runs out.
 fn picture_of(
     alloc: Global,
     followed: &Followed,
     wanted: Wanted<'_>,
-) -> Result<TimelinePicture, AllocError>
-    ensures { IfOk result (λ picture. IsPictureOf wanted.entry.form followed.now.timeline (string_bytes picture.line) picture.bytes.items) }
+) -> Result<TimelinePicture, Unreplayed>
+    ensures picture { IfOk result (λ picture. IsPictureOf wanted.entry.form followed.now.timeline (string_bytes picture.line) picture.bytes.items) }
+    ensures fault { IfErr result (λ unreplayed. unreplayed.fault ≡ Fault.Memory) }
 {
     let line = followed.timeline.line(alloc)?;
     let bytes = bytes_of(alloc, followed, wanted)?;

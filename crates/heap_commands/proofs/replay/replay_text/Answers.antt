@@ -1,15 +1,17 @@
-use Rattle.std.proofs.Common.{ap}
-use Rattle.std.proofs.lemmas.Result.{err_from_is_err_and}
-use Rattle.heap_commands.specs.declared.replay.Unreplayed.{Unreplayed}
-use Rattle.heap_commands.proofs.Lemmas.Unreplayed.{out_of_memory, replay_stopped}
+use Rattle.std.proofs.Common.{◌≡◌, List, ℕ, Option, sym, subst}
+use Rattle.std.proofs.lemmas.Result.{IfErr-weaker, IfOk-weaker}
+use Rattle.heap_commands.specs.Replay.{IsReplayOf}
+use Rattle.heap_commands.proofs.Lemmas.Unreplayed.{out_of_memory}
 use Rattle.heap_commands.proofs.replay.replay_text.Goals as goal
 
-pub returns-in_err-replayed-clause-fault : goal.returns-in_err-replayed-clause-fault
-returns-in_err-replayed-clause-fault g c =
-    let p = err_from_is_err_and c.from_residual-in_err-replayed.result c.from_residual-in_err-replayed.ensures.1 in
-    rw (p.1) (replay_stopped _ _ _ c.in_ok-image.image c.in_ok-schedule.schedule _ _ (ap (λ (u : Unreplayed). u.fault) p.2) c.in_ok-image.ensures.valid c.in_ok-image.ensures.text c.in_ok-schedule.ensures.text c.in_err-replayed.ensures.fault)
+-- what is true of the lines is true of a text that has them
+printed : (left left' source : Option (List ℕ)) (lines text : List ℕ) → text ≡ lines → IsReplayOf left left' source lines → IsReplayOf left left' source text
+printed left left' source lines text is replay = subst (IsReplayOf left left' source) (sym is) replay
 
-pub returns-in_err-text_of-clause-fault : goal.returns-in_err-text_of-clause-fault
-returns-in_err-text_of-clause-fault g c =
-    let p = err_from_is_err_and c.from_residual-in_err-text_of.result c.from_residual-in_err-text_of.ensures.1 in
-    rw (p.1) (out_of_memory _ _ _ _ p.2)
+pub returns-clause-replay : goal.returns-clause-replay
+returns-clause-replay g c =
+    IfOk-weaker c.text_of.result _ _ (λ text is. printed _ _ _ _ _ is c.in_ok-replayed.ensures.replay) c.text_of.ensures.text
+
+pub returns-clause-fault : goal.returns-clause-fault
+returns-clause-fault g c =
+    IfErr-weaker c.text_of.result _ _ (λ unreplayed is. out_of_memory _ _ _ _ is) c.text_of.ensures.fault
