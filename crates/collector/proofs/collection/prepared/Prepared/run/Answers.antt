@@ -2,7 +2,7 @@ use Rattle.std.proofs.Common.{◌≡◌, ℕ, length, sym, ap, ◌∙◌, subst,
 use Rattle.collector.specs.Halts.{IsLostTo, MayBeRefused}
 use Rattle.collector.proofs.Lemmas.Failing.{HasFailed, cause_of, front_of}
 use Rattle.summary.specs.RegionData.{fill_count}
-use Rattle.collector.proofs.collection.prepared.Prepared.work.Goals as goal
+use Rattle.collector.proofs.collection.prepared.Prepared.run.Goals as goal
 
 pub returns-in-Some-clause-fault : goal.returns-in-Some-clause-fault
 returns-in-Some-clause-fault g c =
