@@ -1,5 +1,5 @@
 -- What the bytes of a heap tell of its image.
-use Rattle.std.proofs.Common.{◌≡◌, ℕ, ◌+◌, ◌*◌, ◌<◌, ◌^◌, List, ◌++◌, length, min, sym, ◌∙◌, ap, subst, refl, arith, length-append, Option, Some, None, true, false, absurd}
+use Rattle.std.proofs.Common.{◌≡◌, ℕ, ◌+◌, ◌*◌, ◌<◌, ◌^◌, List, ◌++◌, length, min, sym, ◌∙◌, ap, subst, refl, arith, length-append, Option, Some, None, true, false}
 use Rattle.std.proofs.lemmas.Bool.{true≢false}
 use Rattle.std.proofs.lemmas.Nat.{from_le_bytes-to_le_bytes_8}
 use Rattle.std.specs.Prelude.{map, option_map}
