@@ -1,4 +1,4 @@
-use Rattle.std.proofs.Common.{◌≡◌, ℕ, Result, Err, subst}
+use Rattle.std.proofs.Common.{◌≡◌, ℕ, Result, Err, ap, subst, ◌∙◌}
 use Rattle.std.specs.Prelude.{IfErr}
 use Rattle.std.proofs.lemmas.List.Elements.{All-set}
 use Rattle.summary.specs.RegionData.{fill_count}
@@ -15,7 +15,7 @@ returns-in-Err-Failed-clause-fault g c =
     let may_fail = g.D.Seating.may_fail in
     let survey = c.args.self.equipment.survey in
     let fault = c.in-Err-Failed.fault in
-    let ended : ◌≡◌ {A = Result Unit Halt} c.fill_regions-end.result (Err (Failed fault)) = cc in
+    let ended : ◌≡◌ {A = Result Unit Halt} c.fill_regions-end.result (Err (Failed fault)) = c.in-Err-Failed.is ∙ ap Err (rw c.in-Err-Failed.is at c.in-Err-Failed.field-0-is) in
     let halt = subst (λ (end : Result Unit Halt). IfErr end (MayHalt may_fail (may 0) (fill_count survey))) ended c.fill_regions-end.ensures.halt in
     lost_alone may_fail may survey fault halt
 
