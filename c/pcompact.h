@@ -37,7 +37,7 @@ size_t pcompact_fault_text(pcompact_fault fault, uint8_t *text, size_t room);
  * bytes are the text of a valid image and memory suffices. `bytes` isn't null, and nobody writes there meanwhile. */
 pcompact_fault pcompact_check(const uint8_t *bytes, size_t len);
 
-/* What a collection will do. If there is a fault, the other numbers are 0. */
+/* What a collection will do or has done. If there is a fault, the other numbers are 0. */
 typedef struct pcompact_answer {
     pcompact_fault fault;
     uint64_t prefix_end;     /* the address at which the dense prefix ends */
@@ -52,7 +52,7 @@ uint32_t pcompact_summary_of_image(const uint8_t *bytes, size_t len, pcompact_an
 
 /* What the words of a heap don't say. */
 typedef struct pcompact_settings {
-    uint32_t region_log; /* the logarithm, to base 2, of the number of words of a region: 3 to 16 */
+    uint32_t region_log; /* the logarithm, to base 2, of the number of words of a region: 3 to 16, with roots to 20 */
     uint64_t allowance;  /* the largest number of dead words that the dense prefix may keep */
 } pcompact_settings;
 
@@ -62,6 +62,20 @@ typedef struct pcompact_settings {
  * Nothing but `answer` is written. */
 uint32_t pcompact_summary(const uint64_t *words, size_t word_count, const uint64_t *live, size_t live_count,
                           pcompact_settings settings, pcompact_answer *answer);
+
+/* Compacts the heap with these words, from address 0 up, and these live addresses, ascending: afterwards the words are
+ * those of the compaction, and the live addresses the new ones in the same order. Returns the number of the fault in
+ * `answer`: 0, 3, 4, 6 to 9, 11 if memory runs out, or 15 if a check in the collection fails, which no test has seen. After
+ * any fault the words and live addresses are as they were. Takes the memory of a copy of the words, and what a collection
+ * by one worker takes. No pointer is null, also with a count of 0, nothing that they lead to overlaps, and nobody reads or
+ * writes there meanwhile. */
+uint32_t pcompact_collect(uint64_t *words, size_t word_count, uint64_t *live, size_t live_count, pcompact_settings settings,
+                          pcompact_answer *answer);
+
+/* The same for a heap with roots, each of which is 0 or 1 plus the address of an object. The live objects are those that
+ * the roots reach, and afterwards the roots lead to their new addresses. Faults: 0, 3, 4, 7 to 9, 17, 11 and 15. */
+uint32_t pcompact_collect_rooted(uint64_t *words, size_t word_count, uint64_t *roots, size_t root_count,
+                                 pcompact_settings settings, pcompact_answer *answer);
 
 #ifdef __cplusplus
 }

@@ -1,6 +1,6 @@
 /* Calls each function of pcompact.h on an image, and prints what is wrong.
  *
- * usage: calls IMAGE PREFIX_END NEW_TOP FILLED_REGIONS */
+ * usage: calls IMAGE COMPACTION PREFIX_END NEW_TOP FILLED_REGIONS */
 #include "pcompact.h"
 #include <stdio.h>
 #include <stdlib.h>
@@ -78,54 +78,119 @@ static uint64_t number_at(const uint8_t *bytes, size_t size) {
     return number;
 }
 
-/* The same by words and live addresses. `bytes` are an image of version 1, and the machine is little endian. */
+/* A heap in memory: its words, and in the same block its live addresses in version 1, otherwise its roots. */
+typedef struct heap {
+    uint64_t *words, *tail;
+    size_t word_count, tail_count;
+    pcompact_settings settings;
+    int is_rooted;
+} heap;
+
+/* The heap of an image. The machine is little endian. */
+static heap read_heap(const uint8_t *bytes) {
+    heap it;
+    it.settings = (pcompact_settings){(uint32_t)number_at(bytes + 8, 4), number_at(bytes + 24, 8)};
+    it.tail_count = number_at(bytes + 12, 4);
+    it.word_count = number_at(bytes + 16, 8);
+    it.is_rooted = bytes[7] != '1';
+    it.words = malloc(8 * (it.word_count + it.tail_count));
+    if (!it.words) exit(2);
+    memcpy(it.words, bytes + 32, 8 * (it.word_count + it.tail_count));
+    it.tail = it.words + it.word_count;
+    return it;
+}
+
+static int is_same(const heap *one, const heap *other) {
+    return one->word_count == other->word_count && one->tail_count == other->tail_count
+        && memcmp(one->words, other->words, 8 * (one->word_count + one->tail_count)) == 0;
+}
+
+static int has_figures(const pcompact_answer *answer, const pcompact_answer *wanted) {
+    return answer->prefix_end == wanted->prefix_end && answer->new_top == wanted->new_top
+        && answer->filled_regions == wanted->filled_regions;
+}
+
+/* The same by words and live addresses. `bytes` are an image of version 1. */
 static void check_heap(const uint8_t *bytes, const pcompact_answer *wanted) {
-    pcompact_settings settings = {(uint32_t)number_at(bytes + 8, 4), number_at(bytes + 24, 8)};
-    size_t live_count = number_at(bytes + 12, 4), count = number_at(bytes + 16, 8);
-    uint64_t *words = malloc(8 * (count + live_count));
-    if (!words) exit(2);
-    memcpy(words, bytes + 32, 8 * (count + live_count));
-    uint64_t *live = words + count;
+    heap it = read_heap(bytes);
+    uint64_t *live = it.tail;
     pcompact_answer answer;
-    check(pcompact_summary(words, count, live, live_count, settings, &answer) == 0, "a summary of a heap");
-    check(answer.prefix_end == wanted->prefix_end && answer.new_top == wanted->new_top
-              && answer.filled_regions == wanted->filled_regions, "the same figures");
-    check(pcompact_summary(words, count - 1, live, live_count, settings, &answer) == 4, "a region that isn't whole");
-    check(pcompact_summary(words, 0, live, 0, settings, &answer) == 4, "no word");
+    check(pcompact_summary(it.words, it.word_count, live, it.tail_count, it.settings, &answer) == 0, "a summary of a heap");
+    check(has_figures(&answer, wanted), "the same figures");
+    check(pcompact_summary(it.words, it.word_count - 1, live, it.tail_count, it.settings, &answer) == 4,
+          "a region that isn't whole");
+    check(pcompact_summary(it.words, 0, live, 0, it.settings, &answer) == 4, "no word");
     pcompact_settings small = {2, 0};
-    check(pcompact_summary(words, count, live, live_count, small, &answer) == 3, "a small region");
-    live[1] = count;
-    check(pcompact_summary(words, count, live, live_count, settings, &answer) == 6 && answer.fault.place == 1,
-          "an address outside the heap");
+    check(pcompact_summary(it.words, it.word_count, live, it.tail_count, small, &answer) == 3, "a small region");
+    live[1] = it.word_count;
+    check(pcompact_summary(it.words, it.word_count, live, it.tail_count, it.settings, &answer) == 6
+              && answer.fault.place == 1, "an address outside the heap");
     live[1] = live[0] + 1;
-    check(pcompact_summary(words, count, live, live_count, settings, &answer) == 7 && answer.fault.place == live[1],
-          "an address without an object");
-    check(pcompact_summary(words, count, live, 1, settings, &answer) == 9, "a reference to no live object");
-    free(words);
+    check(pcompact_summary(it.words, it.word_count, live, it.tail_count, it.settings, &answer) == 7
+              && answer.fault.place == live[1], "an address without an object");
+    check(pcompact_summary(it.words, it.word_count, live, 1, it.settings, &answer) == 9, "a reference to no live object");
+    free(it.words);
+}
+
+static uint32_t collect(heap *it, pcompact_answer *answer) {
+    if (it->is_rooted)
+        return pcompact_collect_rooted(it->words, it->word_count, it->tail, it->tail_count, it->settings, answer);
+    return pcompact_collect(it->words, it->word_count, it->tail, it->tail_count, it->settings, answer);
+}
+
+/* A heap with a fault of this number at this place is left as it is. */
+static void check_refusal(const uint8_t *bytes, size_t index, uint64_t wrong, uint32_t fault, uint64_t place, const char *what) {
+    heap it = read_heap(bytes), same = read_heap(bytes);
+    it.words[index] = same.words[index] = wrong;
+    pcompact_answer answer;
+    check(collect(&it, &answer) == fault && answer.fault.number == fault && answer.fault.place == place, what);
+    check(answer.prefix_end == 0 && answer.new_top == 0 && answer.filled_regions == 0, "no figures without a collection");
+    check(is_same(&it, &same), "a fault leaves the memory as it was");
+    free(it.words);
+    free(same.words);
+}
+
+/* `after` is the image of the compaction. The first root isn't null. */
+static void check_collection(const uint8_t *bytes, const uint8_t *after, const pcompact_answer *wanted) {
+    heap it = read_heap(bytes), compacted = read_heap(after);
+    pcompact_answer answer;
+    check(collect(&it, &answer) == 0 && answer.fault.number == 0, "a collection");
+    check(has_figures(&answer, wanted), "the figures of a collection");
+    check(is_same(&it, &compacted), "the memory holds the compaction");
+    check(collect(&it, &answer) == 0, "a collection of the compaction");
+    heap other = read_heap(bytes);
+    uint64_t object = other.tail[0] - (uint64_t)other.is_rooted, beyond = other.word_count + 1;
+    check_refusal(bytes, object, 0, 7, object, "a header that is none");
+    check_refusal(bytes, other.word_count, beyond, other.is_rooted ? 17 : 6, 0, "a number outside the heap");
+    free(it.words);
+    free(other.words);
+    free(compacted.words);
 }
 
 /* The figures are those that `pcompact summary` prints. */
-static void check_summary(const char *name, uint64_t prefix_end, uint64_t new_top, uint32_t filled_regions) {
-    size_t len;
-    uint8_t *bytes = read_file(name, &len);
+static void check_summary(const char *name, const char *compaction, const pcompact_answer *wanted) {
+    size_t len, after_len;
+    uint8_t *bytes = read_file(name, &len), *after = read_file(compaction, &after_len);
     pcompact_answer answer;
     check(pcompact_summary_of_image(bytes, len, &answer) == 0 && answer.fault.number == 0, "a summary");
-    check(answer.prefix_end == prefix_end, "prefix end");
-    check(answer.new_top == new_top, "new top");
-    check(answer.filled_regions == filled_regions, "filled regions");
+    check(has_figures(&answer, wanted), "the figures of a summary");
     if (bytes[7] == '1') check_heap(bytes, &answer);
+    check_collection(bytes, after, &answer);
     check(pcompact_summary_of_image(bytes, len - 1, &answer) == 5 && answer.fault.number == 5, "fault 5");
     check(answer.prefix_end == 0 && answer.new_top == 0 && answer.filled_regions == 0, "no figures");
     free(bytes);
+    free(after);
 }
 
 int main(int argc, char **argv) {
-    if (argc != 5) return 2;
+    if (argc != 6) return 2;
+    pcompact_answer wanted = {.prefix_end = strtoull(argv[3], NULL, 10), .new_top = strtoull(argv[4], NULL, 10),
+                              .filled_regions = (uint32_t)strtoul(argv[5], NULL, 10)};
     check(pcompact_version() == PCOMPACT_VERSION, "the version of header and library");
     check_texts();
     check_cut_texts();
     check_image(argv[1]);
-    check_summary(argv[1], strtoull(argv[2], NULL, 10), strtoull(argv[3], NULL, 10), (uint32_t)strtoul(argv[4], NULL, 10));
+    check_summary(argv[1], argv[2], &wanted);
     printf("%d passed, %d failed\n", passed, failed);
     return failed != 0;
 }

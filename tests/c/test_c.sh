@@ -31,13 +31,31 @@ build() {
     try "${CC:-cc}" -std=c11 -Wall -Wextra -Werror "$@" -Ic tests/c/calls.c c/heap.c "$library" -o "$room/$program"
 }
 
+# Writes the compaction of an example, as the model of tests/models finds it.
+compact() {
+    try python3 -c 'if True:
+        import pathlib, sys
+        from tests.models.image import Collection, decode, encode
+        image = decode(pathlib.Path(sys.argv[1]).read_bytes())
+        pathlib.Path(sys.argv[2]).write_bytes(encode(Collection(image).compaction()))' "examples/$1.pcheap" "$room/$1"
+}
+
+# Runs a caller on an example.
+call() {
+    local example=$1
+    shift
+    try "$@" "examples/$example.pcheap" "$room/$example" 0 19 3
+}
+
+compact base
+compact rooted
 build plain -O2
-try "$room/plain" examples/base.pcheap 0 19 3
+call base "$room/plain"
 build checked -g -fsanitize=address,undefined -fno-sanitize-recover
-try "$room/checked" examples/base.pcheap 0 19 3
-try "$room/checked" examples/rooted.pcheap 0 19 3
+call base "$room/checked"
+call rooted "$room/checked"
 if command -v valgrind >/dev/null; then
-    try valgrind -q --leak-check=full --error-exitcode=3 "$room/plain" examples/rooted.pcheap 0 19 3
+    call rooted valgrind -q --leak-check=full --error-exitcode=3 "$room/plain"
 fi
 echo "$passed passed, $failed failed"
 [ "$failed" = 0 ]

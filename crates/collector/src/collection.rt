@@ -11,19 +11,25 @@ ghost use Rattle.collector.specs.Halts.{MayRefuse};
 ghost use Rattle.collector.specs.Collections.{figures_of, AreNoneOrTooMany, IfKept, IfLost};
 ghost use Rattle.collector.specs.declared.outcome.Refusal.TheVariants.{Kept, Lost};
 
+pub(crate) mod alone;
 mod clean_up;
 mod collection_desk;
+mod ended;
 mod equipment;
+mod hands;
 mod prepared;
 mod reading;
 pub(crate) mod record_streaming;
 pub(crate) mod recording;
+mod redirect;
 pub(crate) mod streaming;
 
 use crate::gate::Gate;
 use crate::outcome::{Outcome, Refusal};
 use crate::workers::start_line::StartLine;
 use claim_board::{Board, Finished, Pass};
+use ended::Worked;
+use hands::Many;
 use heap_image::{Fault, Image};
 use history::{moves_are_lawful, settled_histories_have_each_once};
 use prepared::Prepared;
@@ -57,7 +63,8 @@ pub fn collect<G: Gate + Sync, T: Threads + Sync, W: Wait + Sync>(
     ensures lost { IfErr result (λ refusal. IfLost refusal (λ fault. (fault ≡ Fault.Gate) ⊎ IsOverwritten fault)) }
     ensures gate { result ≡ Err (Lost Fault.Gate) → MayRefuse (G.may_refuse gate.now) workers image }
 {
-    let prepared = match Prepared::<Board>::new(alloc, image, workers, threads) {
+    let most = workers as usize;
+    let prepared = match Prepared::<Board>::new(alloc, image, workers, &Many { threads, most }) {
         Ok(prepared) => prepared,
         Err((image, fault)) => return Err(Refusal::Kept(image, fault)),
     };
@@ -82,9 +89,21 @@ fn collected<G: Gate + Sync, T: Threads + Sync, W: Wait + Sync>(
     ensures fault { IfErr result (λ fault. IsOverwritten fault ⊎ ((fault ≡ Fault.Gate)
         × MayRefuse (G.may_refuse gate.now) (worker_count prepared.equipment.desk) prepared.equipment.survey)) }
 {
-    settled_histories_have_each_once();
-    moves_are_lawful(prepared.equipment.survey.plan());
     let worked = prepared.work(&StartLine::open(), gate, threads, wait)?;
+    finish_collection(worked)
+}
+
+/// The outcome of a collection, and its finished board.
+fn finish_collection(worked: Worked<Board>) -> Result<(Outcome, Finished), Fault>
+    requires moves { moves_of worked.desk ≡ image_table worked.survey }
+    requires seats { All (λ pass. board_of pass ≡ identity worked.desk) worked.seats.items }
+    ensures outcome { IfOk result (λ done. done.0 ≡ worked.outcome) }
+    ensures legal { IfOk result (λ done. IsLegal (image_table worked.survey) (worker_count worked.desk) (history done.1)) }
+    ensures once { IfOk result (λ done. HasEachOnce (image_table worked.survey) (history done.1)) }
+    ensures fault { IfErr result IsOverwritten }
+{
+    settled_histories_have_each_once();
+    moves_are_lawful(worked.survey.plan());
     let finished = finish(worked.desk, worked.seats)?;
     Ok((worked.outcome, finished))
 }

@@ -2,6 +2,7 @@
 //!
 //! - [`collect`] compacts an image with 1 to 64 workers, each in a thread of its own if one can be started.
 //!   [`collect_stream`] does so from bytes to bytes.
+//! - [`collect_alone`] compacts an image in the caller's thread alone. It starts no thread, and never waits.
 //! - [`record`] collects as `collect` does, and returns the schedule of everything that the workers did.
 //!   [`record_stream`] does so from bytes to bytes.
 //! - [`verify`] says whether an image is the compaction of another, and if not, where it first differs: in its shape,
@@ -48,6 +49,7 @@ mod verdict;
 mod verification;
 mod workers;
 
+pub use collection::alone::collect_alone;
 pub use collection::collect;
 pub use collection::record_streaming::record_stream;
 pub use collection::recording::record;

@@ -2,7 +2,7 @@
 use crate::checks::{equal, holds};
 use crate::gates::RefusesTheFirst;
 use crate::heaps::base;
-use collector::{Gate, OpenGate, Refusal, collect, record};
+use collector::{Gate, OpenGate, Refusal, collect, collect_alone, record};
 use heap_image::Fault;
 use std::alloc::Global;
 use std::sync::Wait;
@@ -43,6 +43,16 @@ fn loss_fault<G: Gate + Sync, R: Threads + Wait + Sync>(
 fn a_refused_region_loses_the_image(rt: HostRuntime) -> Result<(), Fail> {
     let fault = loss_fault(rt.alloc(), 0, &Refuses(2), &rt)?;
     equal(&rt, fault, Fault::Gate);
+    Ok(())
+}
+
+#[test]
+fn a_refused_region_loses_an_image_in_one_thread(rt: HostRuntime) -> Result<(), Fail> {
+    let image = base(0).image(rt.alloc(), &rt)?;
+    match collect_alone(rt.alloc(), image, &Refuses(2)) {
+        Err(Refusal::Lost(fault)) => equal(&rt, fault, Fault::Gate),
+        _ => return Err(Fail::from("not lost")),
+    }
     Ok(())
 }
 

@@ -1,11 +1,14 @@
 //! What calls answer.
 ghost use Rattle.std.specs.Prelude.{◌≡◌};
+ghost use Rattle.collector.specs.Collections.{figures_of};
+ghost use Rattle.heap_image.specs.HeapImage.{HeapImage};
 ghost use Rattle.pcompact_c.specs.Answers.{IsSummaryOf};
 
 use crate::fault::PcompactFault;
+use collector::Figures;
 use summary::Plan;
 
-/// What a collection will do, or why there is none.
+/// What a collection will do or has done, or why there is none.
 #[repr(C)]
 #[derive(Clone, Copy)]
 pub struct PcompactAnswer {
@@ -30,6 +33,19 @@ impl PcompactAnswer {
             prefix_end: plan.prefix_end(),
             new_top: plan.new_top(),
             filled_regions: plan.fill_regions(),
+        }
+    }
+
+    /// The figures of a collection that has ended well.
+    pub(crate) fn of_figures(figures: Figures) -> PcompactAnswer
+        ensures none { result.fault.number ≡ 0 }
+        ensures figures { (image : HeapImage) → figures ≡ figures_of image → IsSummaryOf image result }
+    {
+        PcompactAnswer {
+            fault: PcompactFault::NONE,
+            prefix_end: figures.prefix_end,
+            new_top: figures.new_top,
+            filled_regions: figures.filled,
         }
     }
 

@@ -7,9 +7,13 @@
 
 mod answer;
 mod check;
+mod collect;
+mod collect_rooted;
 mod fault;
 mod fault_text;
+mod heap_collection;
 mod heap_words;
+mod image_of_heap;
 mod settings;
 mod summary_of_heap;
 mod summary_of_image;

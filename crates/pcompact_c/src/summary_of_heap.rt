@@ -1,20 +1,19 @@
 //! The summary of a heap in memory.
-ghost use Rattle.std.specs.Prelude.{◌≡◌, ◌<◌, ◌⊎◌, ℕ, List, Some, IfOk, IfErr};
+ghost use Rattle.std.specs.Prelude.{◌≡◌, ◌<◌, ◌⊎◌, Some, IfOk, IfErr};
 ghost use Rattle.heap_image.specs.declared.fault.Fault.{Fault};
 ghost use Rattle.heap_image.specs.declared.fault.Fault.TheVariants.{Memory};
 ghost use Rattle.heap_image.specs.declared.version.Version.TheVariants.{One};
 ghost use Rattle.heap_image.specs.HeapImage.{HeapImage, IsValid};
 ghost use Rattle.heap_image.specs.ImageText.{text, first_fault};
-ghost use Rattle.heap_image.specs.Refusals.{IsReason};
 ghost use Rattle.pcompact_c.specs.Faults.{IsOf};
 ghost use Rattle.pcompact_c.specs.Answers.{IsSummaryOf};
 ghost use Rattle.pcompact_c.specs.HeapWords.{heap_bytes};
 
 use crate::answer::PcompactAnswer;
 use crate::fault::PcompactFault;
-use crate::heap_words::{HeapWords, front_of};
+use crate::image_of_heap::image_of_heap;
 use crate::settings::PcompactSettings;
-use heap_image::{Fault, Image, Version, read_image};
+use heap_image::{Fault, Version};
 use std::alloc::Global;
 use summary::Survey;
 
@@ -62,41 +61,7 @@ fn summarize(
         × (heap_bytes One settings words.now live.now ≡ text image) × IsSummaryOf image answer) }
     ensures fault { IfErr result (λ fault. (fault ≡ Memory) ⊎ (first_fault (heap_bytes One settings words.now live.now) ≡ Some fault)) }
 {
-    let image = image_of(alloc, words, live, settings)?;
+    let image = image_of_heap(alloc, Version::One, settings, words, live)?;
     let survey = Survey::alone(alloc, &image)?;
     Ok(PcompactAnswer::of_plan(survey.plan()))
-}
-
-/// The image of this heap, or the first fault of its bytes, or fault 11 if memory runs out.
-fn image_of(
-    alloc: Global,
-    words: &[u64],
-    live: &[u64],
-    settings: PcompactSettings,
-) -> Result<Image, Fault>
-    ensures valid { IfOk result (λ image. IsValid image) }
-    ensures text { IfOk result (λ image. heap_bytes One settings words.now live.now ≡ text image) }
-    ensures fault { IfErr result (λ fault. (fault ≡ Memory) ⊎ (first_fault (heap_bytes One settings words.now live.now) ≡ Some fault)) }
-{
-    let front = front_of(Version::One, settings, words.len(), live.len());
-    let mut heap = HeapWords {
-        front: &front,
-        words,
-        tail: live,
-        has_failed: false,
-    };
-    match read_image(alloc, &mut heap) {
-        Ok(image) => Ok(image),
-        Err(fault) => Err(without_device(fault)),
-    }
-}
-
-/// The fault of reading an image from a device that fails only if memory runs out.
-fn without_device(fault: Fault) -> Fault
-    ensures { (input : List ℕ) → IsReason input fault → (result ≡ Memory) ⊎ (first_fault input ≡ Some result) }
-{
-    match fault {
-        Fault::Io => Fault::Memory,
-        _ => fault,
-    }
 }

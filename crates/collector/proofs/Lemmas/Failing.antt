@@ -1,14 +1,15 @@
 -- The causes of a collection's fault.
-use Rattle.std.proofs.Common.{◌≡◌, ℕ, ◌<◌, List, ◌++◌, length, take, get_or, sym, ap, ◌∙◌, subst, inl, inr, ◌⊎◌, Err}
+use Rattle.std.proofs.Common.{◌≡◌, ℕ, ◌<◌, List, ◌++◌, length, take, get_or, sym, ap, ◌∙◌, subst, inl, inr, ◌⊎◌, Err, arith}
 use Rattle.std.specs.Prelude.{All, IfErr}
 use Rattle.std.proofs.Math.Seq.{take-append_seam}
 use Rattle.heap_image.specs.HeapImage.{HeapImage}
 use Rattle.heap_image.specs.declared.fault.Fault.{Fault}
 use Rattle.heap_image.specs.declared.fault.Fault.TheVariants.{Overwritten, Gate}
+use Rattle.summary.specs.RegionData.{fill_count}
 use Rattle.fill.specs.FillFaults.{IsOverwritten}
 use Rattle.collector.specs.declared.workers.worker.Worker.{Worker}
 use Rattle.collector.specs.declared.workers.worker.Halt.TheVariants.{Failed}
-use Rattle.collector.specs.Halts.{MayHalt, MayRefuse}
+use Rattle.collector.specs.Halts.{MayHalt, MayRefuse, IsLostTo}
 
 -- a worker that failed has its fault in the list
 abbrev pub HasFailed : {S : Type 0} → List (Worker S) → Fault → Type 0
@@ -30,3 +31,9 @@ pub refused_by : (may_refuse : ℕ → ℕ → Type 0) (workers : ℕ) (image : 
     → IsOverwritten fault ⊎ ((fault ≡ Gate) × MayRefuse may_refuse workers image) → MayRefuse may_refuse workers image
 refused_by may_refuse workers image fault gate (inl old) = absurd (let f : Gate ≡ Overwritten old.0 = sym gate ∙ old.1 in cc)
 refused_by may_refuse workers image fault gate (inr refused) = refused.1
+
+-- what halts worker 0 loses a collection by one worker
+pub lost_alone : (may_fail : Fault → Type 0) (may_refuse : ℕ → ℕ → Type 0) (image : HeapImage) (fault : Fault)
+    → MayHalt may_fail (may_refuse 0) (fill_count image) (Failed fault) → IsLostTo may_fail may_refuse 1 image fault
+lost_alone may_fail may_refuse image fault (inl own) = inl own
+lost_alone may_fail may_refuse image fault (inr refused) = inr (refused.0, (refused.1.0, refused.1.1, (0, omega arith, refused.1.2)))

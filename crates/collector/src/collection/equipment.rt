@@ -3,11 +3,10 @@ ghost use Rattle.heap_image.specs.declared.fault.Fault.TheVariants.{Memory};
 ghost use Rattle.history.specs.ImageMoves.{image_table};
 
 use super::collection_desk::CollectionDesk;
+use super::hands::Hands;
 use crate::workers::staff::Staff;
 use heap_image::{Fault, Image};
-use mark_bitmap::Marks;
 use std::alloc::Global;
-use std::thread::Threads;
 use summary::Survey;
 
 /// What a collection needs apart from the cells: the survey of the image, a desk for its moves, and 1 to 64 workers,
@@ -30,16 +29,15 @@ impl<D: CollectionDesk + Drop> Equipment<D>
 where
     D::Seat: Drop,
 {
-    /// Makes the equipment for an image and `workers` workers, with as many threads. Its only fault is that memory runs
-    /// out.
-    ///
-    /// What the reader kept of the image is freed once the marks are made, which leaves its memory to the rest.
-    pub(crate) fn of(
+    /// Makes the equipment for an image and `workers` workers. The hands survey the image. Its only fault is that memory
+    /// runs out.
+    pub(crate) fn of<H: Hands>(
         alloc: Global,
         image: &mut Image,
         workers: u32,
-        threads: &(impl Threads + Sync),
+        hands: &H,
     ) -> Result<Equipment<D>, Fault>
+        requires start { H.may_start }
         requires some { 0 < workers }
         requires few { workers ≤ 64 }
         ensures survey { IfOk result (λ made. made.survey ≡ image.old) }
@@ -48,10 +46,7 @@ where
         ensures same { image.new ≡ image.old }
         ensures fault { IfErr result (λ fault. fault ≡ Memory) }
     {
-        let count = workers as usize;
-        let marks = Marks::by_workers(alloc, image, count, threads)?;
-        image.forget_seen();
-        let survey = Survey::with_marks(alloc, image, marks, count, threads)?;
+        let survey = hands.survey(alloc, image)?;
         let (desk, seats) = D::open(alloc, survey.plan(), workers)?;
         let staff = Staff::new(alloc, survey.plan(), seats)?;
         Ok(Equipment {

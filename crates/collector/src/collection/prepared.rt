@@ -1,19 +1,18 @@
-ghost use Rattle.std.specs.Prelude.{◌≡◌, ◌<◌, ◌≤◌, ◌↔◌, ◌⊎◌, ℕ, [], All, vec_len, IfOk, IfErr, IfSome, slice_index_or, length, None, Err};
-ghost use Rattle.std.specs.Vec.{vec_capacity};
+ghost use Rattle.std.specs.Prelude.{◌≡◌, ◌<◌, ◌↔◌, ◌⊎◌, ℕ, All, vec_len, IfOk, IfErr, IfSome, slice_index_or, length, None, Err};
 ghost use Rattle.summary.specs.Compaction.{compact};
 ghost use Rattle.collector.specs.Halts.{IsLostTo, met_fault};
 ghost use Rattle.collector.specs.Collections.{figures_of, AreNoneOrTooMany};
 ghost use Rattle.collector.specs.declared.workers.worker.Halt.TheVariants.{Failed};
 
-use super::clean_up::clean_up;
 use super::collection_desk::CollectionDesk;
+use super::ended::{Ended, Worked};
 use super::equipment::Equipment;
+use super::hands::{Alone, Hands, Many};
 use crate::gate::Gate;
-use crate::outcome::{Figures, Outcome};
 use crate::workers::crew::{Crew, work_all};
 use crate::workers::staff::Staff;
 use crate::workers::start_line::StartLine;
-use crate::workers::worker::Worker;
+use crate::workers::worker::{Halt, Worker};
 use claim_board::Desk;
 use heap_image::{Fault, Image};
 use history::MAX_WORKERS;
@@ -22,7 +21,6 @@ use retry_policy::RetryPolicy;
 use std::alloc::Global;
 use std::sync::atomic::AtomicBool;
 use std::thread::Threads;
-use summary::Survey;
 
 /// A collection over any desk before its workers begin: the equipment, and the image's regions in cells.
 #[derive(Drop)]
@@ -35,68 +33,19 @@ where
     ghost same_cells: { cells ≡ equipment.survey },
 }
 
-/// The results of a collection whose regions have all moved.
-#[derive(Drop)]
-pub(crate) struct Worked<D: CollectionDesk + Drop>
-where
-    D::Seat: Drop,
-{
-    pub(crate) outcome: Outcome,
-    pub(crate) survey: Survey,
-    pub(crate) desk: D,
-    /// The seats of all workers.
-    pub(crate) seats: Vec<D::Seat>,
-}
-
-impl<D: CollectionDesk + Drop> Worked<D>
-where
-    D::Seat: Drop,
-{
-    /// Moves the workers' seats into `seats`, which has room for them.
-    fn of(
-        outcome: Outcome,
-        survey: Survey,
-        desk: D,
-        mut workers: Vec<Worker<D::Seat>>,
-        mut seats: Vec<D::Seat>,
-    ) -> Worked<D>
-        requires workers { All (λ w. D.serves desk w.seat) workers.items }
-        requires empty { seats.items ≡ [] }
-        requires room { vec_len workers ≤ vec_capacity seats }
-        ensures outcome { result.outcome ≡ outcome }
-        ensures survey { result.survey ≡ survey }
-        ensures desk { result.desk ≡ desk }
-        ensures seats { All (D.serves result.desk) result.seats.items }
-    {
-        while let Some(worker) = workers.pop() {
-            let Worker {
-                seat,
-                ready: _,
-                end: _,
-            } = worker;
-            seats.push_reserved(seat);
-        }
-        Worked {
-            outcome,
-            survey,
-            desk,
-            seats,
-        }
-    }
-}
-
 impl<D: CollectionDesk + Drop> Prepared<D>
 where
     D::Seat: Drop,
 {
-    /// Prepares the collection of an image. On failure it returns the image unchanged, with fault 12 exactly if the
-    /// number of workers, which is tested first, isn't 1 to 64, and with fault 11 if memory runs out.
-    pub(crate) fn new(
+    /// Prepares the collection of an image, which the hands survey. On failure it returns the image unchanged, with fault
+    /// 12 exactly if the number of workers, which is tested first, isn't 1 to 64, and with fault 11 if memory runs out.
+    pub(crate) fn new<H: Hands>(
         alloc: Global,
         mut image: Image,
         workers: u32,
-        threads: &(impl Threads + Sync),
+        hands: &H,
     ) -> Result<Prepared<D>, (Image, Fault)>
+        requires { H.may_start }
         ensures survey { IfOk result (λ prepared. prepared.equipment.survey ≡ image) }
         ensures workers { IfOk result (λ prepared. vec_len prepared.equipment.staff.workers ≡ workers) }
         ensures seats { IfOk result (λ prepared. All (λ w. D.serves prepared.equipment.desk w.seat)
@@ -107,7 +56,7 @@ where
         if workers == 0 || workers > MAX_WORKERS {
             return Err((image, Fault::Workers));
         }
-        let equipment = match Equipment::of(alloc, &mut image, workers, threads) {
+        let equipment = match Equipment::of(alloc, &mut image, workers, hands) {
             Ok(equipment) => equipment,
             Err(fault) => return Err((image, fault)),
         };
@@ -138,6 +87,29 @@ where
         ensures fault { IfErr result (IsLostTo D.may_fail (G.may_refuse gate.now)
             (vec_len self.equipment.staff.workers) self.equipment.survey) }
     {
+        let most = self.equipment.staff.workers.len();
+        let ended = self.run(start, gate, threads, wait)?;
+        ended.clean_up(&Many { threads, most })
+    }
+
+    /// Runs all workers from this start line. Returns the fault of the lowest worker that met one.
+    fn run<G: Gate + Sync, T: Threads + Sync, W: RetryPolicy + Sync>(
+        self,
+        start: &StartLine,
+        gate: &G,
+        threads: &T,
+        wait: &W,
+    ) -> Result<Ended<D>, Fault>
+    where
+        D: Desk<W> + Sync,
+        D::Seat: Send,
+        requires seats { All (λ w. D.serves self.equipment.desk w.seat) self.equipment.staff.workers.items }
+        ensures survey { IfOk result (λ ended. ended.survey ≡ self.equipment.survey) }
+        ensures desk { IfOk result (λ ended. ended.desk ≡ self.equipment.desk) }
+        ensures seats { IfOk result (λ ended. All (λ w. D.serves ended.desk w.seat) ended.workers.items) }
+        ensures fault { IfErr result (IsLostTo D.may_fail (G.may_refuse gate.now)
+            (vec_len self.equipment.staff.workers) self.equipment.survey) }
+    {
         let Prepared { equipment, cells } = self;
         let Equipment {
             survey,
@@ -161,14 +133,82 @@ where
             stop: &stop,
         };
         work_all(&crew, workers.as_mut_slice(), threads);
-        let count = workers.len();
         if let Some(fault) = first_fault(workers.as_slice()) {
             return Err(fault);
         }
-        let image = clean_up(cells, &survey, count, threads)?;
-        let figures = Figures::of(survey.plan());
-        let outcome = Outcome { image, figures };
-        Ok(Worked::of(outcome, survey, desk, workers, seats))
+        Ok(Ended {
+            survey,
+            desk,
+            cells,
+            workers,
+            seats,
+        })
+    }
+
+    /// Lets worker 0 fill all regions in the caller's thread, and cleans up there. Returns the fault that it met, or
+    /// fault 15 if a region has not moved.
+    pub(crate) fn work_alone<G: Gate, W: RetryPolicy>(
+        self,
+        gate: &G,
+        policy: &W,
+    ) -> Result<Worked<D>, Fault>
+    where
+        D: Desk<W>,
+        requires seats { All (λ w. D.serves self.equipment.desk w.seat) self.equipment.staff.workers.items }
+        ensures image { IfOk result (λ worked. worked.outcome.image ≡ compact self.equipment.survey) }
+        ensures figures { IfOk result (λ worked. worked.outcome.figures ≡ figures_of self.equipment.survey) }
+        ensures survey { IfOk result (λ worked. worked.survey ≡ self.equipment.survey) }
+        ensures desk { IfOk result (λ worked. worked.desk ≡ self.equipment.desk) }
+        ensures seats { IfOk result (λ worked. All (D.serves worked.desk) worked.seats.items) }
+        ensures fault { IfErr result (IsLostTo D.may_fail (G.may_refuse gate.now) 1 self.equipment.survey) }
+    {
+        let ended = self.run_alone(gate, policy)?;
+        ended.clean_up(&Alone)
+    }
+
+    /// Lets worker 0 fill all regions in the caller's thread. Returns the fault that it met.
+    fn run_alone<G: Gate, W: RetryPolicy>(self, gate: &G, policy: &W) -> Result<Ended<D>, Fault>
+    where
+        D: Desk<W>,
+        requires seats { All (λ w. D.serves self.equipment.desk w.seat) self.equipment.staff.workers.items }
+        ensures survey { IfOk result (λ ended. ended.survey ≡ self.equipment.survey) }
+        ensures desk { IfOk result (λ ended. ended.desk ≡ self.equipment.desk) }
+        ensures seats { IfOk result (λ ended. All (λ w. D.serves ended.desk w.seat) ended.workers.items) }
+        ensures fault { IfErr result (IsLostTo D.may_fail (G.may_refuse gate.now) 1 self.equipment.survey) }
+    {
+        let Prepared { equipment, cells } = self;
+        let Equipment {
+            survey,
+            desk,
+            staff,
+        } = equipment;
+        let Staff {
+            mut workers,
+            thieves,
+            seats,
+        } = staff;
+        let (start, stop) = (StartLine::open(), AtomicBool::new(false));
+        let crew = Crew {
+            desk: &desk,
+            cells: &cells,
+            survey: &survey,
+            gate,
+            wait: policy,
+            thieves: thieves.as_slice(),
+            start: &start,
+            stop: &stop,
+        };
+        let end = crew.fill_regions(0, &mut workers[0]);
+        if let Err(Halt::Failed(fault)) = end {
+            return Err(fault);
+        }
+        Ok(Ended {
+            survey,
+            desk,
+            cells,
+            workers,
+            seats,
+        })
     }
 }
 

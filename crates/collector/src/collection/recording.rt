@@ -8,6 +8,7 @@ ghost use Rattle.collector.specs.Collections.{figures_of, AreNoneOrTooMany, IfKe
 ghost use Rattle.collector.specs.Records.{IsLoss, IsLossBy, IsOfSchedule};
 ghost use Rattle.collector.specs.declared.outcome.Refusal.TheVariants.{Kept, Lost};
 
+use super::hands::Many;
 use super::prepared::Prepared;
 use crate::gate::Gate;
 use crate::outcome::{Outcome, Refusal};
@@ -44,7 +45,8 @@ pub fn record<G: Gate + Sync, T: Threads + Sync, W: Wait + Sync>(
     ensures lost { IfErr result (λ refusal. IfLost refusal IsLoss) }
     ensures gate { result ≡ Err (Lost Fault.Gate) → MayRefuse (G.may_refuse gate.now) workers image }
 {
-    let prepared = match Prepared::<Recorder>::new(alloc, image, workers, threads) {
+    let most = workers as usize;
+    let prepared = match Prepared::<Recorder>::new(alloc, image, workers, &Many { threads, most }) {
         Ok(prepared) => prepared,
         Err((image, fault)) => return Err(Refusal::Kept(image, fault)),
     };

@@ -59,7 +59,7 @@ impl<'a, D: Desk<W>, G: Gate, W: RetryPolicy> Crew<'a, D, G, W> {
     }
 
     /// Takes turns until all regions to fill are settled.
-    fn fill_regions(&self, number: u32, worker: &mut Worker<D::Seat>) -> Result<(), Halt>
+    pub(crate) fn fill_regions(&self, number: u32, worker: &mut Worker<D::Seat>) -> Result<(), Halt>
         requires number { number < length self.now.thieves.now }
         requires seat { D.serves self.now.desk.now worker.old.seat }
         ensures seat { D.serves self.now.desk.now worker.new.seat }

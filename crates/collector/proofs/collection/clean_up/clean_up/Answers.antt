@@ -17,26 +17,26 @@ pub into_image-requires-clause-regions : goal.into_image-requires-clause-regions
 into_image-requires-clause-regions g c =
     let plan : HeapImage = c.args.survey.now in
     let parts = c.in_ok-parts.parts in
-    let updated : List (List ℕ) = c.update_deferred_by_workers.new.regions in
+    let updated : List (List ℕ) = c.update_deferred.new.regions in
     let cleared' : List (List ℕ) = c.clear_above.new.regions in
     let n : ℕ = parts.regions.len in
-    let one : length updated ≡ n = omega (arith, c.update_deferred_by_workers.auto.regions, c.as_mut_slice.ensures.len) in
+    let one : length updated ≡ n = omega (arith, c.update_deferred.auto.regions, c.as_mut_slice.ensures.len) in
     let first : c.as_mut_slice-2.result.now ≡ updated = c.as_mut_slice-2.ensures.value ∙ all_new n updated parts.regions.items one in
     let two : length cleared' ≡ n = omega (arith, c.clear_above.auto.regions, ap length first, one) in
     let second = all_new n cleared' (take n (updated ++ drop (length updated) parts.regions.items)) two in
     let log : parts.region_log ≡ plan.region_log = c.in_ok-parts.ensures.numbers.0 ∙ ap (λ (i : HeapImage). i.region_log) c.requires.cells in
-    let whole : AreBlocks plan.region_log cleared' = c.clear_above.ensures.blocks plan.region_log (subst (AreBlocks plan.region_log) (sym first) c.update_deferred_by_workers.ensures.blocks) in
+    let whole : AreBlocks plan.region_log cleared' = c.clear_above.ensures.blocks plan.region_log (subst (AreBlocks plan.region_log) (sym first) c.update_deferred.ensures.blocks) in
     subst (AreBlocks parts.region_log) (sym second) (subst (λ l. AreBlocks l cleared') (sym log) whole)
 
 pub into_image-requires-clause-valid : goal.into_image-requires-clause-valid
 into_image-requires-clause-valid g c =
     let plan : HeapImage = c.args.survey.now in
     let parts = c.in_ok-parts.parts in
-    let updated : List (List ℕ) = c.update_deferred_by_workers.new.regions in
+    let updated : List (List ℕ) = c.update_deferred.new.regions in
     let cleared' : List (List ℕ) = c.clear_above.new.regions in
     let places : List ℕ = c.redirect_live.new.live in
     let n : ℕ = parts.regions.len in
-    let one : length updated ≡ n = omega (arith, c.update_deferred_by_workers.auto.regions, c.as_mut_slice.ensures.len) in
+    let one : length updated ≡ n = omega (arith, c.update_deferred.auto.regions, c.as_mut_slice.ensures.len) in
     let first : c.as_mut_slice-2.result.now ≡ updated = c.as_mut_slice-2.ensures.value ∙ all_new n updated parts.regions.items one in
     let two : length cleared' ≡ n = omega (arith, c.clear_above.auto.regions, ap length first, one) in
     let three : length places ≡ parts.live.len = omega (arith, c.redirect_live.auto.live, c.as_mut_slice-3.ensures.len) in
@@ -44,7 +44,7 @@ into_image-requires-clause-valid g c =
     let log : parts.region_log ≡ plan.region_log = c.in_ok-parts.ensures.numbers.0 ∙ ap (λ (i : HeapImage). i.region_log) c.requires.cells in
     let version : parts.version ≡ plan.version = c.in_ok-parts.ensures.version ∙ ap (λ (i : HeapImage). i.version) c.requires.cells in
     let allowed : parts.allowance ≡ plan.allowance = c.in_ok-parts.ensures.numbers.1 ∙ ap (λ (i : HeapImage). i.allowance) c.requires.cells in
-    let words = ap concat second ∙ c.clear_above.ensures.words ∙ ap (λ (bs : List (List ℕ)). cleared c.new_top.result (concat bs)) first ∙ ap (λ k. cleared k (concat updated)) (c.new_top.ensures ∙ ap new_top c.plan-plan.ensures) ∙ c.update_deferred_by_workers.ensures.compacted in
+    let words = ap concat second ∙ c.clear_above.ensures.words ∙ ap (λ (bs : List (List ℕ)). cleared c.new_top.result (concat bs)) first ∙ ap (λ k. cleared k (concat updated)) (c.new_top.ensures ∙ ap new_top c.plan-plan.ensures) ∙ c.update_deferred.ensures.compacted in
     let live = all_new parts.live.len places parts.live.items three ∙ c.redirect_live.ensures ∙ ap (map (new_address plan)) (c.as_mut_slice-3.ensures.value ∙ c.in_ok-parts.ensures.live ∙ ap (λ (i : HeapImage). i.live) c.requires.cells) in
     let image : HeapImage = versioned_image_of parts.version parts.region_log parts.allowance
     (take n (cleared' ++ drop (length cleared') (take n (updated ++ drop (length updated) parts.regions.items))))

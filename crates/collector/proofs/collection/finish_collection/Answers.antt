@@ -1,17 +1,16 @@
-use Rattle.std.proofs.Common.{◌≡◌, sym, ap, ◌∙◌, subst}
+use Rattle.std.proofs.Common.{sym, subst}
 use Rattle.heap_image.specs.HeapImage.{HeapImage}
 use Rattle.history.specs.ImageMoves.{image_table}
 use Rattle.history.specs.MoveTable.{IsMoveTable}
 use Rattle.history.specs.Whole.{HasEachOnce}
 use Rattle.claim_board.specs.Boards.{moves, worker_count}
 use Rattle.claim_board.specs.Finishes.{history}
-use Rattle.collector.proofs.collection.collected.Goals as goal
+use Rattle.collector.proofs.collection.finish_collection.Goals as goal
 
 pub returns-clause-once : goal.returns-clause-once
-returns-clause-once g c =
-    let equipment = c.args.prepared.equipment in
-    let board = c.in_ok-worked.worked.desk in
-    let same : moves board ≡ image_table equipment.survey = ap moves c.in_ok-worked.ensures.desk ∙ equipment.moves in
+returns-clause-once c =
+    let board = c.args.worked.desk in
+    let same = c.requires.moves in
     let f = c.in_ok-finished.ensures in
     let log = history c.in_ok-finished.finished in
     subst (λ m. HasEachOnce m log) same

@@ -2,7 +2,7 @@ use Rattle.std.proofs.Common.{sym, subst, arith}
 use Rattle.std.specs.Prelude.{All}
 use Rattle.std.proofs.lemmas.List.Elements.{All-push}
 use Rattle.collector.proofs.Lemmas.Passes.{front_and_last}
-use Rattle.collector.proofs.collection.prepared.Worked.of.Goals as goal
+use Rattle.collector.proofs.collection.ended.Worked.of.Goals as goal
 
 pub loop-worker-preserved : goal.loop-worker-preserved
 loop-worker-preserved g c =

@@ -1,7 +1,7 @@
 use Rattle.std.proofs.Common.{◌+◌, ◌≤◌, vec_len}
 use Rattle.std.specs.Prelude.{All}
 use Rattle.std.specs.Vec.{vec_capacity}
-use Rattle.collector.proofs.collection.prepared.Worked.of.Given as goal
+use Rattle.collector.proofs.collection.ended.Worked.of.Given as goal
 
 -- the seats so far and those of the remaining workers are the desk's
 abbrev pub invariant-loop-worker : goal.invariant-loop-worker

@@ -1,0 +1,3 @@
+pub mod HeapBytes
+pub mod Regions
+pub mod Tails

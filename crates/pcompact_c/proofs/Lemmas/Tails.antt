@@ -1,0 +1,35 @@
+-- The numbers after the words of a heap: those of its compaction are as many.
+use Rattle.std.proofs.Common.{◌≡◌, ℕ, List, length, sym, ◌∙◌, ap, refl, Option, Some, None, true, false}
+use Rattle.std.proofs.lemmas.Bool.{true≢false}
+use Rattle.std.proofs.lemmas.List.{length-map}
+use Rattle.std.specs.Prelude.{map, option_map}
+use Rattle.std.specs.Option.{is_some}
+use Rattle.heap_image.specs.HeapImage.{HeapImage, IsValid, roots_or}
+use Rattle.heap_image.specs.Version.{has_roots}
+use Rattle.heap_image.specs.declared.version.Version.TheVariants.{One, Three}
+use Rattle.heap_image.specs.ImageText.{with_tail}
+use Rattle.summary.specs.NewAddresses.{new_address}
+use Rattle.summary.specs.Compaction.{compact, redirected}
+
+as_many : (f g : ℕ → ℕ) (live : List ℕ) (roots : Option (List ℕ)) → length (roots_or (map f live) (option_map (map g) roots)) ≡ length (roots_or live roots)
+as_many f g live None = length-map live f
+as_many f g live (Some roots) = length-map roots g
+
+pub compact-tail : (image : HeapImage) → length (with_tail (compact image)).live ≡ length (with_tail image).live
+compact-tail image = as_many (new_address image) (redirected image) image.live image.roots
+
+plain : (live : List ℕ) (move : List ℕ → List ℕ) (roots : Option (List ℕ)) → is_some roots ≡ false → roots_or live (option_map move roots) ≡ live
+plain live move None e = refl
+plain live move (Some roots) e = absurd (true≢false e)
+
+rooted : (live : List ℕ) (move : List ℕ → List ℕ) (roots : Option (List ℕ)) → is_some roots ≡ true → option_map move roots ≡ Some (roots_or live (option_map move roots))
+rooted live move None e = absurd (true≢false (sym e))
+rooted live move (Some roots) e = refl
+
+-- without roots they are the live addresses
+pub tail-live : (image : HeapImage) → IsValid image → image.version ≡ One → (with_tail (compact image)).live ≡ (compact image).live
+tail-live image valid version = plain (compact image).live (map (redirected image)) image.roots (valid.versioned ∙ ap has_roots version)
+
+-- otherwise they are the roots
+pub tail-roots : (image : HeapImage) → IsValid image → image.version ≡ Three → (compact image).roots ≡ Some (with_tail (compact image)).live
+tail-roots image valid version = rooted (compact image).live (map (redirected image)) image.roots (valid.versioned ∙ ap has_roots version)
