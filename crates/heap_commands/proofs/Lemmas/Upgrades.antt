@@ -1,5 +1,5 @@
 -- The version of an upgraded image.
-use Rattle.std.proofs.Common.{◌≡◌, ℕ, ◌≤◌, refl, arith}
+use Rattle.std.proofs.Common.{◌≡◌, ◌≤◌, refl, arith}
 use Rattle.heap_image.specs.HeapImage.{HeapImage}
 use Rattle.heap_image.specs.Upgrade.{upgraded_to, upgraded_version}
 use Rattle.heap_image.specs.Version.{number_of}
