@@ -20,10 +20,11 @@
 //! If `collect` succeeds, it returns the compaction of the image and its figures, and a finished board whose history is
 //! legal for the image's moves, with one grant, one completion and one settling of each region to fill and one drain of
 //! each pair, for every number of workers and every interleaving. A clause states the cause of each refusal, and `Kept`
-//! returns the image unchanged. If `collect_stream` succeeds, it has read all of its input, the text of an image, and
-//! written the text of its compaction; it writes nothing before a collection has succeeded. If `record` succeeds, it
-//! returns the compaction too, and a schedule that the word machine allows and that settles all regions to fill;
-//! `record_stream` writes the texts of both, and nothing before `record` has succeeded.
+//! returns the image unchanged. `collect_alone` keeps the same promises for one worker. If `collect_stream` succeeds, it
+//! has read all of its input, the text of an image, and written the text of its compaction; it writes nothing before a
+//! collection has succeeded. If `record` succeeds, it returns the compaction too, and a schedule that the word machine
+//! allows and that settles all regions to fill; `record_stream` writes the texts of both, and nothing before `record` has
+//! succeeded.
 //!
 //! `verify` returns `Same` exactly if the second image is the compaction of the first by the definitions of `summary`,
 //! and otherwise the first difference; its only error is that memory runs out. `explain` returns the number of words

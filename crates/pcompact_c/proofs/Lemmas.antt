@@ -1,3 +1,3 @@
+pub mod Compacted
 pub mod HeapBytes
 pub mod Regions
-pub mod Tails

@@ -1,5 +1,5 @@
 use Rattle.std.proofs.Common.{◌∙◌}
-use Rattle.pcompact_c.proofs.Lemmas.Tails.{tail-live}
+use Rattle.pcompact_c.proofs.Lemmas.Compacted.{tail-live}
 use Rattle.pcompact_c.proofs.collect.pcompact_collect.Goals as goal
 
 pub returns-in-Ok-clause-collected : goal.returns-in-Ok-clause-collected

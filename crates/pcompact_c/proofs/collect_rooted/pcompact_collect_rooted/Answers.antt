@@ -1,5 +1,5 @@
 use Rattle.std.proofs.Common.{sym, ap, Some, ◌∙◌}
-use Rattle.pcompact_c.proofs.Lemmas.Tails.{tail-roots}
+use Rattle.pcompact_c.proofs.Lemmas.Compacted.{tail-roots}
 use Rattle.pcompact_c.proofs.collect_rooted.pcompact_collect_rooted.Goals as goal
 
 pub returns-in-Ok-clause-collected : goal.returns-in-Ok-clause-collected

@@ -1,15 +1,19 @@
--- The numbers after the words of a heap: those of its compaction are as many.
+-- The words of a compaction, and the numbers after them, which are as many as before.
 use Rattle.std.proofs.Common.{◌≡◌, ℕ, List, length, sym, ◌∙◌, ap, refl, Option, Some, None, true, false}
 use Rattle.std.proofs.lemmas.Bool.{true≢false}
 use Rattle.std.proofs.lemmas.List.{length-map}
+use Rattle.std.proofs.lemmas.List.FromFn.{length-map-range_with_len}
 use Rattle.std.specs.Prelude.{map, option_map}
 use Rattle.std.specs.Option.{is_some}
-use Rattle.heap_image.specs.HeapImage.{HeapImage, IsValid, roots_or}
+use Rattle.heap_image.specs.HeapImage.{HeapImage, IsValid, heap_words, roots_or}
 use Rattle.heap_image.specs.Version.{has_roots}
 use Rattle.heap_image.specs.declared.version.Version.TheVariants.{One, Three}
 use Rattle.heap_image.specs.ImageText.{with_tail}
 use Rattle.summary.specs.NewAddresses.{new_address}
-use Rattle.summary.specs.Compaction.{compact, redirected}
+use Rattle.summary.specs.Compaction.{compact, compacted_word, redirected}
+
+pub compact-words : (image : HeapImage) → heap_words (compact image) ≡ heap_words image
+compact-words image = length-map-range_with_len (compacted_word image) 0 (heap_words image)
 
 as_many : (f g : ℕ → ℕ) (live : List ℕ) (roots : Option (List ℕ)) → length (roots_or (map f live) (option_map (map g) roots)) ≡ length (roots_or live roots)
 as_many f g live None = length-map live f
