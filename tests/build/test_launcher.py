@@ -207,7 +207,7 @@ def try_changes(it: Launcher, copy: pathlib.Path) -> None:
     it.runs(copy / "pcompact", "a proof and a crate of tests changed")
     change(copy, "collector", "Changed.")
     said, calls = it.call([copy / "pcompact", "a word"], 3, "a source of a crate below changed")
-    it.check(calls == built(["fill", "collector", "pcompact"]), f"proved again: {calls}")
+    it.check(calls == built(["fill", "collector", "collection_commands", "pcompact"]), f"proved again: {calls}")
     (copy / "crates.txt").write_text((copy / "crates.txt").read_text().replace("work_order:", "work_order may_wait=1:"))
     it.refuses(copy / "pcompact", "wasn't built from these sources", "crates.txt changed")
 
