@@ -19,7 +19,7 @@ extern "C" {
 typedef struct pcompact_fault {
     uint32_t number; /* docs/FORMATS.md lists the faults */
     uint32_t field;  /* of fault 9, otherwise 0 */
-    uint64_t place;  /* the index of faults 6 and 17, the address of faults 7 to 9, otherwise 0 */
+    uint64_t place;  /* the index of faults 6 and 17, the address of faults 7 to 9, the region of fault 15, otherwise 0 */
 } pcompact_fault;
 
 /* The version of this header: 1000000 * major + 1000 * minor + patch. */

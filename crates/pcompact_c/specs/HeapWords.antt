@@ -1,5 +1,5 @@
 -- A heap in memory as the bytes of an image.
-use Rattle.std.specs.Prelude.{◌≡◌, ℕ, List, ◌++◌, length, min}
+use Rattle.std.specs.Prelude.{ℕ, List, ◌++◌, length, min}
 use Rattle.heap_image.specs.ImageText.{front, numbers}
 use Rattle.heap_image.specs.declared.version.Version.{Version}
 use Rattle.pcompact_c.specs.declared.heap_words.HeapWords.{HeapWords}

@@ -1,17 +1,11 @@
 -- What the bytes of a heap tell of its image.
-use Rattle.std.proofs.Common.{◌≡◌, ℕ, ◌+◌, ◌*◌, ◌<◌, ◌^◌, List, ◌++◌, length, min, sym, ◌∙◌, ap, subst, refl, arith, length-append, Option, Some, None, true, false}
-use Rattle.std.proofs.lemmas.Bool.{true≢false}
+use Rattle.std.proofs.Common.{◌≡◌, ℕ, ◌<◌, ◌^◌, List, ◌++◌, length, sym, ◌∙◌, ap, arith, length-append}
 use Rattle.std.proofs.lemmas.Nat.{from_le_bytes-to_le_bytes_8}
-use Rattle.std.specs.Prelude.{map, option_map}
-use Rattle.std.specs.Option.{is_some}
-use Rattle.heap_image.specs.HeapImage.{HeapImage, IsValid, heap_words, roots_or}
-use Rattle.heap_image.specs.Version.{has_roots}
+use Rattle.heap_image.specs.HeapImage.{HeapImage, IsValid, heap_words}
 use Rattle.heap_image.specs.declared.version.Version.{Version}
-use Rattle.heap_image.specs.declared.version.Version.TheVariants.{One, Three}
-use Rattle.heap_image.specs.ImageText.{front, numbers, text, with_tail, encoded_version, encoded_words}
+use Rattle.heap_image.specs.ImageText.{numbers, text, with_tail, encoded_version, encoded_words}
 use Rattle.heap_image.proofs.Lemmas.TextLaws.{length-numbers, front_words, front_fits, valid_numbers}
 use Rattle.heap_image.proofs.Lemmas.Versions.{magic_names}
-use Rattle.summary.specs.Compaction.{compact}
 use Rattle.pcompact_c.specs.declared.settings.PcompactSettings.{PcompactSettings}
 use Rattle.pcompact_c.specs.HeapWords.{heap_bytes}
 
