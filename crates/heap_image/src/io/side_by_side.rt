@@ -21,7 +21,7 @@ const LEAST_WORDS: usize = 65_536;
 
 /// The most bytes that a thread requests at a time. More at a time take fewer calls, and are still in the processor's
 /// second cache when they are decoded.
-const BUFFER_BYTES: usize = 131_072;
+const BUFFER_BYTES: usize = 262_144;
 
 /// The place of the body of an image, or of a part of it, in a store.
 #[derive(Debug, Clone, Copy, PartialEq, Eq)]
