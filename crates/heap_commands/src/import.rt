@@ -17,7 +17,7 @@ use crate::shared::live_share::live_share;
 use crate::shared::versions::requested_version;
 use command_line::Import;
 use command_support::{
-    Failure, Laps, LiveShare, Phase, Stats, Stopwatch, SystemFile, TimedIntake, TimedOutlet,
+    Failure, Laps, Late, LiveShare, Phase, Stats, Stopwatch, SystemFile, TimedIntake, TimedOutlet,
     Trouble, Watched, WorkDone,
 };
 use heap_dump::{ImportFigures, Imported, ListedImport, Options, import, import_listed};
@@ -46,82 +46,63 @@ where
 {
     let watch = Stopwatch::start(rt, request.stats);
     let wish = ImportWish::of(&request);
-    let files = ImportFiles::open(rt, &request)?;
-    if files.is_regular {
-        answer_from_file(rt, files, wish, watch)
+    let ImportFiles {
+        dump,
+        is_regular,
+        image,
+        list,
+    } = ImportFiles::open(rt, &request)?;
+    let mut late = late_beside(rt, image, list.as_ref())?;
+    let imported = if is_regular {
+        import_file(rt, dump, &mut late, wish, watch)
     } else {
-        answer_from_pipe(rt, files, wish, watch)
+        import_pipe(rt, dump, &mut late, wish, watch)
+    };
+    match imported {
+        Ok((made, stats)) => Ok(finished(rt, made, late, list)?.with_stats(stats)),
+        Err(trouble) => Err(unfinished(rt, trouble, late, list)),
     }
 }
 
 /// Imports the dump in a regular file, which is opened again for its second reading.
-fn answer_from_file<'a, R: Files + AllocGlobal + Clock>(
+fn import_file<'a, R: Files + AllocGlobal + Clock>(
     rt: &R,
-    files: ImportFiles<'a, R::File>,
+    mut dump: Watched<'a, R::File>,
+    image: &mut Late<'a, '_, R>,
     wish: ImportWish,
     watch: Stopwatch,
-) -> Result<WorkDone<'a>, Trouble<'a>>
+) -> Result<(ImportMade, Stats), Trouble<'a>>
 where
     R::File: SystemFile,
-    ensures { IfOk result (λ done. IsImportText wish.rows done.text.items) }
+    ensures { IfOk result (λ made. IsImportText wish.rows (string_bytes made.0.text)) }
 {
-    let ImportFiles {
-        mut dump,
-        image,
-        list,
-        ..
-    } = files;
-    let mut late = late_beside(rt, image, list.as_ref())?;
-    let mut again = match Watched::open(rt, dump.word()) {
-        Ok(again) => again,
-        Err(trouble) => return Err(unfinished(rt, trouble, late, list)),
-    };
-    match import_timed(rt, (&mut dump, &mut again), &mut late, wish, watch) {
-        Ok((made, stats)) => Ok(finished(rt, made, late, list)?.with_stats(stats)),
-        Err(failure) => {
-            let trouble = Trouble::new(failure).if_dump(&dump, &again);
-            Err(unfinished(rt, trouble, late, list))
-        }
+    let mut again = Watched::open(rt, dump.word())?;
+    match import_timed(rt, (&mut dump, &mut again), image, wish, watch) {
+        Ok(made) => Ok(made),
+        Err(failure) => Err(Trouble::new(failure).if_dump(&dump, &again)),
     }
 }
 
 /// Imports the dump that a pipe or a device gives. It gives its bytes once, and they are kept for both readings.
-fn answer_from_pipe<'a, R: Files + AllocGlobal + Clock>(
+fn import_pipe<'a, R: Files + AllocGlobal + Clock>(
     rt: &R,
-    files: ImportFiles<'a, R::File>,
+    mut dump: Watched<'a, R::File>,
+    image: &mut Late<'a, '_, R>,
     wish: ImportWish,
     watch: Stopwatch,
-) -> Result<WorkDone<'a>, Trouble<'a>>
+) -> Result<(ImportMade, Stats), Trouble<'a>>
 where
     R::File: SystemFile,
-    ensures { IfOk result (λ done. IsImportText wish.rows done.text.items) }
+    ensures { IfOk result (λ made. IsImportText wish.rows (string_bytes made.0.text)) }
 {
-    let ImportFiles {
-        mut dump,
-        image,
-        list,
-        ..
-    } = files;
-    let mut late = late_beside(rt, image, list.as_ref())?;
     let bytes = match keep(rt.alloc(), &mut dump) {
         Ok(bytes) => bytes,
-        Err(fault) => {
-            let trouble = Trouble::from(fault).if_failed(&dump);
-            return Err(unfinished(rt, trouble, late, list));
-        }
+        Err(fault) => return Err(Trouble::from(fault).if_failed(&dump)),
     };
-    match import_timed(
-        rt,
-        (bytes.as_slice(), bytes.as_slice()),
-        &mut late,
-        wish,
-        watch,
-    ) {
-        Ok((made, stats)) => Ok(finished(rt, made, late, list)?.with_stats(stats)),
-        Err(failure) => {
-            let trouble = Trouble::new(failure).if_dump(&dump, &dump);
-            Err(unfinished(rt, trouble, late, list))
-        }
+    let readers = (bytes.as_slice(), bytes.as_slice());
+    match import_timed(rt, readers, image, wish, watch) {
+        Ok(made) => Ok(made),
+        Err(failure) => Err(Trouble::new(failure).if_dump(&dump, &dump)),
     }
 }
 

@@ -79,10 +79,25 @@ pub fn replay_text<R: Intake, S: Intake, T: Threads + Sync>(
     ensures fault { IfErr result (λ unreplayed. IsUnreplayed (R.left input.old) (R.left input.new)
         (S.left source.old) unreplayed.fault) }
 {
+    let replayed = replay_from(alloc, input, source, threads)?;
+    Ok(text_of(alloc, &replayed)?)
+}
+
+/// Reads an image and a schedule, and replays the schedule on a copy of the image.
+fn replay_from<R: Intake, S: Intake, T: Threads + Sync>(
+    alloc: Global,
+    input: &mut R,
+    source: &mut S,
+    threads: &T,
+) -> Result<Replayed, Unreplayed>
+    ensures replay { IfOk result (λ replayed. IsReplayOf (R.left input.old) (R.left input.new)
+        (S.left source.old) (schedule_text replayed.lines ++ end_line replayed.ended)) }
+    ensures fault { IfErr result (λ unreplayed. IsUnreplayed (R.left input.old) (R.left input.new)
+        (S.left source.old) unreplayed.fault) }
+{
     let image = read_image_by_threads(alloc, input, threads)?;
     let schedule = schedule_in(alloc, source)?;
-    let replayed = replay_on(alloc, &image, schedule, threads)?;
-    Ok(text_of(alloc, &replayed)?)
+    replay_on(alloc, &image, schedule, threads)
 }
 
 /// Replays a schedule on an image. The schedule is dropped once its replay, which has its own copy, is made.

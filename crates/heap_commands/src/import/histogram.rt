@@ -2,7 +2,7 @@
 ghost use Rattle.std.specs.Prelude.{◌≡◌, ◌++◌, ℕ, List, OnOk, codes, string_bytes};
 ghost use Rattle.heap_dump.specs.ImportFigures.{AreFiguresOf};
 ghost use Rattle.heap_dump.specs.Listing.{AreObjectsOf};
-ghost use Rattle.heap_commands.specs.Histogram.{IsHistogram, bytes_of, classes_text, columns, dead_text, in_columns, next_column, notes_text, part, row, rows_from, sums_text};
+ghost use Rattle.heap_commands.specs.Histogram.{IsHistogram, bytes_of, classes_text, columns, dead_text, notes_text, part, row, rows_from, sums_text};
 
 use heap_dump::{ClassNames, ClassTotals, DeadWords, ImportFigures, ListedImport, Totals};
 use std::alloc::{AllocError, Global};
@@ -67,8 +67,7 @@ fn push_row(
 ) -> Result<(), AllocError>
     ensures { OnOk result (string_bytes text.new ≡ string_bytes text.old ++ row names.now number class.now) }
 {
-    push_number(number, text)?;
-    text.push_str(":")?;
+    write!(text, "{number:>4}:")?;
     push_columns(&class.totals, text)?;
     text.push_str("  ")?;
     names.push_name(class.class, text)?;
@@ -97,20 +96,12 @@ fn push_sums(
 fn push_columns(totals: &Totals, text: &mut String) -> Result<(), AllocError>
     ensures { OnOk result (string_bytes text.new ≡ string_bytes text.old ++ columns totals.now) }
 {
-    push_column(totals.live_objects, text)?;
-    push_column(bytes_of(totals.live_words), text)?;
-    push_column(totals.dead_objects, text)?;
-    push_column(bytes_of(totals.dead_words), text)?;
-    Ok(())
-}
-
-/// Appends a space and a number.
-fn push_column(number: u64, text: &mut String) -> Result<(), AllocError>
-    ensures { OnOk result (string_bytes text.new ≡ string_bytes text.old ++ next_column number) }
-{
-    text.push_str(" ")?;
-    push_wide_number(number, text)?;
-    Ok(())
+    let (live, dead) = (totals.live_objects, totals.dead_objects);
+    let (live_bytes, dead_bytes) = (bytes_of(totals.live_words), bytes_of(totals.dead_words));
+    write!(
+        text,
+        " {live:>13} {live_bytes:>13} {dead:>13} {dead_bytes:>13}"
+    )
 }
 
 /// Appends what the words are that belong to no live object.
@@ -132,12 +123,8 @@ fn push_dead(dead: &DeadWords, text: &mut String) -> Result<(), AllocError>
 fn push_part(words: u64, meaning: &str, text: &mut String) -> Result<(), AllocError>
     ensures { OnOk result (string_bytes text.new ≡ string_bytes text.old ++ part words meaning.now) }
 {
-    text.push_str("  ")?;
-    push_wide_number(bytes_of(words), text)?;
-    text.push_str(" ")?;
-    text.push_str(meaning)?;
-    text.push_str("\n")?;
-    Ok(())
+    let bytes = bytes_of(words);
+    writeln!(text, "  {bytes:>13} {meaning}")
 }
 
 /// Appends what two figures of an import mean.
@@ -161,18 +148,4 @@ pub(crate) fn bytes_of(words: u64) -> u64
     ensures { result ≡ bytes_of words }
 {
     words.saturating_mul(8)
-}
-
-/// Appends a number, right-aligned in 13 columns.
-fn push_wide_number(number: u64, text: &mut String) -> Result<(), AllocError>
-    ensures { OnOk result (string_bytes text.new ≡ string_bytes text.old ++ in_columns 13 number) }
-{
-    write!(text, "{number:>13}")
-}
-
-/// Appends a number, right-aligned in 4 columns.
-fn push_number(number: usize, text: &mut String) -> Result<(), AllocError>
-    ensures { OnOk result (string_bytes text.new ≡ string_bytes text.old ++ in_columns 4 number) }
-{
-    write!(text, "{number:>4}")
 }

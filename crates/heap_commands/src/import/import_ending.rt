@@ -4,10 +4,11 @@ ghost use Rattle.std.specs.Prelude.{◌≡◌, IfOk, string_bytes};
 use super::ImportMade;
 use super::object_list::give_list;
 use command_support::{
-    FileTarget, Late, Output, SystemFile, Trouble, WorkDone, both_ended, ended, failed,
+    FileTarget, Late, Output, SystemFile, Trouble, Watched, WorkDone, both_ended, ended, failed,
 };
 use heap_dump::ListedImport;
 use heap_image::ToWrite;
+use std::io::Write;
 use std::rt::Files;
 
 /// Writes the list of objects, if there is to be one, and finishes both files.
@@ -21,10 +22,44 @@ where
     H::File: SystemFile,
     ensures { IfOk result (λ done. done.text.items ≡ string_bytes made.text) }
 {
+    match list {
+        None => ended(host, made.text, image.into_output()?),
+        Some(list) => finished_with_list(host, made, image, list),
+    }
+}
+
+/// Writes the list of objects, and finishes both files.
+fn finished_with_list<'a, H: Files + AllocGlobal>(
+    host: &H,
+    made: ImportMade,
+    image: Late<'a, '_, H>,
+    list: FileTarget<'a, H::File>,
+) -> Result<WorkDone<'a>, Trouble<'a>>
+where
+    H::File: SystemFile,
+    ensures { IfOk result (λ done. done.text.items ≡ string_bytes made.text) }
+{
+    let (image, mut list) = begin_list(host, image, list)?;
     let ImportMade { text, listed, .. } = made;
-    let Some(list) = list else {
-        return ended(host, text, image.into_output()?);
-    };
+    match write_list(listed, &mut list.file) {
+        Ok(()) => both_ended(host, text, image, list),
+        Err(trouble) => {
+            list.abandon(host);
+            Err(failed(host, trouble, image))
+        }
+    }
+}
+
+/// The file of the image and that of the list, both begun. A new file for the list doesn't get the name of the place that the image
+/// takes.
+fn begin_list<'a, H: Files + AllocGlobal>(
+    host: &H,
+    image: Late<'a, '_, H>,
+    list: FileTarget<'a, H::File>,
+) -> Result<(Output<'a, H::File>, Output<'a, H::File>), Trouble<'a>>
+where
+    H::File: SystemFile,
+{
     let image = match image.into_output() {
         Ok(image) => image,
         Err(trouble) => {
@@ -32,11 +67,10 @@ where
             return Err(trouble);
         }
     };
-    let list = match write_list(host, listed, list, image.place_name()) {
-        Ok(list) => list,
-        Err(trouble) => return Err(failed(host, trouble, image)),
-    };
-    both_ended(host, text, image, list)
+    match list.begin_apart(host, image.place_name()) {
+        Ok(list) => Ok((image, list)),
+        Err(trouble) => Err(failed(host, trouble, image)),
+    }
 }
 
 /// The error of an import that failed before its image was complete. A file that wasn't begun is unchanged.
@@ -55,26 +89,16 @@ where
     image.failed(trouble)
 }
 
-/// Writes the list of objects to its file. A new file doesn't get the name of the place that the image takes.
-fn write_list<'a, H: Files + AllocGlobal>(
-    host: &H,
+/// Writes the list of objects to its file.
+fn write_list<'a, F: Write + Drop>(
     listed: Option<(ListedImport, String)>,
-    list: FileTarget<'a, H::File>,
-    image_place: Option<&str>,
-) -> Result<Output<'a, H::File>, Trouble<'a>>
-where
-    H::File: SystemFile,
-{
-    let mut list = list.begin_apart(host, image_place)?;
-    let given = match listed {
-        Some((import, room)) => give_list(&import, room, &mut ToWrite::new(&mut list.file)),
-        None => Ok(()),
+    list: &mut Watched<'a, F>,
+) -> Result<(), Trouble<'a>> {
+    let Some((import, room)) = listed else {
+        return Ok(());
     };
-    match given {
-        Ok(()) => Ok(list),
-        Err(fault) => {
-            let trouble = Trouble::from(fault).if_failed(&list.file);
-            Err(failed(host, trouble, list))
-        }
+    match give_list(&import, room, &mut ToWrite::new(&mut *list)) {
+        Ok(()) => Ok(()),
+        Err(fault) => Err(Trouble::from(fault).if_failed(list)),
     }
 }
