@@ -6,6 +6,10 @@
 #   program CHECKSUM    of the program beside the stamp
 #   kit TEXT            the Rattle kit that proved and built it
 #   needs TEXT          the system that it runs on
+# dist/ and out/pcompact_c/ each hold the library for C, its header, and a stamp that has of these sources and kit, too:
+#   library CHECKSUM    of libpcompact.a beside the stamp
+#   header CHECKSUM     of pcompact.h beside the stamp, which is that of c/
+#   memory CHECKSUM     of c/heap.c, which the library has
 
 # Runs a command, in the folder of the repository, on the folders of code and specs.
 over_sources() (
@@ -37,13 +41,18 @@ stamped() {
     sed -n "s/^$2 //p" "$top/$1/stamp" 2>/dev/null
 }
 
+# Prints the checksum of a file of the repository, or nothing where there is none.
+file_sum() {
+    { sha256sum <"$top/$1" | cut -d ' ' -f 1; } 2>/dev/null
+}
+
 # Whether a folder's program was built from sources of this checksum, is the one that its stamp names, and starts here.
 # Else `why` is the reason.
 fits() {
     why="$1/pcompact wasn't built from these sources"
     [ "$2" = "$(stamped "$1" sources)" ] || return 1
     why="$1/pcompact isn't the program of its stamp"
-    [ "$(sha256sum <"$top/$1/pcompact" | cut -d ' ' -f 1)" = "$(stamped "$1" program)" ] 2>/dev/null || return 1
+    [ "$(file_sum "$1/pcompact")" = "$(stamped "$1" program)" ] || return 1
     why="$1/pcompact doesn't start on this machine (it needs $(stamped "$1" needs))"
     "$top/$1/pcompact" --version >/dev/null 2>&1
 }
@@ -62,6 +71,33 @@ find_program() {
 # Prints where the program is that fits the sources, or why there is none.
 program_path() {
     find_program && printf '%s\n' "$top/$folder/pcompact" && return
+    printf '%s\n' "$why" >&2
+    return 1
+}
+
+# Whether a folder's library was built from sources of this checksum, and it and its header are those that the stamp names.
+# Else `why` is the reason.
+fits_library() {
+    why="$1/libpcompact.a wasn't built from these sources"
+    [ "$2" = "$(stamped "$1" sources)" ] && [ "$(file_sum c/heap.c)" = "$(stamped "$1" memory)" ] || return 1
+    why="$1/libpcompact.a isn't the library of its stamp"
+    [ -f "$top/$1/libpcompact.a" ] && [ "$(file_sum "$1/libpcompact.a")" = "$(stamped "$1" library)" ] || return 1
+    why="$1/pcompact.h isn't c/pcompact.h"
+    [ "$(file_sum "$1/pcompact.h")" = "$(stamped "$1" header)" ] && cmp -s "$top/$1/pcompact.h" "$top/c/pcompact.h"
+}
+
+# Finds the library that fits the sources: out/pcompact_c if it was proved here, or dist. Sets `library`, or else `why`.
+find_library() {
+    sum=$(sources_sum)
+    for library in out/pcompact_c dist; do
+        ! fits_library "$library" "$sum" || return 0
+    done
+    return 1
+}
+
+# Prints the folder of the library that fits the sources, or why there is none.
+library_path() {
+    find_library && printf '%s\n' "$top/$library" && return
     printf '%s\n' "$why" >&2
     return 1
 }

@@ -6,7 +6,8 @@ import subprocess
 import sys
 
 # Huge pages, as the script pcompact asks for them.
-TUNABLES = "glibc.malloc.hugetlb=1:glibc.malloc.mmap_max=0:glibc.malloc.arena_max=64:glibc.malloc.top_pad=67108864"
+TUNABLES = ("glibc.malloc.hugetlb=1:glibc.malloc.mmap_max=0:glibc.malloc.arena_max=1:glibc.malloc.tcache_count=0:"
+            "glibc.malloc.top_pad=67108864")
 
 bench = pathlib.Path(__file__).resolve().parent
 top = bench.parent

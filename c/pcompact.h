@@ -1,13 +1,14 @@
 /* The C interface of pcompact, a sliding full collection whose program is proved.
  *
- * Link libpcompact_c.a with heap.c, which takes memory by malloc. Any allocator that aligns to 16 bytes and that several
- * threads may call can stand in its place.
+ * Link libpcompact.a. It takes memory by malloc, unless the program defines the three functions of heap.c: any allocator
+ * that aligns to 16 bytes and that several threads may call can stand in its place.
  *
  * No call keeps state, starts a thread or waits, so several threads may be in calls at once, each with memory of its
  * own. No call may be made from a signal handler, or in a forked child of a process with threads. */
 #ifndef PCOMPACT_H
 #define PCOMPACT_H
 
+#include <stdbool.h>
 #include <stddef.h>
 #include <stdint.h>
 
@@ -76,6 +77,64 @@ uint32_t pcompact_collect(uint64_t *words, size_t word_count, uint64_t *live, si
  * the roots reach, and afterwards the roots lead to their new addresses. Faults: 0, 3, 4, 7 to 9, 17, 11 and 15. */
 uint32_t pcompact_collect_rooted(uint64_t *words, size_t word_count, uint64_t *roots, size_t root_count,
                                  pcompact_settings settings, pcompact_answer *answer);
+
+/* Redirects references that are kept outside of the heap with these words and live addresses to where pcompact_collect will
+ * take their objects; to be called before it. Each is 0, which stays, or 1 plus a live address. Returns the fault: 0, 3, 4,
+ * 6 to 9, 11 if memory runs out, or 17 with the index of the first reference that is neither. After a fault the references
+ * are as they were. Takes the memory of pcompact_summary. No pointer is null, also with a count of 0, nothing overlaps the
+ * references, nobody reads or writes them meanwhile, and nobody writes the rest. Nothing else is written. */
+pcompact_fault pcompact_new_addresses(const uint64_t *words, size_t word_count, const uint64_t *live, size_t live_count,
+                                      pcompact_settings settings, uint64_t *references, size_t reference_count);
+
+/* How an image compares with the compaction of another. */
+typedef struct pcompact_verdict {
+    pcompact_fault fault; /* if there is one, the difference is 0 */
+    uint32_t image;       /* what the fault came with: 1 the image before the collection, 2 the one after it, 0 none */
+    uint32_t difference;  /* the first: 0 none, 1 the shape, 2 a word, 3 a live address, 4 a root */
+    uint64_t place;       /* the address of the word, or the index of the live address or root, that differs */
+} pcompact_verdict;
+
+/* Returns whether the bytes `after` are the image of the compaction of the image with the bytes `before`, and otherwise
+ * tells the first difference: in the sizes, settings and version, else in the words, else in the live addresses, else in the
+ * roots. Faults: 0, 1 to 10 and 17 of `before`, 15 as of pcompact_collect, 1 to 10 and 17 of `after`, or 11 if memory runs
+ * out. Takes the memory of both images, and what a collection by one worker takes. No pointer is null, and nobody writes
+ * there meanwhile. `verdict` need not be filled before. */
+bool pcompact_verify(const uint8_t *before, size_t before_len, const uint8_t *after, size_t after_len,
+                     pcompact_verdict *verdict);
+
+/* Writes the bytes of the image with these words, from address 0 up, and these live addresses, ascending. Returns their
+ * number, 32 + 8 * (word_count + live_count); where that is more than `room`, nothing is written. The bytes after them stay.
+ * The heap isn't checked: pcompact_check tells whether the bytes are a valid image. Takes no memory. No pointer is null, also
+ * with a count of 0, nothing overlaps the bytes, and nobody writes there meanwhile. */
+size_t pcompact_encode(const uint64_t *words, size_t word_count, const uint64_t *live, size_t live_count,
+                       pcompact_settings settings, uint8_t *bytes, size_t room);
+
+/* The same for a heap with roots. The image is of version 2, or of version 3 where version 2 doesn't allow the sizes. */
+size_t pcompact_encode_rooted(const uint64_t *words, size_t word_count, const uint64_t *roots, size_t root_count,
+                              pcompact_settings settings, uint8_t *bytes, size_t room);
+
+/* What an image says beside its words and lists. If there is a fault, the other numbers are 0. */
+typedef struct pcompact_heap {
+    pcompact_fault fault;
+    uint32_t version; /* 1 without roots, 2 or 3 with roots */
+    pcompact_settings settings;
+    uint64_t word_count;
+    uint64_t count; /* of the live addresses, or the roots */
+} pcompact_heap;
+
+/* Fills `heap` for the image with these bytes, and writes its words and its live addresses, ascending, to the front of
+ * these lists, each where it has room for all of them; without room it stays as it is. So a first call with rooms of 0
+ * tells the counts. Of an image with roots the live addresses are those that the roots reach. Returns the number of the
+ * fault, which is that of pcompact_check. After a fault both lists are as they were. Takes the memory of the image. No
+ * pointer is null, also with a room of 0, nothing overlaps, and nobody reads or writes there meanwhile. `heap` need not be
+ * filled before. */
+uint32_t pcompact_decode(const uint8_t *bytes, size_t len, uint64_t *words, size_t word_room, uint64_t *live,
+                         size_t live_room, pcompact_heap *heap);
+
+/* The same with the roots in place of the live addresses. An image of version 1 is taken as one of version 2 with a root to
+ * each live object. */
+uint32_t pcompact_decode_rooted(const uint8_t *bytes, size_t len, uint64_t *words, size_t word_room, uint64_t *roots,
+                                size_t root_room, pcompact_heap *heap);
 
 #ifdef __cplusplus
 }

@@ -4,13 +4,15 @@
 A program stands in dist/ of each copy, with a stamp that fits: the built one, or a script that tells how it was called. It
 is installed below folders of all kinds of names, called there, also by links and after a move, installed again, and
 uninstalled. Then installing fails at each step, and must leave all as it was. What the program prints as help must make
-just the man page and the completions of share/, which are tried by the shells and readers that there are.
+just the man page and the completions of share/, which are tried by the shells and readers that there are. A program of C is
+built by what pkg-config says of the library that was installed.
 
-usage: tests/build/test_install.py [PROGRAM]      (needs bash; groff, mandoc, zsh and fish are of use)
+usage: tests/build/test_install.py [PROGRAM]      (needs bash; groff, mandoc, zsh, fish, pkg-config and cc are of use)
 """
 import hashlib
 import os
 import pathlib
+import re
 import shutil
 import signal
 import subprocess
@@ -21,6 +23,7 @@ import tempfile
 sys.dont_write_bytecode = True
 sys.path.insert(0, str(pathlib.Path(__file__).resolve().parents[2]))
 from tests.build import manual_rows
+from tests.support.library import built_library, compiler
 from tests.support.program import TOP, built
 
 SECONDS = 60
@@ -30,6 +33,7 @@ PLACES = {
     "libexec/pithondlu/pcompact": 0o755, "bin/pcompact": 0o755, "share/man/man1/pcompact.1": 0o644,
     "share/bash-completion/completions/pcompact": 0o644, "share/zsh/site-functions/_pcompact": 0o644,
     "share/fish/vendor_completions.d/pcompact.fish": 0o644, "libexec/pithondlu/installed": 0o644,
+    "lib/libpcompact.a": 0o644, "include/pcompact.h": 0o644, "lib/pkgconfig/pcompact.pc": 0o644,
 }
 # Tells its version, its words and what the C library is told.
 SHOWS = """\
@@ -72,6 +76,7 @@ class Installer:
         room.chmod(0o755)
         self.count = 0
         self.wrong = 0
+        self.skipped = 0
         self.one = self.repository("one", SHOWS.replace("VERSION", "one"))
         self.two = self.repository("two", SHOWS.replace("VERSION", "two"))
         self.launched = self.call([self.one / "pcompact", *WORDS], 0, "the launcher", stderr=subprocess.DEVNULL)
@@ -91,7 +96,8 @@ class Installer:
         (copy / "dist").mkdir()
         for it in SCRIPTS:
             shutil.copy(TOP / it, copy)
-        shutil.copytree(TOP / "share", copy / "share")
+        for it in ("share", "c"):
+            shutil.copytree(TOP / it, copy / it)
         with (copy / "share" / "pcompact.1").open("a") as page:
             page.write(f'.\\" {name}\n')
         shipped = copy / "dist" / "pcompact"
@@ -100,9 +106,18 @@ class Installer:
         else:
             shutil.copy(program, shipped)
         shipped.chmod(0o755)
-        sources = manual_rows.printed(["sh", "-c", "top=$PWD; . ./sources.sh; sources_sum"], cwd=copy).strip()
-        (copy / "dist" / "stamp").write_text(f"sources {sources}\nprogram {sum_of(shipped)}\nkit none\nneeds nothing\n")
+        (copy / "dist" / "libpcompact.a").write_text(f"the library {name}\n")
+        self.stamp(copy)
         return copy
+
+    def stamp(self, copy: pathlib.Path) -> None:
+        """Stamps what is in dist/, with the header of c/, as built from the sources of a copy."""
+        dist, c = copy / "dist", copy / "c"
+        shutil.copy(c / "pcompact.h", dist)
+        sources = manual_rows.printed(["sh", "-c", "top=$PWD; . ./sources.sh; sources_sum"], cwd=copy).strip()
+        sums = {"program": dist / "pcompact", "library": dist / "libpcompact.a", "header": dist / "pcompact.h", "memory": c / "heap.c"}
+        lines = [f"{word} {sum_of(file)}\n" for word, file in sums.items()]
+        (dist / "stamp").write_text("".join([f"sources {sources}\n", *lines, "kit none\nneeds nothing\n"]))
 
     def call(self, words: list, status: int, what: str, **how) -> str:
         """Runs a command, which must end with this status. What it wrote."""
@@ -314,13 +329,44 @@ def try_words(to: Installer) -> None:
 
 
 def try_unfit(to: Installer) -> None:
-    """No program that fits the sources."""
-    for name, change in (("damaged", "dist/pcompact"), ("changed", "crates/pcompact/src/main.rt"), ("alone", "dist/stamp")):
-        copy = to.repository(name, SHOWS)
+    """No program or no library that fits the sources."""
+    of_program = ("dist/pcompact", "crates/pcompact/src/main.rt", "dist/stamp")
+    of_library = ("dist/libpcompact.a", "dist/pcompact.h", "c/pcompact.h", "c/heap.c")
+    for change in (*of_program, *of_library):
+        copy = to.repository(f"changed/{change}", SHOWS)
         (copy / change).write_text("#!/bin/sh\n")
         said = to.install(to.room / "none", f"{change} is changed", 70, copy)
-        to.check(said.endswith("; ./prove builds it\n"), f"{change} is changed: install says {said!r}")
+        end = "; ./prove builds it\n" if change in of_program else "; ./prove pcompact_c builds it\n"
+        to.check(said.endswith(end), f"{change} is changed: install says {said!r}")
         to.check(not (to.room / "none").exists(), f"{change} is changed: a folder is made")
+
+
+def try_library(to: Installer) -> None:
+    """The library is found by what pkg-config says, also after a move, below a folder whose name has a space."""
+    version = int(re.search(r"PCOMPACT_VERSION (\d+)", (TOP / "c" / "pcompact.h").read_text())[1])
+    numbers = f"{version // 1_000_000}.{version // 1_000 % 1_000}.{version % 1_000}"
+    to.check(f"\nVersion: {numbers}\n" in (TOP / "share" / "pcompact.pc").read_text(), "pcompact.pc has another version than pcompact.h")
+    folder, why = built_library()
+    if not folder or not compiler() or not shutil.which("pkg-config"):
+        to.skipped += 1
+        print(f"skipped: the library: {why or 'there is no C compiler or no pkg-config'}")
+        return
+    copy = to.repository("library", SHOWS)
+    shutil.copy(folder / "libpcompact.a", copy / "dist")
+    shutil.copy(TOP / "examples" / "c" / "first.c", to.room)
+    to.stamp(copy)
+    prefix = to.room / "two words" / "of a name"
+    to.install(prefix, "the library", copy=copy)
+    for name in ("of a name", "moved there"):
+        prefix = prefix.rename(prefix.with_name(name))
+        words = 'eval "cc -o first first.c $(pkg-config --cflags --libs pcompact)" && ./first'
+        env = {"PKG_CONFIG_PATH": str(prefix / "lib" / "pkgconfig")}
+        said = to.call(["sh", "-c", words], 0, f"a program with the library below {name!r}", env=env)
+        to.check(said.startswith("the first free address is 6\n"), f"a program with the library below {name!r}: it says {said!r}")
+        said = to.call(["pkg-config", "--modversion", "pcompact"], 0, "its version", env=env)
+        to.check(said == f"{numbers}\n", f"pkg-config says that the version is {said!r}")
+    to.uninstall(prefix, "the library")
+    to.check(not prefix.exists(), f"the library: uninstall leaves {list(tree(prefix))}")
 
 
 def try_program(to: Installer, program: pathlib.Path) -> None:
@@ -345,11 +391,12 @@ def main() -> None:
     program = (pathlib.Path(sys.argv[1]) if len(sys.argv) > 1 else built()).resolve()
     with tempfile.TemporaryDirectory() as room:
         to = Installer(pathlib.Path(room).resolve())
-        for it in (try_names, try_calls, try_again, try_faults, try_closed, try_words, try_unfit):
+        for it in (try_names, try_calls, try_again, try_faults, try_closed, try_words, try_unfit, try_library):
             it(to)
         try_program(to, program)
         manual_rows.try_all(program, to.check)
-    print(f"{to.count - to.wrong} passed, {to.wrong} failed")
+    skipped = f", {to.skipped} skipped" if to.skipped else ""
+    print(f"{to.count - to.wrong} passed, {to.wrong} failed{skipped}")
     sys.exit(to.wrong > 0)
 
 

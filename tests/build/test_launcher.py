@@ -1,6 +1,6 @@
 #!/usr/bin/env python3
 """Tests the scripts pcompact, prove and sources.sh, in copies of them and with a stand-in for the kit's rt, which proves
-nothing and "builds" a small program of C that shows its words and its folder.
+nothing and "builds" a small program of C that shows its words and its folder, and a library of one function.
 
 usage: tests/build/test_launcher.py      (needs a C compiler)
 """
@@ -16,7 +16,8 @@ import time
 
 TOP = pathlib.Path(__file__).resolve().parents[2]
 PLAIN = "/usr/bin:/bin"
-TUNABLES = "glibc.malloc.hugetlb=1:glibc.malloc.mmap_max=0:glibc.malloc.arena_max=64:glibc.malloc.top_pad=67108864"
+TUNABLES = ("glibc.malloc.hugetlb=1:glibc.malloc.mmap_max=0:glibc.malloc.arena_max=1:glibc.malloc.tcache_count=0:"
+            "glibc.malloc.top_pad=67108864")
 NOTE = "pcompact: this program was proved and built elsewhere, from exactly these sources; ./prove proves it here\n"
 
 # Ends with status 3, or 0 for --version, or 1 where it is to look like one that doesn't start.
@@ -40,6 +41,7 @@ echo "$1 $name" >>"$here/calls"
 echo "$* in $PWD" >>"$here/words"
 case $1 in
 version) echo stand-in ;;
+doc) echo "$here/START-HERE.md" ;;
 lib | test | run)
     # As rt does, it needs the libraries below.
     for it in $(sed -n "s/^$name\( [^:]*\)*://p" ../../crates.txt); do
@@ -49,7 +51,7 @@ lib | test | run)
     [ ! -e "$here/fails-$name" ] || exit 1
     mkdir -p out/rlib out/incremental
     case $1 in
-    lib) echo stamp >out/rlib/stamp ;;
+    lib) if [ "$name" = pcompact_c ]; then cp "$here/part.a" "out/lib$name.a"; else echo stamp >out/rlib/stamp; fi ;;
     test) echo tests >"out/${name}_tests" ;;
     run) sleep 1; cp "$here/shows" "out/$name" ;;
     esac
@@ -72,6 +74,13 @@ class Launcher:
             subprocess.run(["cc", "-O1", "-o", self.kit / name, room / "shows.c"], check=True)
         (self.kit / "rt").write_text(STAND_IN)
         (self.kit / "rt").chmod(0o755)
+        (room / "part.c").write_text("int part(void) { return 1; }\n")
+        subprocess.run(["cc", "-c", "-o", room / "part.o", room / "part.c"], check=True)
+        subprocess.run(["ar", "rcsD", self.kit / "part.a", room / "part.o"], check=True)
+        tools = self.kit / "toolchain" / "bin"
+        tools.mkdir(parents=True)
+        for name, tool in (("clang", "cc"), ("llvm-ar", "ar")):
+            (tools / name).symlink_to(shutil.which(tool))
 
     def repository(self, name: str) -> pathlib.Path:
         """A copy of the scripts, with a file of code for each crate."""
@@ -79,6 +88,7 @@ class Launcher:
         copy.mkdir(parents=True)
         for it in ("pcompact", "prove", "sources.sh", "HANDLES", "crates.txt"):
             shutil.copy(TOP / it, copy)
+        shutil.copytree(TOP / "c", copy / "c")
         for crate in crate_names():
             (copy / "crates" / crate / "src").mkdir(parents=True)
             (copy / "crates" / crate / "src" / "lib.rt").write_text("//! A crate.\n")
@@ -91,7 +101,7 @@ class Launcher:
             print(what)
 
     def call(self, words: list, status: int, what: str, **how) -> tuple[str, str]:
-        """Runs a command, which must end with this status. What it wrote, and the calls of rt but for its version."""
+        """Runs a command, which must end with this status. What it wrote, and the calls of rt but for its version and its page."""
         (self.kit / "calls").write_text("")
         kit = how.pop("kit", True)
         plain = how.pop("tools", PLAIN)
@@ -101,7 +111,7 @@ class Launcher:
         said = done.stdout + done.stderr
         self.check(done.returncode == status, f"{what}: status {done.returncode} and not {status}: {said}")
         calls = (self.kit / "calls").read_text().splitlines()
-        return said, " ".join(sorted(it for it in calls if not it.startswith("version")))
+        return said, " ".join(sorted(it for it in calls if not it.startswith(("version", "doc"))))
 
     def runs(self, script: pathlib.Path, what: str, err: str = "", calls: str = "", tunables: str = TUNABLES, **how) -> None:
         """Calls the launcher, which must run the program after these calls of rt, and say just this besides."""
@@ -323,7 +333,9 @@ def try_dist(it: Launcher, copy: pathlib.Path) -> None:
     said, _ = it.call([copy / "prove"], 0, "prove without dist")
     it.check("dist/pcompact is NOT the program of these sources" in said, f"no dist: {said!r}")
     said, calls = it.call([copy / "prove", "--renew"], 0, "prove --renew")
-    it.check(calls == "" and "byte for byte" in said, f"--renew calls {calls!r} and says {said!r}")
+    it.check(calls == "lib caller_heap lib pcompact_c" and said.count("byte for byte") == 2, f"--renew calls {calls!r} and says {said!r}")
+    said, calls = it.call([copy / "prove", "--renew"], 0, "prove --renew again")
+    it.check(calls == "" and said.count("byte for byte") == 2, f"--renew again calls {calls!r} and says {said!r}")
     clone = shipped(it, copy, "clone")
     it.runs(clone / "pcompact", "a fresh clone without the kit", NOTE, kit=False)
     it.runs(clone / "pcompact", "its second call", kit=False)
@@ -341,6 +353,53 @@ def try_dist(it: Launcher, copy: pathlib.Path) -> None:
     (clone / "dist/stamp").write_text(stamp.replace("kit stand-in", "kit another"))
     said, _ = it.call([clone / "prove"], 0, "prove beside a dist of another kit")
     it.check("by the kit another, and this is stand-in" in said, f"a dist of another kit: {said!r}")
+
+
+def try_library(it: Launcher, copy: pathlib.Path) -> None:
+    """The library that comes with the repository, beside a program that no change of it touches."""
+    clone = shipped(it, copy, "library")
+    library, stamp = clone / "dist/libpcompact.a", clone / "dist/stamp"
+    members = subprocess.run(["ar", "t", library], capture_output=True, text=True).stdout.split()
+    it.check(sorted(members) == ["heap.o", "part.o"], f"the library has {members}")
+    finds(it, clone, "dist", "a fresh clone")
+    said, calls = it.call([clone / "prove", "pcompact_c"], 0, "prove pcompact_c in a clone")
+    it.check("is dist/libpcompact.a, byte for byte" in said and "dist/pcompact" not in said, f"prove pcompact_c: {said!r}")
+    it.check("lib pcompact_c" in calls and "run" not in calls, f"prove pcompact_c calls {calls!r}")
+    finds(it, clone, "out/pcompact_c", "a library that was built here")
+    shutil.rmtree(clone / "out")
+    whole = library.read_bytes()
+    library.write_bytes(whole[:-1] + bytes([whole[-1] ^ 1]))
+    finds(it, clone, "isn't the library of its stamp", "a bit of the library flipped")
+    it.runs(clone / "pcompact", "beside a library with a bit flipped", NOTE, kit=False)
+    library.write_bytes(whole)
+    text = stamp.read_text()
+    stamp.write_text("".join(line for line in text.splitlines(True) if line.split()[0] not in ("library", "header", "memory")))
+    finds(it, clone, "dist/libpcompact.a wasn't built from these sources", "a stamp of the program alone")
+    stamp.write_text(text)
+    for name, why in (("pcompact.h", "dist/pcompact.h isn't c/pcompact.h"), ("heap.c", "wasn't built from these sources")):
+        with (clone / "c" / name).open("a") as file:
+            file.write("/* More. */\n")
+        finds(it, clone, why, f"c/{name} changed")
+    said, calls = it.call([clone / "prove", "pcompact_c"], 0, "prove pcompact_c after a change of c/")
+    it.check("dist/libpcompact.a is NOT the library of these sources" in said, f"after a change of c/: {said!r}")
+    said, _ = it.call([clone / "prove", "--take", *built_here(copy), "--renew"], 0, "prove --take and --renew")
+    it.check(said.count("byte for byte") == 2, f"--take and --renew: {said!r}")
+    library.write_bytes(whole + b"\n")
+    said, _ = it.call([clone / "prove", "pcompact_c"], 3, "prove pcompact_c beside another dist")
+    it.check("dist/libpcompact.a is another library" in said, f"another dist/libpcompact.a: {said!r}")
+
+
+def built_here(copy: pathlib.Path) -> list[pathlib.Path]:
+    """What rt builds of program and library."""
+    return [copy / "crates/pcompact/out/pcompact", copy / "crates/pcompact_c/out/libpcompact_c.a"]
+
+
+def finds(it: Launcher, copy: pathlib.Path, wanted: str, what: str) -> None:
+    """Asks sources.sh for the library: a folder of the copy, or why there is none."""
+    words = ["sh", "-c", 'top=$1; . "$top/sources.sh"; library_path', "sh", copy]
+    said = subprocess.run(words, capture_output=True, text=True)
+    folder, why = said.stdout.strip(), said.stderr.strip()
+    it.check(folder == f"{copy}/{wanted}" or (folder == "" and why.endswith(wanted)), f"{what}: the library is {folder!r} {why!r}")
 
 
 def try_packed(it: Launcher, clone: pathlib.Path) -> None:
@@ -417,6 +476,7 @@ def main() -> int:
         try_failures(it, copy)
         try_above(it, copy)
         try_dist(it, copy)
+        try_library(it, copy)
         try_wrong_dist(it, copy)
         try_read_only(it, copy)
         try_tunables(it, copy)

@@ -4,7 +4,7 @@
 - Each link leads to a file that exists, and each anchor to a heading of it. No page names a heading without a link.
 - Each command of a block marked `console` prints what the page shows. A command is a line that begins with `$ `, and its
   output, standard error too, are the lines behind it. All blocks of a page run in order, in a new folder that has the
-  program as ./pcompact and on PATH, examples/ and docs/heap.svg.
+  program as ./pcompact and on PATH, examples/, docs/heap.svg, and library and header of dist/.
 - No line and no cell of a table is too long, no page has more words than its budget, and no page counts by hand what grows:
   crates, commands, wrong bodies.
 
@@ -29,11 +29,11 @@ BUDGETS = {
     "docs/ARCHITECTURE.md": 1800, "docs/PROMISES.md": 2600, "docs/HEAP.md": 2300, "docs/SCHEDULER.md": 2600,
     "docs/FORMATS.md": 2600, "docs/COMMANDS.md": 3000, "docs/DECISIONS.md": 3000, "docs/SPEED.md": 1250,
     "docs/COLLECTORS.md": 1450, "docs/TOUR.md": 1000, "docs/USE.md": 1000, "docs/DUMPS.md": 1700, "docs/GENERATE.md": 700,
-    "docs/DEFINITIONS.md": 1100, "tests/README.md": 600, "bench/README.md": 300,
+    "docs/DEFINITIONS.md": 1100, "docs/EMBED.md": 900, "tests/README.md": 600, "bench/README.md": 300,
 }
-ALL_WORDS = 30_000
+ALL_WORDS = 31_000
 CRATE_WORDS = 200
-CRATES_WORDS = 2_700
+CRATES_WORDS = 2_760
 # The pages that aren't as this script wants them yet: it passes them over.
 README_LINE, README_CELL, LINE = 160, 80, 400
 
@@ -103,9 +103,13 @@ class Runs:
         self.passed = 0
         self.wrong: list[str] = []
         shutil.copy(program, folder / "pcompact")
-        shutil.copytree(TOP / "examples", folder / "examples")
+        shutil.copytree(TOP / "examples", folder / "examples", ignore=shutil.ignore_patterns("target"))
         (folder / "docs").mkdir()
         shutil.copy(TOP / "docs" / "heap.svg", folder / "docs")
+        (folder / "dist").mkdir()
+        for name in ("libpcompact.a", "pcompact.h"):
+            if (TOP / "dist" / name).exists():
+                shutil.copy(TOP / "dist" / name, folder / "dist")
 
     def run(self, step: re.Match) -> str:
         done = subprocess.run(["sh", "-c", step[1]], cwd=self.folder, stdout=subprocess.PIPE, stderr=subprocess.STDOUT,

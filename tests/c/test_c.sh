@@ -1,35 +1,12 @@
 #!/usr/bin/env bash
-# Builds callers of the C library and runs them: plainly, under the sanitizers for addresses and undefined behaviour, and
-# under valgrind if it is there. The library is crates/pcompact_c/out/libpcompact_c.a, which `rt lib` makes there.
+# Builds callers of the library for C and runs them: plainly, under the sanitizers for addresses and undefined behaviour, and
+# under valgrind if it is there. The library is the one that fits the sources.
 #
 # usage: tests/c/test_c.sh
 set -uo pipefail
 
 cd "$(dirname -- "$(readlink -f -- "$0")")/../.."
-library=crates/pcompact_c/out/libpcompact_c.a
-[ -e "$library" ] || { echo "no $library: run rt lib in crates/pcompact_c"; echo '0 passed, 0 failed, 1 skipped'; exit 0; }
-room=$(mktemp -d)
-trap 'rm -rf "$room"' EXIT
-passed=0
-failed=0
-
-# Counts a command that must end with status 0, and shows what it says if it doesn't.
-try() {
-    if "$@" >"$room/said" 2>&1; then
-        passed=$((passed + 1))
-    else
-        failed=$((failed + 1))
-        echo "failed: $*"
-        cat "$room/said"
-    fi
-}
-
-# Builds the caller, with these options of the compiler.
-build() {
-    local program=$1
-    shift
-    try "${CC:-cc}" -std=c11 -Wall -Wextra -Werror "$@" -Ic tests/c/calls.c c/heap.c "$library" -o "$room/$program"
-}
+. tests/support/callers.sh
 
 # Writes the compaction of an example, as the model of tests/models finds it.
 compact() {
@@ -40,22 +17,43 @@ compact() {
         pathlib.Path(sys.argv[2]).write_bytes(encode(Collection(image).compaction()))' "examples/$1.pcheap" "$room/$1"
 }
 
-# Runs a caller on an example.
-call() {
-    local example=$1
+# Builds a caller from these files and options, plainly and with the sanitizers.
+build() {
+    local caller=$1
     shift
-    try "$@" "examples/$example.pcheap" "$room/$example" 0 19 3
+    build_c "$caller" -O2 "$@"
+    build_c "$caller-checked" "${sanitized[@]}" "$@"
 }
 
-compact base
-compact rooted
-build plain -O2
-call base "$room/plain"
-build checked -g -fsanitize=address,undefined -fno-sanitize-recover
-call base "$room/checked"
-call rooted "$room/checked"
-if command -v valgrind >/dev/null; then
-    call rooted valgrind -q --leak-check=full --error-exitcode=3 "$room/plain"
-fi
-echo "$passed passed, $failed failed"
-[ "$failed" = 0 ]
+# Runs a caller on these words in each way.
+run() {
+    local caller=$1
+    shift
+    try "$room/$caller" "$@"
+    try "$room/$caller-checked" "$@"
+    try_watched "$room/$caller" "$@"
+}
+
+# Whether no program is linked that defines some of the three functions of memory alone.
+refuses_half() {
+    printf '%s\n' '#include "pcompact.h"' 'void rattle_dealloc(void *block) { (void)block; }' \
+        'int main(void) { return (int)pcompact_version(); }' >"$room/half.c"
+    ! "${CC:-cc}" "-I$library" "$room/half.c" "$library/libpcompact.a" -o "$room/half"
+}
+
+find_needs
+for caller in calls hostile refusals; do
+    build "$caller" "tests/c/$caller.c"
+done
+build image_calls -Itests/c tests/c/image_calls.c tests/c/refusing_heap.c
+for example in base rooted; do
+    compact "$example"
+    run calls "examples/$example.pcheap" "$room/$example" 0 19 3
+    run image_calls "examples/$example.pcheap" "$room/$example"
+done
+run hostile
+run refusals
+try refuses_half
+# With a stack of 96 KiB, of which the system takes some.
+try env -i sh -c 'ulimit -s 96 && exec "$1"' sh "$room/refusals"
+end

@@ -15,7 +15,8 @@ KIB, MIB = 1 << 10, 1 << 20
 FAULTS = (b"pcompact: fault 11 memory\n", b"pcompact: fault 13 input or output\n")
 OLD = b"what stood there before" * 100
 # As the launcher sets them.
-TUNABLES = "glibc.malloc.hugetlb=1:glibc.malloc.mmap_max=0:glibc.malloc.arena_max=64:glibc.malloc.top_pad=67108864"
+TUNABLES = ("glibc.malloc.hugetlb=1:glibc.malloc.mmap_max=0:glibc.malloc.arena_max=1:glibc.malloc.tcache_count=0:"
+            "glibc.malloc.top_pad=67108864")
 COMMANDS = ("summary image", "order image", "text image", "map image --after --letters", "map image --svg out", "verify image base",
             "verify base image", "collect image out --workers {workers}", "record image out recorded --workers {workers}",
             "upgrade image out", "upgrade image out --to 3", "replay image {schedule}", "timeline image {schedule} --letters",

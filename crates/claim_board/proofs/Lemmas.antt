@@ -11,6 +11,5 @@ pub mod Gathers
 pub mod Spends
 pub mod Sweeps
 pub mod Grants
-pub mod Alls
 pub mod Others
 pub mod Apart

@@ -1,6 +1,6 @@
 //! Theorems about tickets and completions over several calls, and about two tickets. The functions do nothing; call one
 //! where a proof needs its contract.
-ghost use Rattle.std.specs.Prelude.{◌≡◌, ℕ, ◌+◌, ◌<◌, ◌≤◌, List, false};
+ghost use Rattle.std.specs.Prelude.{◌≡◌, ◌≢◌, ℕ, ◌+◌, ◌<◌, ◌≤◌, List, false};
 ghost use Rattle.history.specs.declared.event.Event.{Event};
 ghost use Rattle.history.specs.declared.event.Event.TheVariants.{Drain};
 ghost use Rattle.history.specs.declared.entry.Entry.{Entry};
@@ -12,9 +12,10 @@ ghost use Rattle.claim_board.specs.declared.board.Board.{Board};
 ghost use Rattle.claim_board.specs.declared.tokens.done.Done.{Done};
 ghost use Rattle.claim_board.specs.declared.pass.Pass.{Pass};
 ghost use Rattle.claim_board.specs.declared.tokens.ticket.Ticket.{Ticket};
-ghost use Rattle.claim_board.specs.Boards.{Appends, caller};
+ghost use Rattle.claim_board.specs.Boards.{Appends, moves, caller};
 ghost use Rattle.claim_board.specs.Callers.{Caller, Gains, own};
 ghost use Rattle.claim_board.specs.Tickets.{IsTicketOf, IsDoneOf, IsSwept, Spares};
+ghost use Rattle.claim_board.specs.Others.{LeavesOthers};
 
 use history::{how_counts_go_down, what_legal_histories_keep, what_own_calls_tell};
 
@@ -31,6 +32,13 @@ pub fn other_calls_leave_tickets()
 /// Calls for other regions, and claims, looks and polls, leave a completion valid: it can still be settled.
 pub fn other_calls_leave_completions()
     ensures { (old new : Caller) (d : Done) (event : Event) (reply : Reply) → IsDoneOf old d → Gains old new event reply → Spares d.region event → IsDoneOf new d }
+{}
+
+/// A call that is appended to a pass leaves the tickets and completions for all regions but one valid, if it spares each
+/// region but that one.
+pub fn appended_calls_leave_others()
+    ensures { (board : Board) (region : ℕ) (old new : Pass) (event : Event) (reply : Reply) → Appends board old new event reply → ((q : ℕ) → q ≢ region → Spares q event)
+        → LeavesOthers (moves board) region (caller old) (caller new) }
 {}
 
 /// If the calls of two workers are in one legal history, as after their passes have met, and each worker has a ticket,

@@ -18,8 +18,9 @@
 //! - The laws have no body; their contracts are theorems for proofs of callers.
 //!   `other_calls_leave_tickets`, `other_calls_leave_completions`, `one_more_source_is_drained` and
 //!   `swept_tickets_have_none_left` are for a caller that keeps a ticket or a `Done` over several calls,
-//!   `nothing_is_read_from_a_ticket` is about two tickets of passes that have met, and
-//!   `appended_calls_are_gained` leads from a pass to these laws.
+//!   `nothing_is_read_from_a_ticket` is about two tickets of passes that have met,
+//!   `appended_calls_are_gained` leads from a pass to these laws, and `appended_calls_leave_others`
+//!   says for one call of a pass what the first two say.
 //!
 //! `specs/Rule.antt` (`Kept`) defines the rule of the words: at every moment there is one legal history
 //! that begins with what every living pass has seen, and each word has the value that this history
@@ -44,8 +45,9 @@ pub use desk::recorder::Recorder;
 pub use desk::{Desk, Seating};
 pub use finished::Finished;
 pub use laws::{
-    appended_calls_are_gained, nothing_is_read_from_a_ticket, one_more_source_is_drained,
-    other_calls_leave_completions, other_calls_leave_tickets, swept_tickets_have_none_left,
+    appended_calls_are_gained, appended_calls_leave_others, nothing_is_read_from_a_ticket,
+    one_more_source_is_drained, other_calls_leave_completions, other_calls_leave_tickets,
+    swept_tickets_have_none_left,
 };
 pub use pass::Pass;
 pub use tokens::closed::Closed;

@@ -5,7 +5,9 @@ ghost use Rattle.heap_image.specs.HeapImage.{AreBlocks};
 use collector::{
     ExplainedWord, Explanation, Found, Lead, Moved, OtherLive, OtherRoot, Part, explain,
 };
-use heap_image::{Body, Extent, FRONT_BYTES, Fault, FileStore, Heap, Image, Version, body_at};
+use heap_image::{
+    Body, Extent, FRONT_BYTES, Fault, FileStore, Heap, Image, Version, blocks_joined, body_at,
+};
 use std::alloc::Global;
 use std::fmt;
 use std::fmt::Write;
@@ -61,6 +63,7 @@ fn heap_of<'a>(body: &'a Body, region_log: u32) -> Option<Heap<'a>>
     requires blocks { AreBlocks region_log body.now.regions.items }
     requires few { length body.now.regions.items * 2 ^ region_log ≤ 137438953472 }
 {
+    blocks_joined();
     let words = (body.regions.len() as u64) << region_log;
     let most = Version::Three.max_words();
     if words > most {

@@ -130,7 +130,7 @@ fn trouble_of<'a, F: Drop>(
 }
 
 /// A fault of a comparison, and which image it is about.
-#[derive(Debug, Clone, Copy, PartialEq, Eq)]
+#[derive(Clone, Copy)]
 pub enum Unverified {
     /// A fault of the image before the collection, or of reading it.
     Before(Fault),
@@ -141,7 +141,7 @@ pub enum Unverified {
 }
 
 /// How to compare.
-#[derive(Debug, Clone, Copy, PartialEq, Eq)]
+#[derive(Clone, Copy)]
 pub struct Wishes {
     /// Whether to explain a difference.
     pub explain: bool,

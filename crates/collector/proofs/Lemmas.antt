@@ -15,3 +15,4 @@ pub mod Upgrades
 pub mod Tallies
 pub mod Visits
 pub mod Comparing
+pub mod Ends

@@ -8,3 +8,5 @@ pub mod Halts
 pub mod Collections
 pub mod Streams
 pub mod Records
+pub mod Ends
+pub mod Sessions

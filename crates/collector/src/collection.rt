@@ -12,12 +12,12 @@ ghost use Rattle.collector.specs.Collections.{figures_of, AreNoneOrTooMany, IfKe
 ghost use Rattle.collector.specs.declared.outcome.Refusal.TheVariants.{Kept, Lost};
 
 pub(crate) mod alone;
-mod clean_up;
+pub(crate) mod clean_up;
 mod collection_desk;
 mod ended;
-mod equipment;
-mod hands;
-mod prepared;
+pub(crate) mod equipment;
+pub(crate) mod hands;
+pub(crate) mod prepared;
 mod reading;
 pub(crate) mod record_streaming;
 pub(crate) mod recording;

@@ -3,6 +3,8 @@
 //! - [`collect`] compacts an image with 1 to 64 workers, each in a thread of its own if one can be started.
 //!   [`collect_stream`] does so from bytes to bytes.
 //! - [`collect_alone`] compacts an image in the caller's thread alone. It starts no thread, and never waits.
+//! - [`Session`] compacts an image by workers that run by calls: [`Session::prepare`] returns a
+//!   [`Share`] for each, [`Share::work`] fills regions, and [`Share::end`] returns the compaction.
 //! - [`record`] collects as `collect` does, and returns the schedule of everything that the workers did.
 //!   [`record_stream`] does so from bytes to bytes.
 //! - [`verify`] says whether an image is the compaction of another, and if not, where it first differs: in its shape,
@@ -20,11 +22,12 @@
 //! If `collect` succeeds, it returns the compaction of the image and its figures, and a finished board whose history is
 //! legal for the image's moves, with one grant, one completion and one settling of each region to fill and one drain of
 //! each pair, for every number of workers and every interleaving. A clause states the cause of each refusal, and `Kept`
-//! returns the image unchanged. `collect_alone` keeps the same promises for one worker. If `collect_stream` succeeds, it
-//! has read all of its input, the text of an image, and written the text of its compaction; it writes nothing before a
-//! collection has succeeded. If `record` succeeds, it returns the compaction too, and a schedule that the word machine
-//! allows and that settles all regions to fill; `record_stream` writes the texts of both, and nothing before `record` has
-//! succeeded.
+//! returns the image unchanged. `collect_alone` keeps the same promises for one worker. If the end of a session
+//! succeeds, it returns the compaction and its figures, whatever calls of its shares came before. If `collect_stream`
+//! succeeds, it has read all of its input, the text of an image, and written the text of its compaction; it writes
+//! nothing before a collection has succeeded. If `record` succeeds, it returns the compaction too, and a schedule that
+//! the word machine allows and that settles all regions to fill; `record_stream` writes the texts of both, and nothing
+//! before `record` has succeeded.
 //!
 //! `verify` returns `Same` exactly if the second image is the compaction of the first by the definitions of `summary`,
 //! and otherwise the first difference; its only error is that memory runs out. `explain` returns the number of words
@@ -46,6 +49,7 @@ mod collection;
 mod gate;
 mod laws;
 mod outcome;
+mod session;
 mod verdict;
 mod verification;
 mod workers;
@@ -58,6 +62,9 @@ pub use collection::streaming::collect_stream;
 pub use gate::{Gate, OpenGate};
 pub use laws::an_upgrade_is_collected_alike;
 pub use outcome::{Figures, Outcome, Refusal};
+pub use session::Session;
+pub use session::progress::Progress;
+pub use session::share::Share;
 pub use verdict::Verdict;
 pub use verification::comparison_explained::{Found, explain};
 pub use verification::difference_tally::{LISTED, OtherWord};
@@ -67,3 +74,4 @@ pub use verification::verdict_explanation::{
 pub use verification::{verify, verify_below_top};
 pub use workers::Workers;
 pub use workers::ready::{Ready, Thief};
+pub use workers::worker::Halt;

@@ -22,6 +22,8 @@ mod refusals;
 #[cfg(test)]
 mod seeded;
 #[cfg(test)]
+mod sessions;
+#[cfg(test)]
 mod verdicts;
 #[cfg(test)]
 mod versions;

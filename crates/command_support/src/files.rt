@@ -96,13 +96,23 @@ pub fn target_beside<'a, H: Files + AllocGlobal>(
     out: FileWord<'a>,
     atomic: bool,
 ) -> Result<FileTarget<'a, H::File>, Trouble<'a>> {
+    if atomic {
+        FileTarget::find(host, out, read.writing(atomic)?)
+    } else {
+        other_target(host, read, out, atomic)
+    }
+}
+
+/// Finds a file to write that must not be this one that is read.
+pub fn other_target<'a, H: Files + AllocGlobal>(
+    host: &H,
+    read: &Watched<'a, H::File>,
+    out: FileWord<'a>,
+    atomic: bool,
+) -> Result<FileTarget<'a, H::File>, Trouble<'a>> {
     let (id, writing) = (read.id()?, read.writing(atomic)?);
     let out = FileTarget::find(host, out, writing)?;
-    if atomic {
-        Ok(out)
-    } else {
-        reject_same_file(host, out, read.word(), id)
-    }
+    reject_same_file(host, out, read.word(), id)
 }
 
 /// Refuses a file to write that is this one that is read, and leaves it unchanged.

@@ -57,8 +57,8 @@ pub use files::system_file::{FileLock, SystemFile};
 pub use files::watched::Watched;
 pub use files::{
     both_ended, ended, failed, failed_between, image_and_out, must_differ, not_regular,
-    output_must_differ, reject_same_file, same_file, target_beside, two_different_inputs,
-    two_inputs,
+    other_target, output_must_differ, reject_same_file, same_file, target_beside,
+    two_different_inputs, two_inputs,
 };
 pub use json::push_json;
 pub use line::{push_number, push_text};

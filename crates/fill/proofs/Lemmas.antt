@@ -1,3 +1,5 @@
+pub mod Lists
+pub mod Regions
 pub mod Blocks
 pub mod Cleared
 pub mod Late

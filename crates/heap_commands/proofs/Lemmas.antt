@@ -3,3 +3,4 @@ pub mod Unreplayed
 pub mod Texts
 pub mod Imports
 pub mod Upgrades
+pub mod Given

@@ -6,7 +6,7 @@ ghost use Rattle.command_support.specs.Failure.{failed_device};
 
 use command_line::Assemble;
 use command_support::{
-    Failure, FileTarget, FileWord, Late, Role, SystemFile, Trouble, Watched, WorkDone, ended,
+    Failure, FileTarget, FileWord, Late, Role, SystemFile, Trouble, Watched, WorkDone,
     output_must_differ, target_beside,
 };
 use heap_image::{Fault, FromRead, Image, Intake, Outlet, ToWrite, write_image_buffered};
@@ -34,7 +34,7 @@ where
         &mut ToWrite::new(&mut late),
     );
     match line {
-        Ok(line) => ended(rt, line, late.into_output()?),
+        Ok(line) => late.ended(line),
         Err(failure) => Err(late.failed(Trouble::new(failure).if_text(&text))),
     }
 }

@@ -6,7 +6,7 @@ ghost use Rattle.command_support.specs.Failure.{failed_device};
 use crate::shared::versions::requested_version;
 use command_line::Generate;
 use command_support::{
-    Failure, FileTarget, FileWord, Late, Role, SystemFile, Trouble, WorkDone, Writing, ended,
+    Failure, FileTarget, FileWord, Late, Role, SystemFile, Trouble, WorkDone, Writing,
 };
 use heap_image::{Outlet, ToWrite, Version, write_image_buffered};
 use heap_maker::{Generated, GenerationFigures, Wanted, generate};
@@ -39,7 +39,7 @@ where
         &generation_of(&request),
     );
     match line {
-        Ok(line) => ended(rt, line, late.into_output()?),
+        Ok(line) => late.ended(line),
         Err(failure) => Err(late.failed(Trouble::new(failure))),
     }
 }

@@ -9,7 +9,7 @@ use crate::shared::inputs::open_image;
 use command_line::{Look, Map};
 use command_support::{
     FileTarget, FileWord, Late, Role, Screen, SystemFile, Trouble, USUAL_WIDTH, Watched, WorkDone,
-    ended, output_must_differ, reject_same_file,
+    other_target, output_must_differ,
 };
 use heap_image::{
     Fault, FromRead, Image, Intake, Outlet, ToWrite, give_all, read_image_by_threads,
@@ -183,7 +183,7 @@ where
         rt,
     );
     match drawing {
-        Ok(MapDrawing { line, .. }) => ended(rt, line, late.into_output()?),
+        Ok(MapDrawing { line, .. }) => late.ended(line),
         Err(fault) => Err(late.failed(Trouble::from(fault).if_image(&image))),
     }
 }
@@ -196,9 +196,7 @@ pub(crate) fn drawing_target<'a, H: Files + AllocGlobal>(
     atomic: bool,
 ) -> Result<FileTarget<'a, H::File>, Trouble<'a>> {
     output_must_differ(host.alloc(), image.word(), file)?;
-    let (id, writing) = (image.id()?, image.writing(atomic)?);
-    let target = FileTarget::find(host, file, writing)?;
-    reject_same_file(host, target, image.word(), id)
+    other_target(host, image, file, atomic)
 }
 
 /// Reads an image and returns its picture as text.

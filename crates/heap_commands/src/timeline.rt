@@ -13,7 +13,7 @@ use crate::replay::{Unreplayed, refused, schedule_in};
 use crate::shared::inputs::{Inputs, Opened, replay_trouble};
 use command_line::Timeline;
 use command_support::{
-    Failure, FileTarget, FileWord, Late, Role, Screen, SystemFile, Trouble, WorkDone, ended,
+    Failure, FileTarget, FileWord, Late, Role, Screen, SystemFile, Trouble, WorkDone,
     output_must_differ, reject_same_file,
 };
 use heap_image::{
@@ -163,7 +163,7 @@ where
         wanted,
     );
     match written {
-        Ok(TimelinePicture { line, .. }) => ended(rt, line, late.into_output()?),
+        Ok(TimelinePicture { line, .. }) => late.ended(line),
         Err(unreplayed) => Err(late.failed(replay_trouble(unreplayed, &image, &schedule))),
     }
 }

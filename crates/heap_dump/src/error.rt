@@ -4,54 +4,71 @@ ghost use Rattle.heap_dump.specs.declared.error.ImportError.TheVariants.{Input, 
 
 use heap_image::{Failed, Fault};
 use std::alloc::{AllocError, AllocFailed};
+use std::fmt;
 use thiserror::Error;
 
 /// What is wrong at some byte of a dump.
-#[derive(Debug, Clone, Copy, PartialEq, Eq, Error)]
+#[derive(Debug, Clone, Copy, PartialEq, Eq)]
 pub enum Problem {
     /// The dump begins with the name of no supported version of the format.
-    #[error("this is no heap dump of version 1.0.1 or 1.0.2")]
     Name,
     /// The size of ids is neither 4 nor 8 bytes.
-    #[error("ids of {0} bytes, where 4 or 8 are read")]
     IdSize(u32),
     /// The dump ends inside a record, or in its head.
-    #[error("the dump ends here, inside a record")]
     Cut,
     /// A value extends past the end of its record.
-    #[error("this goes beyond the length of its record")]
     PastRecord,
     /// The tag of a record of the heap is unknown.
-    #[error("tag {0} is that of no record of a heap")]
     HeapTag(u8),
     /// The type of a field or an array is unknown.
-    #[error("type {0} is none of the format's")]
     Type(u8),
     /// An array of primitive values has references as elements.
-    #[error("an array of references is told as one of primitive values")]
     NotPrimitive,
     /// An object has id 0, which is null.
-    #[error("an object with id 0, which is null")]
     NullObject,
     /// An object has the id of an earlier one.
-    #[error("a second object with id {0}")]
     SecondObject(u64),
     /// The class of an object or one of its superclasses is missing from the dump, or the superclasses form a cycle.
-    #[error("the class of this object, or one above it, is not in the dump or is above itself")]
     NoClass,
     /// The number of bytes of an instance differs from that of the fields of its class.
-    #[error("an instance of {0} bytes, where the fields of its class have another number")]
     InstanceSize(u32),
     /// The dump has no heap.
-    #[error("the dump ends without a heap")]
     NoHeap,
     /// The dump has segments of a heap, but not the record that ends the heap.
-    #[error("the dump ends without the end of its heap")]
     NoEnd,
     /// The second reading of the dump differs from the first.
-    #[error("the dump changed while it was read")]
     Changed,
 }
+
+impl fmt::Display for Problem {
+    fn fmt<W: fmt::Write>(&self, f: &mut fmt::Formatter<W>) -> fmt::Result {
+        f.write_str(match self {
+            Problem::Name => "this is no heap dump of version 1.0.1 or 1.0.2",
+            Problem::IdSize(bytes) => return write!(
+                f,
+                "ids of {bytes} bytes, where 4 or 8 are read"
+            ),
+            Problem::Cut => "the dump ends here, inside a record",
+            Problem::PastRecord => "this goes beyond the length of its record",
+            Problem::HeapTag(tag) => return write!(f, "tag {tag} is that of no record of a heap"),
+            Problem::Type(number) => return write!(f, "type {number} is none of the format's"),
+            Problem::NotPrimitive => "an array of references is told as one of primitive values",
+            Problem::NullObject => "an object with id 0, which is null",
+            Problem::SecondObject(id) => return write!(f, "a second object with id {id}"),
+            Problem::NoClass =>
+                "the class of this object, or one above it, is not in the dump or is above itself",
+            Problem::InstanceSize(bytes) => return write!(
+                f,
+                "an instance of {bytes} bytes, where the fields of its class have another number"
+            ),
+            Problem::NoHeap => "the dump ends without a heap",
+            Problem::NoEnd => "the dump ends without the end of its heap",
+            Problem::Changed => "the dump changed while it was read",
+        })
+    }
+}
+
+impl std::error::Error for Problem {}
 
 /// Why [`import`](crate::import) returns no image.
 #[derive(Debug, Clone, Copy, PartialEq, Eq, Error)]

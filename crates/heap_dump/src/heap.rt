@@ -11,6 +11,7 @@ mod roots;
 mod survivors;
 
 use crate::error::ImportError;
+use heap_image::regions_by_log;
 use raw_region::Region;
 use std::alloc::{AllocError, Global};
 
@@ -40,6 +41,7 @@ impl UnsealedHeap {
         requires low { 3 ≤ region_log }
         requires high { region_log ≤ 20 }
     {
+        regions_by_log();
         let count = words.div_ceil(1 << region_log).max(1);
         let mut regions = Vec::new(alloc);
         for _r in 0..count {

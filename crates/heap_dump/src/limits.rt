@@ -4,7 +4,7 @@ ghost use Rattle.std.specs.List.{concat};
 ghost use Rattle.heap_image.specs.HeapImage.{AreBlocks, IsWithinLimits};
 
 use crate::error::ImportError;
-use heap_image::{Fault, Version};
+use heap_image::{Fault, Version, blocks_joined};
 use raw_region::Region;
 
 /// The number of words of these regions of `2 ^ region_log` words, if an image of some version may have as many.
@@ -17,6 +17,7 @@ pub(crate) fn words_within_limits(region_log: u32, regions: &[Region]) -> Result
     ensures fit { OnOk result (All (λ w. w < 2 ^ 64) (concat regions.now)) }
     ensures no_device { result ≢ Err ImportError.Input }
 {
+    blocks_joined();
     if regions.len() as u64 > Version::Three.max_regions() {
         return Err(ImportError::NoHeap(Fault::Length));
     }

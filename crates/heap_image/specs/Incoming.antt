@@ -3,14 +3,15 @@ use Rattle.std.specs.Prelude.{ℕ, ◌+◌, ◌-◌, ◌*◌, ◌<◌, ◌≤◌
 use Rattle.std.specs.Io.KnownBytes.{IsAtEnd, prepend_known}
 use Rattle.heap_image.specs.declared.io.numbers.incoming.Incoming.{Incoming}
 
--- the buffered numbers are within the buffer
+-- the buffer has room for at least one number, and the buffered numbers are within it
 pub record IsInRange (i : Incoming) : Type 0 where
+  pub some : 8 ≤ length i.bytes.now
   pub ordered : i.start ≤ i.end
-  pub within : i.end ≤ 2048
+  pub within : 8 * i.end ≤ length i.bytes.now
 
 -- the bytes of the buffered numbers
 abbrev pub unread_bytes : Incoming → List ℕ
-unread_bytes i = slice_range i.bytes (8 * i.start) (8 * i.end)
+unread_bytes i = slice_range i.bytes.now (8 * i.start) (8 * i.end)
 
 -- the number of numbers that are still to be read
 abbrev pub expected : Incoming → ℕ

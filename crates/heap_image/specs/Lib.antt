@@ -22,3 +22,4 @@ pub mod RegionSource
 pub mod Boxes
 pub mod Spread
 pub mod Rounds
+pub mod LiveLaws

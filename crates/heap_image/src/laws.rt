@@ -1,13 +1,21 @@
-//! Laws of images and their texts, for callers' proofs. The functions do nothing: each one's contract is a law.
-ghost use Rattle.std.specs.Prelude.{◌≡◌, ◌+◌, ℕ, List, Bool, true, [], Some, None, All, IsTrue, filter, map};
-ghost use Rattle.std.specs.List.{range_with_len};
+//! Laws of images and their texts, for callers' proofs, which have no other way to them. The functions do nothing: each one's
+//! contract is a law.
+ghost use Rattle.std.specs.Prelude.{◌≡◌, ◌+◌, ◌-◌, ◌*◌, ◌/◌, ◌%◌, ◌^◌, ◌<◌, ◌≤◌, ◌==◌, ◌||◌, ◌⊎◌, ℕ, List, Bool, true, false, [], Option, Some, None, Result, Ok, Err, All, IsTrue, IfSome, IfOk, IfErr, OnOk, filter, map, length, set, slice_index_or, bit_and, bit_or};
+ghost use Rattle.std.specs.List.{concat, range_with_len};
+ghost use Rattle.std.specs.Io.KnownBytes.{Consumes, IsAtEnd};
+ghost use Rattle.heap_image.specs.Bits.{has};
+ghost use Rattle.heap_image.specs.Device.{is_io};
+ghost use Rattle.heap_image.specs.Refusals.{IsReason};
 ghost use Rattle.heap_image.specs.Version.{has_roots};
+ghost use Rattle.heap_image.specs.declared.fault.Fault.{Fault};
+ghost use Rattle.heap_image.specs.declared.fault.Fault.TheVariants.{Memory};
 ghost use Rattle.heap_image.specs.declared.version.Version.{Version};
 ghost use Rattle.heap_image.specs.declared.version.Version.TheVariants.{Two};
-ghost use Rattle.heap_image.specs.HeapImage.{HeapImage, IsValid, HasLiveList, heap_words, image_of, is_null_or_live, reachable, versioned_image_of, roots_of};
-ghost use Rattle.heap_image.specs.ImageText.{text, from_tail, first_some, live_list_faults, misplaced_index, unsound_header, dangling, FaultlessIsText, TextIsFaultless};
+ghost use Rattle.heap_image.specs.HeapImage.{HeapImage, IsValid, HasLiveList, AreBlocks, heap_words, image_of, is_null_or_live, reachable, versioned_image_of, roots_of};
+ghost use Rattle.heap_image.specs.ImageText.{text, numbers, magic, version_of_magic, encoded_words, with_tail, from_tail, first_some, live_list_faults, misplaced_index, unsound_header, dangling, FaultlessIsText, TextIsFaultless};
 ghost use Rattle.heap_image.specs.Reading.{HasFittingNumbers};
 ghost use Rattle.heap_image.specs.Reachable.{is_listed, beyond, IsClosed};
+ghost use Rattle.heap_image.specs.LiveLaws.{LiveLaws};
 
 use crate::image::Image;
 
@@ -70,4 +78,46 @@ pub fn marked_parts_are_valid()
         → first_some (live_list_faults (from_tail Two (image_of log 0 blocks roots))) ≡ None
         → live ≡ reachable (image_of log 0 blocks []) roots
         → IsValid (versioned_image_of version log allowance blocks live (Some roots)) }
+{}
+
+/// Live lists, the objects that references and roots reach, and their headers.
+pub fn live_laws()
+    ensures { LiveLaws }
+{}
+
+/// The size of a region, as it is computed of its logarithm, and the place of an address in its region.
+pub fn regions_by_log()
+    ensures few { (log : ℕ) → log ≤ 20 → 1 * 2 ^ log % 18446744073709551616 ≤ 1048576 }
+    ensures place { (log a : ℕ) → log ≤ 20 → bit_and a (1 * 2 ^ log % 18446744073709551616 - 1) ≡ a % 2 ^ log }
+{}
+
+/// The words of blocks of one size, one block behind the other.
+pub fn blocks_joined()
+    ensures words { (log : ℕ) (blocks : List (List ℕ)) → AreBlocks log blocks → length (concat blocks) ≡ length blocks * 2 ^ log }
+    ensures count { (log : ℕ) (blocks : List (List ℕ)) → AreBlocks log blocks → length (concat blocks) / 2 ^ log ≡ length blocks }
+    ensures below { (log : ℕ) (blocks : List (List ℕ)) → AreBlocks log blocks → (a : ℕ) → a < length (concat blocks) → a / 2 ^ log < length blocks }
+{}
+
+/// What a text tells of its image: the version and the number of words; and that all numbers of a valid image fit.
+pub fn text_tells_its_size()
+    ensures version { (version : Version) → version_of_magic (magic version) ≡ version }
+    ensures numbers { (xs : List ℕ) → length (numbers xs) ≡ 8 * length xs }
+    ensures fitting { (image : HeapImage) → IsValid image → HasFittingNumbers image.version (with_tail image) }
+    ensures words { (image : HeapImage) → IsValid image → encoded_words (text image) ≡ heap_words image }
+{}
+
+/// What was read of the text of a valid image is that image, unless memory ran out.
+pub fn text_is_read_back()
+    ensures { (bytes : List ℕ) (answer : Result HeapImage Fault) (left : Option (List ℕ)) → IfOk answer IsValid
+        → IfOk answer (λ i. Consumes (Some bytes) left (text i)) → OnOk answer (IsAtEnd left)
+        → IfErr answer (λ fault. IfSome (Some bytes) (λ input. IsReason input fault)) → false ≡ is_io answer
+        → (image : HeapImage) → IsValid image → bytes ≡ text image → (answer ≡ Ok image) ⊎ (answer ≡ Err Memory) }
+{}
+
+/// A bit that is put into words is set, and the others stay.
+#[inline]
+pub fn inserted_bit()
+    ensures { (words : List ℕ) (i k : ℕ) → i / 64 < length words
+        → has (set words (i / 64) (bit_or (slice_index_or words (i / 64) 0) (1 * 2 ^ (i % 64) % 18446744073709551616))) k
+        ≡ (has words k || (i == k)) }
 {}

@@ -53,9 +53,10 @@ pub use io::side_by_side::{Extent, body_at};
 pub use io::store::{FileStore, Store};
 pub use io::write::{write_image, write_image_buffered};
 pub use laws::{
-    faultless_is_text, faults_of_roots, image_is_valid, live_objects_are_reached,
-    marked_parts_are_valid, one_text, reachable_is_the_least_closed, roots_are_null_or_live,
-    text_is_faultless,
+    blocks_joined, faultless_is_text, faults_of_roots, image_is_valid, inserted_bit, live_laws,
+    live_objects_are_reached, marked_parts_are_valid, one_text, reachable_is_the_least_closed,
+    regions_by_log, roots_are_null_or_live, text_is_faultless, text_is_read_back,
+    text_tells_its_size,
 };
 pub use marking::reach::{mark_from_roots, mark_from_roots_by_workers};
 pub use upgrading::{upgrade, upgrade_stream, upgrade_to};

@@ -5,6 +5,7 @@ ghost use Rattle.heap_image.specs.HeapImage.{AreBlocks};
 
 use crate::heap_words::HeapWords;
 use crate::limits::Limits;
+use heap_image::{blocks_joined, regions_by_log};
 use raw_region::Region;
 use std::alloc::{AllocError, Global};
 
@@ -18,6 +19,7 @@ pub(crate) fn regions_of(
     ensures count { IfOk result (λ regions. length (concat regions.items) ≡ limits.words) }
     ensures fit { IfOk result (λ regions. All (λ w. w < 2 ^ 64) (concat regions.items)) }
 {
+    blocks_joined();
     let mut regions = Vec::new(alloc);
     for _r in 0..limits.regions {
         let region = region_of(alloc, limits.region_log, words)?;
@@ -36,6 +38,7 @@ fn region_of(
     ensures whole { IfOk result (λ region. length region ≡ 2 ^ region_log) }
     ensures fit { IfOk result (λ region. All (λ w. w < 2 ^ 64) region) }
 {
+    regions_by_log();
     let mut region = Region::new(alloc, 1 << region_log)?;
     for place in 0..region.len() {
         region.set(place, words.next_word());

@@ -14,7 +14,7 @@ use crate::lines::{line_of_address, line_of_place};
 use crate::parsed_heap::{ParsedHeap, numbers_after_words};
 use crate::reading::{parse_from, parse_text};
 use crate::writing::write_text_with_capacity;
-use heap_image::{Fault, Image, Intake, read_image};
+use heap_image::{Fault, Image, Intake, read_image, text_is_read_back, text_tells_its_size};
 use std::alloc::Global;
 
 /// Returns the image whose text this is, or the first line that differs from what is expected.
@@ -71,6 +71,7 @@ fn build_image(alloc: Global, heap: ParsedHeap, text: &[u8]) -> Result<Image, Te
     let tail = numbers_after_words(version, roots.as_slice(), live.as_slice());
     let bytes = ImageBytes::new(alloc, front, words, tail)?;
     let image = decode_heap(alloc, bytes, text)?;
+    text_tells_its_size();
     check_live_objects(text, live.as_slice(), image.live())?;
     let written = write_text_with_capacity(alloc, &image, text.len())?;
     if text == written.as_slice() {
@@ -87,6 +88,7 @@ fn decode_heap(alloc: Global, mut bytes: ImageBytes<'_>, text: &[u8]) -> Result<
     ensures accepts { (image : HeapImage) → IsValid image → Gives image bytes.entry
         → AcceptsText result (λ found. found ≡ image) }
 {
+    text_is_read_back();
     match read_image(alloc, &mut bytes) {
         Ok(image) => Ok(image),
         Err(fault) => Err(error_of_fault(text, fault)),

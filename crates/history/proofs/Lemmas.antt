@@ -1,3 +1,5 @@
+pub mod KnownBytes
+pub mod Regions
 mod Counting
 pub mod Pairs
 pub mod Indexes

@@ -13,6 +13,7 @@ pub(crate) mod text_laws;
 pub(crate) mod whole_histories;
 
 use crate::moves::Moves;
+use summary::laws::plan_laws;
 
 /// For any number of workers and any order of calls: a region is granted at most once, when it has no
 /// pending readers and will have none; only its claimant completes it, after all its reads are drained;
@@ -51,7 +52,9 @@ pub fn pairs_slide_down()
 /// Once all regions to be filled are filled, the heap is that of the moved words.
 pub fn drained_before_written()
     ensures { (image : HeapImage) → IsValid image → (workers : ℕ) (log : List Entry) → IsAllowed image workers log → IsDrainedBeforeWritten image log }
-{}
+{
+    plan_laws();
+}
 
 /// Moves keep the laws of a table.
 pub fn moves_are_lawful<M: Moves>(moves: &M)

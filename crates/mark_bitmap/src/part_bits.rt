@@ -3,6 +3,8 @@ ghost use Rattle.std.specs.Prelude.{◌≡◌, ℕ, ◌+◌, ◌<◌, ◌==◌, 
 ghost use Rattle.std.specs.List.{list_any};
 ghost use Rattle.heap_image.specs.Bits.{has, room};
 
+use heap_image::inserted_bit;
+
 /// Inserts the addresses that lie within this part of a bit set. The first bit of the part is for the address `start`.
 pub(crate) fn insert_within(words: &mut [u64], start: u64, addresses: &[u64])
     requires { start + room words.old < 2 ^ 64 }
@@ -35,5 +37,6 @@ fn insert(words: &mut [u64], i: u64)
     ensures room { length words.new ≡ length words.old }
     ensures bits { (k : ℕ) → has words.new k ≡ (has words.old k || i == k) }
 {
+    inserted_bit();
     words[(i / 64) as usize] |= 1 << (i % 64);
 }

@@ -1,3 +1,2 @@
-pub mod Compacted
-pub mod HeapBytes
-pub mod Regions
+pub mod Alike
+pub mod Numbered

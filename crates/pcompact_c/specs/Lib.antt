@@ -1,4 +1,5 @@
 pub mod Answers
-pub mod Collected
+pub mod Decoded
 pub mod Faults
-pub mod HeapWords
+pub mod Strays
+pub mod Verdicts

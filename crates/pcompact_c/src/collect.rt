@@ -7,14 +7,12 @@ ghost use Rattle.heap_image.specs.ImageText.{text};
 ghost use Rattle.summary.specs.Compaction.{compact};
 ghost use Rattle.pcompact_c.specs.Faults.{IsOf};
 ghost use Rattle.pcompact_c.specs.Answers.{IsSummaryOf};
-ghost use Rattle.pcompact_c.specs.Collected.{IsWhyKept};
-ghost use Rattle.pcompact_c.specs.HeapWords.{heap_bytes};
+ghost use Rattle.caller_heap.specs.Collected.{IsWhyKept};
+ghost use Rattle.caller_heap.specs.HeapWords.{heap_bytes};
 
 use crate::answer::PcompactAnswer;
 use crate::fault::PcompactFault;
-use crate::heap_collection::collect_heap;
-use crate::settings::PcompactSettings;
-use heap_image::Version;
+use caller_heap::{HeapSettings, collect_words};
 use std::alloc::Global;
 
 /// Compacts the heap with these words and live addresses in place. Returns the number of the fault in `answer`. After a
@@ -27,7 +25,7 @@ pub extern "C" fn pcompact_collect(
     alloc: Global,
     words: &mut [u64],
     live: &mut [u64],
-    settings: PcompactSettings,
+    settings: HeapSettings,
     answer: &mut PcompactAnswer,
 ) -> u32
     ensures number { result ≡ answer.new.fault.number }
@@ -39,9 +37,9 @@ pub extern "C" fn pcompact_collect(
     ensures fault { 0 < result → (fault : Fault) × IsOf fault answer.new.fault
         × IsWhyKept (heap_bytes One settings words.old live.old) fault }
 {
-    match collect_heap(alloc, Version::One, settings, words, live) {
-        Ok(summary) => {
-            *answer = summary;
+    match collect_words(alloc, settings, words, live) {
+        Ok(figures) => {
+            *answer = PcompactAnswer::of_figures(figures);
             0
         }
         Err(fault) => {

@@ -7,14 +7,12 @@ ghost use Rattle.heap_image.specs.ImageText.{text};
 ghost use Rattle.summary.specs.Compaction.{compact};
 ghost use Rattle.pcompact_c.specs.Faults.{IsOf};
 ghost use Rattle.pcompact_c.specs.Answers.{IsSummaryOf};
-ghost use Rattle.pcompact_c.specs.Collected.{IsWhyKept};
-ghost use Rattle.pcompact_c.specs.HeapWords.{heap_bytes};
+ghost use Rattle.caller_heap.specs.Collected.{IsWhyKept};
+ghost use Rattle.caller_heap.specs.HeapWords.{heap_bytes};
 
 use crate::answer::PcompactAnswer;
 use crate::fault::PcompactFault;
-use crate::heap_collection::collect_heap;
-use crate::settings::PcompactSettings;
-use heap_image::Version;
+use caller_heap::{HeapSettings, collect_rooted_words};
 use std::alloc::Global;
 
 /// Compacts the heap with these words in place. Its live objects are those that the roots reach, and the roots then lead
@@ -28,7 +26,7 @@ pub extern "C" fn pcompact_collect_rooted(
     alloc: Global,
     words: &mut [u64],
     roots: &mut [u64],
-    settings: PcompactSettings,
+    settings: HeapSettings,
     answer: &mut PcompactAnswer,
 ) -> u32
     ensures number { result ≡ answer.new.fault.number }
@@ -40,9 +38,9 @@ pub extern "C" fn pcompact_collect_rooted(
     ensures fault { 0 < result → (fault : Fault) × IsOf fault answer.new.fault
         × IsWhyKept (heap_bytes Three settings words.old roots.old) fault }
 {
-    match collect_heap(alloc, Version::Three, settings, words, roots) {
-        Ok(summary) => {
-            *answer = summary;
+    match collect_rooted_words(alloc, settings, words, roots) {
+        Ok(figures) => {
+            *answer = PcompactAnswer::of_figures(figures);
             0
         }
         Err(fault) => {

@@ -1,6 +1,7 @@
 //! Faults as C sees them.
 ghost use Rattle.std.specs.Prelude.{◌≡◌, Some, IfSome};
 ghost use Rattle.heap_image.specs.declared.fault.Fault.{Fault};
+ghost use Rattle.heap_image.specs.declared.fault.Fault.TheVariants.{Root};
 ghost use Rattle.pcompact_c.specs.Faults.{IsOf, Fits, number_of};
 
 use heap_image::Fault;
@@ -42,6 +43,17 @@ impl PcompactFault {
             number: number(fault),
             field,
             place,
+        }
+    }
+
+    /// Fault 17 at this index of a list of references.
+    pub(crate) fn of_reference(index: usize) -> PcompactFault
+        ensures { IsOf (Root index) result }
+    {
+        PcompactFault {
+            number: 17,
+            field: 0,
+            place: index as u64,
         }
     }
 

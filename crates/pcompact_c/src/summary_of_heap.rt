@@ -7,12 +7,11 @@ ghost use Rattle.heap_image.specs.HeapImage.{HeapImage, IsValid};
 ghost use Rattle.heap_image.specs.ImageText.{text, first_fault};
 ghost use Rattle.pcompact_c.specs.Faults.{IsOf};
 ghost use Rattle.pcompact_c.specs.Answers.{IsSummaryOf};
-ghost use Rattle.pcompact_c.specs.HeapWords.{heap_bytes};
+ghost use Rattle.caller_heap.specs.HeapWords.{heap_bytes};
 
 use crate::answer::PcompactAnswer;
 use crate::fault::PcompactFault;
-use crate::image_of_heap::image_of_heap;
-use crate::settings::PcompactSettings;
+use caller_heap::{HeapSettings, image_of_heap};
 use heap_image::{Fault, Version};
 use std::alloc::Global;
 use summary::Survey;
@@ -27,7 +26,7 @@ pub extern "C" fn pcompact_summary(
     alloc: Global,
     words: &[u64],
     live: &[u64],
-    settings: PcompactSettings,
+    settings: HeapSettings,
     answer: &mut PcompactAnswer,
 ) -> u32
     ensures number { result ≡ answer.new.fault.number }
@@ -54,7 +53,7 @@ fn summarize(
     alloc: Global,
     words: &[u64],
     live: &[u64],
-    settings: PcompactSettings,
+    settings: HeapSettings,
 ) -> Result<PcompactAnswer, Fault>
     ensures none { IfOk result (λ answer. answer.fault.number ≡ 0) }
     ensures summary { IfOk result (λ answer. (image : HeapImage) × IsValid image

@@ -18,7 +18,7 @@ pub const BASE_FILLED: [bool; 4] = [true, true, true, false];
 pub const BASE_PAIRS: [(u32, u32); 4] = [(0, 1), (1, 2), (1, 3), (2, 3)];
 
 /// Makes a board of these moves, with its passes.
-#[tactic(auto, using(claim_board::proofs::Lemmas::Gathers::are_all))]
+#[tactic(auto, using(crate::proofs::Lemmas::Passes::are_all))]
 pub fn board_of_moves(
     alloc: Global,
     moves: &GivenMoves,
@@ -69,7 +69,7 @@ pub fn take_two(board: &Board, passes: &mut Vec<Pass>) -> Result<(Pass, Pass), F
 }
 
 /// Puts a pass back.
-#[tactic(auto, using(claim_board::proofs::Lemmas::Gathers::all_push))]
+#[tactic(auto, using(crate::proofs::Lemmas::Passes::all_push))]
 pub fn put(board: &Board, passes: &mut Vec<Pass>, pass: Pass) -> Result<(), AllocError>
     requires { AllOf (identity board.now) passes.old.items × (board_of pass ≡ identity board.now) }
     ensures { OnOk result (AllOf (identity board.now) passes.new.items) }

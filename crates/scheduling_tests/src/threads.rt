@@ -5,7 +5,10 @@ ghost use Rattle.claim_board.specs.Boards.{moves as moves_of, identity, board_of
 
 use crate::boards::{board_of_moves, board_with, is_claimed, take_two};
 use crate::checks::{equal, equal_at};
-use claim_board::{Board, Pass, one_more_source_is_drained, swept_tickets_have_none_left};
+use claim_board::{
+    Board, Pass, appended_calls_are_gained, one_more_source_is_drained,
+    swept_tickets_have_none_left,
+};
 use history::{GivenMoves, Moves};
 use std::alloc::{AllocError, Global};
 use std::sync::atomic::{AtomicU64, Ordering};
@@ -197,6 +200,7 @@ fn fill(board: &Board, pass: &mut Pass, region: u32, tally: &mut Tally)
     requires { (board_of pass.old ≡ identity board.now) × (region < region_count (moves_of board.now)) }
     ensures { board_of pass.new ≡ identity board.now }
 {
+    appended_calls_are_gained();
     swept_tickets_have_none_left();
     one_more_source_is_drained();
     let moves = board.moves();

@@ -7,7 +7,7 @@ ghost use Rattle.claim_board.specs.Others.{LeavesOthers};
 
 use crate::boards::{BASE_FILLED, BASE_PAIRS, board_with, is_claimed, put, take_two};
 use crate::checks::{equal_items, holds};
-use claim_board::{Board, Done, Drained, Pass, Ticket};
+use claim_board::{Board, Done, Drained, Pass, Ticket, appended_calls_leave_others};
 use history::Reply::{All, Claimed, Filled, Last, More, No, NotLast, Open, Outside, Yes};
 use history::{Moves, Reply};
 use std::alloc::{AllocError, Global};
@@ -59,6 +59,7 @@ fn claims(board: &Board, pass: &mut Pass, region: u32, notes: &mut Notes) -> Opt
     ensures ticket { IfSome result (λ t. (t.region ≡ region) × IsTicketOf (moves_of board.now) (caller pass.new) t) }
     ensures others { LeavesOthers (moves_of board.now) region (caller pass.old) (caller pass.new) }
 {
+    appended_calls_leave_others();
     let ticket = board.claim(pass, region);
     let reply = if ticket.is_some() { Yes } else { No };
     note(board, notes, reply);
@@ -71,6 +72,7 @@ fn looks(board: &Board, pass: &mut Pass, region: u32, notes: &mut Notes)
     ensures watch { board_of notes.new.watch ≡ identity board.now }
     ensures others { (r : ℕ) → LeavesOthers (moves_of board.now) r (caller pass.old) (caller pass.new) }
 {
+    appended_calls_leave_others();
     let reply = board.look(pass, region);
     note(board, notes, reply);
 }
@@ -91,6 +93,7 @@ fn drains(board: &Board, pass: &mut Pass, ticket: &mut Ticket, notes: &mut Notes
     ensures ticket { (ticket.new.region ≡ ticket.old.region) × IsTicketOf (moves_of board.now) (caller pass.new) ticket.new }
     ensures others { LeavesOthers (moves_of board.now) ticket.old.region (caller pass.old) (caller pass.new) }
 {
+    appended_calls_leave_others();
     let moves = board.moves();
     let _ = notes.left.push(ticket.left());
     while let Some(opening) = ticket.open(moves) {
@@ -113,6 +116,7 @@ fn completes<R: Abort>(
     ensures done { (result.region ≡ ticket.region) × IsDoneOf (caller pass.new) result }
     ensures others { LeavesOthers (moves_of board.now) ticket.region (caller pass.old) (caller pass.new) }
 {
+    appended_calls_leave_others();
     holds(rt, ticket.left() == 0);
     let right = ticket.right().expect(rt, "the right is given once");
     let done = board.complete(pass, ticket, right.written());
@@ -126,6 +130,7 @@ fn settles(board: &Board, pass: &mut Pass, done: Done, notes: &mut Notes)
     ensures watch { board_of notes.new.watch ≡ identity board.now }
     ensures others { LeavesOthers (moves_of board.now) done.region (caller pass.old) (caller pass.new) }
 {
+    appended_calls_leave_others();
     let reply = all_or_more(board.settle(pass, done));
     note(board, notes, reply);
 }
@@ -136,6 +141,7 @@ fn polls(board: &Board, pass: &mut Pass, notes: &mut Notes)
     ensures watch { board_of notes.new.watch ≡ identity board.now }
     ensures others { (r : ℕ) → LeavesOthers (moves_of board.now) r (caller pass.old) (caller pass.new) }
 {
+    appended_calls_leave_others();
     let reply = all_or_more(board.poll(pass));
     note(board, notes, reply);
 }

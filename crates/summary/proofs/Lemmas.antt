@@ -1,3 +1,5 @@
+pub mod Spans
+pub mod LiveWords
 mod Rows
 mod TargetRows
 pub mod Graph

@@ -13,3 +13,4 @@ pub mod Report
 pub mod Redirections
 pub mod Plan
 pub mod Reads
+pub mod PlanLaws

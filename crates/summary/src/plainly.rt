@@ -14,7 +14,7 @@ ghost use Rattle.summary.specs.RegionData.{region_addresses};
 ghost use Rattle.summary.specs.Placement.{IsPrefix, IsPlacement};
 
 use crate::stride::{FILLER_STRIDE, filler_limit};
-use heap_image::{Image, ImageParts, header};
+use heap_image::{Image, ImageParts, header, live_laws};
 use raw_region::Region;
 use std::alloc::{AllocError, Global};
 
@@ -50,6 +50,7 @@ impl Placement {
 pub fn compact_plainly(alloc: Global, image: &Image) -> Result<Image, AllocError>
     ensures { IfOk result (λ new. new ≡ compact image.now) }
 {
+    live_laws();
     let places = Placement::of(alloc, image)?;
     let mut regions = Vec::new(alloc);
     for r in 0..image.regions() {

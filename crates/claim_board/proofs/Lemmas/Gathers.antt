@@ -1,5 +1,5 @@
 -- Passes gathered in one seat.
-use Rattle.std.proofs.Common.{◌≡◌, ℕ, suc, List, [], ◌∷◌, ◌++◌, length, arith, refl, sym, ap, ◌∙◌, subst}
+use Rattle.std.proofs.Common.{◌≡◌, ℕ, List, [], ◌∷◌, ◌++◌, length, arith, refl, sym, ap, ◌∙◌, subst}
 use Rattle.atomic_table.specs.Seated.{TableId}
 use Rattle.history.specs.declared.entry.Entry.{Entry}
 use Rattle.history.specs.History.{BeginsWith, calls_by}
@@ -7,7 +7,7 @@ use Rattle.claim_board.specs.declared.pass.Pass.{Pass}
 use Rattle.claim_board.specs.declared.rule.view.Hold.{Hold}
 use Rattle.claim_board.specs.declared.rule.view.View.{View}
 use Rattle.claim_board.specs.Views.{AllFit, IsPassView, worker_of, seen_of, mine_of}
-use Rattle.claim_board.specs.Boards.{board_of, AllOf, AllStand, ArePassesFrom}
+use Rattle.claim_board.specs.Boards.{board_of, AllOf, AllStand}
 
 pub all_of_front : (z : TableId) (ps : List Pass) (p : Pass) → AllOf z (ps ++ p ∷ []) → AllOf z ps × (board_of p ≡ z)
 all_of_front z [] p all = (tt, all.0)
@@ -39,13 +39,3 @@ empty_of (p ∷ ps) e = absurd (omega arith)
 -- once no pass is left, all were gathered
 pub all_stand : (n : ℕ) (log : List Entry) (hs : List Hold) (all left popped : List Pass) → length left ≡ 0 → all ≡ left ++ popped → Covers n hs popped → AllFit n log hs → AllStand log all
 all_stand n log hs all left popped none is covers fits = subst (AllStand log) (sym (is ∙ ap (λ l. l ++ popped) (empty_of left none))) (covers log fits)
-
--- new passes are of their board
-pub are_all : (z : TableId) (k : ℕ) (ps : List Pass) → ArePassesFrom z k ps → AllOf z ps
-are_all z k [] are = tt
-are_all z k (p ∷ ps) are = (are.0.0, are_all z (suc k) ps are.1)
-
--- one pass more
-pub all_push : (z : TableId) (ps : List Pass) (p : Pass) → AllOf z ps → board_of p ≡ z → AllOf z (ps ++ p ∷ [])
-all_push z [] p all is = (is, tt)
-all_push z (q ∷ qs) p all is = (all.0, all_push z qs p all.1 is)

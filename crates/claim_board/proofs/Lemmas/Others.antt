@@ -34,17 +34,6 @@ leaves m r old new event reply g spares =
       dones = λ d apart is. leaves_dones old new d event reply is g (spares d.region apart);
     }
 
-pub leaves_nothing : (m : MoveTable) (r : ℕ) (c : Caller) → LeavesOthers m r c c
-leaves_nothing m r c = record { tickets = λ t apart is. is; dones = λ d apart is. is }
-
--- two calls, one after the other
-pub leaves_twice : (m : MoveTable) (r : ℕ) (a b c : Caller) → LeavesOthers m r a b → LeavesOthers m r b c → LeavesOthers m r a c
-leaves_twice m r a b c first then =
-    record {
-      tickets = λ t apart is. then.tickets t apart (first.tickets t apart is);
-      dones = λ d apart is. then.dones d apart (first.dones d apart is);
-    }
-
 -- a call of a board, as one of its caller's
 pub gains_call : (b : Board) (old new : Pass) (event : Event) (reply : Reply) → Appends b old new event reply → Gains (caller old) (caller new) event reply
 gains_call b old new event reply e = let x = e.history in record { board = e.board; worker = e.worker; seen = (x.before, x.begins, x.seen_is); mine = x.mine_is }

@@ -1,11 +1,25 @@
 -- The differences of two tables, of which one more index is compared.
-use Rattle.std.proofs.Common.{◌≡◌, ℕ, ◌+◌, ◌≤◌, ◌<◌, ◌≢◌, Bool, not, List, [], ◌∷◌, ◌++◌, length, sym, ◌∙◌, ap, arith, eqb}
-use Rattle.std.specs.Prelude.{map, take, min}
+use Rattle.std.proofs.Common.{◌≡◌, ℕ, zero, suc, ◌+◌, ◌≤◌, ◌<◌, ◌≢◌, Bool, cond, not, List, [], ◌∷◌, ◌++◌, length, sym, ◌∙◌, ap, arith, eqb, add-zero}
+use Rattle.std.specs.Prelude.{filter, map, take, min}
 use Rattle.std.proofs.lemmas.Bool.{cond-true, cond-false, eq-eqb, ne_eqb}
 use Rattle.std.proofs.lemmas.List.{append-nil, length-append, length-map, length-take, map-append, take_all, take-append-le}
-use Rattle.heap_image.proofs.Lemmas.Listed.{filter_range_more}
+use Rattle.std.proofs.lemmas.List.Elements.{filter-append}
+use Rattle.std.specs.List.{range_with_len}
 use Rattle.collector.specs.Tally.{differences, difference_at, IsTally}
 use Rattle.collector.specs.declared.verification.difference_tally.OtherWord.{OtherWord}
+
+range_last : (a n : ℕ) → range_with_len a (n + 1) ≡ range_with_len a n ++ (a + n) ∷ []
+range_last a zero = ap (λ m. m ∷ []) (sym (add-zero a))
+range_last a (suc n) =
+    let long : suc n + 1 ≡ suc (n + 1) = omega arith in
+    let last : a + 1 + n ≡ a + suc n = omega arith in
+    ap (range_with_len a) long ∙ ap (λ xs. a ∷ xs) (range_last (a + 1) n ∙ ap (λ m. range_with_len (a + 1) n ++ m ∷ []) last)
+
+-- one number more
+filter_range_more : (p : ℕ → Bool) (n : ℕ) → filter p (range_with_len 0 (n + 1)) ≡ filter p (range_with_len 0 n) ++ cond (p n) (n ∷ []) []
+filter_range_more p n =
+    let z : 0 + n ≡ n = omega arith in
+    ap (filter p) (range_last 0 n ∙ ap (λ m. range_with_len 0 n ++ m ∷ []) z) ∙ filter-append p (range_with_len 0 n) (n ∷ [])
 
 module _ (wanted found : ℕ → ℕ) (p : ℕ) where
   abbrev differs : ℕ → Bool

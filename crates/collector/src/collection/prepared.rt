@@ -29,7 +29,7 @@ where
     D::Seat: Drop,
 {
     pub(crate) equipment: Equipment<D>,
-    cells: Cells,
+    pub(crate) cells: Cells,
     ghost same_cells: { cells ≡ equipment.survey },
 }
 

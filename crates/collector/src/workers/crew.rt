@@ -11,6 +11,7 @@ use super::ready::Thief;
 use super::start_line::StartLine;
 use super::worker::{Halt, Worker};
 use crate::gate::Gate;
+use crate::session::progress::Progress;
 use claim_board::{Desk, Done, Ticket};
 use crossbeam_utils::Backoff;
 use fill::fill_region;
@@ -72,6 +73,43 @@ impl<'a, D: Desk<W>, G: Gate, W: RetryPolicy> Crew<'a, D, G, W> {
             }
         }
         Err(Halt::Failed(Fault::Overwritten(0)))
+    }
+
+    /// Takes at most `turns` turns, until all regions to fill are settled or none is ready.
+    pub(crate) fn fill_ready(
+        &self,
+        number: u32,
+        worker: &mut Worker<D::Seat>,
+        turns: u64,
+    ) -> Result<Progress, Halt>
+        requires number { number < length self.now.thieves.now }
+        requires seat { D.serves self.now.desk.now worker.old.seat }
+        ensures seat { D.serves self.now.desk.now worker.new.seat }
+        ensures halt { IfErr result (MayHalt D.may_fail (G.may_refuse self.now.gate.now number) (fill_count self.now.survey.now)) }
+    {
+        for _ in 0..turns {
+            self.go_on()?;
+            let Some(region) = self.next_region(number, worker) else {
+                return Ok(self.without_region(worker)?);
+            };
+            if self.visit(number, worker, region)? {
+                return Ok(Progress::Settled);
+            }
+        }
+        Ok(Progress::TurnsUsed)
+    }
+
+    /// How far the work has come where this worker finds no region that is ready.
+    fn without_region(&self, worker: &mut Worker<D::Seat>) -> Result<Progress, Fault>
+        requires { D.serves self.now.desk.now worker.old.seat }
+        ensures seat { D.serves self.now.desk.now worker.new.seat }
+        ensures fault { IfErr result D.may_fail }
+    {
+        if self.desk.poll(&mut worker.seat, self.wait)? {
+            Ok(Progress::Settled)
+        } else {
+            Ok(Progress::NoneReady)
+        }
     }
 
     /// Fills a region, or backs off if none is ready. Returns whether all regions to fill are settled.

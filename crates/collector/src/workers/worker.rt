@@ -11,7 +11,7 @@ pub(crate) struct Worker<S> {
     pub(crate) seat: S,
     /// The regions that it has found ready.
     pub(crate) ready: Ready,
-    /// How it ended: Ok if all regions to fill were settled.
+    /// How it ended, or its last call if it works by calls: Ok if it met no fault, and nobody stopped it.
     pub(crate) end: Result<(), Halt>,
 }
 
@@ -30,7 +30,7 @@ impl<S> Worker<S> {
 
 /// Why a worker ends before all regions to fill are settled.
 #[derive(Debug, Clone, Copy, PartialEq, Eq)]
-pub(crate) enum Halt {
+pub enum Halt {
     /// Another worker has met a fault.
     Stopped,
     /// This worker has met a fault.

@@ -43,9 +43,13 @@ impl<'a> Assemble<'a> {
     pub(crate) fn request(matches: &ArgMatches<'a>) -> Option<Request<'a>>
         ensures { IfSome result (IsFor (codes "assemble")) }
     {
+        let required = (matches.get_str("TEXT"), matches.get_str("IMAGE"));
+        let (Some(text), Some(image)) = required else {
+            return None;
+        };
         Some(Request::Assemble(Assemble {
-            text: matches.get_str("TEXT")?,
-            image: matches.get_str("IMAGE")?,
+            text,
+            image,
             atomic: matches.get_flag("atomic"),
             verbose: matches.get_flag("verbose"),
         }))

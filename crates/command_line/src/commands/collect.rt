@@ -60,10 +60,18 @@ impl<'a> Collect<'a> {
     pub(crate) fn request(matches: &ArgMatches<'a>) -> Option<Request<'a>>
         ensures { IfSome result (IsFor (codes "collect")) }
     {
+        let required = (
+            matches.get_str("IMAGE"),
+            matches.get_str("OUT"),
+            matches.get_one("workers"),
+        );
+        let (Some(image), Some(out), Some(workers)) = required else {
+            return None;
+        };
         Some(Request::Collect(Collect {
-            image: matches.get_str("IMAGE")?,
-            out: matches.get_str("OUT")?,
-            workers: matches.get_one("workers")?,
+            image,
+            out,
+            workers,
             shape: Shape::of(matches),
             atomic: matches.get_flag("atomic"),
             json: matches.get_flag("json"),

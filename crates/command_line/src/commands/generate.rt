@@ -114,12 +114,22 @@ impl<'a> Generate<'a> {
     pub(crate) fn request(matches: &ArgMatches<'a>) -> Option<Request<'a>>
         ensures { IfSome result (IsFor (codes "generate")) }
     {
+        let required = (
+            matches.get_str("IMAGE"),
+            matches.get_one("words"),
+            matches.get_one("live"),
+            matches.get_one("region-log"),
+            matches.get_one("seed"),
+        );
+        let (Some(image), Some(words), Some(live), Some(region_log), Some(seed)) = required else {
+            return None;
+        };
         Some(Request::Generate(Generate {
-            image: matches.get_str("IMAGE")?,
-            words: matches.get_one("words")?,
-            live: matches.get_one("live")?,
-            region_log: matches.get_one("region-log")?,
-            seed: matches.get_one("seed")?,
+            image,
+            words,
+            live,
+            region_log,
+            seed,
             references: matches.get_one("refs").unwrap_or(USUAL_REFERENCES),
             version: matches.get_one("version"),
             allowance: matches.get_one("allowance").unwrap_or(0),

@@ -105,9 +105,13 @@ impl<'a> Import<'a> {
     pub(crate) fn request(matches: &ArgMatches<'a>) -> Option<Request<'a>>
         ensures { IfSome result (IsFor (codes "import")) }
     {
+        let required = (matches.get_str("DUMP"), matches.get_str("IMAGE"));
+        let (Some(dump), Some(image)) = required else {
+            return None;
+        };
         Some(Request::Import(Import {
-            dump: matches.get_str("DUMP")?,
-            image: matches.get_str("IMAGE")?,
+            dump,
+            image,
             region_log: matches.get_one("region-log"),
             allowance: matches.get_one("allowance").unwrap_or(0),
             version: matches.get_one("version"),

@@ -60,11 +60,20 @@ impl<'a> Record<'a> {
     pub(crate) fn request(matches: &ArgMatches<'a>) -> Option<Request<'a>>
         ensures { IfSome result (IsFor (codes "record")) }
     {
+        let required = (
+            matches.get_str("IMAGE"),
+            matches.get_str("OUT"),
+            matches.get_str("SCHEDULE"),
+            matches.get_one("workers"),
+        );
+        let (Some(image), Some(out), Some(schedule), Some(workers)) = required else {
+            return None;
+        };
         Some(Request::Record(Record {
-            image: matches.get_str("IMAGE")?,
-            out: matches.get_str("OUT")?,
-            schedule: matches.get_str("SCHEDULE")?,
-            workers: matches.get_one("workers")?,
+            image,
+            out,
+            schedule,
+            workers,
             shape: Shape::of(matches),
             atomic: matches.get_flag("atomic"),
             stats: matches.get_flag("stats"),

@@ -46,9 +46,13 @@ impl<'a> Replay<'a> {
     pub(crate) fn request(matches: &ArgMatches<'a>) -> Option<Request<'a>>
         ensures { IfSome result (IsFor (codes "replay")) }
     {
+        let required = (matches.get_str("IMAGE"), matches.get_str("SCHEDULE"));
+        let (Some(image), Some(schedule)) = required else {
+            return None;
+        };
         Some(Request::Replay(Replay {
-            image: matches.get_str("IMAGE")?,
-            schedule: matches.get_str("SCHEDULE")?,
+            image,
+            schedule,
             shape: Shape::of(matches),
             verbose: matches.get_flag("verbose"),
         }))

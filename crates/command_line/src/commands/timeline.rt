@@ -81,9 +81,13 @@ impl<'a> Timeline<'a> {
     pub(crate) fn request(matches: &ArgMatches<'a>) -> Option<Request<'a>>
         ensures { IfSome result (IsFor (codes "timeline")) }
     {
+        let required = (matches.get_str("IMAGE"), matches.get_str("SCHEDULE"));
+        let (Some(image), Some(schedule)) = required else {
+            return None;
+        };
         Some(Request::Timeline(Timeline {
-            image: matches.get_str("IMAGE")?,
-            schedule: matches.get_str("SCHEDULE")?,
+            image,
+            schedule,
             shape: Shape::of(matches),
             width: matches.get_one("width"),
             svg: matches.get_str("svg"),

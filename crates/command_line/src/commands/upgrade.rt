@@ -59,9 +59,13 @@ impl<'a> Upgrade<'a> {
     pub(crate) fn request(matches: &ArgMatches<'a>) -> Option<Request<'a>>
         ensures { IfSome result (IsFor (codes "upgrade")) }
     {
+        let required = (matches.get_str("IMAGE"), matches.get_str("OUT"));
+        let (Some(image), Some(out)) = required else {
+            return None;
+        };
         Some(Request::Upgrade(Upgrade {
-            image: matches.get_str("IMAGE")?,
-            out: matches.get_str("OUT")?,
+            image,
+            out,
             to: matches.get_one("to").unwrap_or(USUAL_VERSION),
             atomic: matches.get_flag("atomic"),
             verbose: matches.get_flag("verbose"),

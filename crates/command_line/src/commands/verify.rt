@@ -68,9 +68,13 @@ impl<'a> Verify<'a> {
         ensures { IfSome result (IsFor (codes "verify")) }
     {
         let explain = matches.get_flag("explain");
+        let required = (matches.get_str("BEFORE"), matches.get_str("AFTER"));
+        let (Some(before), Some(after)) = required else {
+            return None;
+        };
         Some(Request::Verify(Verify {
-            before: matches.get_str("BEFORE")?,
-            after: matches.get_str("AFTER")?,
+            before,
+            after,
             explain,
             ignore_free: matches.get_flag("ignore-free"),
             shape: Shape::of(matches),

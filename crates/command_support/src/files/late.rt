@@ -1,8 +1,12 @@
 //! Files that are changed only once there is something to write.
+ghost use Rattle.std.specs.Prelude.{◌≡◌, IfOk, string_bytes};
+
+use super::ended;
 use super::file_target::FileTarget;
 use super::output::Output;
 use super::system_file::SystemFile;
 use crate::trouble::Trouble;
+use crate::work_done::WorkDone;
 use heap_image::Fault;
 use std::io;
 use std::io::{Error, ErrorKind, Write};
@@ -65,6 +69,14 @@ where
             Some(begun) => begun,
             None => Err(Trouble::from(Fault::Io)),
         }
+    }
+
+    /// Finishes the file, even if nothing was written. The command prints this line.
+    pub fn ended(self, line: String) -> Result<WorkDone<'a>, Trouble<'a>>
+        ensures { IfOk result (λ done. done.text.items ≡ string_bytes line) }
+    {
+        let host = self.host;
+        ended(host, line, self.into_output()?)
     }
 
     /// The error of a command that failed before the file was complete. A file that wasn't begun is unchanged.

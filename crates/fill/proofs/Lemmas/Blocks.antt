@@ -1,16 +1,26 @@
 -- A word that is written in a heap of blocks of r words.
-use Rattle.std.proofs.Common.{◌≡◌, ℕ, zero, suc, ◌+◌, ◌-◌, ◌*◌, ◌/◌, ◌%◌, ◌≤◌, ◌<◌, List, [], ◌∷◌, ◌++◌, length, get_or, set, sym, ◌∙◌, ap, arith}
+use Rattle.std.proofs.Common.{◌≡◌, ℕ, zero, suc, ◌+◌, ◌-◌, ◌*◌, ◌/◌, ◌%◌, ◌≤◌, ◌<◌, List, [], ◌∷◌, ◌++◌, length, get_or, set, sym, ◌∙◌, ap, arith, length-append}
 use Rattle.std.specs.List.{concat}
 use Rattle.std.proofs.lemmas.List.{set-append_left, set-append_right}
 use Rattle.std.proofs.lemmas.List.Elements.{All-head, All-tail, All-set}
-use Rattle.std.proofs.lemmas.Nat.{mod_below}
+use Rattle.std.proofs.lemmas.Nat.{div_below, mod_below}
 use Rattle.std.proofs.Math.Nat.{div-add-mod'}
 use Rattle.std.specs.Prelude.{All}
-use Rattle.heap_image.proofs.Lemmas.BlockWords.{block_below}
 
 module _ (r : ℕ) where
   abbrev Same : List (List ℕ) → Type 0
   Same blocks = All (λ block. length block ≡ r) blocks
+
+  length-concat : (blocks : List (List ℕ)) → Same blocks → length (concat blocks) ≡ length blocks * r
+  length-concat [] h = omega arith
+  length-concat (b ∷ blocks) h =
+      let one : length b ≡ r = All-head (λ block. length block ≡ r) b blocks h in
+      let more : length (concat blocks) ≡ length blocks * r = length-concat blocks (All-tail (λ block. length block ≡ r) b blocks h) in
+      let both = length-append b (concat blocks) in
+      omega arith
+
+  pub block_below : (some : 0 < r) (blocks : List (List ℕ)) → Same blocks → (a : ℕ) → a < length (concat blocks) → a / r < length blocks
+  block_below some blocks same a l = let long = length-concat blocks same in div_below a r (length blocks) some (omega arith)
 
   concat-set : (blocks : List (List ℕ)) → Same blocks → (i j w : ℕ) → i < length blocks → j < r → concat (set blocks i (set (get_or blocks i []) j w)) ≡ set (concat blocks) (i * r + j) w
   concat-set [] h i j w l m = let no : ⊥ = omega arith in absurd no
@@ -30,7 +40,7 @@ module _ (r : ℕ) where
   pub set_by_block : (some : 0 < r) (blocks : List (List ℕ)) → Same blocks → (a w : ℕ) → a < length (concat blocks)
       → concat (set blocks (a / r) (set (get_or blocks (a / r) []) (a % r) w)) ≡ set (concat blocks) a w
   set_by_block some blocks same a w l =
-      concat-set blocks same (a / r) (a % r) w (block_below r some blocks same a l) (mod_below a r some)
+      concat-set blocks same (a / r) (a % r) w (block_below some blocks same a l) (mod_below a r some)
       ∙ ap (λ n. set (concat blocks) n w) (div-add-mod' a r)
 
   pub same-set : (blocks : List (List ℕ)) → Same blocks → (i : ℕ) (b : List ℕ) → length b ≡ r → Same (set blocks i b)

@@ -6,12 +6,11 @@ use Rattle.std.proofs.lemmas.Bool.{and_parts, and_from, ne_eqb, eqb-false, not-t
 use Rattle.std.proofs.lemmas.List.{map-append, append-nil}
 use Rattle.std.proofs.lemmas.List.Elements.{filter-append}
 use Rattle.std.proofs.lemmas.Fn.{FoldsTo-push}
-use Rattle.summary.proofs.Lemmas.Addresses.{range_with_len-add}
-use Rattle.summary.proofs.Lemmas.Filters.{filter-none, filter-first}
-use Rattle.summary.proofs.Lemmas.Readers.{reads-below}
+use Rattle.fill.proofs.Lemmas.Lists.{range_with_len-add, filter-none, filter-first}
 use Rattle.heap_image.specs.HeapImage.{HeapImage, IsValid}
 use Rattle.heap_image.specs.HeapImage.{region_count as heap_regions}
 use Rattle.summary.specs.WordMoves.{reads as image_reads}
+use Rattle.summary.specs.PlanLaws.{PlanLaws}
 use Rattle.history.specs.ImageMoves.{image_table}
 use Rattle.history.specs.declared.entry.Entry.{Entry}
 use Rattle.history.specs.declared.event.Event.TheVariants.{Drain, Complete}
@@ -43,11 +42,11 @@ module _ (image : HeapImage) (valid : IsValid image) (law : (d s : ℕ) → read
   same_reads : (s : ℕ) → reads (image_table image) d s ≡ reads (image_table plan) r s
   same_reads s = sym (λ i. reads (image_table (same i)) (here i) s)
 
-  pub opened_source : (s : ℕ) → reads (image_table plan) r s ≡ true → (reads (image_table image) d s ≡ true) × (image_reads image d s ≡ true) × (d < s)
-  opened_source s read =
+  pub opened_source : PlanLaws → (s : ℕ) → reads (image_table plan) r s ≡ true → (reads (image_table image) d s ≡ true) × (image_reads image d s ≡ true) × (d < s)
+  opened_source plans s read =
       let here' : reads (image_table image) d s ≡ true = same_reads s ∙ read in
       let both = other_read d s (reads (image_table image) d s) (image_reads image d s) (law d s) here' in
-      let below : d ≤ s = reads-below image valid.live_list d s both.0 in
+      let below : d ≤ s = plans.reads-below image valid.live_list d s both.0 in
       let apart : d ≢ s = both.1 in
       (here', both.0, omega arith)
 

@@ -1,21 +1,40 @@
 -- Fillers, as they are written.
-use Rattle.std.proofs.Common.{◌≡◌, ℕ, ◌+◌, ◌-◌, ◌*◌, ◌/◌, ◌%◌, ◌≤◌, ◌<◌, true, false, ◌||◌, List, length, replicate, sym, ◌∙◌, ap, subst, arith, eqb}
-use Rattle.std.proofs.lemmas.Bool.{cond-true, cond-false, or_from, ne_eqb}
+use Rattle.std.proofs.Common.{◌≡◌, ℕ, ◌+◌, ◌-◌, ◌*◌, ◌/◌, ◌%◌, ◌^◌, ◌≤◌, ◌<◌, inl, inr, mul_assoc, mul_comm, true, false, ◌||◌, List, length, replicate, sym, ◌∙◌, ap, subst, arith, eqb}
+use Rattle.std.proofs.lemmas.Bool.{cases_lt, cond-true, cond-false, or_from, ne_eqb}
+use Rattle.std.proofs.lemmas.Nat.{mul-le, pow-add}
 use Rattle.std.proofs.lemmas.List.{get_or-replicate, length-replicate}
 use Rattle.std.specs.Prelude.{None}
 use Rattle.heap_image.specs.Header.{filler_header}
 use Rattle.heap_image.specs.HeapImage.{HeapImage, HasLiveList, word_at, is_live_word}
 use Rattle.summary.specs.NewAddresses.{prefix_end}
 use Rattle.summary.specs.Fillers.{filler_limit, filler_word, gap_at, may_begin_filler}
-use Rattle.summary.proofs.Lemmas.Words.{slid-low, origin-dead}
-use Rattle.summary.proofs.Lemmas.Fillers.{gap_at-run, top-above, within_stride}
+use Rattle.summary.specs.PlanLaws.{PlanLaws}
 use Rattle.raw_region.specs.Region.{with_words}
 use Rattle.fill.specs.WordBlocks.{IsSplitAt}
 use Rattle.fill.specs.CopiedWords.{copied_word}
 use Rattle.fill.proofs.Lemmas.Slides.{word_by-below, copied-slid}
 use Rattle.fill.proofs.Lemmas.Writing.{split_skip, split_more}
 
-module _ (image : HeapImage) (sound : HasLiveList image) where
+within_stride : (a b p : ℕ) → a < p → p < b → b ≤ (a / 2147483648 + 1) * 2147483648 → p % 2147483648 ≡ 0 → ⊥
+within_stride a b p l m n e = omega arith
+
+-- a region ends within the stride of a word in it
+pub region_in_stride : (log r at : ℕ) → log ≤ 20 → r * 2 ^ log ≤ at → at < r * 2 ^ log + 2 ^ log → r * 2 ^ log + 2 ^ log ≤ (at / 2147483648 + 1) * 2147483648
+region_in_stride log r at small low high =
+    let w : ℕ = 2 ^ log in
+    let m : ℕ = 2 ^ (31 - log) in
+    let k : ℕ = at / 2147483648 + 1 in
+    let e : log + (31 - log) ≡ 31 = omega arith in
+    let product : m * w ≡ 2147483648 = mul_comm m w ∙ (sym (pow-add 2 log (31 - log)) ∙ ap (λ n. 2 ^ n) e) in
+    let whole : k * 2147483648 ≡ k * m * w = ap (λ n. k * n) (sym product) ∙ sym (mul_assoc k m w) in
+    let past : at < k * 2147483648 = omega arith in
+    let next : (r + 1) * w ≡ r * w + w = omega arith in
+    elim (cases_lt r (k * m)) [
+      | inl less ↦ let fits : (r + 1) * w ≤ k * m * w = mul-le (r + 1) w (k * m) w (omega arith) (omega arith) in omega arith
+      | inr more ↦ let over : k * m * w ≤ r * w = mul-le (k * m) w r w (omega arith) (omega arith) in let no : ⊥ = omega arith in absurd no
+    ]
+
+module _ (law : PlanLaws) (image : HeapImage) (sound : HasLiveList image) where
   abbrev P : ℕ
   P = prefix_end image
 
@@ -27,18 +46,18 @@ module _ (image : HeapImage) (sound : HasLiveList image) where
 
   -- a live word of the prefix stays
   pub copied-stays : (p : ℕ) → p < P → is_live_word image p ≡ true → c p ≡ g p
-  copied-stays p l live = let s = slid-low image p l in ap c (sym s) ∙ copied-slid image sound p live
+  copied-stays p l live = let s = law.slid-low image p l in ap c (sym s) ∙ copied-slid law image sound p live
 
   -- a dead one becomes its filler's word
   pub copied-dead : (p : ℕ) → p < P → is_live_word image p ≡ false → c p ≡ filler_word image p
-  copied-dead p l dead = let top = top-above image sound in word_by-below image (λ _. false) p None (omega arith) (origin-dead image sound p l dead)
+  copied-dead p l dead = let top = law.top-above image sound in word_by-below law image (λ _. false) p None (omega arith) (law.origin-dead image sound p l dead)
 
   -- the first word of a dead run, and the words after another dead word
   pub copied-first : (a b : ℕ) → a < b → b ≤ filler_limit image a → ((q : ℕ) → a ≤ q → q < b → is_live_word image q ≡ false) → (b < filler_limit image a → is_live_word image b ≡ true) → may_begin_filler image a ≡ true → c a ≡ filler_header (b - a)
   copied-first a b some l dead live first =
       copied-dead a (omega arith) (dead a (omega arith) some)
       ∙ cond-true (may_begin_filler image a) (filler_header (gap_at image a)) 0 first
-      ∙ ap filler_header (gap_at-run image a b (omega arith) l dead live)
+      ∙ ap filler_header (law.gap_at-run image a b (omega arith) l dead live)
 
   pub copied-rest : (p : ℕ) → p < P → is_live_word image p ≡ false → may_begin_filler image p ≡ false → c p ≡ 0
   copied-rest p l dead rest = copied-dead p l dead ∙ cond-false (may_begin_filler image p) (filler_header (gap_at image p)) 0 rest

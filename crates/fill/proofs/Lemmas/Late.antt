@@ -13,7 +13,7 @@ use Rattle.summary.specs.NewAddresses.{new_address}
 use Rattle.summary.specs.Compaction.{moved_word, redirected, is_deferred}
 use Rattle.summary.specs.RegionData.{deferred}
 use Rattle.summary.specs.Updates.{is_late_reference}
-use Rattle.summary.proofs.Lemmas.Addresses.{range_with_len-add}
+use Rattle.fill.proofs.Lemmas.Lists.{range_with_len-add}
 use Rattle.fill.specs.MovedHeap.{redirected_where, is_reference_behind, is_late_behind, is_late_before}
 
 same_Bool : (b c : Bool) → (b ≡ true → c ≡ true) → (c ≡ true → b ≡ true) → b ≡ c

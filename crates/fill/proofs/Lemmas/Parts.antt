@@ -10,13 +10,13 @@ use Rattle.std.proofs.lemmas.List.{map-append}
 use Rattle.std.proofs.lemmas.List.Elements.{All-append}
 use Rattle.std.proofs.lemmas.List.Folds.{concat-append}
 use Rattle.std.proofs.lemmas.List.FromFn.{get_or-map-range_with_len, length-map-range_with_len}
-use Rattle.heap_image.proofs.Lemmas.Parts.{region_some}
 use Rattle.heap_image.specs.Header.{references_of}
 use Rattle.heap_image.specs.HeapImage.{HeapImage, IsValid, FormHeap, AreBlocks, heap_words, region_words, region_count, region_of, start_of}
 use Rattle.summary.specs.Compaction.{moved_word, redirected}
 use Rattle.summary.specs.RegionData.{region_addresses, deferred}
 use Rattle.summary.specs.Updates.{is_late_reference}
-use Rattle.summary.proofs.Lemmas.Addresses.{range_with_len-add}
+use Rattle.fill.proofs.Lemmas.Lists.{range_with_len-add}
+use Rattle.fill.proofs.Lemmas.Regions.{region_some}
 use Rattle.fill.specs.MovedHeap.{moved_regions_from, redirected_where, words_from, is_late_before, IsCut, IsMovedPart, IsUpdatedPart}
 use Rattle.fill.proofs.Lemmas.WrittenTo.{next_start, all_regions}
 use Rattle.fill.proofs.Lemmas.Late.{length-words, words_not, words_same, words_set, late-parts, late-from, late-all, late_up_to, up_to-other, up_to-here, up_to-not}
@@ -96,7 +96,7 @@ module _ (image : HeapImage) where
   pub begun_in : (x d : ℕ) → region_of image x ≡ d → (start_of image d ≤ x) × (x < start_of image d + S)
   begun_in x d e =
       let whole = div-add-mod' x S in
-      let small = mod_below x S (region_some image.region_log) in
+      let small = mod_below x S (region_some image) in
       let start : start_of image (region_of image x) ≡ start_of image d = ap (start_of image) e in
       (omega arith, omega arith)
 

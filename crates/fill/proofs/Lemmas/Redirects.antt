@@ -7,44 +7,41 @@ use Rattle.heap_image.specs.HeapImage.{HeapImage, HasLiveList, heap_words, regio
 use Rattle.summary.specs.NewAddresses.{prefix_end, new_address, new_top}
 use Rattle.summary.specs.WordMoves.{slid, origin}
 use Rattle.summary.specs.Compaction.{moved_word, redirected, is_reference_of, is_deferred}
-use Rattle.summary.proofs.Lemmas.Addresses.{new_address-slid}
-use Rattle.summary.proofs.Lemmas.Origin.{slid-increasing, origin-Some}
-use Rattle.summary.proofs.Lemmas.Words.{owner, is_live, ends_before, slid-low, slid-high, slid-above, slid-onto}
-use Rattle.summary.proofs.Lemmas.Regions.{region_is, region_low, region_high, region-le, region_some}
-use Rattle.summary.proofs.Lemmas.Updates.{reference-owner}
+use Rattle.summary.specs.PlanLaws.{PlanLaws}
+use Rattle.fill.proofs.Lemmas.Regions.{region_is, region_low, region_high, region-le, region_some}
 use Rattle.summary.specs.Compaction.{word_by}
 use Rattle.fill.specs.CopiedWords.{copied_word}
 use Rattle.fill.specs.Objects.{IsObject, IsPassed, IsMovedTo, IsBetween}
 use Rattle.fill.proofs.Lemmas.Slides.{slid-run, slid-monotone, word_by-above, word_by-below, word_by-slid, copied-slid}
 
-module _ (image : HeapImage) where
+module _ (law : PlanLaws) (image : HeapImage) where
   abbrev B : ℕ
   B = prefix_end image
 
   pub slid-ordered : (a b : ℕ) → a ≤ b → slid image a ≤ slid image b
   slid-ordered a b l = elim (cases_lt a B) [
-    | inr high ↦ slid-monotone image a b high l
+    | inr high ↦ slid-monotone law image a b high l
     | inl low ↦
-        let one = slid-low image a low in
+        let one = law.slid-low image a low in
         elim (cases_lt b B) [
-          | inl below ↦ let two = slid-low image b below in omega arith
-          | inr above ↦ let two = slid-above image b above in omega arith
+          | inl below ↦ let two = law.slid-low image b below in omega arith
+          | inr above ↦ let two = law.slid-above image b above in omega arith
         ]
   ]
 
   pub slid-whole : (a n : ℕ) → ((q : ℕ) → a ≤ q → q < a + n → is_live_word image q ≡ true) → slid image (a + n) ≡ slid image a + n
   slid-whole a n live = elim (cases_lt a B) [
-    | inr high ↦ slid-run image a n high live
+    | inr high ↦ slid-run law image a n high live
     | inl low ↦
-        let one = slid-low image a low in
+        let one = law.slid-low image a low in
         elim (cases_lt (a + n) B) [
-          | inl below ↦ let two = slid-low image (a + n) below in omega arith
+          | inl below ↦ let two = law.slid-low image (a + n) below in omega arith
           | inr above ↦
               let m : ℕ = a + n - B in
               let e : B + m ≡ a + n = omega arith in
-              let run = slid-run image B m (omega arith) (λ q x y. live q (omega arith) (omega arith)) in
-              let start = slid-run image B 0 (omega arith) (λ q x y. (let no : ⊥ = omega arith in absurd no)) in
-              let at = slid-high image B (omega arith) in
+              let run = slid-run law image B m (omega arith) (λ q x y. live q (omega arith) (omega arith)) in
+              let start = slid-run law image B 0 (omega arith) (λ q x y. (let no : ⊥ = omega arith in absurd no)) in
+              let at = law.slid-high image B (omega arith) in
               let none : live_words image B B ≡ 0 = nothing in
               let same : slid image (B + m) ≡ slid image (a + n) = ap (slid image) e in
               omega arith
@@ -57,11 +54,11 @@ module _ (image : HeapImage) where
   -- a word below an end in the prefix goes below where that end goes
   pub below-kept : (p end : ℕ) → p < end → end ≤ B → p < slid image end
   below-kept p end l k = elim (cases_lt end B) [
-    | inl less ↦ let same = slid-low image end less in omega arith
-    | inr more ↦ let up = slid-above image end more in omega arith
+    | inl less ↦ let same = law.slid-low image end less in omega arith
+    | inr more ↦ let up = law.slid-above image end more in omega arith
   ]
 
-module _ (image : HeapImage) (sound : HasLiveList image) where
+module _ (law : PlanLaws) (image : HeapImage) (sound : HasLiveList image) where
   abbrev place : ℕ → ℕ
   place i = get_or image.live i 0
 
@@ -70,21 +67,21 @@ module _ (image : HeapImage) (sound : HasLiveList image) where
 
   -- what is the same before and after the references of early objects are redirected
   pub moved-top : (p : ℕ) → new_top image ≤ p → copied_word image p ≡ moved_word image p
-  moved-top p l = word_by-above image (λ _. false) p l ∙ sym (word_by-above image early p l)
+  moved-top p l = word_by-above law image (λ _. false) p l ∙ sym (word_by-above law image early p l)
 
   pub moved-None : (p : ℕ) → p < new_top image → origin image p ≡ None → copied_word image p ≡ moved_word image p
-  moved-None p l e = word_by-below image (λ _. false) p None l e ∙ sym (word_by-below image early p None l e)
+  moved-None p l e = word_by-below law image (λ _. false) p None l e ∙ sym (word_by-below law image early p None l e)
 
   -- the word j of an object once it is moved
   pub moved-object : (i j : ℕ) → i < length image.live → j < size_at image (place i)
       → (copied_word image (new_address image (place i) + j) ≡ word_at image (place i + j))
       × (moved_word image (new_address image (place i) + j) ≡ cond (is_reference_of image (place i) (place i + j) && early (place i)) (redirected image (word_at image (place i + j))) (word_at image (place i + j)))
   moved-object i j l k =
-      let to = new_address-slid image sound i j l k in
-      let live = is_live image sound i (place i + j) l (omega arith) (omega arith) in
-      let which = reference-owner image sound early i (place i + j) l (omega arith) (omega arith) in (
-        ap (copied_word image) to ∙ copied-slid image sound (place i + j) live,
-        ap (word_by image early) to ∙ word_by-slid image sound early (place i + j) live ∙ ap (λ b. cond b (redirected image (word_at image (place i + j))) (word_at image (place i + j))) which,
+      let to = law.new_address-slid image sound i j l k in
+      let live = law.is_live image sound i (place i + j) l (omega arith) (omega arith) in
+      let which = law.reference-owner image sound early i (place i + j) l (omega arith) (omega arith) in (
+        ap (copied_word image) to ∙ copied-slid law image sound (place i + j) live,
+        ap (word_by image early) to ∙ word_by-slid law image sound early (place i + j) live ∙ ap (λ b. cond b (redirected image (word_at image (place i + j))) (word_at image (place i + j))) which,
       )
 
   -- a word of a deferred object, or one that is no reference, is moved as it is copied
@@ -132,7 +129,7 @@ module _ (image : HeapImage) (sound : HasLiveList image) where
   pub new_address-is : (a : ℕ) → IsObject image a → new_address image a ≡ slid image a
   new_address-is a o =
       let some = (sound.sound o.index 0 o.inside).header in
-      let e = new_address-slid image sound o.index 0 o.inside some in
+      let e = law.new_address-slid image sound o.index 0 o.inside some in
       let is : place o.index ≡ a = o.is in
       let one : new_address image (place o.index) ≡ new_address image a = ap (new_address image) is in
       let two : slid image (place o.index + 0) ≡ slid image a = ap (slid image) (let z : place o.index + 0 ≡ a = omega arith in z) in
@@ -140,7 +137,7 @@ module _ (image : HeapImage) (sound : HasLiveList image) where
 
   -- an object of the prefix stays
   pub stays : (a : ℕ) → IsObject image a → a < prefix_end image → a ≡ new_address image a
-  stays a o l = sym (new_address-is a o ∙ slid-low image a l)
+  stays a o l = sym (new_address-is a o ∙ law.slid-low image a l)
 
   pub object_size : (a : ℕ) → IsObject image a → (0 < size_at image a) × (end_of image a ≤ heap_words image) × (references_at image a < size_at image a)
   object_size a o =
@@ -148,14 +145,14 @@ module _ (image : HeapImage) (sound : HasLiveList image) where
       (subst (λ (n : ℕ). 0 < size_at image n) o.is h.header, subst (λ (n : ℕ). end_of image n ≤ heap_words image) o.is h.inside, subst (λ (n : ℕ). references_at image n < size_at image n) o.is h.references)
 
   pub object_live : (a q : ℕ) → IsObject image a → a ≤ q → q < end_of image a → is_live_word image q ≡ true
-  object_live a q o l m = is_live image sound o.index q o.inside (subst (λ (n : ℕ). n ≤ q) (sym o.is) l) (subst (λ (n : ℕ). q < end_of image n) (sym o.is) m)
+  object_live a q o l m = law.is_live image sound o.index q o.inside (subst (λ (n : ℕ). n ≤ q) (sym o.is) l) (subst (λ (n : ℕ). q < end_of image n) (sym o.is) m)
 
   pub object_end : (a : ℕ) → IsObject image a → slid image (end_of image a) ≡ new_address image a + size_at image a
-  object_end a o = let to = new_address-is a o in let all = slid-whole image a (size_at image a) (λ q l m. object_live a q o l m) in omega arith
+  object_end a o = let to = new_address-is a o in let all = slid-whole law image a (size_at image a) (λ q l m. object_live a q o l m) in omega arith
 
   pub objects_apart : (a b : ℕ) → IsObject image a → IsObject image b → a < b → end_of image a ≤ b
   objects_apart a b o u l =
-      let h = ends_before image sound o.index u.index o.inside u.inside (subst (λ (n : ℕ). place o.index < n) (sym u.is) (subst (λ (n : ℕ). n < b) (sym o.is) l)) in
+      let h = law.ends_before image sound o.index u.index o.inside u.inside (subst (λ (n : ℕ). place o.index < n) (sym u.is) (subst (λ (n : ℕ). n < b) (sym o.is) l)) in
       subst (λ (n : ℕ). end_of image n ≤ b) o.is (subst (λ (n : ℕ). end_of image (place o.index) ≤ n) u.is h)
 
   -- no object extends across the end of another
@@ -175,7 +172,7 @@ module _ (image : HeapImage) (sound : HasLiveList image) where
   moved-apart a b o u l =
       let apart = objects_apart a b o u l in
       let end = object_end a o in
-      let up = slid-ordered image (end_of image a) b apart in
+      let up = slid-ordered law image (end_of image a) b apart in
       let to = new_address-is b u in
       omega arith
 
@@ -204,11 +201,11 @@ module _ (image : HeapImage) (sound : HasLiveList image) where
   -- after the prefix, an object goes to each such address
   pub object-at : (at : ℕ) → prefix_end image ≤ at → at < new_top image → IsBetween image at → (a : ℕ) × IsMovedTo image at a
   object-at at low high between =
-      let on = slid-onto image sound at low high in
+      let on = law.slid-onto image sound at low high in
       let q : ℕ = on.0 in
       let live : is_live_word image q ≡ true = on.2 in
       let to : slid image q ≡ at = on.3 in
-      let o = owner image sound q live in
+      let o = law.owner image sound q live in
       let i : ℕ = o.0 in
       let l : i < length image.live = o.1 in
       let b : ℕ = place i in
@@ -216,7 +213,7 @@ module _ (image : HeapImage) (sound : HasLiveList image) where
       let end : q < end_of image b = o.3 in
       let is : IsObject image b = record { index = i; inside = l; is = refl } in
       let j : ℕ = q - b in
-      let word = new_address-slid image sound i j l (omega arith) in
+      let word = law.new_address-slid image sound i j l (omega arith) in
       let from : b + j ≡ q = omega arith in
       let same : slid image (b + j) ≡ slid image q = ap (slid image) from in
       let here : new_address image b + j ≡ at = omega arith in
@@ -234,13 +231,13 @@ module _ (image : HeapImage) (sound : HasLiveList image) where
         let size = object_size b u in
         let some : 0 < size_at image b = size.0 in
         let live = object_live b b u (omega arith) (omega arith) in
-        let less = slid-increasing image b first live l in
+        let less = law.slid-increasing image b first live l in
         let end = object_end b u in
         let to = new_address-is b u in
         let last = object_live b (end_of image b - 1) u (omega arith) (omega arith) in
         let one : end_of image b - 1 + 1 ≡ end_of image b = omega arith in
-        let over = slid-ordered image first (end_of image b - 1) (omega arith) in
-        let more = slid-increasing image (end_of image b - 1) (end_of image b) last (omega arith) in
+        let over = slid-ordered law image first (end_of image b - 1) (omega arith) in
+        let more = law.slid-increasing image (end_of image b - 1) (end_of image b) last (omega arith) in
         not_from_false (eqb (new_address image b / R) ((new_address image b + size_at image b - 1) / R))
         (ne_eqb (new_address image b / R) ((new_address image b + size_at image b - 1) / R) (λ same.
         let low : new_address image b / R * R ≤ new_address image b = region_low R (new_address image b) in
@@ -259,10 +256,10 @@ module _ (image : HeapImage) (sound : HasLiveList image) where
       each : (o : Option ℕ) → origin image p ≡ o → p < new_top image → copied_word image p ≡ moved_word image p
       each None e below = moved-None p below e
       each (Some q) e below =
-          let h = origin-Some image sound p q e in
+          let h = law.origin-Some image sound p q e in
           let live : is_live_word image q ≡ true = h.0 in
           let to : slid image q ≡ p = h.1 in
-          let o = owner image sound q live in
+          let o = law.owner image sound q live in
           let i : ℕ = o.0 in
           let l : i < length image.live = o.1 in
           let b : ℕ = place i in
@@ -270,19 +267,19 @@ module _ (image : HeapImage) (sound : HasLiveList image) where
           let end : q < end_of image b = o.3 in
           let is : IsObject image b = record { index = i; inside = l; is = refl } in
           let goes = new_address-is b is in
-          let up = slid-ordered image b q on in
+          let up = slid-ordered law image b q on in
           let before : b < from = elim (cases_lt b from) [
             | inl less ↦ less
             | inr more ↦ let over : p < new_address image b = next b is more in let no : ⊥ = omega arith in absurd no
           ] in
           let from_on : from ≤ q = elim (cases_lt q from) [
-            | inl less ↦ let over = slid-increasing image q from live less in let no : ⊥ = omega arith in absurd no
+            | inl less ↦ let over = law.slid-increasing image q from live less in let no : ⊥ = omega arith in absurd no
             | inr more ↦ more
           ] in
           let late = passed.late b is before (omega arith) in
           let j : ℕ = q - b in
           let at : b + j ≡ q = omega arith in
-          let word = new_address-slid image sound i j l (omega arith) in
+          let word = law.new_address-slid image sound i j l (omega arith) in
           let same : slid image (b + j) ≡ slid image q = ap (slid image) at in
           let here : new_address image b + j ≡ p = omega arith in
           ap (copied_word image) (sym here) ∙ moved-deferred i j l (omega arith) late ∙ ap (moved_word image) here

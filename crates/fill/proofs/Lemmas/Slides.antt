@@ -7,18 +7,15 @@ use Rattle.heap_image.specs.HeapImage.{HeapImage, HasLiveList, heap_words, word_
 use Rattle.summary.specs.NewAddresses.{prefix_end, new_top}
 use Rattle.summary.specs.WordMoves.{slid, origin}
 use Rattle.summary.specs.Compaction.{written, carried, is_reference_of, redirected}
-use Rattle.summary.proofs.Lemmas.Addresses.{new_top-live_words, prefix_end-le}
-use Rattle.summary.proofs.Lemmas.Counts.{count_by-more_yes}
-use Rattle.summary.proofs.Lemmas.Destinations.{count_by-none}
-use Rattle.summary.proofs.Lemmas.Origin.{origin-slid}
-use Rattle.summary.proofs.Lemmas.Words.{live_words-add, live_words-le, slid-high, slid-le, slid-below, live_below}
+use Rattle.summary.specs.PlanLaws.{PlanLaws}
+use Rattle.fill.proofs.Lemmas.Lists.{count_by-more_yes, count_by-none}
 use Rattle.raw_region.specs.Region.{part, with_words as put}
 use Rattle.fill.specs.WordBlocks.{IsSplitAt, Shows}
 use Rattle.summary.specs.Compaction.{word_by}
 use Rattle.fill.specs.CopiedWords.{copied_word}
 use Rattle.fill.proofs.Lemmas.Writing.{split_more, length-part, get_or-part}
 
-module _ (image : HeapImage) where
+module _ (law : PlanLaws) (image : HeapImage) where
   abbrev B : ℕ
   B = prefix_end image
 
@@ -26,7 +23,7 @@ module _ (image : HeapImage) where
   live_words-none a b l dead = count_by-none (is_live_word image) a (b - a) (λ q m n. dead q m (omega arith))
 
   pub live_words-run : (a n : ℕ) → ((q : ℕ) → a ≤ q → q < a + n → is_live_word image q ≡ true) → live_words image a (a + n) ≡ n
-  live_words-run a zero live = let few = live_words-le image a (a + 0) in omega arith
+  live_words-run a zero live = let few = law.live_words-le image a (a + 0) in omega arith
   live_words-run a (suc n) live =
       let e : a + suc n ≡ a + n + 1 = omega arith in
       let before = live_words-run a n (λ q l m. live q l (omega arith)) in
@@ -35,9 +32,9 @@ module _ (image : HeapImage) where
 
   pub slid-from : (a b : ℕ) → B ≤ a → a ≤ b → slid image b ≡ slid image a + live_words image a b
   slid-from a b l m =
-      let one = slid-high image a l in
-      let two = slid-high image b (omega arith) in
-      let cut = live_words-add image B a b l m in
+      let one = law.slid-high image a l in
+      let two = law.slid-high image b (omega arith) in
+      let cut = law.live_words-add image B a b l m in
       omega arith
 
   pub slid-gap : (a b : ℕ) → B ≤ a → a ≤ b → ((q : ℕ) → a ≤ q → q < b → is_live_word image q ≡ false) → slid image b ≡ slid image a
@@ -70,24 +67,24 @@ module _ (image : HeapImage) where
   pub word_by-below : (test : ℕ → Bool) (p : ℕ) (o : Option ℕ) → p < new_top image → origin image p ≡ o → word_by image test p ≡ written image test o p
   word_by-below test p o l e = cond-true (ltb p (new_top image)) (written image test (origin image p) p) (word_at image p) (lt-ltb p (new_top image) l) ∙ ap (λ o. written image test o p) e
 
-module _ (image : HeapImage) (sound : HasLiveList image) where
+module _ (law : PlanLaws) (image : HeapImage) (sound : HasLiveList image) where
   abbrev P : ℕ
   P = prefix_end image
 
   pub slid-all : slid image (heap_words image) ≡ new_top image
-  slid-all = let e = new_top-live_words image sound in let l = prefix_end-le image sound in slid-high image (heap_words image) l ∙ sym e
+  slid-all = let e = law.new_top-live_words image sound in let l = law.prefix_end-le image sound in law.slid-high image (heap_words image) l ∙ sym e
 
   pub word_by-slid : (test : ℕ → Bool) (q : ℕ) → is_live_word image q ≡ true → word_by image test (slid image q) ≡ carried image test q
-  word_by-slid test q live = word_by-below image test (slid image q) (Some q) (slid-below image sound q live) (origin-slid image sound q (live_below image sound q live) live)
+  word_by-slid test q live = word_by-below law image test (slid image q) (Some q) (law.slid-below image sound q live) (law.origin-slid image sound q (law.live_below image sound q live) live)
 
   -- the new address of a live word gets that word
   pub copied-slid : (q : ℕ) → is_live_word image q ≡ true → copied_word image (slid image q) ≡ word_at image q
-  copied-slid q live = word_by-slid (λ _. false) q live ∙ carried-none image q
+  copied-slid q live = word_by-slid (λ _. false) q live ∙ carried-none law image q
 
   -- so the new addresses of a run get its words
   pub copied-run : (a n p : ℕ) → P ≤ a → p ≡ slid image a → ((q : ℕ) → a ≤ q → q < a + n → is_live_word image q ≡ true) → (j : ℕ) → j < n → copied_word image (p + j) ≡ word_at image (a + j)
   copied-run a n p l e live j m =
-      let to = slid-run image a j l (λ q b c. live q b (omega arith)) in
+      let to = slid-run law image a j l (λ q b c. live q b (omega arith)) in
       let same : p + j ≡ slid image (a + j) = omega arith in
       ap (copied_word image) same ∙ copied-slid (a + j) (live (a + j) (omega arith) (omega arith))
 
@@ -114,7 +111,7 @@ module _ (image : HeapImage) (sound : HasLiveList image) where
       → ((q : ℕ) → a ≤ q → q < a + n → is_live_word image q ≡ true) → start ≤ p → a + n ≤ start + length xs
       → IsSplitAt (copied_word image) (word_at image) start (put xs (p - start) (part xs (a - start) n)) (p + n)
   split_slide start xs a n p h l e live low over =
-      let down = slid-le image a in
+      let down = law.slid-le image a in
       split_run start xs (part xs (a - start) n) a n p h l e live low (omega arith) (length-part xs (a - start) n (omega arith)) (λ j m.
       let same : start + (a - start + j) ≡ a + j = omega arith in
       get_or-part xs (a - start) n j m ∙ h.above (a - start + j) (omega arith) (omega arith) ∙ ap (word_at image) same)

@@ -1,5 +1,6 @@
 -- A region as its objects are redirected, one after another.
 use Rattle.std.proofs.Common.{◌≡◌, ℕ, ◌+◌, ◌-◌, ◌≤◌, ◌<◌, inl, inr, true, false, List, length, get_or, sym, ◌∙◌, ap, subst, arith, max, eqb}
+use Rattle.summary.specs.PlanLaws.{PlanLaws}
 use Rattle.std.proofs.lemmas.Bool.{cases_lt, true≢false, eqb-true, eq-eqb}
 use Rattle.std.proofs.lemmas.List.{get_or_default, get_or-map, length-map}
 use Rattle.std.proofs.lemmas.List.Folds.{list_any_at, Any-from_list_any}
@@ -18,7 +19,7 @@ use Rattle.fill.specs.Objects.{IsObject, IsNextObject, HasNoObject, IsPassed, Is
 use Rattle.fill.proofs.Lemmas.Writing.{split_none, split_skip, split_more, split_all, length-part, get_or-part}
 use Rattle.fill.proofs.Lemmas.Redirects.{slid-ordered, moved-object, moved-header, moved-rest, moved-reference, moved-deferred, moved-between, moved-top, passed-start, new_address-is, object_size}
 
-module _ (image : HeapImage) (sound : HasLiveList image) where
+module _ (law : PlanLaws) (image : HeapImage) (sound : HasLiveList image) where
   abbrev m : ℕ → ℕ
   m = moved_word image
 
@@ -26,21 +27,21 @@ module _ (image : HeapImage) (sound : HasLiveList image) where
   c = copied_word image
 
   pub word-copied : (a j : ℕ) → IsObject image a → j < size_at image a → c (new_address image a + j) ≡ word_at image (a + j)
-  word-copied a j o = subst (λ (n : ℕ). j < size_at image n → c (new_address image n + j) ≡ word_at image (n + j)) o.is (λ k. (moved-object image sound o.index j o.inside k).0)
+  word-copied a j o = subst (λ (n : ℕ). j < size_at image n → c (new_address image n + j) ≡ word_at image (n + j)) o.is (λ k. (moved-object law image sound o.index j o.inside k).0)
 
   header-same : (a : ℕ) → IsObject image a → c (new_address image a) ≡ m (new_address image a)
-  header-same a o = subst (λ (n : ℕ). c (new_address image n) ≡ m (new_address image n)) o.is (moved-header image sound o.index o.inside)
+  header-same a o = subst (λ (n : ℕ). c (new_address image n) ≡ m (new_address image n)) o.is (moved-header law image sound o.index o.inside)
 
   rest-same : (a j : ℕ) → IsObject image a → references_at image a < j → j < size_at image a → c (new_address image a + j) ≡ m (new_address image a + j)
-  rest-same a j o = subst (λ (n : ℕ). references_at image n < j → j < size_at image n → c (new_address image n + j) ≡ m (new_address image n + j)) o.is (λ k l. moved-rest image sound o.index j o.inside k l)
+  rest-same a j o = subst (λ (n : ℕ). references_at image n < j → j < size_at image n → c (new_address image n + j) ≡ m (new_address image n + j)) o.is (λ k l. moved-rest law image sound o.index j o.inside k l)
 
   late-same : (a j : ℕ) → IsObject image a → is_deferred image a ≡ true → j < size_at image a → c (new_address image a + j) ≡ m (new_address image a + j)
-  late-same a j o = subst (λ (n : ℕ). is_deferred image n ≡ true → j < size_at image n → c (new_address image n + j) ≡ m (new_address image n + j)) o.is (λ k l. moved-deferred image sound o.index j o.inside l k)
+  late-same a j o = subst (λ (n : ℕ). is_deferred image n ≡ true → j < size_at image n → c (new_address image n + j) ≡ m (new_address image n + j)) o.is (λ k l. moved-deferred law image sound o.index j o.inside l k)
 
   reference-moves : (a f : ℕ) → IsObject image a → is_deferred image a ≡ false → f < references_at image a
       → (c (new_address image a + 1 + f) ≡ reference_at image a f) × (m (new_address image a + 1 + f) ≡ redirected image (reference_at image a f))
   reference-moves a f o = subst (λ (n : ℕ). is_deferred image n ≡ false → f < references_at image n
-      → (c (new_address image n + 1 + f) ≡ reference_at image n f) × (m (new_address image n + 1 + f) ≡ redirected image (reference_at image n f))) o.is (λ k l. moved-reference image sound o.index f o.inside l k)
+      → (c (new_address image n + 1 + f) ≡ reference_at image n f) × (m (new_address image n + 1 + f) ≡ redirected image (reference_at image n f))) o.is (λ k l. moved-reference law image sound o.index f o.inside l k)
 
   pub reference-sound : (a f : ℕ) → IsObject image a → f < references_at image a → is_null_or_live image (reference_at image a f) ≡ true
   reference-sound a f o = subst (λ (n : ℕ). f < references_at image n → is_null_or_live image (reference_at image n f) ≡ true) o.is (λ l. sound.references o.index 0 o.inside f l)
@@ -49,7 +50,7 @@ module _ (image : HeapImage) (sound : HasLiveList image) where
 
   pub header-read : (a start at : ℕ) (xs : List ℕ) → IsObject image a → at ≡ new_address image a → start ≤ at → at < start + length xs → IsSplitAt m c start xs at → get_or xs (at - start) 0 ≡ word_at image a
   header-read a start at xs o e low high h =
-      let size = object_size image sound a o in
+      let size = object_size law image sound a o in
       let k : start + (at - start) ≡ new_address image a + 0 = omega arith in
       let z : a + 0 ≡ a = omega arith in
       h.above (at - start) (omega arith) (omega arith) ∙ ap c k ∙ word-copied a 0 o size.0 ∙ ap (word_at image) z
@@ -66,7 +67,7 @@ module _ (image : HeapImage) (sound : HasLiveList image) where
   pub reference-read : (a f start at : ℕ) (xs : List ℕ) → IsObject image a → is_deferred image a ≡ false → at ≡ new_address image a → start ≤ at → at + size_at image a ≤ start + length xs → f < references_at image a
       → IsSplitAt m c start xs at → get_or xs (at - start + 1 + f) 0 ≡ reference_at image a f
   reference-read a f start at xs o early e low high few h =
-      let size = object_size image sound a o in
+      let size = object_size law image sound a o in
       let less : references_at image a < size_at image a = size.2 in
       let k : start + (at - start + 1 + f) ≡ new_address image a + 1 + f = omega arith in
       h.above (at - start + 1 + f) (omega arith) (omega arith) ∙ ap c k ∙ (reference-moves a f o early few).0
@@ -78,7 +79,7 @@ module _ (image : HeapImage) (sound : HasLiveList image) where
       let n : ℕ = references_at image a in
       let from : ℕ = at - start + 1 in
       let zs : List ℕ = map (redirected image) (part xs from n) in
-      let size = object_size image sound a o in
+      let size = object_size law image sound a o in
       let less : n < size_at image a = size.2 in
       let long : length zs ≡ n = length-map (part xs from n) (redirected image) ∙ length-part xs from n (omega arith) in
       let i : at + 1 - start ≡ from = omega arith in
@@ -95,7 +96,7 @@ module _ (image : HeapImage) (sound : HasLiveList image) where
 
   pub object-done : (a start at : ℕ) (xs : List ℕ) → IsObject image a → at ≡ new_address image a → IsSplitAt m c start xs (at + 1 + references_at image a) → IsSplitAt m c start xs (at + size_at image a)
   object-done a start at xs o e h =
-      let size = object_size image sound a o in
+      let size = object_size law image sound a o in
       let less : references_at image a < size_at image a = size.2 in
       split_skip m c start xs (at + 1 + references_at image a) (at + size_at image a) h (omega arith) (λ p l n k.
       let j : ℕ = p - new_address image a in
@@ -111,13 +112,13 @@ module _ (image : HeapImage) (sound : HasLiveList image) where
   -- ---- from object to object
 
   pub next-place : (from a : ℕ) → IsNextObject image from a → slid image from ≤ new_address image a
-  next-place from a n = let to = new_address-is image sound a n.object in let up = slid-ordered image from a n.after in omega arith
+  next-place from a n = let to = new_address-is law image sound a n.object in let up = slid-ordered law image from a n.after in omega arith
 
   pub region-next : (from a start : ℕ) (xs : List ℕ) → IsPassed image from → IsNextObject image from a → IsSplitAt m c start xs (slid image from) → IsSplitAt m c start xs (new_address image a)
-  region-next from a start xs passed n h = split_skip m c start xs (slid image from) (new_address image a) h (next-place from a n) (λ p l less k. moved-between image sound from p passed (λ b u up.
-      let to = new_address-is image sound a n.object in
-      let goes = new_address-is image sound b u in
-      let far = slid-ordered image a b (n.first b u up) in
+  region-next from a start xs passed n h = split_skip m c start xs (slid image from) (new_address image a) h (next-place from a n) (λ p l less k. moved-between law image sound from p passed (λ b u up.
+      let to = new_address-is law image sound a n.object in
+      let goes = new_address-is law image sound b u in
+      let far = slid-ordered law image a b (n.first b u up) in
       omega arith) l)
 
   -- all words for the block lie below `to`
@@ -131,10 +132,10 @@ module _ (image : HeapImage) (sound : HasLiveList image) where
     where
       same : (p : ℕ) → slid image from ≤ p → p < start + length xs → c p ≡ m p
       same p l k = elim (cases_lt p (new_top image)) [
-        | inr top ↦ moved-top image sound p top
-        | inl below ↦ moved-between image sound from p passed (λ b u up.
-            let goes = new_address-is image sound b u in
-            let far = slid-ordered image to b (none b u up) in
+        | inr top ↦ moved-top law image sound p top
+        | inl below ↦ moved-between law image sound from p passed (λ b u up.
+            let goes = new_address-is law image sound b u in
+            let far = slid-ordered law image to b (none b u up) in
             let here = reached p (omega arith) k below in
             omega arith) l
       ]
@@ -144,10 +145,10 @@ module _ (image : HeapImage) (sound : HasLiveList image) where
   region-begin d first xs e shows = subst (IsSplitAt m c (start_of image d) xs) (sym e) (split_none m c (start_of image d) xs shows)
 
   pub region-first : (d first a : ℕ) (xs : List ℕ) → slid image first ≡ start_of image d → IsNextObject image first a → Shows c (start_of image d) xs → IsSplitAt m c (start_of image d) xs (new_address image a)
-  region-first d first a xs e n shows = region-next first a (start_of image d) xs (passed-start image sound d first e) n (region-begin d first xs e shows)
+  region-first d first a xs e n shows = region-next first a (start_of image d) xs (passed-start law image sound d first e) n (region-begin d first xs e shows)
 
   pub region-none : (d first to : ℕ) (xs : List ℕ) → slid image first ≡ start_of image d → HasNoObject image first to → IsReached to (start_of image d) xs → Shows c (start_of image d) xs → Shows m (start_of image d) xs
-  region-none d first to xs e none reached shows = region-last first to (start_of image d) xs (passed-start image sound d first e) none reached (omega arith) (region-begin d first xs e shows)
+  region-none d first to xs e none reached shows = region-last first to (start_of image d) xs (passed-start law image sound d first e) none reached (omega arith) (region-begin d first xs e shows)
 
   pub region-header : (from a start at : ℕ) (xs : List ℕ) → IsPassed image from → IsNextObject image from a → IsSplitAt m c start xs (slid image from) → at ≡ new_address image a → start ≤ slid image from → at < start + length xs
       → IsSplitAt m c start xs at × (get_or xs (at - start) 0 ≡ word_at image a) × (start ≤ at)

@@ -4,14 +4,12 @@ use Rattle.std.proofs.lemmas.Bool.{cases_lt, and_from, and_parts, lt-ltb, ltb-tr
 use Rattle.heap_image.specs.HeapImage.{HeapImage, HasLiveList, IsValid, heap_words, region_words, start_of, region_count, word_at, is_live_word, block_of}
 use Rattle.summary.specs.NewAddresses.{prefix_end, new_top}
 use Rattle.summary.specs.WordMoves.{slid, reads}
-use Rattle.summary.proofs.Lemmas.Origin.{slid-increasing}
-use Rattle.summary.proofs.Lemmas.Words.{slid-high, slid-le, slid-onto}
-use Rattle.summary.proofs.Lemmas.Regions.{region_is, region_apart, region_low, region_high, region_some}
+use Rattle.summary.specs.PlanLaws.{PlanLaws}
+use Rattle.fill.proofs.Lemmas.Regions.{region_is, region_apart, region_low, region_high, region_some}
 use Rattle.std.specs.Prelude.{Some}
 use Rattle.std.proofs.lemmas.Bool.{false_from_ne_true}
 use Rattle.summary.specs.RegionData.{source, destination}
-use Rattle.summary.proofs.Lemmas.Destinations.{destination-live_words}
-use Rattle.summary.proofs.Lemmas.Readers.{source-Some, reads-below, reads-in_range, reads-word, word_reads, same_Bool}
+use Rattle.fill.proofs.Lemmas.Lists.{same_Bool}
 use Rattle.fill.specs.WordBlocks.{IsSplitAt, Shows}
 use Rattle.std.proofs.lemmas.List.{ext_get_or}
 use Rattle.std.specs.Prelude.{map}
@@ -26,7 +24,7 @@ use Rattle.fill.proofs.Lemmas.Writing.{split_skip, split_all, length-part, get_o
 pub next_start : (image : HeapImage) (s t : ℕ) → t ≡ s + 1 → start_of image s + region_words image ≡ start_of image t
 next_start image s t e = let more : t * region_words image ≡ (s + 1) * region_words image = ap (λ n. n * region_words image) e in omega arith
 
-module _ (image : HeapImage) (sound : HasLiveList image) where
+module _ (law : PlanLaws) (image : HeapImage) (sound : HasLiveList image) where
   abbrev P : ℕ
   P = prefix_end image
 
@@ -40,28 +38,28 @@ module _ (image : HeapImage) (sound : HasLiveList image) where
       let first : ℕ = slid image (start_of image s) in
       let behind : ℕ = slid image (start_of image s + R) in
       let t : ℕ = max (start_of image d) first in
-      let up = slid-monotone image (start_of image s + R) (heap_words image) (omega arith) n in
-      let all = slid-all image sound in
-      let on = slid-onto image sound t (omega arith) (omega arith) in
+      let up = slid-monotone law image (start_of image s + R) (heap_words image) (omega arith) n in
+      let all = slid-all law image sound in
+      let on = law.slid-onto image sound t (omega arith) (omega arith) in
       let q : ℕ = on.0 in
       let after_prefix : P ≤ q = on.1 in
       let live : is_live_word image q ≡ true = on.2 in
       let to : slid image q ≡ t = on.3 in
       let from : start_of image s ≤ q = elim (cases_lt q (start_of image s)) [
-        | inl less ↦ let more = slid-increasing image q (start_of image s) live less in let no : ⊥ = omega arith in absurd no
+        | inl less ↦ let more = law.slid-increasing image q (start_of image s) live less in let no : ⊥ = omega arith in absurd no
         | inr more ↦ more
       ] in
       let below : q < start_of image s + R = elim (cases_lt q (start_of image s + R)) [
         | inl less ↦ less
-        | inr more ↦ let over = slid-monotone image (start_of image s + R) q (omega arith) more in let no : ⊥ = omega arith in absurd no
+        | inr more ↦ let over = slid-monotone law image (start_of image s + R) q (omega arith) more in let no : ⊥ = omega arith in absurd no
       ] in
-      word_reads image sound d s q live (region_is R d (slid image q) (omega arith) (omega arith)) (region_is R s q from below)
+      law.word_reads image sound d s q live (region_is R d (slid image q) (omega arith) (omega arith)) (region_is R s q from below)
 
   pub reads-reaches : (d s : ℕ) → P ≤ start_of image s → reads image d s ≡ true
       → (slid image (start_of image s) < start_of image d + R) × (start_of image d < slid image (start_of image s + R)) × (slid image (start_of image s) < slid image (start_of image s + R))
   reads-reaches d s m h =
       let some = region_some image in
-      let w = reads-word image sound d s h in
+      let w = law.reads-word image sound d s h in
       let q : ℕ = w.0 in
       let live : is_live_word image q ≡ true = w.1 in
       let to : slid image q / R ≡ d = w.2 in
@@ -70,8 +68,8 @@ module _ (image : HeapImage) (sound : HasLiveList image) where
       let high : q < s * R + R = subst (λ (n : ℕ). q < n * R + R) of (region_high R q some) in
       let to_low : d * R ≤ slid image q = subst (λ (n : ℕ). n * R ≤ slid image q) to (region_low R (slid image q)) in
       let to_high : slid image q < d * R + R = subst (λ (n : ℕ). slid image q < n * R + R) to (region_high R (slid image q) some) in
-      let first = slid-monotone image (start_of image s) q m low in
-      let last = slid-increasing image q (start_of image s + R) live high in
+      let first = slid-monotone law image (start_of image s) q m low in
+      let last = law.slid-increasing image q (start_of image s + R) live high in
       (omega arith, omega arith, omega arith)
 
   pub reads-is : (d s : ℕ) → P ≤ start_of image d → P ≤ start_of image s → start_of image s + R ≤ heap_words image
@@ -95,7 +93,7 @@ module _ (image : HeapImage) (sound : HasLiveList image) where
   written_to-skip d s l m n h =
       let first : ℕ = slid image (start_of image s) in
       let behind : ℕ = slid image (start_of image s + R) in
-      let up = slid-monotone image (start_of image s) (start_of image s + R) m (omega arith) in
+      let up = slid-monotone law image (start_of image s) (start_of image s + R) m (omega arith) in
       elim (cases_lt first (start_of image d + R)) [
         | inr far ↦ omega arith
         | inl near ↦ elim (cases_lt (start_of image d) behind) [
@@ -114,14 +112,14 @@ module _ (image : HeapImage) (sound : HasLiveList image) where
   written_to-read d s m h = let r = reads-reaches d s m h in (omega arith, omega arith, omega arith)
 
   pub written_to-own : (d : ℕ) → written_to image (start_of image d) (start_of image d) ≡ start_of image d
-  written_to-own d = let down = slid-le image (start_of image d) in omega arith
+  written_to-own d = let down = law.slid-le image (start_of image d) in omega arith
 
   -- once all live words are written, so is the region
   pub written_to-all : (start : ℕ) (xs : List ℕ) (p : ℕ) → length xs ≡ R → p ≡ written_to image start (heap_words image)
       → IsSplitAt (copied_word image) (word_at image) start xs p → Shows (copied_word image) start xs
   written_to-all start xs p long e h =
-      let all = slid-all image sound in
-      let skipped = split_skip (copied_word image) (word_at image) start xs p (start + R) h (omega arith) (λ a l m n. sym (word_by-above image (λ _. false) a (omega arith))) in
+      let all = slid-all law image sound in
+      let skipped = split_skip (copied_word image) (word_at image) start xs p (start + R) h (omega arith) (λ a l m n. sym (word_by-above law image (λ _. false) a (omega arith))) in
       split_all (copied_word image) (word_at image) start xs (start + R) skipped (omega arith)
 
 module _ (image : HeapImage) (valid : IsValid image) where
@@ -154,14 +152,15 @@ module _ (image : HeapImage) (valid : IsValid image) where
       ext_get_or 0 xs (map (moved_word image) (region_addresses image d)) (long ∙ sym all) (λ k m.
       h k m ∙ sym (get_or-map-range_with_len (moved_word image) (start_of image d) S k (start_of image d + k) 0 (omega arith) refl))
 
+module _ (law : PlanLaws) (image : HeapImage) (valid : IsValid image) where
   pub to_fill-inside : (d : ℕ) → start_of image d < new_top image → d < region_count image
   to_fill-inside d l = elim (cases_lt d (region_count image)) [
     | inl less ↦ less
     | inr more ↦
-        let up = mul-le (region_count image) S d S more (omega arith) in
-        let all = all_regions in
-        let top = slid-all image valid.live_list in
-        let down = slid-le image N in
+        let up = mul-le (region_count image) (region_words image) d (region_words image) more (omega arith) in
+        let all = all_regions image valid in
+        let top = slid-all law image valid.live_list in
+        let down = law.slid-le image (heap_words image) in
         let no : ⊥ = omega arith in absurd no
   ]
 
@@ -171,9 +170,9 @@ module _ (image : HeapImage) (valid : IsValid image) where
   written_to-gap d s zero l m k unread = let e : s + 0 ≡ s = omega arith in ap (λ r. written_to image (start_of image d) (start_of image r)) (sym e)
   written_to-gap d s (suc n) l m k unread =
       let before = written_to-gap d s n l m (omega arith) (λ t a b. unread t a (omega arith)) in
-      let fits = region_fits (s + n) (omega arith) in
-      let skip = written_to-skip image valid.live_list d (s + n) l (source_behind d (s + n) (omega arith) l) fits (unread (s + n) (omega arith) (omega arith)) in
-      let next : start_of image (s + n) + S ≡ start_of image (s + suc n) = next_start image (s + n) (s + suc n) (omega arith) in
+      let fits = region_fits image valid (s + n) (omega arith) in
+      let skip = written_to-skip law image valid.live_list d (s + n) l (source_behind image valid d (s + n) (omega arith) l) fits (unread (s + n) (omega arith) (omega arith)) in
+      let next : start_of image (s + n) + region_words image ≡ start_of image (s + suc n) = next_start image (s + n) (s + suc n) (omega arith) in
       before ∙ skip ∙ ap (written_to image (start_of image d)) next
 
   pub written_to-between : (d s t : ℕ) → prefix_end image ≤ start_of image d → d ≤ s → s ≤ t → t ≤ region_count image → ((u : ℕ) → s ≤ u → u < t → reads image d u ≡ false)
@@ -185,41 +184,41 @@ module _ (image : HeapImage) (valid : IsValid image) where
   -- a region written up to the words of its last source is written whole
   pub written_to-last : (d from to : ℕ) (xs : List ℕ) → prefix_end image ≤ start_of image d → d < from → from ≤ region_count image
       → ((t : ℕ) → from ≤ t → t < region_count image → reads image d t ≡ false) → to ≡ written_to image (start_of image d) (start_of image from)
-      → length xs ≡ S → IsSplitAt (copied_word image) (word_at image) (start_of image d) xs to → Shows (copied_word image) (start_of image d) xs
+      → length xs ≡ region_words image → IsSplitAt (copied_word image) (word_at image) (start_of image d) xs to → Shows (copied_word image) (start_of image d) xs
   written_to-last d from to xs l own within last place long h =
-      let rest = written_to-between d from (region_count image) l (omega arith) within (omega arith) last ∙ ap (written_to image (start_of image d)) all_regions in
-      written_to-all image valid.live_list (start_of image d) xs to long (place ∙ rest) h
+      let rest = written_to-between d from (region_count image) l (omega arith) within (omega arith) last ∙ ap (written_to image (start_of image d)) (all_regions image valid) in
+      written_to-all law image valid.live_list (start_of image d) xs to long (place ∙ rest) h
 
   -- the words for a region lie below the region after its last source
   pub reached-last : (d from p : ℕ) → prefix_end image ≤ start_of image d → d < from → from ≤ region_count image
-      → ((t : ℕ) → from ≤ t → t < region_count image → reads image d t ≡ false) → start_of image d ≤ p → p < start_of image d + S → p < new_top image → p < slid image (start_of image from)
+      → ((t : ℕ) → from ≤ t → t < region_count image → reads image d t ≡ false) → start_of image d ≤ p → p < start_of image d + region_words image → p < new_top image → p < slid image (start_of image from)
   reached-last d from p l own within last low high below =
-      let rest : written_to image (start_of image d) (start_of image from) ≡ written_to image (start_of image d) N = written_to-between d from (region_count image) l (omega arith) within (omega arith) last ∙ ap (written_to image (start_of image d)) all_regions in
-      let all = slid-all image valid.live_list in
+      let rest : written_to image (start_of image d) (start_of image from) ≡ written_to image (start_of image d) (heap_words image) = written_to-between d from (region_count image) l (omega arith) within (omega arith) last ∙ ap (written_to image (start_of image d)) (all_regions image valid) in
+      let all = slid-all law image valid.live_list in
       omega arith
 
   -- the source of a region to fill has the word that goes to its start
   pub source_place : (d s : ℕ) → prefix_end image ≤ start_of image d → start_of image d < new_top image → source image d ≡ Some s
-      → (reads image d s ≡ true) × (d ≤ s) × (s < region_count image) × (slid image (start_of image s) ≤ start_of image d) × (start_of image d ≤ slid image (start_of image s + S))
+      → (reads image d s ≡ true) × (d ≤ s) × (s < region_count image) × (slid image (start_of image s) ≤ start_of image d) × (start_of image d ≤ slid image (start_of image s + region_words image))
   source_place d s l m e =
-      let found = source-Some image valid.live_list d l (lt-ltb (start_of image d) (new_top image) m) in
+      let found = law.source-Some image valid.live_list d l (lt-ltb (start_of image d) (new_top image) m) in
       let t : ℕ = found.0 in
       let same : s ≡ t = one_some s t (sym e ∙ found.1) in
       let read : reads image d s ≡ true = ap (reads image d) same ∙ found.2 in
-      let up : d ≤ s = reads-below image valid.live_list d s read in
-      let inside : s < region_count image = (reads-in_range image valid d s read).1 in
+      let up : d ≤ s = law.reads-below image valid.live_list d s read in
+      let inside : s < region_count image = (law.reads-in_range image valid d s read).1 in
       let between = written_to-between d d s l (omega arith) up (omega arith) (λ u a b. false_from_ne_true (reads image d u) (λ h.
       let least : t ≤ u = found.3 u h in
       omega arith)) in
-      let own = written_to-own image valid.live_list d in
-      let on = written_to-read image valid.live_list d s (source_behind d s up l) read in
+      let own = written_to-own law image valid.live_list d in
+      let on = written_to-read law image valid.live_list d s (source_behind image valid d s up l) read in
       let low : slid image (start_of image s) ≤ written_to image (start_of image d) (start_of image s) = on.0 in
-      let high : written_to image (start_of image d) (start_of image s) ≤ slid image (start_of image s + S) = on.1 in
+      let high : written_to image (start_of image d) (start_of image s) ≤ slid image (start_of image s + region_words image) = on.1 in
       (read, up, inside, omega arith, omega arith)
     where
       one_some : (a b : ℕ) → Some a ≡ Some b → a ≡ b
       one_some a b h = cc
 
   -- where the first live word of a region goes, by its region data
-  pub destination-slid : (r : ℕ) → prefix_end image ≤ start_of image r → start_of image r ≤ N → destination image r ≡ slid image (start_of image r)
-  destination-slid r l m = destination-live_words image valid.live_list r l m ∙ sym (slid-high image (start_of image r) l)
+  pub destination-slid : (r : ℕ) → prefix_end image ≤ start_of image r → start_of image r ≤ heap_words image → destination image r ≡ slid image (start_of image r)
+  destination-slid r l m = law.destination-live_words image valid.live_list r l m ∙ sym (law.slid-high image (start_of image r) l)

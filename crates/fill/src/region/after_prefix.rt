@@ -12,6 +12,7 @@ ghost use Rattle.fill.specs.SourceRegions.{IsNextOtherSource, IsReadOf};
 use super::site::Site;
 use heap_image::header::size;
 use region_cells::{Source, Target};
+use summary::laws::plan_laws;
 
 /// Whether a source has words for the target region at `start..limit`: its live words go to `first..after`.
 fn reaches(start: u64, limit: u64, first: u64, after: u64) -> bool
@@ -32,6 +33,7 @@ impl AfterPrefix<'_> {
     fn reads_itself(&self) -> bool
         ensures { result ≡ reads self.now.site.guide.now self.now.site.region self.now.site.region }
     {
+        plan_laws();
         let guide = self.site.guide;
         guide.image_is_valid();
         let first = guide.destination(self.site.region);
@@ -44,6 +46,7 @@ impl AfterPrefix<'_> {
         requires { IsUnwritten self.now.site.guide.now self.now.site.region target.old }
         ensures { Becomes (IsCopied self.now.site.guide.now self.now.site.region (self.now.site.region + 1) result) target.old target.new }
     {
+        plan_laws();
         let guide = self.site.guide;
         let span = self.site.span;
         guide.image_is_valid();
@@ -76,6 +79,7 @@ impl AfterPrefix<'_> {
         requires next { (from : ℕ) × IsNextOtherSource self.now.site.guide.now self.now.site.region from s × IsCopied self.now.site.guide.now self.now.site.region from to target.old }
         ensures { Becomes (IsCopied self.now.site.guide.now self.now.site.region (s + 1) result) target.old target.new }
     {
+        plan_laws();
         let guide = self.site.guide;
         let read = guide.span(s);
         let write = self.site.span;
@@ -101,6 +105,7 @@ impl AfterPrefix<'_> {
         requires copied { IsCopied self.now.site.guide.now self.now.site.region from to target.old }
         ensures { Becomes (IsMoved self.now.site.guide.now self.now.site.region) target.old target.new }
     {
+        plan_laws();
         let guide = self.site.guide;
         guide.image_is_valid();
         let s = guide.source(self.site.region);
@@ -120,6 +125,7 @@ impl AfterPrefix<'_> {
         requires split { IsSplitAt (moved_word self.now.site.guide.now) (copied_word self.now.site.guide.now) self.now.site.span.start target.old.words at }
         ensures { Becomes (λ w. Shows (moved_word self.now.site.guide.now) self.now.site.span.start w.words) target.old target.new }
     {
+        plan_laws();
         let span = self.site.span;
         self.site.guide.image_is_valid();
         let limit = self.site.guide.plan().new_top().min(span.end);

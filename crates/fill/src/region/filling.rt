@@ -21,6 +21,7 @@ use heap_image::Fault;
 use history::moves_of_images;
 use region_cells::{Cells, Target};
 use retry_policy::RetryPolicy;
+use summary::laws::plan_laws;
 use summary::laws::readers::reads_by_words;
 
 /// One fill: the region, and the desk and the cells, which the workers share.
@@ -57,6 +58,7 @@ impl<D: Desk<W>, W: RetryPolicy> Filling<'_, '_, '_, '_, D, W> {
         ensures moved { OnOk result (Becomes (IsMoved self.now.site.guide.now self.now.site.region) target.old target.new) }
         ensures fault { IfErr result (IsFaultOf D.may_fail) }
     {
+        plan_laws();
         moves_of_images();
         one_more_source_is_drained();
         swept_tickets_have_none_left();
@@ -123,6 +125,7 @@ impl<D: Desk<W>, W: RetryPolicy> Filling<'_, '_, '_, '_, D, W> {
         ensures copied { IfOk result (λ x. Becomes (IsCopied self.now.site.guide.now self.now.site.region (opening.source + 1) x.1) target.old target.new) }
         ensures fault { IfErr result IsOverwritten }
     {
+        plan_laws();
         self.site.guide.image_is_valid();
         let place = self.site.after_prefix();
         let s = opening.source();

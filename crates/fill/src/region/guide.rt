@@ -13,9 +13,10 @@ use super::span::Span;
 use mark_bitmap::Marks;
 use std::marker::Model;
 use summary::laws::new_addresses::objects_keep_their_order;
+use summary::laws::plan_laws;
 use summary::laws::plans::planned_image_is_valid;
 use summary::laws::readers::sources_in_a_row;
-use summary::laws::region_data::region_data_by_words;
+use summary::laws::region_data::{region_data_by_words, regions_to_fill};
 use summary::{FILLER_STRIDE, Plan, Survey, filler_limit};
 
 /// The plan and the marks of one image, which say where words go.
@@ -91,6 +92,7 @@ impl<'a> Guide<'a> {
         requires { IsAfterPrefix self.now r }
         ensures { result ≡ slid self.now (start_of self.now r) }
     {
+        plan_laws();
         planned_image_is_valid(self.plan);
         self.plan.region(r).destination
     }
@@ -100,6 +102,7 @@ impl<'a> Guide<'a> {
         requires { IsAfterPrefix self.now r }
         ensures { result ≡ slid self.now (start_of self.now r + region_words self.now) }
     {
+        plan_laws();
         planned_image_is_valid(self.plan);
         region_data_by_words();
         let data = self.plan.region(r);
@@ -129,6 +132,7 @@ impl<'a> Guide<'a> {
         ensures inside { result ≤ start_of self.now r + region_words self.now }
         ensures place { slid self.now result ≡ to }
     {
+        plan_laws();
         let span = self.span(r);
         let mut at = span.start;
         let mut place = self.destination(r);
@@ -169,6 +173,7 @@ impl<'a> Guide<'a> {
         ensures dead { (q : ℕ) → at ≤ q → q < result → is_live_word self.now q ≡ false }
         ensures live { result < filler_limit self.now begin → is_live_word self.now result ≡ true }
     {
+        regions_to_fill();
         planned_image_is_valid(self.plan);
         let limit = filler_limit(self.plan.prefix_end(), begin);
         self.marks.next_live_before(at, limit).unwrap_or(limit)

@@ -9,6 +9,7 @@ ghost use Rattle.fill.specs.Targets.{Becomes, IsBlockOf, IsUnwritten, IsMoved};
 use super::site::Site;
 use heap_image::header::{filler, size};
 use region_cells::Target;
+use summary::laws::plan_laws;
 
 /// A region that begins in the dense prefix, where each live object keeps its address.
 #[derive(Drop)]
@@ -32,6 +33,7 @@ impl InPrefix<'_> {
         requires { IsUnwritten self.now.site.guide.now self.now.site.region target.old }
         ensures { Becomes (λ w. Shows (copied_word self.now.site.guide.now) self.now.site.span.start w.words) target.old target.new }
     {
+        plan_laws();
         let span = self.site.span;
         self.site.guide.image_is_valid();
         let mut at = span.start;
@@ -53,6 +55,7 @@ impl InPrefix<'_> {
         requires split { IsSplitAt (copied_word self.now.site.guide.now) (word_at self.now.site.guide.now) self.now.site.span.start target.old.words at }
         ensures { Becomes (λ w. IsSplitAt (copied_word self.now.site.guide.now) (word_at self.now.site.guide.now) self.now.site.span.start w.words stop) target.old target.new }
     {
+        plan_laws();
         self.site.guide.image_is_valid();
         if at == stop {
             return;
@@ -74,6 +77,7 @@ impl InPrefix<'_> {
         requires copied { Shows (copied_word self.now.site.guide.now) self.now.site.span.start target.old.words }
         ensures { Becomes (λ w. Shows (moved_word self.now.site.guide.now) self.now.site.span.start w.words) target.old target.new }
     {
+        plan_laws();
         let span = self.site.span;
         self.site.guide.image_is_valid();
         let mut from = span.start;

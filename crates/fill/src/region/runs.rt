@@ -4,7 +4,7 @@ ghost use Rattle.fill.specs.Runs.{IsNextRun};
 use mark_bitmap::Marks;
 
 /// A run of live words, at the addresses `begin..end`.
-#[derive(Debug, Clone, Copy)]
+#[derive(Clone, Copy)]
 pub(crate) struct Run {
     pub(crate) begin: u64,
     pub(crate) end: u64,

@@ -14,6 +14,7 @@ use super::in_prefix::InPrefix;
 use super::span::Span;
 use heap_image::header::references;
 use region_cells::Target;
+use summary::laws::plan_laws;
 use summary::laws::region_data::regions_to_fill;
 
 /// The region to fill: its number, its addresses, and the guide to its words.
@@ -67,6 +68,7 @@ impl<'a> Site<'a> {
         ensures { Becomes (λ w. (a : ℕ) → IsMovedTo self.now.guide.now at a → IsSplitAt (moved_word self.now.guide.now) (copied_word self.now.guide.now)
             self.now.span.start w.words (at + size_at self.now.guide.now a)) target.old target.new }
     {
+        plan_laws();
         self.guide.image_is_valid();
         let first = (at - self.span.start) as usize;
         let count = references(target.get(first)) as usize;

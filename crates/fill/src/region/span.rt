@@ -1,5 +1,5 @@
 /// The addresses `start..end`.
-#[derive(Debug, Clone, Copy)]
+#[derive(Clone, Copy)]
 pub(crate) struct Span {
     pub(crate) start: u64,
     pub(crate) end: u64,

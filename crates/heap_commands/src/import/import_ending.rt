@@ -4,7 +4,7 @@ ghost use Rattle.std.specs.Prelude.{◌≡◌, IfOk, string_bytes};
 use super::ImportMade;
 use super::object_list::give_list;
 use command_support::{
-    FileTarget, Late, Output, SystemFile, Trouble, Watched, WorkDone, both_ended, ended, failed,
+    FileTarget, Late, Output, SystemFile, Trouble, Watched, WorkDone, both_ended, failed,
 };
 use heap_dump::ListedImport;
 use heap_image::ToWrite;
@@ -23,7 +23,7 @@ where
     ensures { IfOk result (λ done. done.text.items ≡ string_bytes made.text) }
 {
     match list {
-        None => ended(host, made.text, image.into_output()?),
+        None => image.ended(made.text),
         Some(list) => finished_with_list(host, made, image, list),
     }
 }

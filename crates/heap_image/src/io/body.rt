@@ -27,7 +27,7 @@ impl Body {
     /// Reads a body of this size into regions of this source.
     pub(crate) fn read<R: Intake>(
         source: &RegionSource<'_>,
-        incoming: &mut Incoming,
+        incoming: &mut Incoming<'_>,
         reader: &mut R,
         size: BodySize,
     ) -> Result<Body, Fault>

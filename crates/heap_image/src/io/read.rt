@@ -30,6 +30,9 @@ use rayon::current_num_threads;
 use std::alloc::Global;
 use std::thread::Threads;
 
+/// The most bytes that are requested at a time.
+const BUFFER_BYTES: usize = 16_384;
+
 /// Reads an image up to the end of the input, and decides as [`decode`](crate::decode) does for these bytes. Runs in
 /// the caller's thread alone.
 ///
@@ -301,7 +304,8 @@ fn read_body_in_order<R: Intake>(
     ensures lost { (came : List ℕ) × Consumes (R.left reader.old) (R.left reader.new) came }
     ensures failed { R.has_failed reader.new ≡ (is_io result || R.has_failed reader.old) }
 {
-    let mut incoming = Incoming::new(size.words());
+    let mut buffer = [0; BUFFER_BYTES];
+    let mut incoming = Incoming::new(&mut buffer, size.words());
     incoming.top_up(reader)?;
     let source = RegionSource::new(alloc, None);
     Body::read(&source, &mut incoming, reader, size)
@@ -311,7 +315,7 @@ fn read_body_in_order<R: Intake>(
 /// for at most one region more than have come, and for twice as many blocks.
 pub(crate) fn read_regions<R: Intake>(
     source: &RegionSource<'_>,
-    incoming: &mut Incoming,
+    incoming: &mut Incoming<'_>,
     reader: &mut R,
     region_log: u32,
     count: usize,
@@ -346,7 +350,7 @@ pub(crate) fn read_regions<R: Intake>(
 /// Reads the words of the region with this number.
 fn read_region<R: Intake>(
     source: &RegionSource<'_>,
-    incoming: &mut Incoming,
+    incoming: &mut Incoming<'_>,
     reader: &mut R,
     region_log: u32,
     index: usize,

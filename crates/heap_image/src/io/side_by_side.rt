@@ -19,6 +19,10 @@ use thread_row::behind_an_empty_thread;
 /// The least number of words that are worth a thread.
 const LEAST_WORDS: usize = 65_536;
 
+/// The most bytes that a thread requests at a time. More at a time take fewer calls, and are still in the processor's
+/// second cache when they are decoded.
+const BUFFER_BYTES: usize = 262_144;
+
 /// The place of the body of an image, or of a part of it, in a store.
 #[derive(Debug, Clone, Copy, PartialEq, Eq)]
 pub struct Extent {
@@ -158,8 +162,11 @@ fn body_in_order<S: Store>(source: RegionSource<'_>, store: &S, extent: Extent) 
     requires source { HasRegions source extent.size.region_log extent.size.regions }
     ensures { IfSome result (IsBodyOf (S.bytes store.now) extent) }
 {
+    let Ok(mut buffer) = vec![in source.alloc; 0u8; BUFFER_BYTES] else {
+        return None;
+    };
     let mut cursor = Cursor::new(store, extent.at);
-    let mut incoming = Incoming::new(extent.size.words());
+    let mut incoming = Incoming::new(buffer.as_mut_slice(), extent.size.words());
     match Body::read(&source, &mut incoming, &mut cursor, extent.size) {
         Ok(body) => Some(body),
         Err(_) => None,

@@ -6,8 +6,8 @@ use Rattle.std.specs.Int.{w64, to_le_bytes}
 use Rattle.heap_image.specs.Version.{has_roots}
 use Rattle.heap_image.specs.declared.version.Version.{Version}
 use Rattle.heap_image.specs.HeapImage.{HeapImage, IsValid, AreRoots, heap_words, roots_or}
-use Rattle.heap_image.specs.ImageText.{front, numbers, text}
-use Rattle.heap_image.proofs.Lemmas.TextLaws.{valid_numbers}
+use Rattle.heap_image.specs.ImageText.{front, numbers, text, with_tail}
+use Rattle.heap_image.specs.Reading.{HasFittingNumbers}
 use Rattle.heap_text.specs.Parsing.{HasContents, AcceptsText}
 use Rattle.heap_text.specs.Words.{tail_of, words_of}
 use Rattle.heap_image.specs.declared.fault.Fault.{Fault}
@@ -53,9 +53,9 @@ module _ (image : HeapImage) (heap : ParsedHeap) (p : HasContents image heap) wh
       go rooted None live' roots' live e l r = ap (λ (b : Bool). if b then roots' else live') e ∙ l
       go rooted (Some roots) live' roots' live e l r = ap (λ (b : Bool). if b then roots' else live') e ∙ r
 
-  pub tail_few : IsValid image → length (tail_of heap) < 2 ^ 32
-  tail_few valid =
-      let most : length (roots_or image.live image.roots) < 2 ^ 32 = (valid_numbers image valid).counted in
+  pub tail_few : HasFittingNumbers image.version (with_tail image) → IsValid image → length (tail_of heap) < 2 ^ 32
+  tail_few fitting valid =
+      let most : length (roots_or image.live image.roots) < 2 ^ 32 = fitting.counted in
       omega (arith, ap (λ (xs : List ℕ). length xs) (tail_is valid), most)
 
   pub bytes_are : IsValid image → (bytes array tail : List ℕ) → array ≡ front heap.version heap.region_log (length (tail_of heap)) heap.words.len heap.allowance

@@ -4,7 +4,6 @@ use Rattle.std.specs.Prelude.{MatchOption, ◌&&◌, ◌||◌, not, nat_lt, nat_
 use Rattle.std.specs.List.{list_any}
 use Rattle.std.specs.Option.{unwrap_or}
 use Rattle.summary.specs.Fillers.{filler_limit, gap_at}
-use Rattle.summary.proofs.Lemmas.Fillers.{gap_at-run}
 use Rattle.std.proofs.Math.Seq.{take-suc, get_or-append_seam}
 use Rattle.std.proofs.Math.ListN.{length-append}
 use Rattle.std.proofs.lemmas.Bool.{cases_Bool, cases_lt, and_parts, ltb-true, leb-true, cond-true}
@@ -16,14 +15,7 @@ use Rattle.summary.specs.NewAddresses.{prefix_end, new_address, new_top}
 use Rattle.summary.specs.WordMoves.{origin, slid}
 use Rattle.summary.specs.Compaction.{is_reference_of, is_deferred, redirected, moved_word}
 use Rattle.summary.specs.Updates.{is_late_reference}
-use Rattle.summary.proofs.Lemmas.Addresses.{new_top-live_words}
-use Rattle.summary.proofs.Lemmas.Graph.{new-down, new-below}
-use Rattle.summary.proofs.Lemmas.Origin.{origin-slid, origin-Some}
-use Rattle.summary.proofs.Lemmas.PlainWords.{nowhere-in_prefix}
-use Rattle.summary.proofs.Lemmas.Updates.{moved-reference}
-use Rattle.summary.proofs.Lemmas.Runs.{slid-run, slid-skip}
-use Rattle.summary.proofs.Lemmas.Steps.{top-le}
-use Rattle.summary.proofs.Lemmas.Words.{live_below, live_words-le, slid-high, origin-live}
+use Rattle.summary.specs.PlanLaws.{PlanLaws}
 use Rattle.history.specs.WordMachine.{is_redirected}
 use Rattle.history.specs.Carrier.{AreOrigins, AreFlags, AreSet}
 
@@ -47,62 +39,6 @@ or_nothing true = refl
 or_nothing false = refl
 
 module _ (image : HeapImage) (valid : IsValid image) where
-  pub listed_first : IsListed image [] (prefix_end image)
-  listed_first =
-      let few = live_words-le image (prefix_end image) (prefix_end image) in
-      let at = slid-high image (prefix_end image) (omega arith) in
-      let top = top-le image valid.live_list in
-      let low = new_top-live_words image valid.live_list in
-      record { high = omega arith; inside = omega arith; count = omega arith; each = λ k l. absurd (omega arith) }
-
-  pub listed_more : (origins : List ℕ) (from q : ℕ) → IsListed image origins from → IsFirstFrom (is_live_word image) from q → IsListed image (origins ++ q ∷ []) (q + 1)
-  listed_more origins from q listed first =
-      let behind = first.behind in
-      let high = listed.high in
-      let inside = live_below image valid.live_list q first.passes in
-      let skip = slid-skip image from q listed.high first.behind first.least in
-      let run = slid-run image q 1 (λ j l. subst (λ (a : ℕ). is_live_word image a ≡ true) (omega arith) first.passes) in
-      let long : length (origins ++ q ∷ []) ≡ length origins + 1 = length-append origins (q ∷ []) in
-      let count = listed.count in
-      let place : prefix_end image + length origins ≡ slid image q = omega arith in
-      record {
-        high = omega arith;
-        inside = omega arith;
-        count = omega arith;
-        each = λ k l. elim (cases_lt k (length origins)) [
-          | inl before ↦ listed.each k before ∙ ap Some (sym (get_or_append_left origins (q ∷ []) 0 k before))
-          | inr here ↦
-              let last : k ≡ length origins = omega arith in
-              ap (λ (n : ℕ). origin image (prefix_end image + n)) last ∙ (ap (origin image) place ∙ (origin-slid image valid.live_list q inside first.passes
-              ∙ ap Some (sym (ap (λ (n : ℕ). get_or (origins ++ q ∷ []) n 0) last ∙ get_or-append_seam origins q [] 0))))
-        ];
-      }
-
-  pub listed_all : (origins : List ℕ) (from : ℕ) → IsListed image origins from → NoneFrom (is_live_word image) from → AreOrigins image origins
-  listed_all origins from listed none =
-      let high = listed.high in
-      let inside = listed.inside in
-      let count = listed.count in
-      let skip = slid-skip image from (heap_words image) listed.high listed.inside (λ x l m. none x l) in
-      let end = slid-high image (heap_words image) (omega arith) in
-      let top = new_top-live_words image valid.live_list in
-      record { all = omega arith; each = listed.each }
-
-  -- the new address of a live object is no higher than the old one, and its new words lie in the heap
-  pub new_fits : (a : ℕ) → Contains image.live a → (new_address image a ≤ a) × (new_address image a + size_at image a ≤ heap_words image) × (0 < size_at image a) × (references_at image a < size_at image a) × (a + size_at image a ≤ heap_words image)
-  new_fits a object =
-      let at : get_or image.live object.0 0 ≡ a = get_or_default image.live object.0 0 a object.1 ∙ object.2 in
-      let down = new-down image valid.live_list object.0 object.1 in
-      let below = new-below image valid.live_list object.0 object.1 in
-      let sound = valid.live_list.sound object.0 0 object.1 in
-      let top = top-le image valid.live_list in
-      let header : 0 < size_at image a = subst (λ (n : ℕ). 0 < size_at image n) at sound.header in
-      let few : references_at image a < size_at image a = subst (λ (n : ℕ). references_at image n < size_at image n) at sound.references in
-      let inside : a + size_at image a ≤ heap_words image = subst (λ (n : ℕ). n + size_at image n ≤ heap_words image) at sound.inside in
-      let lower : new_address image a ≤ a = subst (λ (n : ℕ). new_address image n ≤ n) at down in
-      let fits : new_address image a + size_at image a ≤ new_top image = subst (λ (n : ℕ). new_address image n + size_at image n ≤ new_top image) at below in
-      (lower, omega arith, header, few, inside)
-
   -- the references of a live object are sound
   pub reference_sound : (a q : ℕ) → Contains image.live a → is_reference_of image a q ≡ true → is_null_or_live image (word_at image q) ≡ true
   reference_sound a q object h =
@@ -156,6 +92,78 @@ module _ (image : HeapImage) (valid : IsValid image) where
       let object : Contains image.live at.1 = (at.0, at.2, get_or_default image.live at.0 at.1 at.1 at.2 ∙ at.3) in
       reference_sound at.1 q object (and_parts (is_reference_of image at.1 q) (not (is_deferred image at.1)) at.4).0
 
+  pub contains_at : (i : ℕ) → i < length image.live → Contains image.live (get_or image.live i 0)
+  contains_at i inside = (i, inside, get_or_default image.live i (get_or image.live i 0) 0 inside)
+
+  -- one object more, whose references are redirected at the end, or not
+  pub late_more : (number begin references : ℕ) (old new : List Bool) → number < length image.live → AreFlagsOf image (late_test image) number old → AreSet old new begin (begin + references)
+      → begin ≡ new_address image (get_or image.live number 0) → references ≡ references_at image (get_or image.live number 0) → is_deferred image (get_or image.live number 0) ≡ true
+      → AreFlagsOf image (late_test image) (number + 1) new
+  late_more number begin references old new inside flags set place count late =
+      flags_set (late_test image) number begin (begin + references) old new inside flags set
+      (λ q. rw (place, count, late) refl)
+
+  pub late_same : (number : ℕ) (flags : List Bool) → number < length image.live → AreFlagsOf image (late_test image) number flags → is_deferred image (get_or image.live number 0) ≡ false
+      → AreFlagsOf image (late_test image) (number + 1) flags
+  late_same number flags inside are early = flags_same (late_test image) number flags inside are (λ q. rw early refl)
+
+module _ (law : PlanLaws) (image : HeapImage) (valid : IsValid image) where
+  pub listed_first : IsListed image [] (prefix_end image)
+  listed_first =
+      let few = law.live_words-le image (prefix_end image) (prefix_end image) in
+      let at = law.slid-high image (prefix_end image) (omega arith) in
+      let top = law.top-le image valid.live_list in
+      let low = law.new_top-live_words image valid.live_list in
+      record { high = omega arith; inside = omega arith; count = omega arith; each = λ k l. absurd (omega arith) }
+
+  pub listed_more : (origins : List ℕ) (from q : ℕ) → IsListed image origins from → IsFirstFrom (is_live_word image) from q → IsListed image (origins ++ q ∷ []) (q + 1)
+  listed_more origins from q listed first =
+      let behind = first.behind in
+      let high = listed.high in
+      let inside = law.live_below image valid.live_list q first.passes in
+      let skip = law.slid-skip image from q listed.high first.behind first.least in
+      let run = law.slid-run image q 1 (λ j l. subst (λ (a : ℕ). is_live_word image a ≡ true) (omega arith) first.passes) in
+      let long : length (origins ++ q ∷ []) ≡ length origins + 1 = length-append origins (q ∷ []) in
+      let count = listed.count in
+      let place : prefix_end image + length origins ≡ slid image q = omega arith in
+      record {
+        high = omega arith;
+        inside = omega arith;
+        count = omega arith;
+        each = λ k l. elim (cases_lt k (length origins)) [
+          | inl before ↦ listed.each k before ∙ ap Some (sym (get_or_append_left origins (q ∷ []) 0 k before))
+          | inr here ↦
+              let last : k ≡ length origins = omega arith in
+              ap (λ (n : ℕ). origin image (prefix_end image + n)) last ∙ (ap (origin image) place ∙ (law.origin-slid image valid.live_list q inside first.passes
+              ∙ ap Some (sym (ap (λ (n : ℕ). get_or (origins ++ q ∷ []) n 0) last ∙ get_or-append_seam origins q [] 0))))
+        ];
+      }
+
+  pub listed_all : (origins : List ℕ) (from : ℕ) → IsListed image origins from → NoneFrom (is_live_word image) from → AreOrigins image origins
+  listed_all origins from listed none =
+      let high = listed.high in
+      let inside = listed.inside in
+      let count = listed.count in
+      let skip = law.slid-skip image from (heap_words image) listed.high listed.inside (λ x l m. none x l) in
+      let end = law.slid-high image (heap_words image) (omega arith) in
+      let top = law.new_top-live_words image valid.live_list in
+      record { all = omega arith; each = listed.each }
+
+  -- the new address of a live object is no higher than the old one, and its new words lie in the heap
+  pub new_fits : (a : ℕ) → Contains image.live a → (new_address image a ≤ a) × (new_address image a + size_at image a ≤ heap_words image) × (0 < size_at image a) × (references_at image a < size_at image a) × (a + size_at image a ≤ heap_words image)
+  new_fits a object =
+      let at : get_or image.live object.0 0 ≡ a = get_or_default image.live object.0 0 a object.1 ∙ object.2 in
+      let down = law.new-down image valid.live_list object.0 object.1 in
+      let below = law.new-below image valid.live_list object.0 object.1 in
+      let sound = valid.live_list.sound object.0 0 object.1 in
+      let top = law.top-le image valid.live_list in
+      let header : 0 < size_at image a = subst (λ (n : ℕ). 0 < size_at image n) at sound.header in
+      let few : references_at image a < size_at image a = subst (λ (n : ℕ). references_at image n < size_at image n) at sound.references in
+      let inside : a + size_at image a ≤ heap_words image = subst (λ (n : ℕ). n + size_at image n ≤ heap_words image) at sound.inside in
+      let lower : new_address image a ≤ a = subst (λ (n : ℕ). new_address image n ≤ n) at down in
+      let fits : new_address image a + size_at image a ≤ new_top image = subst (λ (n : ℕ). new_address image n + size_at image n ≤ new_top image) at below in
+      (lower, omega arith, header, few, inside)
+
   -- and so is one that is redirected at the end
   pub late_sound : (p : ℕ) → is_late_reference image p ≡ true → is_null_or_live image (moved_word image p) ≡ true
   late_sound p h =
@@ -172,44 +180,29 @@ module _ (image : HeapImage) (valid : IsValid image) where
       let few : f < references_at image a = omega arith in
       let place : new_address image a + (1 + f) ≡ p = omega arith in
       let word : moved_word image p ≡ word_at image (a + 1 + f) =
-      ap (moved_word image) (sym place) ∙ (moved-reference image valid.live_list at.0 f at.2 few
+      ap (moved_word image) (sym place) ∙ (law.moved-reference image valid.live_list at.0 f at.2 few
       ∙ (cond-true (is_deferred image a) (word_at image (a + (1 + f))) (redirected image (word_at image (a + (1 + f)))) both.0 ∙ ap (word_at image) (omega arith))) in
       ap (is_null_or_live image) word ∙ valid.live_list.references at.0 0 at.2 f few
 
   -- the origin of an address: a live word's old address
   pub origin_inside : (p x : ℕ) → origin image p ≡ Some x → x < heap_words image
-  origin_inside p x from = live_below image valid.live_list x (origin-Some image valid.live_list p x from).0
+  origin_inside p x from = law.live_below image valid.live_list x (law.origin-Some image valid.live_list p x from).0
 
   -- a place to which no word goes is a dead one of the prefix
   pub nowhere : (p : ℕ) → p < new_top image → origin image p ≡ None → (p < prefix_end image) × (is_live_word image p ≡ false)
   nowhere p below none =
-      let low = nowhere-in_prefix image valid.live_list p below none in (
+      let low = law.nowhere-in_prefix image valid.live_list p below none in (
         low,
         elim (cases_Bool (is_live_word image p)) [
           | inr dead ↦ dead
-          | inl live ↦ absurd (let e : Some p ≡ None = sym (origin-live image valid.live_list p low live) ∙ none in cc)
+          | inl live ↦ absurd (let e : Some p ≡ None = sym (law.origin-live image valid.live_list p low live) ∙ none in cc)
         ],
       )
-
-  pub contains_at : (i : ℕ) → i < length image.live → Contains image.live (get_or image.live i 0)
-  contains_at i inside = (i, inside, get_or_default image.live i (get_or image.live i 0) 0 inside)
-
-  -- one object more, whose references are redirected at the end, or not
-  pub late_more : (number begin references : ℕ) (old new : List Bool) → number < length image.live → AreFlagsOf image (late_test image) number old → AreSet old new begin (begin + references)
-      → begin ≡ new_address image (get_or image.live number 0) → references ≡ references_at image (get_or image.live number 0) → is_deferred image (get_or image.live number 0) ≡ true
-      → AreFlagsOf image (late_test image) (number + 1) new
-  late_more number begin references old new inside flags set place count late =
-      flags_set (late_test image) number begin (begin + references) old new inside flags set
-      (λ q. rw (place, count, late) refl)
-
-  pub late_same : (number : ℕ) (flags : List Bool) → number < length image.live → AreFlagsOf image (late_test image) number flags → is_deferred image (get_or image.live number 0) ≡ false
-      → AreFlagsOf image (late_test image) (number + 1) flags
-  late_same number flags inside are early = flags_same (late_test image) number flags inside are (λ q. rw early refl)
 
   to_limit : (place limit : ℕ) → limit ≡ filler_limit image place → place < limit → ((q : ℕ) → place ≤ q → q < limit → is_live_word image q ≡ false) → gap_at image place ≡ limit - place
   to_limit place limit is low dead =
       let whole : limit ≤ limit = omega arith in
-      gap_at-run image place limit (omega arith) (subst (λ n. limit ≤ n) is whole) dead (λ l. let no : limit < limit = subst (λ n. limit < n) (sym is) l in absurd (omega arith))
+      law.gap_at-run image place limit (omega arith) (subst (λ n. limit ≤ n) is whole) dead (λ l. let no : limit < limit = subst (λ n. limit < n) (sym is) l in absurd (omega arith))
 
   -- the word of a filler, by the first live word after it
   pub filler_end : (place limit : ℕ) (o : Option ℕ) → limit ≡ filler_limit image place → place < limit → is_live_word image place ≡ false → MatchOption o (NoneFrom (is_live_word image) place) (IsFirstFrom (is_live_word image) place)
@@ -221,6 +214,6 @@ module _ (image : HeapImage) (valid : IsValid image) where
       elim (cases_lt q limit) [
         | inl below ↦
             let inside : q ≤ limit = omega arith in
-            gap_at-run image place q (omega arith) (subst (λ n. q ≤ n) is inside) first.least (λ l. first.passes) ∙ omega arith
+            law.gap_at-run image place q (omega arith) (subst (λ n. q ≤ n) is inside) first.least (λ l. first.passes) ∙ omega arith
         | inr above ↦ to_limit place limit is low (λ r l m. first.least r l (omega arith)) ∙ omega arith
       ]

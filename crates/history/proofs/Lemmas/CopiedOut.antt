@@ -8,10 +8,8 @@ use Rattle.summary.specs.NewAddresses.{prefix_end}
 use Rattle.summary.specs.WordMoves.{origin, slid}
 use Rattle.summary.specs.WordMoves.{reads as image_reads}
 use Rattle.summary.specs.RegionData.{destination, data_words}
-use Rattle.summary.proofs.Lemmas.Readers.{reads-below, reads-prefix, reads-word, reads-destination, reads-in_range, origin-below}
-use Rattle.summary.proofs.Lemmas.Origin.{origin-Some}
-use Rattle.summary.proofs.Lemmas.Regions.{region_some, region-into, region_low}
-use Rattle.summary.proofs.Lemmas.Runs.{origin-in_region}
+use Rattle.summary.specs.PlanLaws.{PlanLaws}
+use Rattle.history.proofs.Lemmas.Regions.{region_some, region_low}
 use Rattle.history.specs.MoveTable.{reads}
 use Rattle.history.specs.Slide.{Machine, IsCopiedOut, IsWritten}
 use Rattle.history.specs.ImageMoves.{image_table}
@@ -27,43 +25,43 @@ pub record IsRead (image : HeapImage) (d s : ℕ) : Type 0 where
   pub before : destination image s < start_of image d + region_words image
   pub behind : start_of image d < destination image s + data_words image s
 
-module _ (image : HeapImage) (valid : IsValid image) (d s : ℕ) where
+module _ (law : PlanLaws) (image : HeapImage) (valid : IsValid image) (d s : ℕ) where
   -- a region is another one than those that it reads
   other_read : reads (image_table image) d s ≡ true → (d ≢ s) × (image_reads image d s ≡ true)
   other_read e =
-      let both = and_parts (not (d == s)) (image_reads image d s) (sym (table-reads image valid d s) ∙ e) in
+      let both = and_parts (not (d == s)) (image_reads image d s) (sym (table-reads law image valid d s) ∙ e) in
       (eqb-false d s (not-true (d == s) both.0), both.1)
 
   high_read : d ≢ s → image_reads image d s ≡ true → prefix_end image ≤ start_of image s
   high_read apart e = elim (cases_lt (start_of image s) (prefix_end image)) [
     | inr le ↦ le
     | inl low ↦
-        let down = reads-below image valid.live_list d s e in
+        let down = law.reads-below image valid.live_list d s e in
         let up : d * region_words image ≤ s * region_words image = mul-le d (region_words image) s (region_words image) down (omega arith) in
-        absurd (apart (reads-prefix image valid.live_list d s (omega arith) e))
+        absurd (apart (law.reads-prefix image valid.live_list d s (omega arith) e))
   ]
 
   pub is_read : reads (image_table image) d s ≡ true → IsRead image d s
   is_read e =
       let other = other_read e in
       let high = high_read other.0 other.1 in
-      let word = reads-word image valid.live_list d s other.1 in
-      let into = region-into image valid.live_list s word.0 high word.1 word.3 in
+      let word = law.reads-word image valid.live_list d s other.1 in
+      let into = law.region-into image valid.live_list s word.0 high word.1 word.3 in
       let low = region_low (region_words image) (slid image word.0) in
       let at : slid image word.0 / region_words image * region_words image ≡ d * region_words image = ap (λ r. r * region_words image) word.2 in
       record {
-        inside = (reads-in_range image valid d s other.1).1;
+        inside = (law.reads-in_range image valid d s other.1).1;
         high = high;
         some = omega arith;
-        before = reads-destination image valid.live_list d s other.1;
+        before = law.reads-destination image valid.live_list d s other.1;
         behind = omega arith;
       }
 
   -- if this number of words are written, all that go there are
   pub copied_out : (w : Machine) → IsRead image d s → taken_up_to image d s ≤ w.written d → IsCopiedOut (image_slide image) w d s
   copied_out w is enough a x below region from source =
-      let o = origin-Some image valid.live_list a x from in
-      let into = region-into image valid.live_list s x is.high o.0 source in
+      let o = law.origin-Some image valid.live_list a x from in
+      let into = law.region-into image valid.live_list s x is.high o.0 source in
       let split : a / region_words image * region_words image + a % region_words image ≡ a = div-add-mod' a (region_words image) in
       let at : a / region_words image * region_words image ≡ d * region_words image = ap (λ r. r * region_words image) region in
       let some = region_some image in
@@ -82,11 +80,11 @@ module _ (image : HeapImage) (valid : IsValid image) (d s : ℕ) where
       let k : ℕ = a - destination image s in
       let short : last < region_words image = omega arith in
       let few : k < data_words image s = omega arith in
-      let word = origin-in_region image valid.live_list s k is.high few in
+      let word = law.origin-in_region image valid.live_list s k is.high few in
       let at : destination image s + k ≡ a = omega arith in
       let from : origin image a ≡ Some word.0 = ap (origin image) (sym at) ∙ word.1 in
       let region : a / region_words image ≡ d = div-mul-add d (region_words image) last short in
       let offset : a % region_words image ≡ last = mod-mul-add d (region_words image) last short in
-      let written : IsWritten (image_slide image) w a = out a word.0 (origin-below image valid.live_list a word.0 from) region from word.2 in
+      let written : IsWritten (image_slide image) w a = out a word.0 (law.origin-below image valid.live_list a word.0 from) region from word.2 in
       let written' : last < w.written d = rw (offset, region) at written in
       omega arith

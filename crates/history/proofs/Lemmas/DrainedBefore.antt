@@ -5,6 +5,7 @@ use Rattle.heap_image.specs.HeapImage.{HeapImage, IsValid, word_at}
 use Rattle.summary.specs.NewAddresses.{new_top}
 use Rattle.summary.specs.WordMoves.{origin}
 use Rattle.summary.specs.Compaction.{is_deferred, written, moved_word}
+use Rattle.summary.specs.PlanLaws.{PlanLaws}
 use Rattle.history.specs.Slide.{word_from, moved_heap}
 use Rattle.history.specs.WordMachine.{image_slide, machine_of, IsAllowed, IsDrainedBeforeWritten}
 use Rattle.history.specs.ImageMoves.{image_table}
@@ -21,9 +22,9 @@ module _ (image : HeapImage) where
   pub moved_heap-word : (a : ℕ) → moved_heap (image_slide image) (word_at image) a ≡ moved_word image a
   moved_heap-word a = ap (λ w. if nat_lt a (new_top image) then w else word_at image a) (word-written a (origin image a))
 
-pub drained_before : (image : HeapImage) → IsValid image → (workers : ℕ) (log : List Entry) → IsAllowed image workers log → IsDrainedBeforeWritten image log
-drained_before image valid workers log steps =
-    let slides = image_slides image valid in
+pub drained_before : PlanLaws → (image : HeapImage) → IsValid image → (workers : ℕ) (log : List Entry) → IsAllowed image workers log → IsDrainedBeforeWritten image log
+drained_before law image valid workers log steps =
+    let slides = image_slides law image valid in
     let all = history_kept (image_table image) (image_slide image) workers (word_at image) log slides steps in
     record {
       finds = all.0;

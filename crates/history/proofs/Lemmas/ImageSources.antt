@@ -6,7 +6,7 @@ use Rattle.std.proofs.lemmas.Bool.{cases_Bool, cases_eq, cases_lt, and_parts, an
 use Rattle.heap_image.specs.HeapImage.{HeapImage, IsValid, region_count}
 use Rattle.summary.specs.WordMoves.{reads as image_reads}
 use Rattle.summary.specs.Plan.{sources_from}
-use Rattle.summary.proofs.Lemmas.Readers.{reads-below, reads-in_range}
+use Rattle.summary.specs.PlanLaws.{PlanLaws}
 use Rattle.history.specs.MoveTable.{reads, IsNextSource}
 use Rattle.history.specs.ImageMoves.{image_table}
 use Rattle.history.proofs.Lemmas.ImageTables.{table-reads}
@@ -48,12 +48,12 @@ filter_empty p b (suc m) e t l k =
       | inr fails ↦ elim (cases_eq t b) [ inl same ↦ ap p same ∙ fails | inr other ↦ rec (rw fails at e) (omega arith) ]
     ]
 
-module _ (image : HeapImage) (valid : IsValid image) (d : ℕ) where
+module _ (law : PlanLaws) (image : HeapImage) (valid : IsValid image) (d : ℕ) where
   -- another region, above, that isn't read, isn't a source
   unread : (s : ℕ) → (d < s → image_reads image d s ≡ false) → reads (image_table image) d s ≡ false
-  unread s above = table-reads image valid d s ∙ false_from_ne_true (not (d == s) && image_reads image d s) (λ e.
+  unread s above = table-reads law image valid d s ∙ false_from_ne_true (not (d == s) && image_reads image d s) (λ e.
       let both = and_parts (not (d == s)) (image_reads image d s) e in
-      let down = reads-below image valid.live_list d s both.1 in
+      let down = law.reads-below image valid.live_list d s both.1 in
       elim (cases_lt d s) [
         | inl up ↦ let f : false ≡ true = sym (above up) ∙ both.1 in cc
         | inr at ↦ let same : d ≡ s = omega arith in let f : not (d == s) ≡ false = ap not (eq-eqb d s same) in let g : false ≡ true = sym f ∙ both.0 in cc
@@ -61,11 +61,11 @@ module _ (image : HeapImage) (valid : IsValid image) (d : ℕ) where
 
   -- there is no source past the last region
   pub none_past : (from : ℕ) → region_count image ≤ from → (s : ℕ) → from ≤ s → reads (image_table image) d s ≡ false
-  none_past from past s l = unread s (λ up. false_from_ne_true (image_reads image d s) (λ e. let i = reads-in_range image valid d s e in let no : ⊥ = omega arith in no))
+  none_past from past s l = unread s (λ up. false_from_ne_true (image_reads image d s) (λ e. let i = law.reads-in_range image valid d s e in let no : ⊥ = omega arith in no))
 
   pub none_left_above : (from : ℕ) → sources_from image d (max from (d + 1)) ≡ [] → IsNextSource (image_table image) d from None
   none_left_above from e s l = unread s (λ up. false_from_ne_true (image_reads image d s) (λ h.
-      let i = reads-in_range image valid d s h in
+      let i = law.reads-in_range image valid d s h in
       let none = filter_empty (image_reads image d) (max from (d + 1)) (region_count image - max from (d + 1)) e s (omega arith) (omega arith) in
       let f : false ≡ true = sym none ∙ h in cc))
 
@@ -74,14 +74,14 @@ module _ (image : HeapImage) (valid : IsValid image) (d : ℕ) where
       let first = filter_first (image_reads image d) (max from (d + 1)) (region_count image - max from (d + 1)) s rest e in
       let low : max from (d + 1) ≤ s = first.low in (
         omega arith,
-        table-reads image valid d s ∙ and_from (not (d == s)) (image_reads image d s) (not_from_false (d == s) (ne_eqb d s (λ f. let no : ⊥ = omega arith in no))) first.passes,
+        table-reads law image valid d s ∙ and_from (not (d == s)) (image_reads image d s) (not_from_false (d == s) (ne_eqb d s (λ f. let no : ⊥ = omega arith in no))) first.passes,
         λ t l k. unread t (λ up. first.before t (omega arith) k),
       )
 
   pub next_inside : (from s : ℕ) → IsNextSource (image_table image) d from (Some s) → s < region_count image
   next_inside from s next =
-      let e = sym (table-reads image valid d s) ∙ next.1 in
-      (reads-in_range image valid d s (and_parts (not (d == s)) (image_reads image d s) e).1).1
+      let e = sym (table-reads law image valid d s) ∙ next.1 in
+      (law.reads-in_range image valid d s (and_parts (not (d == s)) (image_reads image d s) e).1).1
 
   -- what the first of the regions read from there on determines
   pub next_is : (from : ℕ) (left later : List ℕ) (next : Option ℕ) → left ≡ sources_from image d (max from (d + 1)) → MatchOption next ((left ≡ []) × (later ≡ [])) (λ s. left ≡ s ∷ later) → IsNextSource (image_table image) d from next

@@ -1,5 +1,5 @@
 -- The moves of a valid image are a table of moves, and its words slide by them.
-use Rattle.std.proofs.Common.{◌≡◌, ◌≢◌, ℕ, ◌*◌, ◌%◌, ◌<◌, ◌≤◌, Bool, true, false, length, sym, ap, ◌∙◌, inl, inr, arith, zero-add}
+use Rattle.std.proofs.Common.{◌≡◌, ◌≢◌, ℕ, ◌*◌, ◌%◌, ◌<◌, ◌≤◌, Bool, true, false, length, refl, sym, ap, ◌∙◌, inl, inr, arith, zero-add}
 use Rattle.std.specs.Prelude.{◌==◌, ◌&&◌, not}
 use Rattle.std.specs.List.{range_with_len}
 use Rattle.std.proofs.lemmas.Bool.{and_parts, and_from, lt-ltb, ltb-true, eqb-false, ne_eqb, not-true, not_from_false, cases_lt, false_from_ne_true}
@@ -11,14 +11,18 @@ use Rattle.summary.specs.NewAddresses.{new_top}
 use Rattle.summary.specs.WordMoves.{is_to_fill}
 use Rattle.summary.specs.WordMoves.{reads as image_reads}
 use Rattle.summary.specs.RegionData.{reader_count}
-use Rattle.summary.proofs.Lemmas.Readers.{reads-below, reads-filled, reads-in_range, origin-up, origin-reads, reader_count-le, same_Bool}
-use Rattle.summary.proofs.Lemmas.Steps.{top-le}
-use Rattle.summary.proofs.Lemmas.Regions.{region_some}
+use Rattle.summary.specs.PlanLaws.{PlanLaws}
+use Rattle.history.proofs.Lemmas.Regions.{region_some}
 use Rattle.history.specs.MoveTable.{IsMoveTable, Slides, reads, to_fill, readers_of}
 use Rattle.history.specs.ImageMoves.{image_table}
 use Rattle.history.specs.Slide.{IsSlideOf}
 use Rattle.history.specs.WordMachine.{image_slide}
 use Rattle.history.proofs.Lemmas.PairLists.{All-rows, rows_ascend, rows_have, rows_only, rows_count}
+
+same_Bool : (b c : Bool) → (b ≡ true → c ≡ true) → (c ≡ true → b ≡ true) → b ≡ c
+same_Bool true c f g = sym (f refl)
+same_Bool false true f g = g refl
+same_Bool false false f g = refl
 
 module _ (image : HeapImage) where
   abbrev n : ℕ
@@ -43,12 +47,12 @@ module _ (image : HeapImage) where
   pub readers-are : (s : ℕ) → s < n → readers_of (image_table image) s ≡ reader_count image s
   readers-are s inside = rows_count other_reads n 0 n s (λ d e. inside)
 
-module _ (image : HeapImage) (valid : IsValid image) where
+module _ (law : PlanLaws) (image : HeapImage) (valid : IsValid image) where
   -- only regions that there are begin below the new top
   fills_inside : (r : ℕ) → is_to_fill image r ≡ true → r < region_count image
   fills_inside r e =
       let l : start_of image r < new_top image = ltb-true (start_of image r) (new_top image) e in
-      let top = top-le image valid.live_list in
+      let top = law.top-le image valid.live_list in
       let whole = div-add-mod' (heap_words image) (region_words image) in
       let none : heap_words image % region_words image ≡ 0 = valid.limits.whole_regions in
       elim (cases_lt r (region_count image)) [
@@ -73,7 +77,7 @@ module _ (image : HeapImage) (valid : IsValid image) where
       (rows_only (other_reads image) (region_count image) 0 (region_count image) d s)
       (λ e.
       let both = and_parts (not (d == s)) (image_reads image d s) e in
-      let i = reads-in_range image valid d s both.1 in
+      let i = law.reads-in_range image valid d s both.1 in
       rows_have (other_reads image) (region_count image) 0 (region_count image) d s (omega arith) (omega arith) i.1 e)
 
   some_region : 1 ≤ region_count image
@@ -99,11 +103,11 @@ module _ (image : HeapImage) (valid : IsValid image) where
         ascending = rows_ascend (other_reads image) (region_count image) 0 (region_count image);
         slide = All-rows (other_reads image) (region_count image) (Slides (image_table image).fill) 0 (region_count image) (λ d s l k inside e.
             let both = and_parts (not (d == s)) (image_reads image d s) e in
-            let down = reads-below image valid.live_list d s both.1 in
+            let down = law.reads-below image valid.live_list d s both.1 in
             let apart : d ≢ s = eqb-false d s (not-true (d == s) both.0) in
-            let filled = table-to_fill d ∙ reads-filled image valid.live_list d s both.1 in
+            let filled = table-to_fill d ∙ law.reads-filled image valid.live_list d s both.1 in
             (omega arith, omega arith, filled));
-        two = λ s. let e = rows_count (other_reads image) (region_count image) 0 (region_count image) s (λ d e. (reads-in_range image valid d s (and_parts (not (d == s)) (image_reads image d s) e).1).1) in let l = reader_count-le image valid s in omega arith;
+        two = λ s. let e = rows_count (other_reads image) (region_count image) 0 (region_count image) s (λ d e. (law.reads-in_range image valid d s (and_parts (not (d == s)) (image_reads image d s) e).1).1) in let l = law.reader_count-le image valid s in omega arith;
       }
 
   -- the words of the image slide by that table
@@ -111,9 +115,9 @@ module _ (image : HeapImage) (valid : IsValid image) where
   image_slides =
       record {
         sized = region_some image;
-        down = λ a x l from. origin-up image valid.live_list a x from;
+        down = λ a x l from. law.origin-up image valid.live_list a x from;
         told = λ a x l from apart. table-reads (region_of image a) (region_of image x)
             ∙ and_from (not (region_of image a == region_of image x)) (image_reads image (region_of image a) (region_of image x))
-            (not_from_false (region_of image a == region_of image x) (ne_eqb (region_of image a) (region_of image x) apart)) (origin-reads image valid.live_list a x from);
+            (not_from_false (region_of image a == region_of image x) (ne_eqb (region_of image a) (region_of image x) apart)) (law.origin-reads image valid.live_list a x from);
         filled = λ a l. table-to_fill (region_of image a) ∙ written_to_fill image a l;
       }

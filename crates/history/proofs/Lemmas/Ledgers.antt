@@ -6,7 +6,6 @@ use Rattle.std.proofs.lemmas.Nat.{div-add-mod', mul-le, pow_below}
 use Rattle.std.proofs.lemmas.List.{get_or-set_other}
 use Rattle.std.proofs.lemmas.Grind.{get_or-set_at}
 use Rattle.heap_image.specs.HeapImage.{HeapImage, IsValid, heap_words, region_words, region_count}
-use Rattle.summary.proofs.Lemmas.Steps.{top-le}
 use Rattle.history.specs.MoveTable.{MoveTable}
 use Rattle.history.specs.State.{State, Allows, IsStep, state_after}
 use Rattle.history.specs.History.{entry}
@@ -24,6 +23,7 @@ use Rattle.history.specs.declared.schedule.line.Line.{Line}
 use Rattle.history.specs.declared.machine.line_cause.LineCause.TheVariants.{OtherReply}
 use Rattle.history.specs.declared.reply.Reply.{Reply}
 use Rattle.history.proofs.Lemmas.Drained.{choice_cases}
+use Rattle.summary.specs.PlanLaws.{PlanLaws}
 
 -- a machine of the ledger
 abbrev pub told_by : Ledger → Machine
@@ -48,11 +48,11 @@ written-copy p d (suc n) r w = go (choice_cases r d (w.written r + suc n) (w.wri
     go (inr h) before = let e : (r == d) ≡ false = ne_eqb r d h.0 in rw e (rw e at before)
 
 -- a copy that the words allow is of a region of the heap, and the count has room
-pub copy_fits : (image : HeapImage) → IsValid image → (d n written : ℕ) → 1 ≤ n → written + n ≤ words_of (image_slide image) d → (d < region_count image) × (written + n < 2 ^ 32)
-copy_fits image valid d n written some room =
+pub copy_fits : PlanLaws → (image : HeapImage) → IsValid image → (d n written : ℕ) → 1 ≤ n → written + n ≤ words_of (image_slide image) d → (d < region_count image) × (written + n < 2 ^ 32)
+copy_fits law image valid d n written some room =
     let whole = div-add-mod' (heap_words image) (region_words image) in
     let none : heap_words image % region_words image ≡ 0 = valid.limits.whole_regions in
-    let top = top-le image valid.live_list in
+    let top = law.top-le image valid.live_list in
     let high = valid.limits.region_log_high in
     let short : region_words image < 2 ^ 21 = pow_below image.region_log 21 (omega arith) in
     let inside : d < region_count image = elim (cases_lt d (region_count image)) [
@@ -64,13 +64,13 @@ copy_fits image valid d n written some room =
     (inside, omega arith)
 
 -- an allowed copy, of a ledger
-pub copy_room : (image : HeapImage) → IsValid image → (workers : ℕ) (ledger : Ledger) (worker : ℕ) (event : Event) → IsLedger image workers ledger
+pub copy_room : PlanLaws → (image : HeapImage) → IsValid image → (workers : ℕ) (ledger : Ledger) (worker : ℕ) (event : Event) → IsLedger image workers ledger
     → Allows ledger.scheduler.moves (state_in ledger.scheduler) worker event → ((w : Machine) → Tells ledger w → AllowsWords (image_slide image) w event)
     → (d n : ℕ) → event ≡ Copy d n → (d < length ledger.written.items) × (slice_index ledger.written.items d + n < 2 ^ 32)
-copy_room image valid workers ledger worker event kept allowed words d n is =
+copy_room law image valid workers ledger worker event kept allowed words d n is =
     let some : Allows ledger.scheduler.moves (state_in ledger.scheduler) worker (Copy d n) = subst (λ (e : Event). Allows ledger.scheduler.moves (state_in ledger.scheduler) worker e) is allowed in
     let room : AllowsWords (image_slide image) (told_by ledger) (Copy d n) = subst (λ (e : Event). AllowsWords (image_slide image) (told_by ledger) e) is (words (told_by ledger) (tells_told ledger)) in
-    let fits = copy_fits image valid d n (slice_index ledger.written.items d) some.1 room in
+    let fits = copy_fits law image valid d n (slice_index ledger.written.items d) some.1 room in
     let inside : d < length ledger.written.items = let all = kept.all in let l = fits.0 in omega arith in
     (inside, fits.1)
 

@@ -19,8 +19,7 @@ use Rattle.history.specs.declared.event.Event.TheVariants.{Claim, Look, Drain, C
 use Rattle.history.specs.declared.schedule.line.Line.{Line}
 use Rattle.history.specs.declared.reply.Reply.{Reply}
 use Rattle.history.specs.declared.reply.Reply.TheVariants.{Yes, No, Open, Outside, Claimed, Filled, Last, NotLast, Done, All, More}
-use Rattle.heap_image.proofs.Lemmas.Known.{consumes_held, consumes_more}
-use Rattle.heap_image.proofs.Lemmas.Pieces.{take_put_back}
+use Rattle.history.proofs.Lemmas.KnownBytes.{consumes_held, consumes_more, take_put_back}
 use Rattle.history.proofs.Lemmas.LineTexts.{IsTextLine, text_line, open_small, outside_small}
 use Rattle.history.proofs.Lemmas.ScheduleTexts.{text_more}
 use Rattle.history.proofs.Lemmas.Texts.{split_unique, decimal_without, without-append}

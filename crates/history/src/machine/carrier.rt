@@ -17,6 +17,7 @@ use mark_bitmap::Marks;
 use raw_region::Region;
 use std::alloc::{AllocError, Global};
 use summary::Plan;
+use summary::laws::plan_laws;
 use summary::laws::plans::planned_image_is_valid;
 
 /// For each new address, the word that goes there, and when it is redirected.
@@ -71,6 +72,7 @@ impl<'a> Carrier<'a> {
         requires moved { (a : ℕ) → a < heap_words image.now → slice_index heap.now a ≡ moved_word image.now a }
         ensures { IfOk result (λ new. new ≡ compact image.now) }
     {
+        plan_laws();
         let mut regions = Vec::new(alloc);
         for r in 0..image.regions() {
             regions.push(self.finished_region(alloc, heap, r)?)?;
@@ -142,6 +144,7 @@ impl<'a> Carrier<'a> {
         requires moved { slice_index heap.now place ≡ moved_word self.now.plan.now place }
         ensures { result ≡ compacted_word self.now.plan.now place }
     {
+        plan_laws();
         if place >= self.plan.new_top() {
             return 0;
         }
@@ -163,6 +166,7 @@ impl<'a> Carrier<'a> {
         ensures written { (a : ℕ) → first ≤ a → a < first + number → slice_index heap.new a ≡ word_for (image_slide self.now.plan.now) (word_at self.now.plan.now) a }
         ensures others { (a : ℕ) → (a < first) ⊎ (first + number ≤ a) → slice_index heap.new a ≡ slice_index heap.old a }
     {
+        plan_laws();
         for place in first..first + u64::from(number) {
             heap[place as usize] = self.word(heap, place);
         }
@@ -176,6 +180,7 @@ impl<'a> Carrier<'a> {
         requires stands { (x : ℕ) → origin self.now.plan.now place ≡ Some x → slice_index heap.now x ≡ word_at self.now.plan.now x }
         ensures { result ≡ word_for (image_slide self.now.plan.now) (word_at self.now.plan.now) place }
     {
+        plan_laws();
         let Some(origin) = self.origin(place) else {
             return filler_word(self.plan, self.marks, place);
         };
@@ -193,6 +198,7 @@ impl<'a> Carrier<'a> {
         requires below { place < new_top self.now.plan.now }
         ensures { result ≡ origin self.now.plan.now place }
     {
+        plan_laws();
         let prefix_end = self.plan.prefix_end();
         if place >= prefix_end {
             return Some(self.origins[(place - prefix_end) as usize]);

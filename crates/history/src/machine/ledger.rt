@@ -20,6 +20,7 @@ use crate::schedule::line::Line;
 use crate::scheduler::Scheduler;
 use std::alloc::{AllocError, Global};
 use summary::Plan;
+use summary::laws::plan_laws;
 use summary::laws::plans::planned_image_is_valid;
 
 /// The scheduler and the number of words written in each region: the word machine without its heap.
@@ -101,6 +102,7 @@ impl Ledger {
         if !self.scheduler.allows(worker, event) || !self.allows_words(plan, event) {
             return Err(Illegal);
         }
+        plan_laws();
         planned_image_is_valid(plan);
         let reply = self.scheduler.step(worker, event)?;
         note(&mut self.written, event);
@@ -127,6 +129,7 @@ impl Ledger {
         requires { IsTrue (reads (image_table plan.now) destination source) }
         ensures { (w : Machine) → Tells self.now w → IsTrue result ↔ IsCopiedOut (image_slide plan.now) w destination source }
     {
+        plan_laws();
         planned_image_is_valid(plan);
         u64::from(self.written(destination)) >= taken_up_to(plan, destination, source)
     }
@@ -156,6 +159,7 @@ fn taken_up_to(plan: &Plan, destination: u32, source: u32) -> u64
     requires { IsTrue (reads (image_table plan.now) destination source) }
     ensures { result ≡ taken_up_to plan.now destination source }
 {
+    plan_laws();
     let size = plan.region_words();
     let region = plan.region(source);
     let end = region.destination + u64::from(region.partial) + u64::from(region.live);

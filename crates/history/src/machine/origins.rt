@@ -9,6 +9,7 @@ ghost use Rattle.history.specs.Carrier.{AreOrigins};
 use heap_image::header;
 use mark_bitmap::{Marks, marked_image_is_valid};
 use std::alloc::{AllocError, Global};
+use summary::laws::plan_laws;
 use summary::{FILLER_STRIDE, Plan, filler_limit};
 
 /// The old addresses of the words that go to the new addresses from the prefix end up to the new top.
@@ -16,6 +17,7 @@ pub(crate) fn origins_of(alloc: Global, plan: &Plan, marks: &Marks) -> Result<Ve
     requires { marks.now ≡ plan.now }
     ensures { IfOk result (λ origins. AreOrigins plan.now origins.items) }
 {
+    plan_laws();
     let mut origins = Vec::new(alloc);
     let mut from = plan.prefix_end();
     while let Some(q) = marks.next_live(from) {
@@ -49,6 +51,7 @@ pub(crate) fn filler_word(plan: &Plan, marks: &Marks, place: u64) -> u64
     requires dead { is_live_word plan.now place ≡ false }
     ensures { result ≡ filler_word plan.now place }
 {
+    plan_laws();
     let prefix_end = plan.prefix_end();
     if !may_begin_filler(marks, place) {
         return 0;

@@ -7,6 +7,7 @@ ghost use Rattle.summary.specs.Updates.{is_late_reference};
 ghost use Rattle.history.specs.WordMachine.{is_redirected};
 ghost use Rattle.history.specs.Carrier.{AreFlags, AreSet};
 
+use crate::laws::image_laws::new_words_fit;
 use heap_image::{Image, header};
 use mark_bitmap::Marks;
 use std::alloc::{AllocError, Global};
@@ -44,6 +45,7 @@ pub(crate) fn late_references(
     requires marks { marks.now ≡ image.now }
     ensures { IfOk result (λ flags. AreFlags image.now (is_late_reference image.now) flags.items) }
 {
+    new_words_fit();
     let mut flags = vec![in alloc; false; image.len() as usize]?;
     for a in image.live() {
         let header = image.word(*a);
@@ -62,6 +64,7 @@ fn is_deferred(plan: &Plan, marks: &Marks, a: u64, header: u64) -> bool
     requires header { header ≡ word_at plan.now a }
     ensures { result ≡ is_deferred plan.now a }
 {
+    new_words_fit();
     let size = plan.region_words();
     let begin = plan.new_address(marks, a);
     let last = begin + u64::from(header::size(header)) - 1;

@@ -2,6 +2,7 @@
 
 use super::Moves;
 use summary::Plan;
+use summary::laws::plan_laws;
 
 /// The moves of the image that the plan was made of. Each call takes as long as a query of the plan.
 impl Moves for Plan {
@@ -10,10 +11,12 @@ impl Moves for Plan {
     ghost table = { image_table };
 
     fn regions(&self) -> u32 {
+        plan_laws();
         Plan::regions(self)
     }
 
     fn to_fill(&self, region: u32) -> bool {
+        plan_laws();
         region < self.fill_regions()
     }
 
@@ -22,6 +25,7 @@ impl Moves for Plan {
     }
 
     fn next_source(&self, destination: u32, from: u32) -> Option<u32> {
+        plan_laws();
         if from >= Plan::regions(self) {
             return None;
         }

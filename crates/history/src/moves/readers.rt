@@ -2,7 +2,7 @@ ghost use Rattle.std.specs.Prelude.{◌≡◌};
 ghost use Rattle.history.specs.MoveIndex.{number_of, joined};
 
 /// The indices of the pairs with a given source, at most two in any table.
-#[derive(Clone, Copy, Debug, PartialEq, Eq)]
+#[derive(Clone, Copy)]
 pub(crate) enum Readers {
     Nobody,
     One(usize),

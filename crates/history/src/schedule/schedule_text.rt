@@ -24,7 +24,7 @@ impl fmt::Display for Event {
             Event::Drain(d, s) => write!(f, "drain {d} {s}"),
             Event::Complete(d) => write!(f, "complete {d}"),
             Event::Settle(d) => write!(f, "settle {d}"),
-            Event::Poll => write!(f, "poll"),
+            Event::Poll => f.write_str("poll"),
             Event::Copy(d, n) => write!(f, "copy {d} {n}"),
         }
     }
@@ -37,19 +37,19 @@ impl fmt::Display for Reply {
     ghost output = { λ reply. Some (reply_text reply) };
 
     fn fmt<W: fmt::Write>(&self, f: &mut fmt::Formatter<W>) -> fmt::Result {
-        match *self {
-            Reply::Yes => write!(f, "yes"),
-            Reply::No => write!(f, "no"),
-            Reply::Open(n) => write!(f, "open{n}"),
-            Reply::Outside(n) => write!(f, "out{n}"),
-            Reply::Claimed => write!(f, "claimed"),
-            Reply::Filled => write!(f, "filled"),
-            Reply::Last => write!(f, "last"),
-            Reply::NotLast => write!(f, "notlast"),
-            Reply::Done => write!(f, "ok"),
-            Reply::All => write!(f, "all"),
-            Reply::More => write!(f, "more"),
-        }
+        f.write_str(match *self {
+            Reply::Yes => "yes",
+            Reply::No => "no",
+            Reply::Open(n) => return write!(f, "open{n}"),
+            Reply::Outside(n) => return write!(f, "out{n}"),
+            Reply::Claimed => "claimed",
+            Reply::Filled => "filled",
+            Reply::Last => "last",
+            Reply::NotLast => "notlast",
+            Reply::Done => "ok",
+            Reply::All => "all",
+            Reply::More => "more",
+        })
     }
 }
 

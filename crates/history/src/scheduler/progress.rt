@@ -1,5 +1,5 @@
 /// The state of the fill of a region, with the worker that claimed it.
-#[derive(Clone, Copy, Debug, PartialEq, Eq)]
+#[derive(Clone, Copy, PartialEq, Eq)]
 pub(crate) enum Progress {
     Unclaimed,
     Filling(u32),

@@ -12,7 +12,7 @@ use Rattle.std.proofs.lemmas.Grind.{get_or_default_zero}
 use Rattle.std.proofs.lemmas.Nat.Bits.{bit_at-zero}
 use Rattle.heap_image.specs.HeapImage.{HeapImage, IsValid, size_at, end_of, is_live_word}
 use Rattle.heap_image.specs.Bits.{has}
-use Rattle.heap_image.proofs.Lemmas.Places.{same_tests}
+use Rattle.mark_bitmap.proofs.Lemmas.Tests.{same_tests}
 use Rattle.mark_bitmap.specs.Marks.{AreBitsFrom, IsFirstObject, IsMarkedPart, continues_at, is_end}
 use Rattle.mark_bitmap.proofs.Lemmas.Apart.{apart, sound_at, place_of}
 

@@ -6,7 +6,7 @@ ghost use Rattle.schedule_timeline.specs.Timeline.{does, granted_region, is_regi
 use history::{Entry, Event, Reply};
 
 /// What a call does to a region.
-#[derive(Debug, Clone, Copy, PartialEq, Eq)]
+#[derive(Clone, Copy)]
 pub(crate) enum Deed {
     /// A claim that is granted.
     Grant,

@@ -17,8 +17,8 @@ impl fmt::Display for Ending {
 
     fn fmt<W: fmt::Write>(&self, f: &mut fmt::Formatter<W>) -> fmt::Result {
         match self {
-            Ending::Finished => write!(f, "finished"),
-            Ending::Open => write!(f, "open"),
+            Ending::Finished => f.write_str("finished"),
+            Ending::Open => f.write_str("open"),
         }
     }
 }

@@ -1,5 +1,5 @@
 /// What a worker does in a cell of its lane.
-#[derive(Debug, Clone, Copy, PartialEq, Eq)]
+#[derive(Clone, Copy)]
 pub(crate) enum Mark {
     Nothing,
     /// It claims a region.

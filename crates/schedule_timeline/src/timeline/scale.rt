@@ -4,7 +4,7 @@ ghost use Rattle.std.specs.Prelude.{◌≤◌};
 pub(crate) const FIRST_LINE: u64 = 2;
 
 /// Maps the lines of a schedule to the cells of a lane or to the points of a drawing.
-#[derive(Debug, Clone, Copy, PartialEq, Eq)]
+#[derive(Clone, Copy)]
 pub(crate) struct Scale {
     /// The number of lines after the header.
     pub lines: u64,

@@ -1,7 +1,7 @@
 use heap_map::Glyphs;
 
 /// The share of a cell's lines in which a worker has a region in hand, in thirds.
-#[derive(Debug, Clone, Copy, PartialEq, Eq)]
+#[derive(Clone, Copy)]
 pub(crate) enum Share {
     /// In none.
     Never,

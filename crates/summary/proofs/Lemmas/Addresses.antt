@@ -4,8 +4,8 @@ use Rattle.std.proofs.lemmas.Bool.{cases_lt, cond-true, cond-false, lt-ltb, le-l
 use Rattle.std.specs.Prelude.{fold, filter, ◌++◌}
 use Rattle.std.specs.List.{range_with_len}
 use Rattle.heap_image.specs.HeapImage.{HeapImage, HasLiveList, size_at, end_of, heap_words, last_end, live_words}
-use Rattle.heap_image.proofs.Lemmas.Spans.{Apart, Apart-filter, held}
-use Rattle.heap_image.proofs.Lemmas.LiveWords.{live_apart, live_words-held, live_end-le}
+use Rattle.summary.proofs.Lemmas.Spans.{Apart, Apart-filter, held}
+use Rattle.summary.proofs.Lemmas.LiveWords.{live_apart, live_words-held, live_end-le}
 use Rattle.summary.specs.NewAddresses.{prefix_end, next_after, next_at, new_address, new_top, stays}
 use Rattle.summary.specs.WordMoves.{slid}
 use Rattle.summary.proofs.Lemmas.Prefix.{prefix_end_is}

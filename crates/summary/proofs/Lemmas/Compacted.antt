@@ -1,7 +1,7 @@
 -- The objects reached in the compacted heap.
-use Rattle.std.proofs.Common.{◌≡◌, ℕ, ◌+◌, ◌-◌, ◌≤◌, ◌<◌, inl, inr, Bool, true, false, ◌&&◌, List, length, get_or, sym, ◌∙◌, ap, subst, arith, eqb}
+use Rattle.std.proofs.Common.{◌≡◌, ℕ, ◌+◌, ◌-◌, ◌≤◌, ◌<◌, inl, inr, Bool, true, false, ◌&&◌, List, length, get_or, refl, sym, ◌∙◌, ap, subst, arith, eqb}
 use Rattle.std.proofs.lemmas.Bool.{cases_eq, eq-eqb, eqb-true, ne_eqb, or_left, or_right, and_from, and_parts, cond-true, cond-false}
-use Rattle.std.proofs.lemmas.List.{get_or-map, length-map}
+use Rattle.std.proofs.lemmas.List.{get_or_default, get_or-map, length-map}
 use Rattle.std.proofs.lemmas.List.Folds.{list_any_at, Any-from_list_any}
 use Rattle.std.proofs.lemmas.List.Elements.{All-from_get_or, All-map}
 use Rattle.std.specs.Prelude.{All, map, Option, None, Some, IfSome, option_map}
@@ -14,12 +14,24 @@ use Rattle.summary.proofs.Lemmas.Graph.{reference-object}
 use Rattle.summary.proofs.Lemmas.Origin.{length-compact}
 use Rattle.summary.proofs.Lemmas.Valid.{valid_with, compact-HasLiveList, header_of_moved, new_at, count_same}
 use Rattle.heap_image.specs.Reachable.{is_listed, IsClosed}
-use Rattle.heap_image.proofs.Lemmas.Listed.{any_listed}
-use Rattle.heap_image.proofs.Lemmas.Reaches.{reachable-IsClosed, reachable-least}
-use Rattle.heap_image.proofs.Lemmas.RootLive.{root_leads}
-use Rattle.heap_image.proofs.Lemmas.RootsToLive.{listed_at, place_of, live_sound, live_below, not_unsound, field_of, refers_by, leads_to_live, live_is_reachable}
+use Rattle.heap_image.specs.LiveLaws.{LiveLaws}
 
-module _ (image : HeapImage) (roots : List ℕ) (sound : HasLiveList image) (few : All (λ w. w ≤ heap_words image) roots) (lives : image.live ≡ reachable image roots) where
+listed_at : (xs : List ℕ) (i : ℕ) → i < length xs → is_listed xs (get_or xs i 0) ≡ true
+listed_at xs i l = list_any_at (λ b. eqb (get_or xs i 0) b) xs i 0 l (eq-eqb (get_or xs i 0) (get_or xs i 0) refl)
+
+-- a listed address has a place
+place_of : (xs : List ℕ) (a : ℕ) → is_listed xs a ≡ true → (i : ℕ) × (i < length xs) × (get_or xs i 0 ≡ a)
+place_of xs a h =
+    let at = Any-from_list_any (λ b. eqb a b) xs h in
+    (at.0, at.2, get_or_default xs at.0 0 at.1 at.2 ∙ at.3 ∙ sym (eqb-true a at.1 at.4))
+
+any_listed : (p : ℕ → Bool) (xs : List ℕ) (a : ℕ) → is_listed xs a ≡ true → p a ≡ true → list_any p xs ≡ true
+any_listed p xs a listed passes =
+    let at = Any-from_list_any (λ b. eqb a b) xs listed in
+    let e : a ≡ get_or xs at.0 at.1 = eqb-true a at.1 at.4 ∙ sym at.3 in
+    list_any_at p xs at.0 at.1 at.2 (subst (λ c. p c ≡ true) e passes)
+
+module _ (law : LiveLaws) (image : HeapImage) (roots : List ℕ) (sound : HasLiveList image) (few : All (λ w. w ≤ heap_words image) roots) (lives : image.live ≡ reachable image roots) where
   abbrev after : HeapImage
   after = compact image
 
@@ -54,7 +66,7 @@ module _ (image : HeapImage) (roots : List ℕ) (sound : HasLiveList image) (few
     | inr some ↦
         let b : ℕ = w - 1 in
         let is : w ≡ b + 1 = omega arith in
-        let live = leads_to_live image sound w b h (eq-eqb w (b + 1) is) in
+        let live = law.leads_to_live image sound w b h (eq-eqb w (b + 1) is) in
         or_right (eqb (redirected image w) 0) (list_any (λ a. eqb (redirected image w) (a + 1)) after.live)
         (any_listed (λ a. eqb (redirected image w) (a + 1)) after.live (new_address image b) (new_listed b live) (eq-eqb (redirected image w) (new_address image b + 1) (redirected-some w b is)))
   ]
@@ -64,7 +76,7 @@ module _ (image : HeapImage) (roots : List ℕ) (sound : HasLiveList image) (few
       let long = length-map roots (redirected image) in
       let m : i < length roots = omega arith in
       let at : get_or new_roots i 0 ≡ redirected image (get_or roots i 0) = get_or-map (redirected image) roots i 0 0 m in
-      subst (λ w. is_null_or_live after w ≡ true) (sym at) (redirected_leads (get_or roots i 0) (root_leads image roots lives (get_or roots i 0) (few i 0 m) (listed_at roots i m))))
+      subst (λ w. is_null_or_live after w ≡ true) (sym at) (redirected_leads (get_or roots i 0) (law.root_leads image roots lives (get_or roots i 0) (few i 0 m) (listed_at roots i m))))
 
   passes : ℕ → Bool
   passes a = is_listed image.live a && is_listed (reachable after new_roots) (new_address image a)
@@ -80,7 +92,7 @@ module _ (image : HeapImage) (roots : List ℕ) (sound : HasLiveList image) (few
   -- where an object refers to another, it does so at its new address
   refers_after : (a b : ℕ) → is_listed image.live a ≡ true → is_listed image.live b ≡ true → refers_to image a b ≡ true → refers_to after (new_address image a) (new_address image b) ≡ true
   refers_after a b h k refers =
-      let field = field_of image sound a b refers in
+      let field = law.field_of image sound a b refers in
       let f : ℕ = field.1.0 in
       let i = place_of image.live a h in
       let j = place_of image.live b k in
@@ -89,24 +101,24 @@ module _ (image : HeapImage) (roots : List ℕ) (sound : HasLiveList image) (few
       let new : reference_at after (new_address image (get_or image.live i.0 0)) f ≡ new_address image (get_or image.live j.0 0) + 1 = reference-object image sound i.0 j.0 f i.1 j.1 inside leads in
       let new' : reference_at after (new_address image a) f ≡ new_address image b + 1 = ap (λ c. reference_at after (new_address image c) f) (sym i.2) ∙ new ∙ ap (λ c. new_address image c + 1) j.2 in
       let count : f < references_at after (new_address image a) = subst (λ c. f < references_at after (new_address image c)) i.2 (subst (λ w. f < references_of w) (sym (header_of_moved image sound i.0 i.1)) inside) in
-      let ok : is_unsound after (new_address image a) ≡ false = not_unsound after sound' (new_address image a) (live_sound after sound' (new_address image a) (new_listed a h)) in
-      refers_by after sound' (new_address image a) (new_address image b) f ok count new'
+      let ok : is_unsound after (new_address image a) ≡ false = law.not_unsound after sound' (new_address image a) (law.live_sound after sound' (new_address image a) (new_listed a h)) in
+      law.refers_by after sound' (new_address image a) (new_address image b) f ok count new'
 
   closed : IsClosed image roots passes
   closed = record {
     from_roots = λ b l h.
-        let live : is_listed image.live b ≡ true = live_is b ∙ (reachable-IsClosed image roots).from_roots b l h in
+        let live : is_listed image.live b ≡ true = live_is b ∙ (law.reachable-IsClosed image roots).from_roots b l h in
         let at = Any-from_list_any (λ w. leads_to w b) roots h in
         let long = length-map roots (redirected image) in
         let is : at.1 ≡ b + 1 = eqb-true at.1 (b + 1) at.4 in
         let root : get_or new_roots at.0 (redirected image at.1) ≡ new_address image b + 1 = get_or-map (redirected image) roots at.0 at.1 (redirected image at.1) at.2 ∙ ap (redirected image) at.3 ∙ redirected-some at.1 b is in
         let leads : list_any (λ w. leads_to w (new_address image b)) new_roots ≡ true =
         list_any_at (λ w. leads_to w (new_address image b)) new_roots at.0 (redirected image at.1) (omega arith) (eq-eqb (get_or new_roots at.0 (redirected image at.1)) (new_address image b + 1) root) in
-        passing b live ((reachable-IsClosed after new_roots).from_roots (new_address image b) (live_below after sound' (new_address image b) (new_listed b live)) leads);
+        passing b live ((law.reachable-IsClosed after new_roots).from_roots (new_address image b) (law.live_below after sound' (new_address image b) (new_listed b live)) leads);
     from_objects = λ a b h refers l.
         let before = passed a h in
-        let live : is_listed image.live b ≡ true = live_is b ∙ (reachable-IsClosed image roots).from_objects a b (sym (live_is a) ∙ before.0) refers l in
-        passing b live ((reachable-IsClosed after new_roots).from_objects (new_address image a) (new_address image b) before.1 (refers_after a b before.0 live refers) (live_below after sound' (new_address image b) (new_listed b live)));
+        let live : is_listed image.live b ≡ true = live_is b ∙ (law.reachable-IsClosed image roots).from_objects a b (sym (live_is a) ∙ before.0) refers l in
+        passing b live ((law.reachable-IsClosed after new_roots).from_objects (new_address image a) (new_address image b) before.1 (refers_after a b before.0 live refers) (law.live_below after sound' (new_address image b) (new_listed b live)));
   }
 
   reached : (y : ℕ) → is_listed after.live y ≡ true → is_listed (reachable after new_roots) y ≡ true
@@ -117,38 +129,38 @@ module _ (image : HeapImage) (roots : List ℕ) (sound : HasLiveList image) (few
       let a : ℕ = get_or image.live place.0 0 in
       let is : new_address image a ≡ y = sym (new_at image sound place.0 0 m) ∙ place.2 in
       let old : is_listed (reachable image roots) a ≡ true = sym (live_is a) ∙ listed_at image.live place.0 m in
-      subst (λ c. is_listed (reachable after new_roots) c ≡ true) is (passed a (reachable-least image roots passes closed a old)).1
+      subst (λ c. is_listed (reachable after new_roots) c ≡ true) is (passed a (law.reachable-least image roots passes closed a old)).1
 
   pub compact-reachable : after.live ≡ reachable after new_roots
-  compact-reachable = live_is_reachable after sound' new_roots new_roots_lead reached
+  compact-reachable = law.live_is_reachable after sound' new_roots new_roots_lead reached
 
-null_or_live_low : (image : HeapImage) → HasLiveList image → (w : ℕ) → is_null_or_live image w ≡ true → w ≤ heap_words image
-null_or_live_low image sound w h = elim (cases_eq w 0) [
+null_or_live_low : LiveLaws → (image : HeapImage) → HasLiveList image → (w : ℕ) → is_null_or_live image w ≡ true → w ≤ heap_words image
+null_or_live_low law image sound w h = elim (cases_eq w 0) [
   | inl null ↦ omega arith
   | inr some ↦
       let b : ℕ = w - 1 in
       let is : w ≡ b + 1 = omega arith in
-      let below = live_below image sound b (leads_to_live image sound w b h (eq-eqb w (b + 1) is)) in
+      let below = law.live_below image sound b (law.leads_to_live image sound w b h (eq-eqb w (b + 1) is)) in
       omega arith
 ]
 
 -- The compacted image is valid again.
-rooted_after : (image : HeapImage) (valid : IsValid image) (roots : Option (List ℕ)) → IfSome roots (AreRoots image) → IfSome (option_map (map (redirected image)) roots) (AreRoots (compact image))
-rooted_after image valid None h = tt
-rooted_after image valid (Some roots) h =
+rooted_after : LiveLaws → (image : HeapImage) (valid : IsValid image) (roots : Option (List ℕ)) → IfSome roots (AreRoots image) → IfSome (option_map (map (redirected image)) roots) (AreRoots (compact image))
+rooted_after law image valid None h = tt
+rooted_after law image valid (Some roots) h =
     let long = length-compact image valid.live_list in
     let same = length-map roots (redirected image) in
     let few = h.few in
     let counted = h.counted in
-    let leads = new_roots_lead image roots valid.live_list h.inside h.reached in
+    let leads = new_roots_lead law image roots valid.live_list h.inside h.reached in
     record {
       few = omega arith;
       counted = omega arith;
       inside = All-map (λ w. w ≤ heap_words (compact image)) (redirected image) roots (λ k d l.
           let m : k < length (map (redirected image) roots) = omega arith in
-          null_or_live_low (compact image) (compact-HasLiveList image valid.live_list) (redirected image (get_or roots k d)) (subst (λ w. is_null_or_live (compact image) w ≡ true) (get_or-map (redirected image) roots k d d l) (leads k d m)));
-      reached = compact-reachable image roots valid.live_list h.inside h.reached;
+          null_or_live_low law (compact image) (compact-HasLiveList image valid.live_list) (redirected image (get_or roots k d)) (subst (λ w. is_null_or_live (compact image) w ≡ true) (get_or-map (redirected image) roots k d d l) (leads k d m)));
+      reached = compact-reachable law image roots valid.live_list h.inside h.reached;
     }
 
-pub compact-IsValid : (image : HeapImage) → IsValid image → IsValid (compact image)
-compact-IsValid image valid = valid_with image valid (rooted_after image valid image.roots valid.rooted)
+pub compact-IsValid : LiveLaws → (image : HeapImage) → IsValid image → IsValid (compact image)
+compact-IsValid law image valid = valid_with image valid (rooted_after law image valid image.roots valid.rooted)

@@ -3,8 +3,8 @@ use Rattle.std.proofs.Common.{◌≡◌, ℕ, zero, suc, ◌+◌, ◌≤◌, ◌
 use Rattle.std.proofs.lemmas.Bool.{cases_lt, cond-true, cond-false, cond_both, le-ltb, lt-ltb}
 use Rattle.std.specs.Prelude.{filter, fold}
 use Rattle.heap_image.specs.HeapImage.{HeapImage, HasLiveList, heap_words, end_of, size_at}
-use Rattle.heap_image.proofs.Lemmas.LiveWords.{live_apart, live_end-le}
-use Rattle.heap_image.proofs.Lemmas.Spans.{Apart}
+use Rattle.summary.proofs.Lemmas.LiveWords.{live_apart, live_end-le}
+use Rattle.summary.proofs.Lemmas.Spans.{Apart}
 use Rattle.summary.specs.NewAddresses.{next_after, prefix_end}
 use Rattle.summary.proofs.Lemmas.Addresses.{prefix_end-le}
 

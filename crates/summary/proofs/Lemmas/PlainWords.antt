@@ -10,7 +10,7 @@ use Rattle.std.specs.Prelude.{count_by, filter, fold, map, Some, None, Option, o
 use Rattle.std.specs.List.{range_with_len, list_any}
 use Rattle.heap_image.specs.declared.version.Version.{Version}
 use Rattle.heap_image.specs.HeapImage.{HeapImage, HasLiveList, AreBlocks, versioned_image_of, region_words, heap_words, region_count, start_of, size_at, end_of, is_dead_word}
-use Rattle.heap_image.proofs.Lemmas.LiveWords.{live_end-le}
+use Rattle.summary.proofs.Lemmas.LiveWords.{live_end-le}
 use Rattle.summary.specs.LiveObjects.{object_count, object_at}
 use Rattle.summary.specs.NewAddresses.{greatest, dead_words_below, is_allowed, prefix_end, new_address, new_end_of, new_live, next_after, next_at, new_top}
 use Rattle.summary.specs.WordMoves.{origin, slid}

@@ -8,7 +8,7 @@ use Rattle.std.proofs.lemmas.List.FromFn.{get_or-map-range_with_len}
 use Rattle.std.specs.Prelude.{count_by}
 use Rattle.std.specs.List.{range_with_len, list_any}
 use Rattle.heap_image.specs.HeapImage.{HeapImage, HasLiveList, region_words, size_at, end_of, is_word_of, is_live_word, live_words, start_of, region_of, region_count}
-use Rattle.heap_image.proofs.Lemmas.Spans.{count_by-cons, count_by-or, is_in_parts}
+use Rattle.summary.proofs.Lemmas.Spans.{count_by-cons, count_by-or, is_in_parts}
 use Rattle.summary.specs.NewAddresses.{prefix_end}
 use Rattle.summary.specs.WordMoves.{slid}
 use Rattle.summary.specs.RegionData.{partial_words, own_words, destination, data_words, region_data}

@@ -10,8 +10,8 @@ use Rattle.std.proofs.lemmas.List.Sums.{sum_by-cons}
 use Rattle.std.specs.Prelude.{count_by, filter, not, sum_by, Some, None, option_map, unwrap_or}
 use Rattle.std.specs.List.{range_with_len, list_any}
 use Rattle.heap_image.specs.HeapImage.{HeapImage, HasLiveList, IsValid, heap_words, region_words, region_count, region_of, start_of, size_at, end_of, is_word_of, is_live_word, live_words}
-use Rattle.heap_image.proofs.Lemmas.Spans.{Apart, Apart-filter, in_any, held, count_by-in_any, count_by-cons, is_in, is_in_parts, count_by-is_in}
-use Rattle.heap_image.proofs.Lemmas.LiveWords.{live_apart}
+use Rattle.summary.proofs.Lemmas.Spans.{Apart, Apart-filter, in_any, held, count_by-in_any, count_by-cons, is_in, is_in_parts, count_by-is_in}
+use Rattle.summary.proofs.Lemmas.LiveWords.{live_apart}
 use Rattle.summary.specs.NewAddresses.{prefix_end, new_top, dead_words_below}
 use Rattle.summary.specs.WordMoves.{slid, origin, is_to_fill, word_moves}
 use Rattle.summary.specs.RegionData.{partial_words, own_words, destination, source, fill_count, data_words}

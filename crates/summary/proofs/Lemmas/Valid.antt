@@ -12,8 +12,8 @@ use Rattle.heap_image.specs.Version.{max_regions, max_words}
 use Rattle.std.specs.List.{range_with_len, list_any}
 use Rattle.std.specs.Option.{is_some}
 use Rattle.heap_image.specs.HeapImage.{HeapImage, AreRoots, IsValid, region_words, is_dead_word, HasLiveList, HasSoundHeader, heap_words, word_at, size_at, references_at, end_of, reference_at, is_word_of, is_live_word, is_null_or_live, live_words}
-use Rattle.heap_image.proofs.Lemmas.Spans.{is_in_inside}
-use Rattle.heap_image.proofs.Lemmas.LiveWords.{live_apart, live_end-le}
+use Rattle.summary.proofs.Lemmas.Spans.{is_in_inside}
+use Rattle.summary.proofs.Lemmas.LiveWords.{live_apart, live_end-le}
 use Rattle.summary.specs.NewAddresses.{prefix_end, new_address, new_top}
 use Rattle.summary.specs.WordMoves.{slid, origin}
 use Rattle.summary.specs.Fillers.{filler_limit, filler_word, gap_at, may_begin_filler}

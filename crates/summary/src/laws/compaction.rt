@@ -10,17 +10,23 @@ ghost use Rattle.summary.specs.Compaction.{redirected, is_reference_of, object_i
 ghost use Rattle.summary.specs.SameGraph.{IsSameGraph};
 ghost use Rattle.summary.specs.RegionData.{region_addresses, fill_count};
 
+use heap_image::live_laws;
+
 /// The compaction of a valid image is valid.
 pub fn compaction_is_valid()
     ensures { (image : HeapImage) → IsValid image → IsValid (compact image) }
-{}
+{
+    live_laws();
+}
 
 /// If the live objects of the heap are those that its roots reach, the same holds in the compacted heap.
 pub fn compaction_keeps_the_reachable()
     ensures { (image : HeapImage) (roots : List ℕ) → HasLiveList image → All (λ w. w ≤ heap_words image) roots
         → image.live ≡ reachable image roots
         → (compact image).live ≡ reachable (compact image) (map (redirected image) roots) }
-{}
+{
+    live_laws();
+}
 
 /// The new words, the new live list and the figures of a collection don't depend on the roots.
 pub fn roots_change_nothing_else()

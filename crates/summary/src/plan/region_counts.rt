@@ -3,7 +3,7 @@
 ghost use Rattle.std.specs.Prelude.{◌≡◌, ◌+◌};
 
 /// The numbers of live words in a region.
-#[derive(Debug, Clone, Copy, PartialEq, Eq)]
+#[derive(Clone, Copy)]
 pub struct RegionCounts {
     /// Words at the front of the region that belong to a live object of an earlier region.
     pub partial: u32,

@@ -2,7 +2,6 @@ use Rattle.std.proofs.Common.{◌≡◌, ℕ, ◌*◌, ◌^◌, ◌%◌, ◌<◌
 use Rattle.std.proofs.Math.Nat.{mod-eq_of_lt}
 use Rattle.std.specs.List.{concat}
 use Rattle.heap_image.specs.HeapImage.{AreBlocks}
-use Rattle.heap_image.proofs.Lemmas.BlockWords.{length-concat}
 use Rattle.collection_commands.proofs.explanation.heap_of.Goals as goal
 
 -- a shift of 64 bits that loses none
@@ -18,7 +17,7 @@ new-requires c =
     let same : blocks ≡ c.args.body.now.regions.items = c.as_slice.ensures.value in
     let whole : AreBlocks log blocks = subst (AreBlocks log) (sym same) c.requires.blocks in
     let count : c.len.result ≡ length blocks = c.len.ensures ∙ sym c.as_slice.ensures.len in
-    let long : length (concat blocks) ≡ length blocks * 2 ^ log = length-concat (2 ^ log) blocks whole in
+    let long : length (concat blocks) ≡ length blocks * 2 ^ log = c.blocks_joined.ensures.words log blocks whole in
     let bound : length blocks * 2 ^ log ≤ 137438953472 = subst (λ (xs : List (List ℕ)). length xs * 2 ^ log ≤ 137438953472) (sym same) c.requires.few in
     record {
       log = c.requires.log;

@@ -1,7 +1,5 @@
 use Rattle.std.proofs.Common.{◌≡◌, ◌*◌, ◌/◌, ◌%◌, ◌^◌, length, ap, ◌∙◌, arith}
 use Rattle.std.proofs.Math.Nat.{mul-mod_left}
-use Rattle.heap_image.proofs.Lemmas.BlockWords.{length-concat, count}
-use Rattle.heap_image.proofs.Lemmas.Parts.{region_some}
 use Rattle.heap_dump.proofs.limits.words_within_limits.Goals as goal
 
 pub returns-clause-limits : goal.returns-clause-limits
@@ -10,8 +8,8 @@ returns-clause-limits c =
     let regions = c.args.regions.now in
     let words = c.words_of-words.result in
     let are = c.words_of-words.ensures.count in
-    let long : words ≡ length regions * 2 ^ log = are ∙ length-concat (2 ^ log) regions c.requires.whole in
-    let rows : words / 2 ^ log ≡ length regions = ap (λ n. n / 2 ^ log) are ∙ count (2 ^ log) (region_some log) regions c.requires.whole in
+    let long : words ≡ length regions * 2 ^ log = are ∙ c.blocks_joined.ensures.words log regions c.requires.whole in
+    let rows : words / 2 ^ log ≡ length regions = ap (λ n. n / 2 ^ log) are ∙ c.blocks_joined.ensures.count log regions c.requires.whole in
     let some = c.if-words-eq0.false in
     record {
       region_log_low = c.requires.low;

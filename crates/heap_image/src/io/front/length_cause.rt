@@ -5,25 +5,21 @@ ghost use Rattle.heap_image.specs.LengthCause.{first_length_cause};
 
 use crate::Fault;
 use crate::io::front::{FRONT_BYTES, Front};
-use thiserror::Error;
+use std::error::Error;
+use std::fmt;
 
 /// Why a front has fault 4: the first of these conditions that holds.
-#[derive(Debug, Clone, Copy, PartialEq, Eq, Error)]
+#[derive(Debug, Clone, Copy, PartialEq, Eq)]
 pub enum LengthCause {
     /// There are no words.
-    #[error("the number of words is 0")]
     NoWords,
     /// The words don't fill their last region.
-    #[error("the number of words is not a multiple of the words of a region")]
     PartialRegion,
     /// There are more words than the version allows, which is this number.
-    #[error("the number of words is above {0}")]
     TooManyWords(u64),
     /// There are more regions than the version allows, which is this number.
-    #[error("there are more than {0} regions")]
     TooManyRegions(u64),
     /// The count at offset 12, of live addresses or of roots, is above the number of words.
-    #[error("there are more live addresses or roots than words")]
     CountAboveWords,
 }
 
@@ -40,3 +36,23 @@ impl LengthCause {
         }
     }
 }
+
+impl fmt::Display for LengthCause {
+    fn fmt<W: fmt::Write>(&self, f: &mut fmt::Formatter<W>) -> fmt::Result {
+        f.write_str(match self {
+            LengthCause::NoWords => "the number of words is 0",
+            LengthCause::PartialRegion => {
+                "the number of words is not a multiple of the words of a region"
+            }
+            LengthCause::TooManyWords(most) => {
+                return write!(f, "the number of words is above {most}");
+            }
+            LengthCause::TooManyRegions(most) => {
+                return write!(f, "there are more than {most} regions");
+            }
+            LengthCause::CountAboveWords => "there are more live addresses or roots than words",
+        })
+    }
+}
+
+impl Error for LengthCause {}

@@ -1,5 +1,5 @@
 //! A buffer for the numbers of a body while they are read.
-ghost use Rattle.std.specs.Prelude.{◌≡◌, ◌<◌, ◌≤◌, ◌+◌, ◌*◌, ◌^◌, ◌||◌, ◌⊎◌, ◌++◌, ℕ, All, List, [], length, take, OnOk, IfErr, IfSome, IsErrOf};
+ghost use Rattle.std.specs.Prelude.{◌≡◌, ◌<◌, ◌≤◌, ◌+◌, ◌*◌, ◌^◌, ◌||◌, ◌⊎◌, ◌++◌, ℕ, All, List, [], length, take, OnOk, IfErr, IfSome, IsErrOf, Err, slice_range};
 ghost use Rattle.std.specs.Io.KnownBytes.{Consumes, IsAtEnd};
 ghost use Rattle.heap_image.specs.ImageText.{numbers};
 ghost use Rattle.heap_image.specs.Device.{is_io};
@@ -8,15 +8,11 @@ use crate::Fault;
 use crate::io::intake::{Intake, fill};
 use crate::io::numbers::read_all;
 
-/// The most numbers that are requested at a time.
-const ROOM: usize = 2048;
-
-const ROOM_BYTES: usize = 8 * ROOM;
-
-/// Reads the 64-bit numbers of a body. It requests their bytes in large pieces, and no byte after them.
+/// Reads the 64-bit numbers of a body. It requests their bytes in pieces as large as the borrowed buffer, and no byte
+/// after them.
 #[derive(Drop)]
-pub(crate) struct Incoming {
-    bytes: [u8; ROOM_BYTES],
+pub(crate) struct Incoming<'a> {
+    bytes: &'a mut [u8],
     /// The buffered numbers are those from `start` to `end` of `bytes`.
     start: usize,
     end: usize,
@@ -24,17 +20,18 @@ pub(crate) struct Incoming {
     due: usize,
 }
 
-impl Incoming {
+impl<'a> Incoming<'a> {
     ghost use Rattle.heap_image.specs.Incoming.{IsInRange, FallsShort, expected, unread_bytes, known_rest};
 
-    /// An empty buffer for `due` numbers.
-    pub(crate) fn new(due: usize) -> Incoming
+    /// An empty buffer in `bytes` for `due` numbers.
+    pub(crate) fn new(bytes: &'a mut [u8], due: usize) -> Incoming<'a>
+        requires { 8 ≤ length bytes.old }
         ensures due { result.due ≡ due }
         ensures none_held { result.start ≡ result.end }
         ensures in_range { IsInRange result }
     {
         Incoming {
-            bytes: [0; ROOM_BYTES],
+            bytes,
             start: 0,
             end: 0,
             due,
@@ -88,11 +85,8 @@ impl Incoming {
         if self.start < self.end {
             return Ok(());
         }
-        let n = self.due.min(ROOM);
-        let came = fill(reader, &mut self.bytes[..8 * n])?;
-        if came < 8 * n {
-            return Err(Fault::TruncatedBody);
-        }
+        let n = self.due.min(self.bytes.len() / 8);
+        fill_first(reader, self.bytes, 8 * n)?;
         self.start = 0;
         self.end = n;
         self.due -= n;
@@ -110,9 +104,37 @@ impl Incoming {
         ensures expected { expected self.new + result ≡ expected self.old }
     {
         let n = (self.end - self.start).min(words.len());
-        let from = 8 * self.start;
-        read_all(&self.bytes[from..from + 8 * n], &mut words[..n]);
+        self.peek(&mut words[..n]);
         self.start += n;
         n
     }
+
+    /// Decodes the first of the buffered numbers.
+    fn peek(&self, words: &mut [u64])
+        requires in_range { IsInRange self.now }
+        requires held { self.now.start + length words.old ≤ self.now.end }
+        ensures length { length words.new ≡ length words.old }
+        ensures words { numbers words.new ≡ slice_range self.now.bytes.now (8 * self.now.start) (8 * (self.now.start + length words.old)) }
+    {
+        let from = 8 * self.start;
+        read_all(&self.bytes[from..from + 8 * words.len()], words);
+    }
+}
+
+/// Fills the first `count` bytes of a buffer.
+fn fill_first<R: Intake>(reader: &mut R, bytes: &mut [u8], count: usize) -> Result<(), Fault>
+    requires { count ≤ length bytes.old }
+    ensures length { length bytes.new ≡ length bytes.old }
+    ensures bytes { OnOk result (Consumes (R.left reader.old) (R.left reader.new) (take count bytes.new)) }
+    ensures truncated { result ≡ Err Fault.TruncatedBody → IsAtEnd (R.left reader.new)
+        × IfSome (R.left reader.old) (λ rest. length rest < count) }
+    ensures fault { IfErr result (λ fault. (fault ≡ Fault.TruncatedBody) ⊎ (fault ≡ Fault.Io)) }
+    ensures lost { (came : List ℕ) × Consumes (R.left reader.old) (R.left reader.new) came }
+    ensures failed { R.has_failed reader.new ≡ (is_io result || R.has_failed reader.old) }
+{
+    let came = fill(reader, &mut bytes[..count])?;
+    if came < count {
+        return Err(Fault::TruncatedBody);
+    }
+    Ok(())
 }

@@ -1,5 +1,4 @@
-use Rattle.heap_image.proofs.Lemmas.Parts.{region_few}
 use Rattle.heap_maker.proofs.regions.region_of.Goals as goal
 
 pub new-requires-clause-at_most : goal.new-requires-clause-at_most
-new-requires-clause-at_most c = region_few c.args.region_log c.requires
+new-requires-clause-at_most c = c.regions_by_log.ensures.few c.args.region_log c.requires

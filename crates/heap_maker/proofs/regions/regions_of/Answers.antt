@@ -3,7 +3,6 @@ use Rattle.std.proofs.lemmas.List.{append-nil}
 use Rattle.std.proofs.lemmas.List.Elements.{All-append, All-push}
 use Rattle.std.proofs.lemmas.List.Folds.{concat-append}
 use Rattle.std.specs.List.{concat}
-use Rattle.heap_image.proofs.Lemmas.BlockWords.{length-concat}
 use Rattle.heap_maker.proofs.regions.regions_of.Goals as goal
 
 pub loop-r-preserved : goal.loop-r-preserved
@@ -25,6 +24,6 @@ loop-r-preserved c =
 pub returns-clause-count : goal.returns-clause-count
 returns-clause-count c =
     let so_far = c.loop-r.invariant in
-    let long = length-concat (2 ^ c.args.limits.region_log) c.loop-r.regions.items so_far.whole in
+    let long = c.blocks_joined.ensures.words c.args.limits.region_log c.loop-r.regions.items so_far.whole in
     let count : length c.loop-r.regions.items ≡ c.args.limits.regions = omega (arith, so_far.count) in
     long ∙ ap (λ n. n * 2 ^ c.args.limits.region_log) count ∙ sym c.args.limits.whole

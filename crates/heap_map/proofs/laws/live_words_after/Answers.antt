@@ -2,8 +2,7 @@ use Rattle.std.proofs.Common.{◌-◌, arith}
 use Rattle.heap_image.specs.HeapImage.{heap_words, is_live_word}
 use Rattle.summary.specs.Compaction.{compact}
 use Rattle.summary.specs.NewAddresses.{new_top, prefix_end}
-use Rattle.summary.proofs.Lemmas.Blocks.{count_by-all}
-use Rattle.summary.proofs.Lemmas.Destinations.{count_by-none, count_by-same}
+use Rattle.heap_map.proofs.Lemmas.Ranges.{count_by-all, count_by-none, count_by-same}
 use Rattle.heap_map.proofs.laws.live_words_after.Goals as goal
 
 pub returns-clause-below : goal.returns-clause-below

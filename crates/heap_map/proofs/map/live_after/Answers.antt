@@ -5,8 +5,7 @@ use Rattle.std.proofs.lemmas.List.Sums.{count_by-le-length}
 use Rattle.heap_image.specs.HeapImage.{HeapImage, IsValid, is_live_word, live_words}
 use Rattle.summary.specs.Compaction.{compact}
 use Rattle.summary.specs.NewAddresses.{new_top, prefix_end}
-use Rattle.summary.proofs.Lemmas.Blocks.{count_by-all}
-use Rattle.summary.proofs.Lemmas.Destinations.{count_by-none, count_by-same}
+use Rattle.heap_map.proofs.Lemmas.Ranges.{count_by-all, count_by-none, count_by-same}
 use Rattle.heap_map.proofs.map.live_after.Goals as goal
 
 pub overflow_add-result : goal.overflow_add-result

@@ -1,7 +1,7 @@
 use Rattle.std.proofs.Common.{◌≡◌, ◌∙◌, ◌++◌, ℕ, List, ap, ap₂, append_assoc, max}
 use Rattle.std.specs.Prelude.{flat_map, string_bytes}
 use Rattle.std.specs.List.{range_with_len}
-use Rattle.summary.proofs.Lemmas.Lines.{flat_map-more}
+use Rattle.heap_map.proofs.Lemmas.Ranges.{flat_map-more}
 use Rattle.heap_map.specs.Text.{name_of_row, row_of, row_text}
 use Rattle.heap_map.proofs.strips.write_strip.Goals as goal
 

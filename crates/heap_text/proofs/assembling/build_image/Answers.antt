@@ -10,7 +10,7 @@ use Rattle.heap_text.proofs.assembling.build_image.Goals as goal
 pub returns-in_err-check_live_objects-clause-accepts : goal.returns-in_err-check_live_objects-clause-accepts
 returns-in_err-check_live_objects-clause-accepts c image valid is p =
     let gives : Gives image c.in_ok-bytes.bytes = bytes_are image c.args.heap p valid (bytes_left c.in_ok-bytes.bytes) c.front-front.result c.numbers_after_words-tail.result.now
-    (c.front-front.ensures (tail_few image c.args.heap p valid))
+    (c.front-front.ensures (tail_few image c.args.heap p (c.text_tells_its_size.ensures.fitting image valid) valid))
     (tails_same (has_roots c.args.heap.version) c.numbers_after_words-tail.result.now c.as_slice.result.now c.args.heap.roots.items c.as_slice-2.result.now c.args.heap.live.items
     c.numbers_after_words-tail.ensures c.as_slice.ensures.value c.as_slice-2.ensures.value)
     c.in_ok-bytes.ensures in
@@ -22,7 +22,7 @@ returns-in_err-check_live_objects-clause-accepts c image valid is p =
 pub returns-then-eq-clause-accepts : goal.returns-then-eq-clause-accepts
 returns-then-eq-clause-accepts c image valid is p =
     let gives : Gives image c.in_ok-bytes.bytes = bytes_are image c.args.heap p valid (bytes_left c.in_ok-bytes.bytes) c.front-front.result c.numbers_after_words-tail.result.now
-    (c.front-front.ensures (tail_few image c.args.heap p valid))
+    (c.front-front.ensures (tail_few image c.args.heap p (c.text_tells_its_size.ensures.fitting image valid) valid))
     (tails_same (has_roots c.args.heap.version) c.numbers_after_words-tail.result.now c.as_slice.result.now c.args.heap.roots.items c.as_slice-2.result.now c.args.heap.live.items
     c.numbers_after_words-tail.ensures c.as_slice.ensures.value c.as_slice-2.ensures.value)
     c.in_ok-bytes.ensures in
@@ -31,7 +31,7 @@ returns-then-eq-clause-accepts c image valid is p =
 pub returns-clause-accepts : goal.returns-clause-accepts
 returns-clause-accepts c image valid is p =
     let gives : Gives image c.in_ok-bytes.bytes = bytes_are image c.args.heap p valid (bytes_left c.in_ok-bytes.bytes) c.front-front.result c.numbers_after_words-tail.result.now
-    (c.front-front.ensures (tail_few image c.args.heap p valid))
+    (c.front-front.ensures (tail_few image c.args.heap p (c.text_tells_its_size.ensures.fitting image valid) valid))
     (tails_same (has_roots c.args.heap.version) c.numbers_after_words-tail.result.now c.as_slice.result.now c.args.heap.roots.items c.as_slice-2.result.now c.args.heap.live.items
     c.numbers_after_words-tail.ensures c.as_slice.ensures.value c.as_slice-2.ensures.value)
     c.in_ok-bytes.ensures in

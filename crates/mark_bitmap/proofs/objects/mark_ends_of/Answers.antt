@@ -5,7 +5,7 @@ use Rattle.std.proofs.lemmas.List.{take_all, length-take, length-drop}
 use Rattle.std.proofs.lemmas.List.Elements.{All-take, All-drop}
 use Rattle.heap_image.specs.HeapImage.{HeapImage, HasSoundHeader, size_at, end_of}
 use Rattle.heap_image.specs.Bits.{has}
-use Rattle.heap_image.proofs.Lemmas.Places.{same_tests}
+use Rattle.mark_bitmap.proofs.Lemmas.Tests.{same_tests}
 use Rattle.mark_bitmap.proofs.Lemmas.Runs.{list_any-same}
 use Rattle.mark_bitmap.proofs.objects.mark_ends_of.Goals as goal
 

@@ -1,6 +1,6 @@
 use Rattle.std.proofs.Common.{subst}
 use Rattle.claim_board.specs.Boards.{identity, AllOf}
-use Rattle.claim_board.proofs.Lemmas.Gathers.{all_of_front}
+use Rattle.scheduling_tests.proofs.Lemmas.Passes.{all_of_front}
 use Rattle.scheduling_tests.proofs.boards.take.Goals as goal
 
 pub returns-clause-pass : goal.returns-clause-pass

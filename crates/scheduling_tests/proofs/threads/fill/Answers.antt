@@ -5,7 +5,6 @@ use Rattle.history.specs.MoveTable.{MoveTable, IsMoveTable, reads}
 use Rattle.claim_board.specs.Boards.{moves, caller}
 use Rattle.claim_board.specs.Callers.{Gains}
 use Rattle.claim_board.specs.Drains.{reply_of}
-use Rattle.claim_board.proofs.Lemmas.Others.{gains_call}
 use Rattle.scheduling_tests.proofs.threads.fill.Goals as goal
 
 pub drain-requires-clause-ticket : goal.drain-requires-clause-ticket
@@ -21,7 +20,7 @@ loop-opening-preserved c =
     let reply = reply_of c.drain.result in
     let same : Drain c.close.result.destination c.close.result.source ≡ Drain t.region s = λ j. Drain ((c.close.ensures.pair.0 ∙ o.reads.0) j) (c.close.ensures.pair.1 j) in
     let gains : Gains (caller c.loop-opening.pass) (caller c.drain.new.pass) (Drain t.region s) reply =
-    subst (λ (event : Event). Gains (caller c.loop-opening.pass) (caller c.drain.new.pass) event reply) same (gains_call c.args.board.now c.loop-opening.pass c.drain.new.pass (Drain c.close.result.destination c.close.result.source) reply e.entry) in
+    subst (λ (event : Event). Gains (caller c.loop-opening.pass) (caller c.drain.new.pass) event reply) same (c.appended_calls_are_gained.ensures c.args.board.now c.loop-opening.pass c.drain.new.pass (Drain c.close.result.destination c.close.result.source) reply e.entry) in
     let skipped = subst (λ (m : MoveTable). (q : ℕ) → t.next ≤ q → q < s → reads m t.region q ≡ false) c.moves-moves.ensures o.least in (
       e.entry.board ∙ i.0,
       e.ticket,

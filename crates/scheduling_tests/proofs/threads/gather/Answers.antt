@@ -2,7 +2,7 @@ use Rattle.std.proofs.Common.{◌≡◌, Some, sym, subst}
 use Rattle.std.proofs.lemmas.List.Elements.{All-pop}
 use Rattle.scheduling_tests.specs.declared.threads.Worker.{Worker}
 use Rattle.claim_board.specs.Boards.{identity, board_of, AllOf}
-use Rattle.claim_board.proofs.Lemmas.Gathers.{all_push}
+use Rattle.scheduling_tests.proofs.Lemmas.Passes.{all_push}
 use Rattle.scheduling_tests.proofs.threads.gather.Goals as goal
 
 pub loop-worker-preserved : goal.loop-worker-preserved

@@ -1,5 +1,5 @@
 use Rattle.claim_board.specs.Boards.{identity}
-use Rattle.claim_board.proofs.Lemmas.Alls.{all_of_each}
+use Rattle.scheduling_tests.proofs.Lemmas.Passes.{all_of_each}
 use Rattle.scheduling_tests.proofs.threads.worked.Goals as goal
 
 pub work_all-requires-clause-passes : goal.work_all-requires-clause-passes

@@ -2,9 +2,8 @@ use Rattle.std.proofs.Common.{if◌then◌else◌}
 use Rattle.std.specs.Prelude.{is_some}
 use Rattle.history.specs.declared.event.Event.TheVariants.{Claim}
 use Rattle.history.specs.declared.reply.Reply.TheVariants.{Yes, No}
-use Rattle.claim_board.proofs.Lemmas.Others.{leaves_call}
 use Rattle.scheduling_tests.proofs.tickets.claims.Goals as goal
 
 pub returns-clause-others : goal.returns-clause-others
 returns-clause-others c =
-    leaves_call c.args.board.now c.args.region c.args.pass.now c.claim-ticket.new.pass (Claim c.args.region) (if is_some c.claim-ticket.result then Yes else No) c.claim-ticket.ensures.entry (λ q apart. tt)
+    c.appended_calls_leave_others.ensures c.args.board.now c.args.region c.args.pass.now c.claim-ticket.new.pass (Claim c.args.region) (if is_some c.claim-ticket.result then Yes else No) c.claim-ticket.ensures.entry (λ q apart. tt)

@@ -1,8 +1,6 @@
 use Rattle.std.proofs.Common.{◌≡◌, ◌≢◌, ℕ, sym, ◌∙◌, subst}
 use Rattle.history.specs.declared.event.Event.TheVariants.{Drain}
-use Rattle.claim_board.specs.Boards.{moves, caller}
 use Rattle.claim_board.specs.Drains.{reply_of}
-use Rattle.claim_board.proofs.Lemmas.Others.{leaves_call, leaves_twice}
 use Rattle.scheduling_tests.proofs.tickets.drains.Goals as goal
 
 pub loop-opening-preserved : goal.loop-opening-preserved
@@ -13,10 +11,13 @@ loop-opening-preserved c =
     let e = c.drain-answer.ensures in
     let d = c.close.result.destination in
     let here : d ≡ r = c.close.ensures.pair.0 ∙ (c.in-Some.ensures.reads.0 ∙ i.2) in
-    let more = leaves_call b r c.loop-opening.pass c.drain-answer.new.pass (Drain d c.close.result.source) (reply_of c.drain-answer.result) e.entry (λ q apart. subst (λ (x : ℕ). q ≢ x) (sym here) apart) in (
+    let more = c.appended_calls_leave_others.ensures b r c.loop-opening.pass c.drain-answer.new.pass (Drain d c.close.result.source) (reply_of c.drain-answer.result) e.entry (λ q apart. subst (λ (x : ℕ). q ≢ x) (sym here) apart) in (
       e.entry.board ∙ i.0,
       c.note.ensures,
       e.same.0 ∙ (c.in-Some.ensures.same.0 ∙ i.2),
       e.ticket,
-      leaves_twice (moves b) r (caller c.args.pass.now) (caller c.loop-opening.pass) (caller c.drain-answer.new.pass) i.4 more,
+      record {
+        tickets = λ t apart is. more.tickets t apart (i.4.tickets t apart is);
+        dones = λ d apart is. more.dones d apart (i.4.dones d apart is);
+      },
     )

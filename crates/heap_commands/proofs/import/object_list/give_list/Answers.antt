@@ -2,7 +2,7 @@ use Rattle.std.proofs.Common.{◌≡◌, ◌∙◌, ◌<◌, ◌≤◌, [], ◌+
 use Rattle.std.specs.Prelude.{string_bytes}
 use Rattle.std.specs.Io.KnownBytes.{Appends}
 use Rattle.std.proofs.lemmas.List.{get_or_default}
-use Rattle.heap_image.proofs.Lemmas.Known.{appends_more, appends_none}
+use Rattle.heap_commands.proofs.Lemmas.Given.{appends_more, appends_none}
 use Rattle.heap_dump.specs.declared.listing.ListedObject.{ListedObject}
 use Rattle.heap_commands.proofs.Lemmas.Texts.{listed_all, listed_more}
 use Rattle.heap_commands.proofs.import.object_list.give_list.Goals as goal

@@ -26,13 +26,13 @@ returns-clause-body g c =
     let left = g.R.Intake.left c.read.new.reader in
     let kept = c.read.new.incoming in
     let after = known_rest kept left in
-    let none = none_held incoming.bytes incoming.start incoming.end c.new-incoming.ensures.none_held in
+    let none = none_held incoming.bytes.now incoming.start incoming.end c.new-incoming.ensures.none_held in
     let due = c.new-incoming.ensures.due in
     let same = c.in_ok-top_up.ensures.expected in
     done c.read.result (IsBody size topped after) (IsBody size before left) (expected kept + body_words size ≡ expected c.top_up.new.self) (IsInRange kept) c.read.ensures.body c.read.ensures.expected c.read.ensures.in_range (λ body is all range.
     let bytes = numbers (concat body.regions.items) ++ numbers body.tail.items in
     let ordered = range.ordered in
-    let rest = none_held kept.bytes kept.start kept.end (omega arith) in
+    let rest = none_held kept.bytes.now kept.start kept.end (omega arith) in
     let taken = consumes_more start topped after [] bytes c.in_ok-top_up.ensures.bytes is.bytes in
     record {
       regions = is.regions;

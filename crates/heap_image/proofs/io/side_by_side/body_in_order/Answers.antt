@@ -10,20 +10,20 @@ use Rattle.heap_image.proofs.Lemmas.Extents.{consumes_at}
 use Rattle.heap_image.proofs.Lemmas.Reading.{consumes_of_device, none_held}
 use Rattle.heap_image.proofs.io.side_by_side.body_in_order.Goals as goal
 
-pub returns-in-Ok : goal.returns-in-Ok
-returns-in-Ok g c =
+pub returns-in-Ok-read : goal.returns-in-Ok-read
+returns-in-Ok-read g c =
     let known = g.S.Store.bytes c.args.store.now in
     let extent = c.args.extent in
     let made = c.new-cursor.ensures in
-    let body = c.in-Ok.body in
-    let read = c.in-Ok.ensures.body in
+    let body = c.in-Ok-read.body in
+    let read = c.in-Ok-read.ensures.body in
     let bytes = numbers (concat body.regions.items) ++ numbers body.tail.items in
     let cursor = c.new-cursor.result in
     let same : from_place (g.S.Store.bytes cursor.store.now) cursor.at ≡ from_place known extent.at = ap (λ store. from_place (g.S.Store.bytes store) cursor.at) made.store ∙ ap (from_place known) made.at in
     let incoming = c.new-incoming.result in
     let behind = c.read.new.reader in
     let after = known_rest c.read.new.incoming (from_place (g.S.Store.bytes behind.store.now) behind.at) in
-    let none = none_held incoming.bytes incoming.start incoming.end c.new-incoming.ensures.none_held in
+    let none = none_held incoming.bytes.now incoming.start incoming.end c.new-incoming.ensures.none_held in
     let taken : Consumes (from_place (g.S.Store.bytes cursor.store.now) cursor.at) after bytes = consumes_of_device (unread_bytes incoming) (from_place (g.S.Store.bytes cursor.store.now) cursor.at) after bytes none read.bytes in
     record {
       regions = read.regions;

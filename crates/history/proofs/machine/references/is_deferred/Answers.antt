@@ -1,12 +1,11 @@
 use Rattle.std.proofs.Common.{◌≡◌, ap, ◌∙◌, arith}
 use Rattle.heap_image.specs.Header.{size_of}
 use Rattle.heap_image.specs.HeapImage.{size_at}
-use Rattle.history.proofs.Lemmas.Carrying.{new_fits}
 use Rattle.history.proofs.machine.references.is_deferred.Goals as goal
 
 pub overflow_add-last : goal.overflow_add-last
 overflow_add-last c =
-    let fits = new_fits c.args.plan.now c.region_words-size.ensures.valid c.args.a c.requires.live in
+    let fits = c.new_words_fit.ensures c.args.plan.now c.region_words-size.ensures.valid c.args.a c.requires.live in
     let few = c.region_words-size.ensures.valid.limits.few_words in
     let size : c.from.result ≡ size_at c.args.plan.now c.args.a = c.from.ensures ∙ (c.size.ensures ∙ ap size_of c.requires.header) in
     omega (arith, fits.0, fits.1)

@@ -5,7 +5,7 @@ use Rattle.heap_image.specs.HeapImage.{HeapImage, heap_words, word_at, reference
 use Rattle.summary.specs.NewAddresses.{new_address}
 use Rattle.summary.specs.Compaction.{is_deferred}
 use Rattle.history.specs.Carrier.{AreSet}
-use Rattle.history.proofs.Lemmas.Carrying.{AreFlagsOf, late_test, new_fits, contains_at, late_more, late_same}
+use Rattle.history.proofs.Lemmas.Carrying.{AreFlagsOf, late_test, contains_at, late_more, late_same}
 use Rattle.history.proofs.machine.references.late_references.Goals as goal
 use Rattle.history.proofs.machine.references.late_references.Goals.{then-is_deferred, else-is_deferred}
 
@@ -17,7 +17,7 @@ set_after-requires c =
     let inside : c.loop-a.a-index < length image.live = rw same at c.loop-a-test.true in
     let a : ℕ = get_or image.live c.loop-a.a-index 0 in
     let at : get_or c.live-a-items.result.now c.loop-a.a-index 0 ≡ a = ap (λ (xs : List ℕ). get_or xs c.loop-a.a-index 0) same in
-    let fits = new_fits image valid a (contains_at image valid c.loop-a.a-index inside) in
+    let fits = c.new_words_fit.ensures image valid a (contains_at image valid c.loop-a.a-index inside) in
     let begin : c.new_address-begin.result ≡ new_address image a = c.new_address-begin.ensures ∙ (ap (λ (i : HeapImage). new_address i (get_or c.live-a-items.result.now c.loop-a.a-index 0)) c.requires.plan ∙ ap (new_address image) at) in
     let count : c.references.result ≡ references_at image a = c.references.ensures ∙ ap references_of (c.word-header.ensures ∙ ap (word_at image) at) in
     let long : length c.deref_mut.result.now ≡ heap_words image = ap (length {A = Bool}) c.deref_mut.ensures.value ∙ c.loop-a.invariant.all in

@@ -1,5 +1,5 @@
 use Rattle.std.proofs.Common.{◌≡◌, ◌++◌, [], List, ℕ, length, refl, sym, ap, ◌∙◌, inr, arith, length-append}
-use Rattle.heap_image.proofs.Lemmas.Known.{consumes_held}
+use Rattle.history.proofs.Lemmas.KnownBytes.{consumes_held}
 use Rattle.history.specs.ReadSchedule.{IsBadHeader}
 use Rattle.history.specs.ScheduleText.{header_text}
 use Rattle.history.specs.Window.{rest_of, unread}

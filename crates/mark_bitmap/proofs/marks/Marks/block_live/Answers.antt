@@ -1,11 +1,12 @@
 use Rattle.std.proofs.Common.{◌≡◌, ℕ, ◌+◌, ◌-◌, ◌*◌, ◌/◌, ◌%◌, ◌^◌, ◌≤◌, ◌<◌, ap, arith}
-use Rattle.std.proofs.lemmas.Nat.{mod_below, pow_below}
+use Rattle.std.proofs.lemmas.Nat.{mod_below, pow_below, pow_pos}
 use Rattle.std.proofs.Math.Nat.{div-add-mod'}
 use Rattle.heap_image.specs.HeapImage.{is_live_word}
 use Rattle.mark_bitmap.specs.Marks.{block_words}
 use Rattle.mark_bitmap.proofs.Lemmas.BlockStarts.{block_inside}
-use Rattle.heap_image.proofs.Lemmas.Counts.{count-le}
-use Rattle.heap_image.proofs.Lemmas.Parts.{region_some}
+use Rattle.std.proofs.lemmas.List.FromFn.{length-range_with_len}
+use Rattle.std.proofs.lemmas.List.Sums.{count_by-le-length}
+use Rattle.std.specs.List.{range_with_len}
 use Rattle.mark_bitmap.proofs.marks.Marks.block_live.Goals as goal
 
 -- a block begins within its region
@@ -17,12 +18,13 @@ overflow_cast-result c =
     let region : ℕ = start / 2 ^ log * 2 ^ log % 18446744073709551616 in
     let inside = block_inside image c.args.b c.requires in
     let at : start ≡ c.args.b * block_words image = ap (λ n. c.args.b * n) c.block_words.ensures.value in
-    let few = count-le (is_live_word image) region (start - region) in
+    let few = count_by-le-length (is_live_word image) (range_with_len region (start - region)) in
+    let long = length-range_with_len region (start - region) in
     let count = c.live_words.ensures in
     let words = c.block_words.ensures.valid.limits.few_words in
     let same = c.self.invariant.log in
     let high = c.self.invariant.valid.limits.region_log_high in
     let short : 2 ^ log < 2 ^ 21 = pow_below log 21 (omega arith) in
-    let rest = mod_below start (2 ^ log) (region_some log) in
+    let rest = mod_below start (2 ^ log) (pow_pos log) in
     let split = div-add-mod' start (2 ^ log) in
     omega arith

@@ -1,4 +1,5 @@
-use Rattle.std.proofs.Common.{◌≡◌, ◌+◌, ◌-◌, ◌≤◌, ◌<◌, ℕ, List, length, min, sym, ◌∙◌, ap, subst, arith}
+use Rattle.std.proofs.Common.{◌≡◌, ◌+◌, ◌-◌, ◌≤◌, ◌<◌, ℕ, List, length, min, inl, inr, sym, ◌∙◌, ap, subst, arith}
+use Rattle.std.proofs.lemmas.Bool.{cases_lt}
 use Rattle.heap_image.specs.HeapImage.{HeapImage, HasLiveList, word_at, region_words, start_of, block_of}
 use Rattle.summary.specs.NewAddresses.{prefix_end}
 use Rattle.summary.specs.WordMoves.{slid}
@@ -43,11 +44,11 @@ module _ (c : After-span-read) where
   behind = source_behind image c.span-read.ensures.valid d s (omega (arith, own, ordered)) c.args.self.now.after_prefix
 
   place : c.args.to ≡ written_to image (start_of image d) (start_of image s)
-  place = before.place ∙ written_to-between image c.span-read.ensures.valid d c.requires.next.0 s c.args.self.now.after_prefix (omega (arith, own)) ordered (omega (arith, next.inside)) next.between
+  place = before.place ∙ written_to-between c.plan_laws.ensures image c.span-read.ensures.valid d c.requires.next.0 s c.args.self.now.after_prefix (omega (arith, own)) ordered (omega (arith, next.inside)) next.between
 
   on : (slid image (start_of image s) ≤ written_to image (start_of image d) (start_of image s)) × (written_to image (start_of image d) (start_of image s) ≤ slid image (start_of image s + R))
       × (written_to image (start_of image d) (start_of image s + R) ≡ min (start_of image d + R) (slid image (start_of image s + R)))
-  on = written_to-read image c.span-read.ensures.valid.live_list d s behind next.read
+  on = written_to-read c.plan_laws.ensures image c.span-read.ensures.valid.live_list d s behind next.read
 
   -- the words that are read
   read_words : source_words c.args.source.now ≡ block_of image s
@@ -141,11 +142,11 @@ loop-from-preserved c =
     let on : a ≤ c.next_run-run.result.end = r.ordered in
     let far : c.loop-from.from ≤ a = r.after in
     let live = λ (q : ℕ) (l : a ≤ q) (m : q < a + n). (let below : q < c.next_run-run.result.end = omega arith in r.live q l below) in
-    let past = slid-past image c.loop-from.from a n c.loop-from.to h.after_prefix far h.place r.dead live in
+    let past = slid-past c.plan_laws.ensures image c.loop-from.from a n c.loop-from.to h.after_prefix far h.place r.dead live in
     let now = still_block image c.args.target.now c.loop-from.target (before at).block h.same in
     let written = written_on image (copied_word image) (word_at image) site.span.start (c.loop-from.to + n) c.args.target.now c.loop-from.target c.copy_into.new.target _ (before at).block h.same
     c.copy_into.ensures.value c.copy_into.ensures.length
-    (split_copy image sound site.span.start c.loop-from.target.words c.span-read.result.start (source_words c.args.source.now) a n c.loop-from.to h.split (read_shows at) (omega arith) past.0 live (omega arith)
+    (split_copy c.plan_laws.ensures image sound site.span.start c.loop-from.target.words c.span-read.result.start (source_words c.args.source.now) a n c.loop-from.to h.split (read_shows at) (omega arith) past.0 live (omega arith)
     (omega (arith, now.long, site.start, site.end)) (omega arith) (omega (arith, read_long at, c.span-read.ensures.start, c.span-read.ensures.end))) in
     record {
       after = omega arith;
@@ -158,6 +159,18 @@ loop-from-preserved c =
       same = written.0;
     }
 
+pub loop-from-smaller : goal.loop-from-smaller
+loop-from-smaller c =
+    let r = c.next_run-run.ensures in
+    let a : ℕ = c.next_run-run.result.begin in
+    let far : c.loop-from.from ≤ a = r.after in
+    let on : a ≤ c.next_run-run.result.end = r.ordered in
+    let up : c.next_run-run.result.end ≤ c.span-read.result.end = r.within in
+    elim (cases_lt a c.span-read.result.end) [
+      | inl less ↦ let some : a < c.next_run-run.result.end = r.some less in omega arith
+      | inr more ↦ omega arith
+    ]
+
 pub returns-after-loop-from : goal.returns-after-loop-from
 returns-after-loop-from c =
     let h = c.loop-from.invariant in
@@ -169,5 +182,5 @@ returns-after-loop-from c =
 pub returns-else-to-write : goal.returns-else-to-write
 returns-else-to-write c =
     let h = c.loop-from.invariant in
-    let up = slid-monotone c.args.self.now.site.guide.now c.loop-from.from c.span-read.result.end h.after_prefix h.inside in
+    let up = slid-monotone c.plan_laws.ensures c.args.self.now.site.guide.now c.loop-from.from c.span-read.result.end h.after_prefix h.inside in
     reached (goal.at.returns-else-to-write c).After-span-read c.loop-from.to c.loop-from.target h.same h.split (omega (arith, h.place, h.high))

@@ -25,4 +25,4 @@ returns c =
     ∙ ap (λ m. reaches s m c.destination-first.result c.destination_after-after.result) site.end
     ∙ ap (λ m. reaches s e m c.destination_after-after.result) c.destination-first.ensures
     ∙ ap (λ m. reaches s e (slid image s) m) c.destination_after-after.ensures
-    ∙ reads-is image valid.live_list d d behind behind (region_fits image valid d site.inside)
+    ∙ reads-is c.plan_laws.ensures image valid.live_list d d behind behind (region_fits image valid d site.inside)

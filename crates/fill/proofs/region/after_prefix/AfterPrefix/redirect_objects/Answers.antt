@@ -25,7 +25,7 @@ module _ (c : After-source-s) where
 
   -- the source of the region's first word
   on : (reads image d s ≡ true) × (d ≤ s) × (s < region_count image) × (slid image (start_of image s) ≤ start_of image d) × (start_of image d ≤ slid image (start_of image s + region_words image))
-  on = source_place image c.image_is_valid.ensures d s c.args.self.now.after_prefix c.args.self.now.site.to_fill c.source-s.ensures
+  on = source_place c.plan_laws.ensures image c.image_is_valid.ensures d s c.args.self.now.after_prefix c.args.self.now.site.to_fill c.source-s.ensures
 
   behind : prefix_end image ≤ start_of image s
   behind = source_behind image c.image_is_valid.ensures d s ((on).1) c.args.self.now.after_prefix
@@ -34,7 +34,7 @@ module _ (c : After-source-s) where
   shows : Shows (copied_word image) (start_of image d) c.args.target.now.words
   shows =
       let r = c.requires in
-      written_to-last image c.image_is_valid.ensures d c.args.from c.args.to c.args.target.now.words c.args.self.now.after_prefix r.own r.within r.last r.copied.place r.copied.block.long r.copied.split
+      written_to-last c.plan_laws.ensures image c.image_is_valid.ensures d c.args.from c.args.to c.args.target.now.words c.args.self.now.after_prefix r.own r.within r.last r.copied.place r.copied.block.long r.copied.split
 
 pub source-s-requires-clause-region : goal.source-s-requires-clause-region
 source-s-requires-clause-region c = record { inside = c.args.self.now.site.inside; after_prefix = c.args.self.now.after_prefix }
@@ -64,14 +64,14 @@ first_from-first-requires-clause-high c =
 pub redirect_row-requires-clause-low : goal.redirect_row-requires-clause-low
 redirect_row-requires-clause-low c =
     let image : HeapImage = c.args.self.now.site.guide.now in
-    let up = next-place image c.image_is_valid.ensures.live_list c.first_from-first.result c.in-Some.a c.in-Some.ensures.first in
+    let up = next-place c.plan_laws.ensures image c.image_is_valid.ensures.live_list c.first_from-first.result c.in-Some.a c.in-Some.ensures.first in
     let first : slid image c.first_from-first.result ≡ c.args.self.now.site.span.start = c.first_from-first.ensures.place in
     omega (arith, c.new_address.ensures.value)
 
 pub redirect_row-requires-clause-between : goal.redirect_row-requires-clause-between
 redirect_row-requires-clause-between c =
     let image : HeapImage = c.args.self.now.site.guide.now in
-    subst (IsBetween image) (sym c.new_address.ensures.value) (between-object image c.image_is_valid.ensures.live_list c.in-Some.a c.in-Some.ensures.first.object)
+    subst (IsBetween image) (sym c.new_address.ensures.value) (between-object c.plan_laws.ensures image c.image_is_valid.ensures.live_list c.in-Some.a c.in-Some.ensures.first.object)
 
 pub redirect_row-requires-clause-target : goal.redirect_row-requires-clause-target
 redirect_row-requires-clause-target c = c.requires.copied.block
@@ -84,7 +84,7 @@ redirect_row-requires-clause-split c =
     let first : slid image c.first_from-first.result ≡ start_of image site.region = c.first_from-first.ensures.place ∙ site.start in
     subst (λ (n : ℕ). IsSplitAt (moved_word image) (copied_word image) n c.args.target.now.words c.new_address.result) (sym site.start)
     (subst (IsSplitAt (moved_word image) (copied_word image) (start_of image site.region) c.args.target.now.words) (sym c.new_address.ensures.value)
-    (region-first image c.image_is_valid.ensures.live_list site.region c.first_from-first.result c.in-Some.a c.args.target.now.words first c.in-Some.ensures.first (shows at)))
+    (region-first c.plan_laws.ensures image c.image_is_valid.ensures.live_list site.region c.first_from-first.result c.in-Some.a c.args.target.now.words first c.in-Some.ensures.first (shows at)))
 
 pub returns-in-Some : goal.returns-in-Some
 returns-in-Some c =
@@ -109,9 +109,9 @@ returns-in_default c =
     let one : c.args.from ≡ c.args.from - 1 + 1 = omega arith in
     let end : start_of image c.args.from ≡ c.span-last.result.end = sym (c.span-last.ensures.end ∙ next_start image (c.args.from - 1) c.args.from one) in
     let reached = λ (p : ℕ) (l : start_of image d ≤ p) (m : p < start_of image d + length c.args.target.now.words) (n : p < new_top image).
-    subst (λ (to : ℕ). p < slid image to) end (reached-last image valid d c.args.from p c.args.self.now.after_prefix r.own r.within r.last l (omega (arith, m, long)) n) in
+    subst (λ (to : ℕ). p < slid image to) end (reached-last c.plan_laws.ensures image valid d c.args.from p c.args.self.now.after_prefix r.own r.within r.last l (omega (arith, m, long)) n) in
     record {
       same = same_target c.args.target.now;
       now = shows_moved image valid d c.args.target.now.words long
-          (region-none image valid.live_list d c.first_from-first.result c.span-last.result.end c.args.target.now.words first c.in_default.ensures.first reached (shows at));
+          (region-none c.plan_laws.ensures image valid.live_list d c.first_from-first.result c.span-last.result.end c.args.target.now.words first c.in_default.ensures.first reached (shows at));
     }

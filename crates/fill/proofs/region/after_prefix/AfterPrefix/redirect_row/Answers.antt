@@ -47,16 +47,16 @@ module _ (c : After-from) where
   whole = omega (arith, block.long, c.args.self.now.site.start, c.args.self.now.site.end)
 
   found : (a : ℕ) × IsMovedTo image at a
-  found = object-at image sound at (omega (arith, low, c.args.self.now.site.start, c.args.self.now.after_prefix)) below.0 c.loop-at.invariant.between
+  found = object-at c.plan_laws.ensures image sound at (omega (arith, low, c.args.self.now.site.start, c.args.self.now.after_prefix)) below.0 c.loop-at.invariant.between
 
   size_is : (a : ℕ) → IsMovedTo image at a → c.from.result ≡ size_at image a
-  size_is a on = header-size image sound a start at c.get-header.result c.from.result c.loop-at.target.words on low (omega (arith, whole, below.1)) c.loop-at.invariant.split c.get-header.ensures (c.from.ensures ∙ c.size.ensures)
+  size_is a on = header-size c.plan_laws.ensures image sound a start at c.get-header.result c.from.result c.loop-at.target.words on low (omega (arith, whole, below.1)) c.loop-at.invariant.split c.get-header.ensures (c.from.ensures ∙ c.size.ensures)
 
   behind_object : new_address image found.0 + size_at image found.0 ≡ at + c.from.result
   behind_object = let goes = found.1.place in let size = size_is found.0 found.1 in omega arith
 
   still_between : IsBetween image (at + c.from.result)
-  still_between = subst (IsBetween image) behind_object (between-end image sound found.0 found.1.object)
+  still_between = subst (IsBetween image) behind_object (between-end c.plan_laws.ensures image sound found.0 found.1.object)
 
 pub loop-at-init : goal.loop-at-init
 loop-at-init c = record { low = c.requires.low; between = c.requires.between; split = c.requires.split; same = same_target c.args.target.now }
@@ -83,7 +83,7 @@ redirect_object-requires-clause-object c =
       early = λ a on. (
           let size : c.from.result ≡ size_at site.guide.now a = size_is read a on in
           let goes : c.loop-at.at ≡ new_address site.guide.now a = on.place in
-          deferred-not site.guide.now (sound read) site.region a on.object (omega (arith, low read, site.start)) (omega (arith, site.end)));
+          deferred-not c.plan_laws.ensures site.guide.now (sound read) site.region a on.object (omega (arith, low read, site.start)) (omega (arith, site.end)));
       high = λ a on. (let size : c.from.result ≡ size_at site.guide.now a = size_is read a on in omega arith);
     }
 
@@ -102,7 +102,7 @@ loop-at-smaller-then-next-span c =
     let image : HeapImage = c.args.self.now.site.guide.now in
     let test : c.loop-at.at < c.min-limit.result = c.loop-at-test.true in
     let size : c.from.result ≡ size_at image (found read).0 = size_is read (found read).0 (found read).1 in
-    let sizes = object_size image (sound read) (found read).0 (found read).1.object in
+    let sizes = object_size c.plan_laws.ensures image (sound read) (found read).0 (found read).1.object in
     let some : 0 < size_at image (found read).0 = sizes.0 in
     let smaller : c.min-limit.result - (c.loop-at.at + c.from.result) < c.min-limit.result - c.loop-at.at = omega arith in
     smaller
@@ -134,11 +134,11 @@ loop-at-preserved c =
     let goes : at ≡ new_address image a = on.place in
     let under : at < site.span.end = (below read).1 in
     let over : site.span.end < at + c.from.result = omega (arith, c.if-next-span.false) in
-    let late = deferred-over image (sound read) site.region a on.object (omega (arith, h.low, site.start)) (omega (arith, site.end)) (omega (arith, site.end)) in
+    let late = deferred-over c.plan_laws.ensures image (sound read) site.region a on.object (omega (arith, h.low, site.start)) (omega (arith, site.end)) (omega (arith, site.end)) in
     record {
       low = omega (arith, h.low);
       between = still_between read;
-      split = subst (λ (n : ℕ). IsSplitAt (moved_word image) (copied_word image) site.span.start c.loop-at.target.words (at + n)) (sym size) (object-late image (sound read) a site.span.start at c.loop-at.target.words on.object late goes h.split);
+      split = subst (λ (n : ℕ). IsSplitAt (moved_word image) (copied_word image) site.span.start c.loop-at.target.words (at + n)) (sym size) (object-late c.plan_laws.ensures image (sound read) a site.span.start at c.loop-at.target.words on.object late goes h.split);
       same = h.same;
     }
 
@@ -154,5 +154,5 @@ returns c =
     let past : c.min-limit.result ≤ at = c.loop-at-test.false in
     let top : c.new_top.result ≡ new_top image = c.new_top.ensures ∙ ap new_top c.plan.ensures in
     let end : ℕ = max at (site.span.start + length c.loop-at.target.words) in
-    let rest = split_skip (moved_word image) (copied_word image) site.span.start c.loop-at.target.words at end h.split (omega arith) (λ p l less k. moved-top image sound p (omega (arith, block.long, site.start, site.end))) in
+    let rest = split_skip (moved_word image) (copied_word image) site.span.start c.loop-at.target.words at end h.split (omega arith) (λ p l less k. moved-top c.plan_laws.ensures image sound p (omega (arith, block.long, site.start, site.end))) in
     record { same = h.same; now = split_all (moved_word image) (copied_word image) site.span.start c.loop-at.target.words end rest (omega arith) }

@@ -1,7 +1,6 @@
 use Rattle.std.proofs.Common.{◌≡◌, ◌+◌, ◌-◌, ◌≤◌, ◌<◌, ℕ, List, min, true, false, sym, ◌∙◌, ap, subst, arith}
 use Rattle.heap_image.specs.HeapImage.{HeapImage, HasLiveList, word_at, region_words, start_of}
 use Rattle.summary.specs.WordMoves.{slid, reads}
-use Rattle.summary.proofs.Lemmas.Words.{slid-le}
 use Rattle.fill.specs.WordBlocks.{IsSplitAt, Shows}
 use Rattle.fill.specs.CopiedWords.{copied_word, written_to}
 use Rattle.fill.specs.Targets.{IsBlockOf}
@@ -47,7 +46,7 @@ returns-then-not-reads_itself c =
     let behind = c.args.self.now.after_prefix in
     let unread : reads image d d ≡ false = sym c.reads_itself.ensures ∙ c.if-not-reads_itself.true in
     copied_from image d d site.span.start site.span.start c.args.target.now c.args.target.now site.start (block at) (same_target c.args.target.now) (split at)
-    (site.start ∙ sym (written_to-own image sound d) ∙ written_to-skip image sound d d behind behind (region_fits image valid d site.inside) unread)
+    (site.start ∙ sym (written_to-own c.plan_laws.ensures image sound d) ∙ written_to-skip c.plan_laws.ensures image sound d d behind behind (region_fits image valid d site.inside) unread)
 
 pub first_from-from-requires-clause-region : goal.first_from-from-requires-clause-region
 first_from-from-requires-clause-region c = record { inside = c.args.self.now.site.inside; after_prefix = c.args.self.now.after_prefix }
@@ -55,7 +54,7 @@ first_from-from-requires-clause-region c = record { inside = c.args.self.now.sit
 pub first_from-from-requires-clause-low : goal.first_from-from-requires-clause-low
 first_from-from-requires-clause-low c =
     let site = c.args.self.now.site in
-    let down = slid-le site.guide.now (start_of site.guide.now site.region) in
+    let down = c.plan_laws.ensures.slid-le site.guide.now (start_of site.guide.now site.region) in
     omega (arith, site.start)
 
 pub first_from-from-requires-clause-high : goal.first_from-from-requires-clause-high
@@ -65,8 +64,8 @@ first_from-from-requires-clause-high c =
     let sound : HasLiveList image = c.image_is_valid.ensures.live_list in
     let d : ℕ = site.region in
     let read : reads image d d ≡ true = sym c.reads_itself.ensures ∙ c.if-not-reads_itself.false in
-    let on = written_to-read image sound d d c.args.self.now.after_prefix read in
-    let own = written_to-own image sound d in
+    let on = written_to-read c.plan_laws.ensures image sound d d c.args.self.now.after_prefix read in
+    let own = written_to-own c.plan_laws.ensures image sound d in
     let high : written_to image (start_of image d) (start_of image d) ≤ slid image (start_of image d + region_words image) = on.1 in
     omega (arith, site.start)
 
@@ -89,7 +88,7 @@ loop-from-init c =
 pub slide-requires-clause-downward : goal.slide-requires-clause-downward
 slide-requires-clause-downward c =
     let image : HeapImage = c.args.self.now.site.guide.now in
-    let down = slid-le image c.loop-from.from in
+    let down = c.plan_laws.ensures.slid-le image c.loop-from.from in
     let far : c.loop-from.from ≤ c.next_run-run.result.begin = c.next_run-run.ensures.after in
     let h : c.loop-from.to ≡ slid image c.loop-from.from = c.loop-from.invariant.place in
     omega arith
@@ -120,12 +119,12 @@ loop-from-preserved c =
     let far : c.loop-from.from ≤ a = r.after in
     let live = λ (q : ℕ) (l : a ≤ q) (m : q < a + n). (let below : q < c.next_run-run.result.end = omega arith in r.live q l below) in
     let whole : a + n ≡ c.next_run-run.result.end = omega arith in
-    let past = slid-past image c.loop-from.from a n c.loop-from.to h.after_prefix far h.place r.dead live in
-    let down = slid-le image a in
+    let past = slid-past c.plan_laws.ensures image c.loop-from.from a n c.loop-from.to h.after_prefix far h.place r.dead live in
+    let down = c.plan_laws.ensures.slid-le image a in
     let now = still_block image c.args.target.now c.loop-from.target (block at) h.same in
     let written = written_on image (copied_word image) (word_at image) site.span.start (c.loop-from.to + n) c.args.target.now c.loop-from.target c.slide.new.self _ (block at) h.same
     c.slide.ensures.value c.slide.ensures.length
-    (split_slide image sound site.span.start c.loop-from.target.words a n c.loop-from.to h.split (omega arith) past.0 live (omega arith) (omega (arith, now.long, site.start, site.end))) in
+    (split_slide c.plan_laws.ensures image sound site.span.start c.loop-from.target.words a n c.loop-from.to h.split (omega arith) past.0 live (omega arith) (omega (arith, now.long, site.start, site.end))) in
     record {
       after = omega arith;
       inside = omega arith;
@@ -145,9 +144,9 @@ returns c =
     let d : ℕ = site.region in
     let h = c.loop-from.invariant in
     let read : reads image d d ≡ true = sym c.reads_itself.ensures ∙ c.if-not-reads_itself.false in
-    let on = written_to-read image sound d d c.args.self.now.after_prefix read in
+    let on = written_to-read c.plan_laws.ensures image sound d d c.args.self.now.after_prefix read in
     let new : written_to image (start_of image d) (start_of image d + region_words image) ≡ min (start_of image d + region_words image) (slid image (start_of image d + region_words image)) = on.2 in
-    let down = slid-le image (start_of image d + region_words image) in
+    let down = c.plan_laws.ensures.slid-le image (start_of image d + region_words image) in
     let past : site.span.end ≤ c.loop-from.from = c.loop-from-test.false in
     let last : c.loop-from.from ≡ start_of image d + region_words image = omega (arith, h.inside, site.end) in
     let end : c.loop-from.to ≡ slid image (start_of image d + region_words image) = h.place ∙ ap (slid image) last in

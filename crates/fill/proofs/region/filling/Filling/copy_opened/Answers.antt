@@ -31,7 +31,7 @@ returns-clause-more g c =
     let ordered = c.requires.next.ordered in
     let copied = subst (λ (s : Site). Becomes (IsCopied s.guide.now s.region (c.source-s.result + 1) c.copy_source-end.result) c.args.target.now c.copy_source-end.new.target) same c.copy_source-end.ensures in
     let number : c.source-s.result ≡ c.args.opening.source = c.source-s.ensures in
-    written_to-more site.guide.now c.image_is_valid.ensures site.region c.args.from (c.source-s.result + 1) c.args.to c.copy_source-end.result
+    written_to-more c.plan_laws.ensures site.guide.now c.image_is_valid.ensures site.region c.args.from (c.source-s.result + 1) c.args.to c.copy_source-end.result
     site.inside (omega (arith, site.start)) (omega arith) (omega arith) c.requires.copied.place copied.now.place
 
 pub returns-clause-copied : goal.returns-clause-copied

@@ -29,6 +29,14 @@ after_prefix-place-requires g c = omega arith
 pub slide_own-to-requires : goal.slide_own-to-requires
 slide_own-to-requires g c = subst (λ (s : Site). IsUnwritten s.guide.now s.region c.args.target.now) (sym c.after_prefix-place.ensures) c.requires.target
 
+pub open-requires : goal.open-requires
+open-requires g c =
+    let site = c.args.self.now.site in
+    let i = c.loop-opening.invariant in
+    let regions = c.moves_of_images.ensures.regions site.guide.now in
+    let inside : c.loop-opening.ticket.region < table_regions (image_table site.guide.now) = omega (arith, i.region, site.inside, regions) in
+    subst (λ (p : HeapImage). c.loop-opening.ticket.region < table_regions (image_table p)) (sym c.plan.ensures) inside
+
 pub copy_opened-requires-clause-next : goal.copy_opened-requires-clause-next
 copy_opened-requires-clause-next g c =
     let site = c.args.self.now.site in
@@ -38,7 +46,7 @@ copy_opened-requires-clause-next g c =
     let o = c.in-Some.ensures in
     let s : ℕ = c.in-Some.opening.source in
     let law = c.moves_of_images.ensures.reads image valid in
-    let read = opened_source image valid law c.plan.result.now c.plan.ensures site.region c.loop-opening.ticket.region i.region s o.reads.2 in
+    let read = opened_source image valid law c.plan.result.now c.plan.ensures site.region c.loop-opening.ticket.region i.region c.plan_laws.ensures s o.reads.2 in
     let unread = skipped_sources image valid law c.plan.result.now c.plan.ensures site.region c.loop-opening.ticket.region i.region c.loop-opening.ticket.next s o.least in
     let above : site.region < s = read.2 in
     let low : c.loop-opening.ticket.next ≤ s = o.reads.1 in
@@ -113,7 +121,7 @@ loop-opening-preserved g c =
     let old = desk.caller c.loop-opening.seat in
     let new = desk.caller c.drain.new.seat in
     let law = c.moves_of_images.ensures.reads image valid in
-    let read = opened_source image valid law c.plan.result.now c.plan.ensures d t.region i.region s o.reads.2 in
+    let read = opened_source image valid law c.plan.result.now c.plan.ensures d t.region i.region c.plan_laws.ensures s o.reads.2 in
     let skipped = skipped_sources image valid law c.plan.result.now c.plan.ensures d t.region i.region t.next s o.least in
     let moved : desk.moves c.args.self.now.desk.now ≡ image_table c.plan.result.now = c.args.self.now.moves ∙ ap image_table (sym c.plan.ensures) in
     let skipped_moves = subst (λ (m : MoveTable). (q : ℕ) → t.next ≤ q → q < s → reads m t.region q ≡ false) (sym moved) o.least in

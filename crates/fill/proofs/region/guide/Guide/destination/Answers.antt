@@ -11,4 +11,4 @@ returns c =
     let valid : IsValid image = subst IsValid c.self.view_is c.planned_image_is_valid.ensures in
     let fits = region_fits image valid r c.requires.inside in
     let told = c.region.ensures ∙ ap (λ i. region_data i r) c.self.view_is in
-    ap (λ d. d.destination) told ∙ destination-slid image valid r c.requires.after_prefix (omega arith)
+    ap (λ d. d.destination) told ∙ destination-slid c.plan_laws.ensures image valid r c.requires.after_prefix (omega arith)

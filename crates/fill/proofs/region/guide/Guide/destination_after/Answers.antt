@@ -2,7 +2,6 @@ use Rattle.std.proofs.Common.{◌≡◌, ◌+◌, ◌≤◌, ℕ, ◌∙◌, ap,
 use Rattle.heap_image.specs.HeapImage.{HeapImage, IsValid, heap_words, region_words, start_of}
 use Rattle.summary.specs.WordMoves.{slid}
 use Rattle.summary.specs.RegionData.{region_data, partial_words, own_words}
-use Rattle.summary.proofs.Lemmas.Words.{slid-le, live_words-le}
 use Rattle.fill.proofs.Lemmas.Slides.{slid-from}
 use Rattle.fill.proofs.Lemmas.WrittenTo.{region_fits}
 use Rattle.fill.proofs.region.guide.Guide.destination_after.Goals as goal
@@ -18,7 +17,7 @@ sum_is c =
     let own : c.from-2.result ≡ own_words image r = c.from-2.ensures ∙ ap (λ d. d.live) told in
     let counted = c.region_data_by_words.ensures.counted image valid.live_list r in
     let goes : c.destination.result ≡ slid image (start_of image r) = c.destination.ensures in
-    let all = slid-from image (start_of image r) (start_of image r + region_words image) c.requires.after_prefix (omega arith) in
+    let all = slid-from c.plan_laws.ensures image (start_of image r) (start_of image r + region_words image) c.requires.after_prefix (omega arith) in
     omega arith
 
 pub overflow_add-result : goal.overflow_add-result
@@ -28,12 +27,12 @@ overflow_add-result c =
     let valid : IsValid image = subst IsValid c.self.view_is c.planned_image_is_valid.ensures in
     let fits = region_fits image valid r c.requires.inside in
     let few : heap_words image ≤ 68719476736 = valid.limits.few_words in
-    let down = slid-le image (start_of image r) in
+    let down = c.plan_laws.ensures.slid-le image (start_of image r) in
     let goes : c.destination.result ≡ slid image (start_of image r) = c.destination.ensures in
     let told = c.region-data.ensures ∙ ap (λ i. region_data i r) c.self.view_is in
     let partial : c.from.result ≡ partial_words image r = c.from.ensures ∙ ap (λ d. d.partial) told in
     let counted = c.region_data_by_words.ensures.counted image valid.live_list r in
-    let most = live_words-le image (start_of image r) (start_of image r + region_words image) in
+    let most = c.plan_laws.ensures.live_words-le image (start_of image r) (start_of image r + region_words image) in
     omega arith
 
 pub overflow_add-result-2 : goal.overflow_add-result-2
@@ -42,7 +41,7 @@ overflow_add-result-2 c =
     let valid : IsValid image = subst IsValid c.self.view_is c.planned_image_is_valid.ensures in
     let fits = region_fits image valid c.args.r c.requires.inside in
     let few : heap_words image ≤ 68719476736 = valid.limits.few_words in
-    let down = slid-le image (start_of image c.args.r + region_words image) in
+    let down = c.plan_laws.ensures.slid-le image (start_of image c.args.r + region_words image) in
     let sum = sum_is c in
     omega arith
 

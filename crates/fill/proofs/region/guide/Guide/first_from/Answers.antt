@@ -17,7 +17,7 @@ loop-place-smaller c =
     let high = c.requires.high in
     let end : slid image c.span-span.result.end ≡ slid image (start_of image c.args.r + region_words image) = ap (slid image) c.span-span.ensures.end in
     let behind : c.span-span.result.start ≤ c.loop-place.at = h.after in
-    let still = slid-gap image c.loop-place.at b (omega arith) far r.dead in
+    let still = slid-gap c.plan_laws.ensures image c.loop-place.at b (omega arith) far r.dead in
     elim (cases_lt b c.span-span.result.end) [
       | inl less ↦ let some : b < c.next_run-run.result.end = r.some less in omega arith
       | inr more ↦
@@ -43,8 +43,8 @@ loop-place-preserved c =
     let low = c.requires.region.after_prefix in
     let begin = c.span-span.ensures.start in
     let behind : c.span-span.result.start ≤ c.loop-place.at = h.after in
-    let still = slid-gap image c.loop-place.at a (omega arith) far r.dead in
-    let on_run = slid-run image a n (omega arith) (λ q l m. (let below : q < c.next_run-run.result.end = omega arith in r.live q l below)) in
+    let still = slid-gap c.plan_laws.ensures image c.loop-place.at a (omega arith) far r.dead in
+    let on_run = slid-run c.plan_laws.ensures image a n (omega arith) (λ q l m. (let below : q < c.next_run-run.result.end = omega arith in r.live q l below)) in
     record { after = omega arith; inside = omega arith; place = omega arith; low = omega arith }
 
 pub loop-place-init : goal.loop-place-init

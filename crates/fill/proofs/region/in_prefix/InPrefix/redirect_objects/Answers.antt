@@ -4,8 +4,6 @@ use Rattle.heap_image.specs.HeapImage.{HeapImage, HasLiveList, heap_words, regio
 use Rattle.summary.specs.NewAddresses.{prefix_end, new_address, new_top}
 use Rattle.summary.specs.WordMoves.{slid}
 use Rattle.summary.specs.Compaction.{moved_word}
-use Rattle.summary.proofs.Lemmas.Words.{slid-low}
-use Rattle.summary.proofs.Lemmas.Regions.{prefix_region}
 use Rattle.fill.specs.WordBlocks.{IsSplitAt}
 use Rattle.fill.specs.CopiedWords.{copied_word}
 use Rattle.fill.specs.Targets.{SameTarget, IsBlockOf}
@@ -44,10 +42,10 @@ module _ (c : In-Some) where
   next = c.in-Some.ensures.first
 
   kept : end ≤ prefix_end image
-  kept = omega (arith, c.args.self.now.site.end, prefix_region image d c.args.self.now.in_prefix)
+  kept = omega (arith, c.args.self.now.site.end, c.plan_laws.ensures.prefix_region image d c.args.self.now.in_prefix)
 
   goes : a ≡ new_address image a
-  goes = stays image sound a next.object (omega (arith, kept, c.in-Some.ensures.below))
+  goes = stays c.plan_laws.ensures image sound a next.object (omega (arith, kept, c.in-Some.ensures.below))
 
   block : IsBlockOf image c.loop-a.target
   block = still_block image c.args.target.now c.loop-a.target c.requires.target c.loop-a.invariant.same
@@ -56,7 +54,7 @@ module _ (c : In-Some) where
   whole = omega (arith, block.long, c.args.self.now.site.start, c.args.self.now.site.end)
 
   on : IsSplitAt (moved_word image) (copied_word image) start words a × (get_or words (a - start) 0 ≡ word_at image a) × (start ≤ a)
-  on = region-header image sound c.loop-a.from a start a words c.loop-a.invariant.passed next c.loop-a.invariant.split goes c.loop-a.invariant.low (omega (arith, whole, c.in-Some.ensures.below))
+  on = region-header c.plan_laws.ensures image sound c.loop-a.from a start a words c.loop-a.invariant.passed next c.loop-a.invariant.split goes c.loop-a.invariant.low (omega (arith, whole, c.in-Some.ensures.below))
 
   low : start ≤ a
   low = on.2
@@ -67,11 +65,11 @@ loop-a-init c =
     let sound : HasLiveList image = c.image_is_valid.ensures.live_list in
     let start : ℕ = c.args.self.now.site.span.start in
     let at : start ≡ start_of image c.args.self.now.site.region = c.args.self.now.site.start in
-    let place : slid image start ≡ start = slid-low image start (omega (arith, at, c.args.self.now.in_prefix)) in
+    let place : slid image start ≡ start = c.plan_laws.ensures.slid-low image start (omega (arith, at, c.args.self.now.in_prefix)) in
     record {
       in_heap = omega (arith, c.args.self.now.site.in_heap, at, c.args.self.now.site.end);
       low = omega arith;
-      passed = passed-start image sound c.args.self.now.site.region start (place ∙ at);
+      passed = passed-start c.plan_laws.ensures image sound c.args.self.now.site.region start (place ∙ at);
       split = subst (IsSplitAt (moved_word image) (copied_word image) start c.args.target.now.words) (sym place) (split_none (moved_word image) (copied_word image) start c.args.target.now.words c.requires.copied);
       same = same_target c.args.target.now;
     }
@@ -91,14 +89,14 @@ redirect_object-requires-clause-object c =
     let site = c.args.self.now.site in
     let image : HeapImage = site.guide.now in
     let size_is = λ (b : ℕ) (is : IsMovedTo image c.in-Some.a b). (
-    header-size image (sound at) b site.span.start c.in-Some.a c.get-header.result c.from-words.result c.loop-a.target.words is (low at) (omega (arith, whole at, c.in-Some.ensures.below)) (on at).0 c.get-header.ensures (c.from-words.ensures ∙ c.size.ensures)) in
+    header-size c.plan_laws.ensures image (sound at) b site.span.start c.in-Some.a c.get-header.result c.from-words.result c.loop-a.target.words is (low at) (omega (arith, whole at, c.in-Some.ensures.below)) (on at).0 c.get-header.ensures (c.from-words.ensures ∙ c.size.ensures)) in
     let fits : c.in-Some.a + c.from-words.result ≤ site.span.end = c.if-a-words.true in
     record {
       object = (c.in-Some.a, record { object = (next at).object; place = goes at });
       early = λ b is. (
           let size : c.from-words.result ≡ size_at image b = size_is b is in
           let place : c.in-Some.a ≡ new_address image b = is.place in
-          deferred-not image (sound at) site.region b is.object (omega (arith, low at, site.start)) (omega (arith, site.end)));
+          deferred-not c.plan_laws.ensures image (sound at) site.region b is.object (omega (arith, low at, site.start)) (omega (arith, site.end)));
       high = λ b is. (let size : c.from-words.result ≡ size_at image b = size_is b is in omega arith);
     }
 
@@ -116,7 +114,7 @@ loop-a-smaller c =
     let at = (goal.at.loop-a-smaller c).In-Some in
     let image : HeapImage = c.args.self.now.site.guide.now in
     let size : c.from-words.result ≡ size_at image c.in-Some.a = c.from-words.ensures ∙ c.size.ensures ∙ ap size_of (c.get-header.ensures ∙ (on at).1) in
-    let sizes = object_size image (sound at) c.in-Some.a (next at).object in
+    let sizes = object_size c.plan_laws.ensures image (sound at) c.in-Some.a (next at).object in
     let some : 0 < size_at image c.in-Some.a = sizes.0 in
     let end : end_of image c.in-Some.a ≤ heap_words image = sizes.1 in
     let far : c.loop-a.from ≤ c.in-Some.a = (next at).after in
@@ -134,18 +132,18 @@ loop-a-preserved c =
     let under = low at in
     let object = (next at).object in
     let size : c.from-words.result ≡ size_at image a = c.from-words.ensures ∙ c.size.ensures ∙ ap size_of (c.get-header.ensures ∙ (on at).1) in
-    let sizes = object_size image (sound at) a object in
+    let sizes = object_size c.plan_laws.ensures image (sound at) a object in
     let fits : end_of image a ≤ heap_words image = sizes.1 in
     let end : a + c.from-words.result ≡ end_of image a = ap (λ n. a + n) size in
-    let behind : slid image (a + c.from-words.result) ≡ a + size_at image a = ap (slid image) end ∙ object_end image (sound at) a object ∙ ap (λ n. n + size_at image a) (sym (goes at)) in
+    let behind : slid image (a + c.from-words.result) ≡ a + size_at image a = ap (slid image) end ∙ object_end c.plan_laws.ensures image (sound at) a object ∙ ap (λ n. n + size_at image a) (sym (goes at)) in
     let step : IsSplitAt (moved_word image) (copied_word image) start c.if-a-words.target.words (a + size_at image a) = elim c.if-a-words.branch [
       | then-a-words w ↦ subst (λ (xs : List ℕ). IsSplitAt (moved_word image) (copied_word image) start xs (a + size_at image a)) (sym (ap (λ t. t.words) w.target-is)) (w.redirect_object.ensures.now a (record { object = object; place = goes at }))
       | else-a-words w ↦
           let over : site.span.end < a + c.from-words.result = w.if-a-words.false in
           let below : a < site.span.end = c.in-Some.ensures.below in
           let to = goes at in
-          let late = deferred-over image (sound at) site.region a object (omega (arith, site.start)) (omega (arith, site.end)) (omega (arith, site.end)) in
-          subst (λ (xs : List ℕ). IsSplitAt (moved_word image) (copied_word image) start xs (a + size_at image a)) (sym (ap (λ t. t.words) w.target-is)) (object-late image (sound at) a start a c.loop-a.target.words object late to (on at).0)
+          let late = deferred-over c.plan_laws.ensures image (sound at) site.region a object (omega (arith, site.start)) (omega (arith, site.end)) (omega (arith, site.end)) in
+          subst (λ (xs : List ℕ). IsSplitAt (moved_word image) (copied_word image) start xs (a + size_at image a)) (sym (ap (λ t. t.words) w.target-is)) (object-late c.plan_laws.ensures image (sound at) a start a c.loop-a.target.words object late to (on at).0)
     ] in
     let same : SameTarget c.args.target.now c.if-a-words.target = elim c.if-a-words.branch [
       | then-a-words w ↦ subst (SameTarget c.args.target.now) (sym w.target-is) (target_over c.args.target.now c.loop-a.target w.redirect_object.new.target h.same w.redirect_object.ensures.same)
@@ -154,7 +152,7 @@ loop-a-preserved c =
     record {
       in_heap = omega arith;
       low = omega arith;
-      passed = subst (IsPassed image) (sym end) (passed-object image (sound at) a object);
+      passed = subst (IsPassed image) (sym end) (passed-object c.plan_laws.ensures image (sound at) a object);
       split = subst (IsSplitAt (moved_word image) (copied_word image) start c.if-a-words.target.words) (sym behind) step;
       same = same;
     }
@@ -167,9 +165,9 @@ returns c =
     let start : ℕ = c.args.self.now.site.span.start in
     let at : start ≡ start_of image c.args.self.now.site.region = c.args.self.now.site.start in
     let end : c.args.self.now.site.span.end ≡ start_of image c.args.self.now.site.region + region_words image = c.args.self.now.site.end in
-    let kept : start_of image c.args.self.now.site.region + region_words image ≤ prefix_end image = prefix_region image c.args.self.now.site.region c.args.self.now.in_prefix in
+    let kept : start_of image c.args.self.now.site.region + region_words image ≤ prefix_end image = c.plan_laws.ensures.prefix_region image c.args.self.now.site.region c.args.self.now.in_prefix in
     let block = still_block image c.args.target.now c.loop-a.target c.requires.target h.same in
     let long : length c.loop-a.target.words ≡ region_words image = block.long in
     let none : HasNoObject image c.loop-a.from c.args.self.now.site.span.end = c.in_default.ensures.first in
-    let reached = λ (p : ℕ) (l : start ≤ p) (m : p < start + length c.loop-a.target.words) (n : p < new_top image). below-kept image p c.args.self.now.site.span.end (omega arith) (omega arith) in
-    record { same = h.same; now = region-last image sound c.loop-a.from c.args.self.now.site.span.end start c.loop-a.target.words h.passed none reached h.low h.split }
+    let reached = λ (p : ℕ) (l : start ≤ p) (m : p < start + length c.loop-a.target.words) (n : p < new_top image). below-kept c.plan_laws.ensures image p c.args.self.now.site.span.end (omega arith) (omega arith) in
+    record { same = h.same; now = region-last c.plan_laws.ensures image sound c.loop-a.from c.args.self.now.site.span.end start c.loop-a.target.words h.passed none reached h.low h.split }

@@ -1,7 +1,6 @@
 use Rattle.std.proofs.Common.{◌≡◌, ◌+◌, ◌-◌, ◌≤◌, ◌<◌, ℕ, List, inl, inr, sym, subst, arith}
 use Rattle.std.proofs.lemmas.Bool.{cases_lt}
 use Rattle.heap_image.specs.HeapImage.{HeapImage, HasLiveList, region_words, start_of, word_at}
-use Rattle.summary.proofs.Lemmas.Regions.{prefix_region}
 use Rattle.fill.specs.WordBlocks.{Shows}
 use Rattle.fill.specs.CopiedWords.{copied_word}
 use Rattle.fill.proofs.Lemmas.Targets.{same_target, target_over, still_block, unwritten_block}
@@ -54,13 +53,13 @@ loop-at-preserved c =
     let on : c.loop-at.at ≤ c.next_run-run.result.begin = r.after in
     let up : c.next_run-run.result.begin ≤ c.next_run-run.result.end = r.ordered in
     let within : c.next_run-run.result.end ≤ c.args.self.now.site.span.end = r.within in
-    let fits = prefix_region image c.args.self.now.site.region c.args.self.now.in_prefix in
+    let fits = c.plan_laws.ensures.prefix_region image c.args.self.now.site.region c.args.self.now.in_prefix in
     let long : c.args.self.now.site.span.end ≡ start_of image c.args.self.now.site.region + region_words image = c.args.self.now.site.end in
     let low : start ≤ c.loop-at.at = h.low in
     record {
       low = omega arith;
       high = omega arith;
-      split = split_stays image sound start c.write_gap.new.target.words c.next_run-run.result.begin c.next_run-run.result.end c.write_gap.ensures.now up (omega arith) (λ q l m. r.live q l m);
+      split = split_stays c.plan_laws.ensures image sound start c.write_gap.new.target.words c.next_run-run.result.begin c.next_run-run.result.end c.write_gap.ensures.now up (omega arith) (λ q l m. r.live q l m);
       same = target_over c.args.target.now c.loop-at.target c.write_gap.new.target h.same c.write_gap.ensures.same;
     }
 

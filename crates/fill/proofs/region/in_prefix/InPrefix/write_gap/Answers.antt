@@ -4,15 +4,12 @@ use Rattle.heap_image.specs.Header.{filler_header}
 use Rattle.heap_image.specs.HeapImage.{HeapImage, HasLiveList, heap_words, word_at, is_live_word}
 use Rattle.summary.specs.NewAddresses.{prefix_end}
 use Rattle.summary.specs.Fillers.{filler_limit, may_begin_filler}
-use Rattle.summary.proofs.Lemmas.Addresses.{prefix_end-le}
-use Rattle.summary.proofs.Lemmas.Fillers.{region_in_stride}
-use Rattle.summary.proofs.Lemmas.Regions.{prefix_region}
 use Rattle.raw_region.specs.Region.{with_words}
 use Rattle.fill.specs.WordBlocks.{IsSplitAt}
 use Rattle.fill.specs.CopiedWords.{copied_word}
 use Rattle.fill.proofs.Lemmas.Targets.{same_target, target_over, target_kept, still_block}
 use Rattle.fill.proofs.Lemmas.Writing.{split_set}
-use Rattle.fill.proofs.Lemmas.Gaps.{copied-first, copied-rest, copied-behind, split_zero}
+use Rattle.fill.proofs.Lemmas.Gaps.{region_in_stride, copied-first, copied-rest, copied-behind, split_zero}
 use Rattle.fill.proofs.region.in_prefix.InPrefix.write_gap.Goals as goal
 
 -- words that are dead up to an address and from there on are dead
@@ -54,10 +51,10 @@ returns-then-may_begin_filler c =
     let dead = dead_to_end image at stop end r.dead c.filler_end-end.ensures.dead in
     let high : stop ≤ start + length xs = omega (arith, r.high, r.target.long, c.args.self.now.site.start, c.args.self.now.site.end) in
     let begins : may_begin_filler image at ≡ true = sym c.may_begin_filler.ensures ∙ c.if-may_begin_filler.true in
-    let header : copied_word image at ≡ filler_header (end - at) = copied-first image sound at end (omega arith) limit dead c.filler_end-end.ensures.live begins in
+    let header : copied_word image at ≡ filler_header (end - at) = copied-first c.plan_laws.ensures image sound at end (omega arith) limit dead c.filler_end-end.ensures.live begins in
     let one = split_set (copied_word image) (word_at image) start xs at w r.split low (omega arith) (c.filler.ensures ∙ sym header) in
     let long = length-set xs (at - start) w in
-    let two = split_zero image sound start (set xs (at - start) w) (at + 1) (stop - at - 1) one (omega arith) (omega arith) (λ q l m. copied-behind image sound at end q up near dead (omega arith) (omega arith)) in
+    let two = split_zero c.plan_laws.ensures image sound start (set xs (at - start) w) (at + 1) (stop - at - 1) one (omega arith) (omega arith) (λ q l m. copied-behind c.plan_laws.ensures image sound at end q up near dead (omega arith) (omega arith)) in
     let i : at + 1 - start ≡ at - start + 1 = omega arith in
     let p : at + 1 + (stop - at - 1) ≡ stop = omega arith in
     let now = subst (λ (ys : List ℕ). IsSplitAt (copied_word image) (word_at image) start ys stop) (sym (ap (λ t. t.words) c.fill.ensures.value ∙ ap (λ (t : List ℕ). with_words t (c.args.at - c.args.self.now.site.span.start + 1) (replicate (c.args.stop - c.args.at - 1) 0)) (ap (λ t. t.words) c.set.ensures.value)))
@@ -79,16 +76,16 @@ returns-else-may_begin_filler c =
     let xs : List ℕ = c.args.target.now.words in
     let low : start ≤ at = r.low in
     let less : at < stop = omega arith in
-    let up : stop ≤ prefix_end image = omega (arith, r.high, c.args.self.now.site.end, prefix_region image c.args.self.now.site.region c.args.self.now.in_prefix) in
+    let up : stop ≤ prefix_end image = omega (arith, r.high, c.args.self.now.site.end, c.plan_laws.ensures.prefix_region image c.args.self.now.site.region c.args.self.now.in_prefix) in
     let high : stop ≤ start + length xs = omega (arith, r.high, r.target.long, c.args.self.now.site.start, c.args.self.now.site.end) in
     let near = near_end image image.region_log c.args.self.now.site.region start c.args.self.now.site.span.end at stop refl c.image_is_valid.ensures.limits.region_log_high c.args.self.now.site.start c.args.self.now.site.end low less r.high in
     let rest : may_begin_filler image at ≡ false = sym c.may_begin_filler.ensures ∙ c.if-may_begin_filler.false in
     let zeros = λ (q : ℕ) (l : at ≤ q) (m : q < at + (stop - at)). (
     let out : copied_word image q ≡ 0 = elim (cases_eq q at) [
-      | inl same ↦ ap (copied_word image) same ∙ copied-rest image sound at (omega arith) (r.dead at (omega arith) (omega arith)) rest
-      | inr other ↦ copied-behind image sound at stop q up near r.dead (omega arith) (omega arith)
+      | inl same ↦ ap (copied_word image) same ∙ copied-rest c.plan_laws.ensures image sound at (omega arith) (r.dead at (omega arith) (omega arith)) rest
+      | inr other ↦ copied-behind c.plan_laws.ensures image sound at stop q up near r.dead (omega arith) (omega arith)
     ] in out) in
-    let two = split_zero image sound start xs at (stop - at) r.split low (omega arith) zeros in
+    let two = split_zero c.plan_laws.ensures image sound start xs at (stop - at) r.split low (omega arith) zeros in
     let p : at + (stop - at) ≡ stop = omega arith in
     let now = subst (λ (ys : List ℕ). IsSplitAt (copied_word image) (word_at image) start ys stop) (sym (ap (λ t. t.words) c.fill-else-may_begin_filler.ensures.value))
     (subst (IsSplitAt (copied_word image) (word_at image) start (with_words xs (at - start) (replicate (stop - at) 0))) p two) in
@@ -96,8 +93,8 @@ returns-else-may_begin_filler c =
 
 pub may_begin_filler-requires : goal.may_begin_filler-requires
 may_begin_filler-requires c =
-    let low = prefix_end-le c.args.self.now.site.guide.now c.image_is_valid.ensures.live_list in
-    omega (arith, c.args.self.now.site.end, prefix_region c.args.self.now.site.guide.now c.args.self.now.site.region c.args.self.now.in_prefix, c.requires.ordered, c.requires.high)
+    let low = c.plan_laws.ensures.prefix_end-le c.args.self.now.site.guide.now c.image_is_valid.ensures.live_list in
+    omega (arith, c.args.self.now.site.end, c.plan_laws.ensures.prefix_region c.args.self.now.site.guide.now c.args.self.now.site.region c.args.self.now.in_prefix, c.requires.ordered, c.requires.high)
 
 pub returns-then-at-stop : goal.returns-then-at-stop
 returns-then-at-stop c =
@@ -108,7 +105,7 @@ returns-then-at-stop c =
 pub filler_end-end-requires-clause-below : goal.filler_end-end-requires-clause-below
 filler_end-end-requires-clause-below c =
     let site = c.args.self.now.site in
-    omega (arith, site.end, prefix_region site.guide.now site.region c.args.self.now.in_prefix, c.requires.ordered, c.requires.high)
+    omega (arith, site.end, c.plan_laws.ensures.prefix_region site.guide.now site.region c.args.self.now.in_prefix, c.requires.ordered, c.requires.high)
 
 pub filler_end-end-requires-clause-reached : goal.filler_end-end-requires-clause-reached
 filler_end-end-requires-clause-reached c =
@@ -116,4 +113,4 @@ filler_end-end-requires-clause-reached c =
     let image : HeapImage = site.guide.now in
     let less : c.args.at < c.args.stop = omega arith in
     let near = near_end image image.region_log site.region site.span.start site.span.end c.args.at c.args.stop refl c.image_is_valid.ensures.limits.region_log_high site.start site.end c.requires.low less c.requires.high in
-    omega (arith, near, site.end, prefix_region site.guide.now site.region c.args.self.now.in_prefix, c.requires.high)
+    omega (arith, near, site.end, c.plan_laws.ensures.prefix_region site.guide.now site.region c.args.self.now.in_prefix, c.requires.high)

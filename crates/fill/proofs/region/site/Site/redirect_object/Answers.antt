@@ -21,7 +21,7 @@ get-requires c =
     let a : ℕ = r.object.object.0 in
     let on : IsMovedTo image c.args.at a = r.object.object.1 in
     let ends : c.args.at + size_at image a ≤ c.args.self.now.span.end = r.object.high a on in
-    let size = object_size image c.image_is_valid.ensures.live_list a on.object in
+    let size = object_size c.plan_laws.ensures image c.image_is_valid.ensures.live_list a on.object in
     let some : 0 < size_at image a = size.0 in
     let same : region_words c.args.target.now.image ≡ region_words image = ap region_words r.target.image in
     omega (arith, r.low, ends, c.args.self.now.start, c.args.self.now.end)
@@ -46,17 +46,17 @@ module _ (c : After-references-count) where
 
   count : (a : ℕ) → IsMovedTo image c.args.at a → c.references-count.result ≡ references_at image a
   count a on =
-      let size = object_size image sound a on.object in
+      let size = object_size c.plan_laws.ensures image sound a on.object in
       let some : 0 < size_at image a = size.0 in
       let end = fits a on in
       c.references-count.ensures
-      ∙ ap references_of (c.get.ensures ∙ header-read image sound a c.args.self.now.span.start c.args.at words on.object on.place c.requires.low (omega arith) c.requires.split)
+      ∙ ap references_of (c.get.ensures ∙ header-read c.plan_laws.ensures image sound a c.args.self.now.span.start c.args.at words on.object on.place c.requires.low (omega arith) c.requires.split)
 
   inside : first + 1 + c.references-count.result ≤ length words
   inside =
       let a : ℕ = c.requires.object.object.0 in
       let on : IsMovedTo image c.args.at a = c.requires.object.object.1 in
-      let size = object_size image sound a on.object in
+      let size = object_size c.plan_laws.ensures image sound a on.object in
       let less : references_at image a < size_at image a = size.2 in
       let end = fits a on in
       let low = c.requires.low in
@@ -80,9 +80,9 @@ redirect-requires-clause-sound c = λ f d l.
     let more : f < references_at g a = omega (arith, count read a on) in
     let word : get_or (part xs (first read + 1) n) f d ≡ reference_at g a f =
     get_or_default (part xs (first read + 1) n) f d 0 l ∙ get_or-part xs (first read + 1) n f few
-    ∙ reference-read g (sound read) a f c.args.self.now.span.start c.args.at xs on.object (c.requires.object.early a on) on.place c.requires.low (fits read a on) more c.requires.split in
+    ∙ reference-read c.plan_laws.ensures g (sound read) a f c.args.self.now.span.start c.args.at xs on.object (c.requires.object.early a on) on.place c.requires.low (fits read a on) more c.requires.split in
     subst (λ (m : HeapImage). is_null_or_live m (get_or (part xs (first read + 1) n) f d) ≡ true) (sym c.requires.target.image)
-    (subst (λ (w : ℕ). is_null_or_live g w ≡ true) (sym word) (reference-sound g (sound read) a f on.object more))
+    (subst (λ (w : ℕ). is_null_or_live g w ≡ true) (sym word) (reference-sound c.plan_laws.ensures g (sound read) a f on.object more))
 
 pub returns : goal.returns
 returns c =
@@ -98,7 +98,7 @@ returns c =
           ap (λ t. t.words) c.redirect.ensures.value
           ∙ ap (λ (m : HeapImage). with_words xs from (map (redirected m) (part xs from c.references-count.result))) c.requires.target.image
           ∙ ap (λ (n : ℕ). with_words xs from (map (redirected g) (part xs from n))) (count read b is) in
-          let row = object-row g (sound read) b start c.args.at xs is.object (c.requires.object.early b is) is.place c.requires.low (fits read b is) c.requires.split in
-          object-done g (sound read) b start c.args.at c.redirect.new.self.words is.object is.place
+          let row = object-row c.plan_laws.ensures g (sound read) b start c.args.at xs is.object (c.requires.object.early b is) is.place c.requires.low (fits read b is) c.requires.split in
+          object-done c.plan_laws.ensures g (sound read) b start c.args.at c.redirect.new.self.words is.object is.place
           (subst (λ (ys : List ℕ). IsSplitAt (moved_word g) (copied_word g) start ys (c.args.at + 1 + references_at g b)) (sym written) row));
     }

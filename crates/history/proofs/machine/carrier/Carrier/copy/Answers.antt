@@ -2,8 +2,6 @@ use Rattle.std.proofs.Common.{ℕ, ◌+◌, ◌<◌, ◌≤◌, length, inl, inr
 use Rattle.std.proofs.lemmas.Bool.{cases_eq}
 use Rattle.std.proofs.lemmas.List.{get_or-set_other}
 use Rattle.std.proofs.lemmas.Grind.{get_or-set_at}
-use Rattle.summary.proofs.Lemmas.Readers.{origin-up}
-use Rattle.summary.proofs.Lemmas.Steps.{top-le}
 use Rattle.heap_image.specs.HeapImage.{word_at}
 use Rattle.history.specs.Slide.{word_for}
 use Rattle.history.specs.WordMachine.{image_slide}
@@ -11,20 +9,20 @@ use Rattle.history.proofs.machine.carrier.Carrier.copy.Goals as goal
 
 pub overflow_add-place-end : goal.overflow_add-place-end
 overflow_add-place-end c =
-    let top = top-le c.args.self.now.plan.now c.requires.kept.valid.live_list in
+    let top = c.plan_laws.ensures.top-le c.args.self.now.plan.now c.requires.kept.valid.live_list in
     let few = c.requires.kept.valid.limits.few_words in
     omega arith
 
 pub word-requires-clause-stands : goal.word-requires-clause-stands
 word-requires-clause-stands c x from =
-    let up = origin-up c.args.self.now.plan.now c.requires.kept.valid.live_list c.loop-place.place x from in
+    let up = c.plan_laws.ensures.origin-up c.args.self.now.plan.now c.requires.kept.valid.live_list c.loop-place.place x from in
     let low : c.args.first ≤ c.loop-place.place = omega arith in
     let high : c.loop-place.place < c.args.first + c.args.number = let t = c.loop-place-test.true in let e = c.from.ensures in omega arith in
     c.loop-place.invariant.others x (inr up) ∙ c.requires.stands c.loop-place.place x low high from
 
 pub bounds-heap-place : goal.bounds-heap-place
 bounds-heap-place c =
-    let top = top-le c.args.self.now.plan.now c.requires.kept.valid.live_list in
+    let top = c.plan_laws.ensures.top-le c.args.self.now.plan.now c.requires.kept.valid.live_list in
     let long = c.loop-place.auto.heap in
     let long' = c.requires.long in
     let t = c.loop-place-test.true in
@@ -34,7 +32,7 @@ bounds-heap-place c =
 
 pub offset_bounds-heap-place : goal.offset_bounds-heap-place
 offset_bounds-heap-place c =
-    let top = top-le c.args.self.now.plan.now c.requires.kept.valid.live_list in
+    let top = c.plan_laws.ensures.top-le c.args.self.now.plan.now c.requires.kept.valid.live_list in
     let few = c.requires.kept.valid.limits.few_words in
     let t = c.loop-place-test.true in
     let e = c.from.ensures in

@@ -1,11 +1,10 @@
-use Rattle.std.proofs.Common.{◌≡◌, ℕ, List, [], ◌∷◌, ◌++◌, ◌∙◌, ap, sym, subst, arith}
+use Rattle.std.proofs.Common.{◌≡◌, ℕ, List, [], ◌∷◌, ◌++◌, ◌∙◌, ap, sym, subst, arith, zero-add}
+use Rattle.std.proofs.lemmas.List.FromFn.{map-range_with_len_more}
 use Rattle.std.specs.Prelude.{map, option_map}
 use Rattle.std.specs.List.{range_with_len}
 use Rattle.heap_image.specs.HeapImage.{HeapImage, IsValid, region_count}
 use Rattle.summary.specs.Compaction.{compacted_word}
 use Rattle.summary.specs.RegionData.{region_addresses}
-use Rattle.summary.proofs.Lemmas.PlainWords.{map-range-more, parts-of_blocks}
-use Rattle.summary.proofs.Lemmas.Compacted.{compact-IsValid}
 use Rattle.history.proofs.machine.carrier.Carrier.finish.Goals as goal
 
 pub loop-r-preserved : goal.loop-r-preserved
@@ -16,20 +15,20 @@ loop-r-preserved c =
     c.in_ok-push.ensures.items
     ∙ ap (λ (bs : List (List ℕ)). bs ++ c.in_ok-finished_region.field-0 ∷ []) c.loop-r.invariant
     ∙ ap (λ (b : List ℕ). map (λ r. map (compacted_word image) (region_addresses image r)) (range_with_len 0 c.loop-r.r) ++ b ∷ []) block
-    ∙ map-range-more (λ r. map (compacted_word image) (region_addresses image r)) c.loop-r.r
+    ∙ sym (map-range_with_len_more (λ r. map (compacted_word image) (region_addresses image r)) 0 c.loop-r.r c.loop-r.r (zero-add c.loop-r.r))
 
 pub into_image-requires : goal.into_image-requires
 into_image-requires c =
     let image : HeapImage = c.args.image.now in
     let valid = c.region_log.ensures.valid in
     let all : c.loop-r.r ≡ region_count image = let low = c.loop-r-test.false in let high = c.loop-r.auto.r-end in let is = c.regions-r-end.ensures.value in omega arith in
-    let parts = parts-of_blocks image c.version.result c.region_log.result c.allowance.result c.loop-r.r c.loop-r.regions.items c.in_ok-live.live.items (option_map (λ v. v.items) c.in_ok-roots.roots) valid.limits.whole_regions c.version.ensures.value c.region_log.ensures.value c.allowance.ensures c.loop-r.invariant all c.in_ok-live.ensures c.in_ok-roots.ensures in
-    record { regions = parts.0; valid = subst IsValid (sym parts.1) (compact-IsValid image valid) }
+    let parts = c.plan_laws.ensures.parts-of_blocks image c.version.result c.region_log.result c.allowance.result c.loop-r.r c.loop-r.regions.items c.in_ok-live.live.items (option_map (λ v. v.items) c.in_ok-roots.roots) valid.limits.whole_regions c.version.ensures.value c.region_log.ensures.value c.allowance.ensures c.loop-r.invariant all c.in_ok-live.ensures c.in_ok-roots.ensures in
+    record { regions = parts.0; valid = subst IsValid (sym parts.1) (c.plan_laws.ensures.compact-IsValid image valid) }
 
 pub returns : goal.returns
 returns c =
     let image : HeapImage = c.args.image.now in
     let valid = c.region_log.ensures.valid in
     let all : c.loop-r.r ≡ region_count image = let low = c.loop-r-test.false in let high = c.loop-r.auto.r-end in let is = c.regions-r-end.ensures.value in omega arith in
-    let parts = parts-of_blocks image c.version.result c.region_log.result c.allowance.result c.loop-r.r c.loop-r.regions.items c.in_ok-live.live.items (option_map (λ v. v.items) c.in_ok-roots.roots) valid.limits.whole_regions c.version.ensures.value c.region_log.ensures.value c.allowance.ensures c.loop-r.invariant all c.in_ok-live.ensures c.in_ok-roots.ensures in
+    let parts = c.plan_laws.ensures.parts-of_blocks image c.version.result c.region_log.result c.allowance.result c.loop-r.r c.loop-r.regions.items c.in_ok-live.live.items (option_map (λ v. v.items) c.in_ok-roots.roots) valid.limits.whole_regions c.version.ensures.value c.region_log.ensures.value c.allowance.ensures c.loop-r.invariant all c.in_ok-live.ensures c.in_ok-roots.ensures in
     c.into_image.ensures ∙ parts.1

@@ -2,7 +2,7 @@ use Rattle.std.proofs.Common.{ℕ, ◌*◌, ◌≤◌, ◌∙◌, ap, arith}
 use Rattle.std.specs.Prelude.{map}
 use Rattle.std.specs.List.{range_with_len}
 use Rattle.summary.specs.Compaction.{compacted_word}
-use Rattle.summary.proofs.Lemmas.PlainWords.{map-from}
+use Rattle.history.proofs.Lemmas.Regions.{map-from}
 use Rattle.history.proofs.machine.carrier.Carrier.finished_region.Goals as goal
 
 pub returns : goal.returns

@@ -25,7 +25,7 @@ pub note-requires : goal.note-requires
 note-requires c =
     let words : (w : Machine) → Tells c.args.self.now w → AllowsWords (image_slide c.args.plan.now) w c.args.event = λ w tells. (c.allows_words.ensures w tells).0 c.if-not-allows_words.false in
     subst (λ (xs : List ℕ). (d n : ℕ) → c.args.event ≡ Copy d n → (d < length xs) × (slice_index xs d + n < 2 ^ 32)) (sym c.deref_mut.ensures.value)
-    (copy_room c.args.plan.now c.planned_image_is_valid.ensures c.args.self.now.scheduler.workers c.args.self.now c.args.worker c.args.event c.requires.kept (c.allows.ensures.0 c.if-not-allows.false) words)
+    (copy_room c.plan_laws.ensures c.args.plan.now c.planned_image_is_valid.ensures c.args.self.now.scheduler.workers c.args.self.now c.args.worker c.args.event c.requires.kept (c.allows.ensures.0 c.if-not-allows.false) words)
 
 pub returns-clause-leads : goal.returns-clause-leads
 returns-clause-leads c =
@@ -33,7 +33,7 @@ returns-clause-leads c =
     let old : Ledger = c.args.self.now in
     let new : Ledger = record { scheduler = c.step.new.self; written = with_items c.args.self.now.written c.note.new.written } in
     let words : (w : Machine) → Tells old w → AllowsWords (image_slide c.args.plan.now) w c.args.event = λ w tells. (c.allows_words.ensures w tells).0 c.if-not-allows_words.false in
-    let room = copy_room image c.planned_image_is_valid.ensures old.scheduler.workers old c.args.worker c.args.event c.requires.kept (c.allows.ensures.0 c.if-not-allows.false) words in
+    let room = copy_room c.plan_laws.ensures image c.planned_image_is_valid.ensures old.scheduler.workers old c.args.worker c.args.event c.requires.kept (c.allows.ensures.0 c.if-not-allows.false) words in
     let counts : AreWrittenBy c.args.event old.written.items c.note.new.written = subst (λ (xs : List ℕ). AreWrittenBy c.args.event xs c.note.new.written) c.deref_mut.ensures.value c.note.ensures in
     let long : length c.note.new.written ≡ old.written.len = omega (arith, c.note.auto.written, ap (length {A = ℕ}) c.deref_mut.ensures.value, old.written.ok.0) in
     let items : new.written.items ≡ c.note.new.written = with_items_is old.written c.note.new.written long in

@@ -2,12 +2,17 @@ use Rattle.std.proofs.Common.{◌≡◌, Bool, true, false, [], Ok, refl, sym, a
 use Rattle.std.specs.Prelude.{not}
 use Rattle.std.proofs.lemmas.Bool.{both_ways, not-true}
 use Rattle.history.specs.Window.{rest_of}
-use Rattle.heap_image.proofs.Lemmas.Known.{consumes_more, consumes_none, refuted}
+use Rattle.history.proofs.Lemmas.KnownBytes.{consumes_more, consumes_none}
 use Rattle.history.proofs.schedule.window.Window.hold_line.Goals as goal
 
 true_of : (b : Bool) → not b ≡ false → b ≡ true
 true_of true e = refl
 true_of false e = sym e
+
+-- what would make a good answer a bad one did not hold
+refuted : (b : Bool) → (b ≡ true → false ≡ true) → b ≡ false
+refuted true h = sym (h refl)
+refuted false h = refl
 
 pub loop-self-init : goal.loop-self-init
 loop-self-init g c = record { in_range = c.requires; same = consumes_none (rest_of c.args.self.now (g.R.Intake.left c.args.source.now)); failed = refl }

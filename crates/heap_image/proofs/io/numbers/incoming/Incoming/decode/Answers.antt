@@ -1,4 +1,4 @@
-use Rattle.std.proofs.Common.{◌≡◌, ◌-◌, ◌*◌, ◌+◌, ◌++◌, take, drop, length, arith, ap, sym, ◌∙◌, length-take}
+use Rattle.std.proofs.Common.{◌≡◌, ◌*◌, ◌+◌, ◌++◌, take, drop, length, arith, ap, sym, ◌∙◌, length-take}
 use Rattle.heap_image.specs.ImageText.{numbers}
 use Rattle.std.specs.Prelude.{slice_range}
 use Rattle.heap_image.proofs.Lemmas.Reading.{slice_split}
@@ -10,9 +10,11 @@ returns-clause-bytes c =
     let n = c.min-n.result in
     let start = c.args.self.now.start in
     let end = c.args.self.now.end in
-    let bytes = c.args.self.now.bytes in
+    let bytes = c.args.self.now.bytes.now in
     let least = c.min-n.ensures in
     let range = c.requires in
-    let long : length c.read_all.new.words ≡ n = let t = length-take n c.args.words.now in c.read_all.auto.words ∙ omega arith in
+    let some = length-take n c.args.words.now in
+    let long : length c.peek.new.words ≡ n = c.peek.ensures.length ∙ omega arith in
+    let count : start + n ≡ start + length (take n c.args.words.now) = omega arith in
     slice_split bytes (8 * start) (8 * (start + n)) (8 * end) (omega arith) (omega arith)
-    ∙ ap (λ p. p ++ slice_range bytes (8 * (start + n)) (8 * end)) (ap (λ k. take k (drop (8 * start) bytes)) (let e : 8 * (start + n) - 8 * start ≡ 8 * start + 8 * n - 8 * start = omega arith in e) ∙ sym c.read_all.ensures ∙ ap numbers (sym (take_at c.read_all.new.words (drop n c.args.words.now) n long)))
+    ∙ ap (λ p. p ++ slice_range bytes (8 * (start + n)) (8 * end)) (ap (λ k. slice_range bytes (8 * start) (8 * k)) count ∙ sym c.peek.ensures.words ∙ ap numbers (sym (take_at c.peek.new.words (drop n c.args.words.now) n long)))

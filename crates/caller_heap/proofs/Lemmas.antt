@@ -1,0 +1,3 @@
+pub mod Compacted
+pub mod HeapBytes
+pub mod Regions

@@ -1,0 +1,13 @@
+use Rattle.std.proofs.Common.{◌≡◌, ◌+◌, ◌*◌, ◌^◌, ◌++◌, length}
+use Rattle.std.specs.List.{concat}
+use Rattle.heap_image.specs.HeapImage.{AreBlocks}
+use Rattle.caller_heap.proofs.heap_words.regions_of.Given as goal
+
+-- the regions so far have the words before the rest
+abbrev pub invariant-loop-r : goal.invariant-loop-r
+invariant-loop-r l = record {
+  whole : AreBlocks l.fn.size.region_log l.regions.items;
+  count : length l.regions.items ≡ l._r;
+  words : concat l.regions.items ++ l.rest ≡ l.words;
+  left : length l.rest + l._r * 2 ^ l.fn.size.region_log ≡ l.fn.size.regions * 2 ^ l.fn.size.region_log;
+}

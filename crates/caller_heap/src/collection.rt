@@ -1,0 +1,76 @@
+//! The collection of a heap of either kind, and an image's words put over it.
+ghost use Rattle.std.specs.Prelude.{◌≡◌, ◌⊎◌, IfOk, OnErr, IfErr, length};
+ghost use Rattle.heap_image.specs.declared.fault.Fault.TheVariants.{Memory};
+ghost use Rattle.heap_image.specs.HeapImage.{HeapImage, IsValid, heap_words};
+ghost use Rattle.heap_image.specs.ImageText.{text, with_tail};
+ghost use Rattle.summary.specs.Compaction.{compact};
+ghost use Rattle.fill.specs.FillFaults.{IsOverwritten};
+ghost use Rattle.collector.specs.Collections.{figures_of};
+ghost use Rattle.caller_heap.specs.Collected.{IsWhyKept};
+ghost use Rattle.caller_heap.specs.HeapWords.{heap_bytes};
+
+use crate::reading::image_of_heap;
+use crate::settings::HeapSettings;
+use collector::{Figures, OpenGate, collect_alone};
+use heap_image::{Fault, Image, Version};
+use std::alloc::Global;
+
+/// Compacts a heap with these words and, in version 1, live addresses, otherwise roots, and writes the compaction over
+/// them. If there is a fault, nothing is written.
+pub(crate) fn collect_heap(
+    alloc: Global,
+    version: Version,
+    settings: HeapSettings,
+    words: &mut [u64],
+    tail: &mut [u64],
+) -> Result<Figures, Fault>
+    ensures collected { IfOk result (λ figures. (image : HeapImage) × IsValid image × (image.version ≡ version)
+        × (heap_bytes version settings words.old tail.old ≡ text image)
+        × (words.new ≡ (compact image).words) × (tail.new ≡ (with_tail (compact image)).live)
+        × (figures ≡ figures_of image)) }
+    ensures kept { OnErr result ((words.new ≡ words.old) × (tail.new ≡ tail.old)) }
+    ensures fault { IfErr result (IsWhyKept (heap_bytes version settings words.old tail.old)) }
+{
+    let image = image_of_heap(alloc, version, settings, words, tail)?;
+    let (after, figures) = compact_image(alloc, image)?;
+    put_words(&after, words);
+    put_tail(&after, tail);
+    Ok(figures)
+}
+
+/// The compaction of an image by one worker in the caller's thread, and its figures.
+///
+/// Fails with fault 11 if memory runs out, or 15 if a cell or a queue contradicts the order of work; the image is lost then.
+pub fn compact_image(alloc: Global, image: Image) -> Result<(Image, Figures), Fault>
+    ensures image { IfOk result (λ done. done.0 ≡ compact image) }
+    ensures figures { IfOk result (λ done. done.1 ≡ figures_of image) }
+    ensures fault { IfErr result (λ fault. (fault ≡ Memory) ⊎ IsOverwritten fault) }
+{
+    match collect_alone(alloc, image, &OpenGate) {
+        Ok((outcome, _board)) => Ok((outcome.image, outcome.figures)),
+        Err(refusal) => Err(refusal.fault()),
+    }
+}
+
+/// Writes the words of an image over a list of as many words.
+pub fn put_words(image: &Image, words: &mut [u64])
+    requires { length words.old ≡ heap_words image.now }
+    ensures { words.new ≡ image.now.words }
+{
+    let size = image.region_words() as usize;
+    for r in 0..image.regions() {
+        let start = r as usize * size;
+        words[start..start + size].copy_from_slice(image.region(r).words());
+    }
+}
+
+/// Writes the live addresses of an image of version 1 over a list of as many numbers, otherwise its roots.
+pub fn put_tail(image: &Image, tail: &mut [u64])
+    requires { length tail.old ≡ length (with_tail image.now).live }
+    ensures { tail.new ≡ (with_tail image.now).live }
+{
+    match image.version() {
+        Version::One => tail.copy_from_slice(image.live()),
+        Version::Two | Version::Three => tail.copy_from_slice(image.roots()),
+    }
+}

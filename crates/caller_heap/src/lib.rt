@@ -1,0 +1,19 @@
+//! Collections of a heap whose words the caller keeps, in the caller's thread. No call starts a thread or waits.
+//!
+//! Proved: that the words and the live addresses or roots are those of the compaction afterwards, or after a fault as they
+//! were. A call works on a copy of the words, and copies them back.
+#![tactic(auto)]
+
+mod collection;
+mod heap_words;
+mod live_list;
+mod reading;
+mod roots;
+mod settings;
+
+pub use collection::{compact_image, put_tail, put_words};
+pub use heap_words::front_of;
+pub use live_list::collect_words;
+pub use reading::image_of_heap;
+pub use roots::collect_rooted_words;
+pub use settings::HeapSettings;

@@ -1,0 +1,25 @@
+use Rattle.std.proofs.Common.{◌≡◌, ap, sym, subst, ◌∙◌, arith}
+use Rattle.std.specs.Prelude.{All}
+use Rattle.std.specs.Arc.{arc_value}
+use Rattle.std.proofs.lemmas.List.Elements.{All-push}
+use Rattle.claim_board.specs.Boards.{identity, board_of}
+use Rattle.collector.specs.declared.workers.worker.Worker.{Worker}
+use Rattle.collector.specs.declared.session.Session.{Session}
+use Rattle.collector.specs.declared.session.share.Share.{Share}
+use Rattle.collector.specs.Sessions.{image_of}
+use Rattle.collector.proofs.Lemmas.Passes.{front_and_last}
+use Rattle.collector.proofs.session.dealing.deal.Goals as goal
+
+pub loop-worker-preserved : goal.loop-worker-preserved
+loop-worker-preserved c =
+    let i = c.loop-worker.invariant in
+    let session = arc_value c.args.session in
+    let IsSeated : Worker _ → Type 0 = λ w. board_of w.seat ≡ identity session.desk in
+    let IsOfIt : Share → Type 0 = λ share. image_of share ≡ session.survey in
+    let both = front_and_last IsSeated c.loop-worker.workers.items c.pop.new.self.items c.in-Some.worker c.in-Some.ensures.items i.seats in
+    let one : IsOfIt c.new.result = ap (λ a. (arc_value {X = Session} a).survey) c.new.ensures ∙ ap (λ (s : Session). s.survey) c.in_ok-session.ensures in
+    record {
+      seats = both.0;
+      count = let left = c.in-Some.ensures.cases in let more = c.in_ok-push.ensures.len in let so_far = i.count in omega arith;
+      image = subst (All IsOfIt) (sym c.in_ok-push.ensures.items) (All-push IsOfIt c.loop-worker.shares.items c.new.result i.image one);
+    }

@@ -1,0 +1,120 @@
+//! A collection in steps, whose workers run by the caller's calls.
+ghost use Rattle.std.specs.Prelude.{◌≡◌, ◌<◌, ◌⊎◌, ◌↔◌, All, vec_len, IfOk, IfErr, Err};
+ghost use Rattle.summary.specs.Compaction.{compact};
+ghost use Rattle.history.specs.ImageMoves.{image_table};
+ghost use Rattle.claim_board.specs.Boards.{moves as moves_of, identity, board_of};
+ghost use Rattle.fill.specs.FillFaults.{IsOverwritten};
+ghost use Rattle.collector.specs.Collections.{figures_of, AreNoneOrTooMany};
+ghost use Rattle.collector.specs.Ends.{MayEnd};
+
+mod dealing;
+pub(crate) mod progress;
+pub(crate) mod share;
+
+use crate::collection::clean_up::clean_up;
+use crate::collection::hands::Alone;
+use crate::collection::prepared::Prepared;
+use crate::gate::OpenGate;
+use crate::outcome::{Figures, Outcome};
+use crate::workers::crew::Crew;
+use crate::workers::ready::Thief;
+use crate::workers::start_line::StartLine;
+use crate::workers::worker::{Halt, Worker};
+use claim_board::{Board, Pass};
+use dealing::shares_of;
+use heap_image::{Fault, Image};
+use progress::Progress;
+use region_cells::Cells;
+use retry_policy::Tries;
+use share::Share;
+use std::alloc::Global;
+use std::sync::atomic::{AtomicBool, Ordering};
+use summary::Survey;
+
+/// What the workers of a collection in steps have in common. Each of them has a [`Share`].
+#[derive(Drop)]
+pub struct Session {
+    pub(crate) survey: Survey,
+    desk: Board,
+    cells: Cells,
+    /// A handle to each worker's queue, by worker number.
+    thieves: Vec<Thief>,
+    /// Set once some worker has met a fault.
+    stop: AtomicBool,
+    ghost moves: { moves_of desk ≡ image_table survey },
+    ghost same_cells: { cells ≡ survey },
+}
+
+impl Session {
+    ghost use Rattle.collector.specs.Sessions.{image_of};
+
+    /// Prepares the compaction of an image by 1 to 64 workers, and returns a share for each. Starts no thread, and never
+    /// waits.
+    ///
+    /// Fails with fault 12 exactly if the number of workers, which is tested first, isn't 1 to 64, and with fault 11 if
+    /// memory runs out. The image is lost then.
+    pub fn prepare(alloc: Global, image: Image, workers: u32) -> Result<Vec<Share>, Fault>
+        ensures count { IfOk result (λ shares. vec_len shares ≡ workers) }
+        ensures image { IfOk result (λ shares. All (λ share. image_of share ≡ image) shares.items) }
+        ensures fault { IfErr result (λ fault. (fault ≡ Fault.Memory) ⊎ (fault ≡ Fault.Workers)) }
+        ensures workers { result ≡ Err Fault.Workers ↔ AreNoneOrTooMany workers }
+    {
+        match Prepared::<Board>::new(alloc, image, workers, &Alone) {
+            Ok(prepared) => Ok(shares_of(alloc, prepared)?),
+            Err((_image, fault)) => Err(fault),
+        }
+    }
+
+    /// Lets a worker fill regions that are ready, at most `turns`. A fault of this worker stops the others.
+    fn fill_ready(
+        &self,
+        number: u32,
+        worker: &mut Worker<Pass>,
+        turns: u64,
+    ) -> Result<Progress, Halt>
+        requires number { number < vec_len self.now.thieves }
+        requires seat { board_of worker.old.seat ≡ identity self.now.desk }
+        ensures seat { board_of worker.new.seat ≡ identity self.now.desk }
+        ensures end { IfErr worker.new.end MayEnd }
+        ensures halt { IfErr result MayEnd }
+    {
+        let (start, policy) = (StartLine::open(), Tries { most: u64::MAX });
+        let crew = Crew {
+            desk: &self.desk,
+            cells: &self.cells,
+            survey: &self.survey,
+            gate: &OpenGate,
+            wait: &policy,
+            thieves: self.thieves.as_slice(),
+            start: &start,
+            stop: &self.stop,
+        };
+        let filled = crew.fill_ready(number, worker, turns);
+        worker.end = match filled {
+            Ok(_) => Ok(()),
+            Err(halt) => Err(halt),
+        };
+        if let Err(Halt::Failed(_)) = filled {
+            self.stop.store(true, Ordering::SeqCst);
+        }
+        filled
+    }
+
+    /// Cleans up, once no worker is left. Returns fault 15 if a region has not moved.
+    fn clean_up(self) -> Result<Outcome, Fault>
+        ensures image { IfOk result (λ outcome. outcome.image ≡ compact self.survey) }
+        ensures figures { IfOk result (λ outcome. outcome.figures ≡ figures_of self.survey) }
+        ensures fault { IfErr result IsOverwritten }
+    {
+        let Session {
+            survey,
+            desk: _,
+            cells,
+            thieves: _,
+            stop: _,
+        } = self;
+        let image = clean_up(cells, &survey, &Alone)?;
+        let figures = Figures::of(survey.plan());
+        Ok(Outcome { image, figures })
+    }
+}

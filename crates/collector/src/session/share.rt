@@ -1,0 +1,140 @@
+ghost use Rattle.std.specs.Prelude.{◌≡◌, ◌<◌, ◌⊎◌, true, vec_len, IfOk, IfErr, IfSome};
+ghost use Rattle.std.specs.Arc.{arc_value};
+ghost use Rattle.summary.specs.Compaction.{compact};
+ghost use Rattle.claim_board.specs.Boards.{identity, board_of};
+ghost use Rattle.fill.specs.FillFaults.{IsOverwritten};
+ghost use Rattle.collector.specs.Collections.{figures_of};
+ghost use Rattle.collector.specs.Ends.{MayEnd, may_end};
+
+use super::Session;
+use super::progress::Progress;
+use crate::outcome::Outcome;
+use crate::workers::worker::{Halt, Worker};
+use claim_board::Pass;
+use crossbeam_utils::Backoff;
+use heap_image::Fault;
+use std::alloc::Global;
+use std::sync::Arc;
+
+/// One worker's part in a session, which one thread at a time may use.
+#[derive(Drop)]
+pub struct Share {
+    pub(crate) session: Arc<Session, Global>,
+    worker: Worker<Pass>,
+    number: u32,
+    ghost seat: { board_of worker.seat ≡ identity (arc_value session).desk },
+    ghost numbered: { number < vec_len (arc_value session).thieves },
+    ghost end: { may_end worker.end ≡ true },
+}
+
+impl Share {
+    ghost use Rattle.collector.specs.Sessions.{image_of};
+
+    /// The part of this worker, which has not begun.
+    #[tactic(auto, unfolding(crate::specs::Ends::may_end))]
+    pub(crate) fn new(session: Arc<Session, Global>, mut worker: Worker<Pass>, number: u32) -> Share
+        requires seat { board_of worker.seat ≡ identity (arc_value session).desk }
+        requires numbered { number < vec_len (arc_value session).thieves }
+        ensures { result.session ≡ session }
+    {
+        worker.end = Err(Halt::Stopped);
+        Share {
+            session,
+            worker,
+            number,
+        }
+    }
+
+    /// Fills regions that are ready, at most `turns`. Returns at once if none is ready. Allocates nothing and never waits.
+    ///
+    /// Returns `Failed` with fault 15 if a cell or a queue contradicts the order of work, in each later call too, and
+    /// `Stopped` once another share has met a fault.
+    #[tactic(auto, using(crate::proofs::Lemmas::Ends::flagged))]
+    pub fn work(&mut self, turns: u64) -> Result<Progress, Halt>
+        ensures image { image_of self.new ≡ image_of self.old }
+        ensures halt { IfErr result MayEnd }
+    {
+        if let Some(fault) = self.fault() {
+            return Err(Halt::Failed(fault));
+        }
+        let session: &Session = &self.session;
+        session.fill_ready(self.number, &mut self.worker, turns)
+    }
+
+    /// Fills regions until all are settled, and spins while none is ready. Allocates nothing. Fails as
+    /// [`work`](Share::work).
+    pub fn work_all(&mut self) -> Result<(), Halt>
+        ensures image { image_of self.new ≡ image_of self.old }
+        ensures halt { IfErr result MayEnd }
+    {
+        let backoff = Backoff::new();
+        for _ in 0..u64::MAX {
+            if self.work(u64::MAX)? == Progress::Settled {
+                return Ok(());
+            }
+            backoff.spin();
+        }
+        Err(Halt::Failed(Fault::Overwritten(0)))
+    }
+
+    /// Ends the session, and returns the compaction and its figures. `others` are the shares of all other workers. Fills
+    /// what is left to fill, and cleans up, in the caller's thread.
+    ///
+    /// Fails with fault 12 if these aren't all shares of one session, and with fault 15 if some worker has met it, or a
+    /// region has not moved. The image is lost then.
+    pub fn end(mut self, others: Vec<Share>) -> Result<Outcome, Fault>
+        ensures image { IfOk result (λ outcome. outcome.image ≡ compact (image_of self)) }
+        ensures figures { IfOk result (λ outcome. outcome.figures ≡ figures_of (image_of self)) }
+        ensures fault { IfErr result (λ fault. (fault ≡ Fault.Workers) ⊎ IsOverwritten fault) }
+    {
+        if self.session.thieves.len() != others.len() + 1 {
+            return Err(Fault::Workers);
+        }
+        if let Some(fault) = first_fault(others.as_slice()) {
+            return Err(fault);
+        }
+        if let Err(Halt::Failed(fault)) = self.work_all() {
+            return Err(fault);
+        }
+        drop(others);
+        self.close()
+    }
+
+    /// Ends the session whose last share this is.
+    fn close(self) -> Result<Outcome, Fault>
+        ensures image { IfOk result (λ outcome. outcome.image ≡ compact (image_of self)) }
+        ensures figures { IfOk result (λ outcome. outcome.figures ≡ figures_of (image_of self)) }
+        ensures fault { IfErr result (λ fault. (fault ≡ Fault.Workers) ⊎ IsOverwritten fault) }
+    {
+        let Share {
+            session,
+            worker: _,
+            number: _,
+        } = self;
+        match Arc::try_unwrap(session) {
+            Ok(session) => session.clean_up(),
+            Err(_) => Err(Fault::Workers),
+        }
+    }
+
+    /// The fault that this share has met itself, if any.
+    #[tactic(auto, using(crate::proofs::Lemmas::Ends::met_so))]
+    fn fault(&self) -> Option<Fault>
+        ensures { IfSome result IsOverwritten }
+    {
+        self.worker.fault()
+    }
+}
+
+/// The fault of the first of these shares that met one.
+fn first_fault(shares: &[Share]) -> Option<Fault>
+    ensures { IfSome result IsOverwritten }
+{
+    for share in shares {
+        let met = share.fault();
+        if met.is_some() {
+            return met;
+        }
+    }
+    None
+}

@@ -1,0 +1,65 @@
+#include "toy_heap.h"
+#include <pcompact.h>
+#include <stdio.h>
+#include <stdlib.h>
+#include <string.h>
+
+enum { REGION_LOG = 9 };
+
+static void fail(const char *why) {
+    fprintf(stderr, "toy heap: %s\n", why);
+    exit(1);
+}
+
+toy_heap toy_heap_new(size_t word_count, size_t root_room) {
+    size_t regions = (word_count + (1 << REGION_LOG) - 1) >> REGION_LOG;
+    toy_heap heap = {.word_count = regions << REGION_LOG, .root_room = root_room};
+    heap.words = calloc(heap.word_count, sizeof *heap.words);
+    heap.roots = calloc(root_room, sizeof *heap.roots);
+    if (!heap.words || !heap.roots) fail("memory");
+    return heap;
+}
+
+void toy_heap_free(toy_heap *heap) {
+    free(heap->words);
+    free(heap->roots);
+}
+
+/* All that the roots don't reach goes. A sixteenth of the heap may stay dead where that saves moving what lies low. */
+static void collect(toy_heap *heap) {
+    pcompact_settings settings = {.region_log = REGION_LOG, .allowance = heap->word_count / 16};
+    pcompact_answer answer;
+    if (pcompact_collect_rooted(heap->words, heap->word_count, heap->roots, heap->root_count, settings, &answer) != 0) {
+        uint8_t text[64];
+        pcompact_fault_text(answer.fault, text, sizeof text);
+        fail((char *)text);
+    }
+    heap->top = (size_t)answer.new_top;
+    heap->collections++;
+}
+
+value toy_new(toy_heap *heap, size_t references, size_t data) {
+    size_t size = 1 + references + data;
+    if (heap->collects_always || size > heap->word_count - heap->top) collect(heap);
+    if (size > heap->word_count - heap->top) fail("it is full");
+    uint64_t *object = heap->words + heap->top;
+    object[0] = UINT64_C(1) << 56 | (uint64_t)references << 32 | size;
+    memset(object + 1, 0, sizeof *object * (size - 1));
+    heap->top += size;
+    return 1 + (uint64_t)(object - heap->words);
+}
+
+/* The header of an object is at its address, and so one word below its value. */
+value *toy_references(const toy_heap *heap, value object) {
+    return heap->words + object;
+}
+
+uint64_t *toy_data(const toy_heap *heap, value object) {
+    return heap->words + object + (heap->words[object - 1] >> 32 & 0xffffff);
+}
+
+slot toy_push(toy_heap *heap, value it) {
+    if (heap->root_count == heap->root_room) fail("too many roots");
+    heap->roots[heap->root_count] = it;
+    return heap->root_count++;
+}

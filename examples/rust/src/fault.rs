@@ -1,0 +1,28 @@
+use crate::raw;
+use std::error::Error;
+use std::fmt::{self, Display, Formatter};
+
+/// Why there is no collection.
+#[repr(C)]
+#[derive(Clone, Copy, Debug, PartialEq, Eq)]
+#[must_use]
+pub struct Fault {
+    /// Its number. `docs/FORMATS.md` of the repository lists all.
+    pub number: u32,
+    /// The field of fault 9, otherwise 0.
+    pub field: u32,
+    /// The index of faults 6 and 17, the address of faults 7 to 9, the region of fault 15, otherwise 0.
+    pub place: u64,
+}
+
+/// For example `9 reference at 5 field 1`.
+impl Display for Fault {
+    fn fmt(&self, f: &mut Formatter<'_>) -> fmt::Result {
+        let mut text = [0; 64];
+        // SAFETY: the array has as many bytes as it says.
+        let len = unsafe { raw::pcompact_fault_text(*self, text.as_mut_ptr(), text.len()) };
+        f.write_str(&String::from_utf8_lossy(&text[..len]))
+    }
+}
+
+impl Error for Fault {}

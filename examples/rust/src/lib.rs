@@ -1,0 +1,130 @@
+//! Safe calls of `libpcompact`, a sliding full collection of heaps in memory.
+//!
+//! A heap is a slice of words. The address of a word is its index. An object is a [`header`], then references, then data;
+//! a reference is 0, or 1 plus the address of an object, as [`reference`] gives it. `docs/HEAP.md` of the repository
+//! defines the rest.
+//!
+//! ```
+//! use pcompact::{collect_rooted, header, reference, Settings};
+//!
+//! // A cell that nothing leads to, one with the data 22, and one that refers to it.
+//! let mut words = [header(3, 1), 0, 11, header(3, 1), 0, 22, header(3, 1), reference(3), 33, 0, 0, 0, 0, 0, 0, 0];
+//! let mut roots = [reference(6)];
+//! let figures = collect_rooted(&mut words, &mut roots, Settings::new(3))?;
+//! assert_eq!(figures.new_top, 6);
+//! assert_eq!(roots, [reference(3)]);
+//! assert_eq!(words[..6], [header(3, 1), 0, 22, header(3, 1), reference(0), 33]);
+//! # Ok::<(), pcompact::Fault>(())
+//! ```
+//!
+//! No call keeps state, starts a thread or waits. A call takes memory by `malloc`, and never ends the process.
+
+mod fault;
+mod heap;
+mod raw;
+
+pub use fault::Fault;
+pub use heap::{header, reference, Figures, Settings};
+
+/// The version of the library: `1_000_000 * major + 1_000 * minor + patch`.
+pub fn version() -> u32 {
+    // SAFETY: it takes and gives a number.
+    unsafe { raw::pcompact_version() }
+}
+
+/// Looks whether these bytes are the text of a valid image.
+///
+/// # Errors
+///
+/// The first fault, 1 to 10 or 17; 11 if memory runs out.
+pub fn check(bytes: &[u8]) -> Result<(), Fault> {
+    // SAFETY: a slice isn't null, has as many bytes as it says, and nobody writes there meanwhile.
+    let fault = unsafe { raw::pcompact_check(bytes.as_ptr(), bytes.len()) };
+    if fault.number == 0 {
+        Ok(())
+    } else {
+        Err(fault)
+    }
+}
+
+/// Tells what a collection will do to the image with these bytes.
+///
+/// # Errors
+///
+/// The first fault, as [`check`] finds it.
+pub fn summary_of_image(bytes: &[u8]) -> Result<Figures, Fault> {
+    raw::answered(|answer| {
+        // SAFETY: as in `check`; the answer is the callee's alone.
+        unsafe { raw::pcompact_summary_of_image(bytes.as_ptr(), bytes.len(), answer) }
+    })
+}
+
+/// Tells what a collection will do to the heap with these words and live addresses, ascending.
+///
+/// # Errors
+///
+/// 3 or 4 for a size of regions or of the heap, 6 for a live list that isn't one, 7 to 9 for an object; 11 if memory runs
+/// out.
+pub fn summary(words: &[u64], live: &[u64], settings: Settings) -> Result<Figures, Fault> {
+    raw::answered(|answer| {
+        // SAFETY: slices aren't null, have as many words as they say, and nobody writes there meanwhile.
+        unsafe {
+            raw::pcompact_summary(
+                words.as_ptr(),
+                words.len(),
+                live.as_ptr(),
+                live.len(),
+                settings,
+                answer,
+            )
+        }
+    })
+}
+
+/// Compacts the heap with these words and live addresses, ascending. Afterwards `live` has the new ones in the same order.
+///
+/// # Errors
+///
+/// Those of [`summary`], and 15 if a check in the collection fails, which no test has seen. After each of them words and
+/// live addresses are as they were.
+pub fn collect(words: &mut [u64], live: &mut [u64], settings: Settings) -> Result<Figures, Fault> {
+    raw::answered(|answer| {
+        // SAFETY: two mutable slices don't overlap, and nobody else reads or writes there meanwhile.
+        unsafe {
+            raw::pcompact_collect(
+                words.as_mut_ptr(),
+                words.len(),
+                live.as_mut_ptr(),
+                live.len(),
+                settings,
+                answer,
+            )
+        }
+    })
+}
+
+/// Compacts the heap with these words. Alive is what the roots reach, and afterwards they lead there again.
+///
+/// # Errors
+///
+/// Those of [`collect`], with 17 for a root that leads out of the heap in place of 6. After each of them words and roots
+/// are as they were.
+pub fn collect_rooted(
+    words: &mut [u64],
+    roots: &mut [u64],
+    settings: Settings,
+) -> Result<Figures, Fault> {
+    raw::answered(|answer| {
+        // SAFETY: as in `collect`.
+        unsafe {
+            raw::pcompact_collect_rooted(
+                words.as_mut_ptr(),
+                words.len(),
+                roots.as_mut_ptr(),
+                roots.len(),
+                settings,
+                answer,
+            )
+        }
+    })
+}

@@ -1,0 +1,11 @@
+/* What refusing_heap.c tells a test, and hears from it. */
+#ifndef REFUSING_HEAP_H
+#define REFUSING_HEAP_H
+
+/* How many requests for memory succeed before each is refused; refuses none if it is negative. */
+extern long requests_left;
+
+/* How many blocks are held. */
+extern long blocks_held;
+
+#endif
