@@ -11,6 +11,7 @@ import re
 import resource
 import shutil
 import subprocess
+import tempfile
 import time
 from collections.abc import Iterator
 
@@ -30,6 +31,18 @@ KILLS = 5
 STEPS = 10
 # The most bytes of a disk that fills up, as it is in memory.
 DISK = 256 * MIB
+
+
+def fitting_mib(mib: int, times: int) -> int:
+    """The size in MiB to try with: the one given, or half of it and so on, down to 16, until the disk of temporary files has
+    `times` as much free."""
+    free = shutil.disk_usage(tempfile.gettempdir()).free // MIB
+    fitting = mib
+    while fitting > 16 and fitting * times > free:
+        fitting //= 2
+    if fitting < mib:
+        print(f"the disk has {free} MiB left, so this tries {fitting} MiB in place of {mib}", flush=True)
+    return fitting
 
 
 @dataclasses.dataclass(frozen=True)

@@ -26,13 +26,15 @@ import time
 sys.dont_write_bytecode = True
 sys.path.insert(0, str(pathlib.Path(__file__).resolve().parents[2]))
 from tests.large.dump_graph import DumpGraph, LargeImage, Walk
-from tests.large.large_calls import BESIDE, MIB, Call, LargeCalls
+from tests.large.large_calls import BESIDE, MIB, Call, LargeCalls, fitting_mib
 from tests.large.large_dump import LargeDump
 from tests.support.measured import Taken
 from tests.support.program import Tried, built
 
 IMPORT = "import dump out --region-log 12 --version 3"
 FIGURES = re.compile(r"words (\d+) objects (\d+) roots (\d+) live (\d+) dead (\d+) dropped-gaps \d+ unresolved \d+\n")
+# How much disk it takes in dumps, with what other tests take meanwhile.
+DISK_TIMES = 10
 # The most memory of a call in images, beside a fixed part.
 COLLECT, VERIFY = 1.5, 3
 
@@ -102,7 +104,7 @@ def main() -> int:
     given = words.parse_args()
     with tempfile.TemporaryDirectory() as folder:
         calls = LargeCalls(Tried(given.program or built(), pathlib.Path(folder)))
-        imported = Imported(calls, LargeDump(given.mib * MIB, given.seed, given.longest))
+        imported = Imported(calls, LargeDump(fitting_mib(given.mib, DISK_TIMES) * MIB, given.seed, given.longest))
         imported.try_import()
         imported.try_collections()
         imported.try_live_only()

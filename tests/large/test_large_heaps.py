@@ -24,10 +24,12 @@ import threading
 # Finds the package `tests` from any folder, and writes nothing beside its modules.
 sys.dont_write_bytecode = True
 sys.path.insert(0, str(pathlib.Path(__file__).resolve().parents[2]))
-from tests.large.large_calls import BESIDE, MIB, Call, LargeCalls
+from tests.large.large_calls import BESIDE, MIB, Call, LargeCalls, fitting_mib
 from tests.support.program import Tried, built
 
 MAX_REGIONS_LOG = 20
+# How much disk it takes in heaps, with what other tests take meanwhile.
+DISK_TIMES = 10
 USUAL_LOG = 12
 LARGEST_DRAWING = 300_000
 # The most memory of each command in images, besides a fixed part and these bytes for a region.
@@ -124,11 +126,12 @@ def main() -> int:
     given = words.parse_args()
     with tempfile.TemporaryDirectory() as folder:
         calls = LargeCalls(Tried(given.program or built(), pathlib.Path(folder)))
-        many = Heap(calls, given.mib, least_log(given.mib), given.seed)
+        mib = fitting_mib(given.mib, DISK_TIMES)
+        many = Heap(calls, mib, least_log(mib), given.seed)
         many.try_collections()
         many.try_looks()
         many.try_schedule()
-        usual = Heap(calls, given.mib, USUAL_LOG, given.seed)
+        usual = Heap(calls, mib, USUAL_LOG, given.seed)
         usual.try_collections()
         usual.try_looks()
         usual.try_schedule()
