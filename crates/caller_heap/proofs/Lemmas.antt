@@ -1,3 +1,4 @@
 pub mod Compacted
 pub mod HeapBytes
+pub mod Lending
 pub mod Regions
