@@ -1,9 +1,9 @@
 -- Words that are lent in their order and come back.
-use Rattle.std.proofs.Common.{◌≡◌, ℕ, List, [], ◌∷◌, ◌++◌, take, drop, refl, sym, ◌∙◌, ap, true}
-use Rattle.std.proofs.lemmas.List.{map-append, take-append-drop}
-use Rattle.std.proofs.lemmas.List.Elements.{All-head, All-tail}
+use Rattle.std.proofs.Common.{◌≡◌, ℕ, ◌+◌, ◌<◌, Bool, true, List, [], ◌∷◌, ◌++◌, length, get_or, take, drop, set, refl, sym, ◌∙◌, ap, subst, arith}
+use Rattle.std.proofs.lemmas.List.{map-append, map_more, take-append-drop, take_more_set, get_or-drop, drop-set-lt, drop-drop, drop-set, drop_more}
+use Rattle.std.proofs.lemmas.List.Elements.{All-head, All-tail, All-push}
 use Rattle.std.specs.Prelude.{All, map}
-use Rattle.caller_heap.specs.Lent.{Lent, IsHeld, told, held, words_in}
+use Rattle.caller_heap.specs.Lent.{Lent, IsHeld, IsGone, told, held, words_in}
 
 -- words that are held are told by what they are
 pub held_told : (words : List Lent) → All IsHeld words → map held (map words_in words) ≡ map told words
@@ -22,3 +22,34 @@ all_back before middle after regions n are held_all rest kept =
     ∙ ap (λ ws. map told (take n before) ++ map told ws) rest
     ∙ sym (map-append told (take n before) (drop n before))
     ∙ ap (map told) (take-append-drop n before)
+
+-- ---- the next place of a list, the rest of which is as it was
+
+pub rest_at : {X : Type 0} (now before : List X) (i : ℕ) (d : X) → drop i now ≡ drop i before → get_or now i d ≡ get_or before i d
+rest_at now before i d h =
+    let e : i + 0 ≡ i = omega arith in
+    ap (λ n. get_or now n d) (sym e) ∙ sym (get_or-drop i now 0 d) ∙ ap (λ xs. get_or xs 0 d) h ∙ get_or-drop i before 0 d ∙ ap (λ n. get_or before n d) e
+
+pub rest_more : {X : Type 0} (now before : List X) (i : ℕ) (new : X) → drop i now ≡ drop i before → drop (i + 1) (set now i new) ≡ drop (i + 1) before
+rest_more now before i new h =
+    drop-set-lt (i + 1) now i new (omega arith) ∙ sym (drop-drop 1 i now) ∙ ap (drop 1) h ∙ drop-drop 1 i before
+
+pub gone_more : (now : List Lent) (i : ℕ) (new : Lent) → i < length now → All IsGone (take i now) → IsGone new → All IsGone (take (i + 1) (set now i new))
+gone_more now i new inside so_far gone = subst (All IsGone) (sym (take_more_set now i new inside)) (All-push IsGone (take i now) new so_far gone)
+
+pub lent_more : (regions : List (List ℕ)) (before : List Lent) (i : ℕ) (w : Lent) → i < length before → get_or before i w ≡ w → regions ≡ map words_in (take i before) → regions ++ words_in w ∷ [] ≡ map words_in (take (i + 1) before)
+lent_more regions before i w inside is so_far =
+    ap (λ xs. xs ++ words_in w ∷ []) so_far
+    ∙ ap (λ v. map words_in (take i before) ++ words_in v ∷ []) (sym is)
+    ∙ sym (map_more words_in before i w inside)
+
+-- ---- the last region that is still out, and the place before those that are back
+
+pub kept_more : (now : List Lent) (regions : List (List ℕ)) (region : List ℕ) (r : ℕ) (new : Lent) (rest : List (Bool × List ℕ)) → r < length now → r < length regions → get_or regions r region ≡ region → told new ≡ held region
+    → map told (drop (r + 1) now) ≡ map held (drop (r + 1) regions) ++ rest → map told (drop r (set now r new)) ≡ map held (drop r regions) ++ rest
+kept_more now regions region r new rest inside below is back so_far =
+    ap (map told) (drop-set now r new inside)
+    ∙ ap (λ t. t ∷ map told (drop (r + 1) now)) back
+    ∙ ap (λ ts. held region ∷ ts) so_far
+    ∙ ap (λ b. (held b ∷ map held (drop (r + 1) regions)) ++ rest) (sym is)
+    ∙ ap (λ bs. map held bs ++ rest) (sym (drop_more regions r region below))
