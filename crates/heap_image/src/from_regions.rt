@@ -88,17 +88,17 @@ impl UncheckedParts {
             (Allows self.now.version self.now.region_log (length (concat self.now.regions.items))) }
         ensures counted { OnOk result (length self.now.tail.items < 2 ^ 32) }
         ensures words_fit { OnOk result (All (λ w. w < 2 ^ 64) (concat self.now.regions.items)) }
-        ensures tail_fit { All (λ w. w < 2 ^ 64) self.now.tail.items }
-        ensures allowance_fits { self.now.allowance < 2 ^ 64 }
+        ensures tail_fit { OnOk result (All (λ w. w < 2 ^ 64) self.now.tail.items) }
+        ensures allowance_fits { OnOk result (self.now.allowance < 2 ^ 64) }
         ensures fault { IfErr result (λ fault. (fault ≡ Fault.Memory)
             ⊎ (first_some (front_faults (front self.now.version self.now.region_log (length self.now.tail.items)
             (length (concat self.now.regions.items)) self.now.allowance)) ≡ Some fault)) }
     {
-        let count = self.tail.len();
+        let count = length_of(self.tail.as_slice());
         let Some(words) = word_count(self.regions.as_slice()) else {
             return Err(Fault::Memory);
         };
-        if count > u32::MAX as usize {
+        if count > u64::from(u32::MAX) {
             return Err(Fault::Memory);
         }
         check_front(Front {
@@ -111,14 +111,15 @@ impl UncheckedParts {
     }
 }
 
-/// The first fault of a front, 3 or 4, if it has one.
-fn check_front(front: Front) -> Result<(), Fault>
-    ensures limits { OnOk result (IsWithinLimits front.region_log front.words front.count) }
-    ensures allowed { OnOk result (Allows front.version front.region_log front.words) }
+/// Checks the sizes in a front, whose faults are 3 and 4.
+fn check_front(fields: Front) -> Result<(), Fault>
+    ensures limits { OnOk result (IsWithinLimits fields.region_log fields.words fields.count) }
+    ensures allowance_fits { fields.allowance < 2 ^ 64 }
+    ensures allowed { OnOk result (Allows fields.version fields.region_log fields.words) }
     ensures fault { IfErr result (λ fault. first_some (front_faults
-        (front front.version front.region_log front.count front.words front.allowance)) ≡ Some fault) }
+        (front fields.version fields.region_log fields.count fields.words fields.allowance)) ≡ Some fault) }
 {
-    Front::parse(&front.to_bytes())?;
+    Front::parse(&fields.to_bytes())?;
     Ok(())
 }
 
