@@ -91,6 +91,7 @@ impl HostWords {
     /// Lends the words as a region. `None` if there are none, or more than `MAX_WORDS`, which the host keeps.
     pub fn lend(&mut self, alloc: Global) -> Option<Region>
         ensures words { IfSome result (λ r. r ≡ self.old.3) }
+        ensures held { IfSome result (λ _. self.old.0 ≡ true) }
         ensures gone { IfSome result (λ _. self.new.0 ≡ false) }
         ensures kept { IfNone result (self.new ≡ self.old) }
         ensures refused { IfNone result

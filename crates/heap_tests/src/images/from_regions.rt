@@ -19,12 +19,32 @@ fn base_parts(alloc: Global) -> Result<ImageParts, Fail>
 }
 
 /// The image of these parts with this live list, or the regions and why they are none.
-fn image_with(alloc: Global, parts: ImageParts, live: &[u64]) -> Result<Result<Image, RefusedRegions>, Fail>
+fn image_with(
+    alloc: Global,
+    parts: ImageParts,
+    live: &[u64],
+) -> Result<Result<Image, RefusedRegions>, Fail>
     requires { AreBlocks parts.region_log parts.regions.items }
 {
-    let ImageParts { version, region_log, allowance, regions, live: _, roots: _ } = parts;
+    let ImageParts {
+        version,
+        region_log,
+        allowance,
+        regions,
+        live: _,
+        roots: _,
+    } = parts;
     let tail = Vec::from_slice(alloc, live)?;
-    Ok(image_of_regions(alloc, UncheckedParts { version, region_log, allowance, regions, tail }))
+    Ok(image_of_regions(
+        alloc,
+        UncheckedParts {
+            version,
+            region_log,
+            allowance,
+            regions,
+            tail,
+        },
+    ))
 }
 
 #[test]
@@ -46,6 +66,10 @@ fn refused_regions_come_back(rt: HostRuntime) -> Result<(), Fail> {
     let Err(refused) = image_with(rt.alloc(), parts, &[1, 0])? else {
         return Err(Fail::from("taken"));
     };
-    equal(&rt, (refused.fault, refused.regions.len()), (Fault::LiveOrder(1), count));
+    equal(
+        &rt,
+        (refused.fault, refused.regions.len()),
+        (Fault::LiveOrder(1), count),
+    );
     Ok(())
 }
