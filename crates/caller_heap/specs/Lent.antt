@@ -42,9 +42,12 @@ held block = (true, block)
 abbrev pub AreBack : List Lent → List Lent → Type 0
 AreBack before after = map told after ≡ map told before
 
--- each is held, with as many words as a region of a size that there may be
+-- it is held, with as many words as a region of a size that there may be
+abbrev pub IsRegion : ℕ → Lent → Type 0
+IsRegion region_log w = (w.0 ≡ true) × (w.2 ≡ length w.3) × (length w.3 ≡ 2 ^ region_log) × (region_log ≤ 20)
+
 abbrev pub AreRegions : ℕ → List Lent → Type 0
-AreRegions region_log words = All (λ w. (w.0 ≡ true) × (w.2 ≡ length w.3) × (length w.3 ≡ 2 ^ region_log) × (region_log ≤ 20)) words
+AreRegions region_log words = All (IsRegion region_log) words
 
 -- the words of each region of an image
 abbrev pub blocks_of : HeapImage → List (List ℕ)

@@ -21,6 +21,7 @@ pub(crate) fn lend_all(
 ) -> Result<Vec<Region>, Fault>
     ensures regions { IfOk result (λ regions. regions.items ≡ map words_in words.old) }
     ensures whole { OnOk result (AreBlocks region_log (map words_in words.old)) }
+    ensures held { OnOk result (All IsHeld words.old) }
     ensures gone { OnOk result (All IsGone words.new) }
     ensures back { IfErr result (λ fault. AreBack words.old words.new ⊎ IsOverwritten fault) }
     ensures fault { IfErr result (λ fault. (fault ≡ Memory)
@@ -87,8 +88,8 @@ pub(crate) fn keep_all(words: &mut [HostWords], mut regions: Vec<Region>) -> Res
 {
     while let Some(region) = regions.pop() {
         let r = regions.len();
-        if words[r].keep(region).is_err() {
-            return Err(Fault::Overwritten(r as u32));
+        if let Err(_other) = words[r].keep(region) {
+            return Err(Fault::Overwritten(r.min(u32::MAX as usize) as u32));
         }
     }
     Ok(())

@@ -1,5 +1,7 @@
 -- Words that are lent in their order and come back.
-use Rattle.std.proofs.Common.{◌≡◌, ℕ, ◌+◌, ◌<◌, Bool, true, List, [], ◌∷◌, ◌++◌, length, get_or, take, drop, set, refl, sym, ◌∙◌, ap, subst, arith}
+use Rattle.std.proofs.Common.{◌≡◌, ℕ, ◌+◌, ◌^◌, ◌<◌, ◌≤◌, inl, inr, Bool, true, List, [], ◌∷◌, ◌++◌, length, get_or, take, drop, set, refl, sym, ◌∙◌, ap, subst, arith}
+use Rattle.std.proofs.Math.Nat.{one-le-pow, pow-le-pow_right}
+use Rattle.std.proofs.lemmas.Bool.{cases_lt}
 use Rattle.std.proofs.lemmas.List.{map-append, map_more, take-append-drop, take_more_set, get_or-drop, drop-set-lt, drop-drop, drop-set, drop_more}
 use Rattle.std.proofs.lemmas.List.Elements.{All-head, All-tail, All-push}
 use Rattle.std.specs.Prelude.{All, map}
@@ -53,3 +55,17 @@ kept_more now regions region r new rest inside below is back so_far =
     ∙ ap (λ ts. held region ∷ ts) so_far
     ∙ ap (λ b. (held b ∷ map held (drop (r + 1) regions)) ++ rest) (sym is)
     ∙ ap (λ bs. map held bs ++ rest) (sym (drop_more regions r region below))
+
+pub same_told : (w : Lent) (block : List ℕ) → w.0 ≡ true → w.3 ≡ block → told w ≡ held block
+same_told w block is_held is = ap (λ b. (b, w.3)) is_held ∙ ap held is
+
+-- ---- the sizes of regions
+
+pub small_region : (log : ℕ) → log ≤ 20 → (1 ≤ 2 ^ log) × (2 ^ log ≤ 1048576)
+small_region log high =
+    let few : 2 ^ log ≤ 2 ^ 20 = pow-le-pow_right {n = 2} (omega arith) high in
+    (one-le-pow log 2 (omega arith), omega arith)
+
+-- a size that isn't 0 is that of a region
+pub region_is : (log size : ℕ) → (log ≤ 20 → size ≡ 2 ^ log) → (20 < log → size ≡ 0) → 1 ≤ size → size ≡ 2 ^ log
+region_is log size sized none some = elim (cases_lt 20 log) [ inl large ↦ let zero = none large in let no : ⊥ = omega arith in absurd no | inr small ↦ sized small ]
