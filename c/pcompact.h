@@ -78,6 +78,40 @@ uint32_t pcompact_collect(uint64_t *words, size_t word_count, uint64_t *live, si
 uint32_t pcompact_collect_rooted(uint64_t *words, size_t word_count, uint64_t *roots, size_t root_count,
                                  pcompact_settings settings, pcompact_answer *answer);
 
+/* Words of the host that it lends to a call, a region of a heap. The host fills one with true and its words; a zero one
+ * has none. While it is held, `len` words lie behind `at`, 1 to 1048576 of them, aligned to 8 bytes, in nothing else that the
+ * host lends. From the begin of a call until its end only the library uses them, and it alone writes the fields. */
+typedef struct pcompact_words {
+    bool is_held; /* 0 or 1 */
+    uint64_t *at;
+    size_t len;
+} pcompact_words;
+
+/* Cuts a heap into its regions, which may then be lent. The last is shorter where they don't divide the words. Returns
+ * how many there are: `parts` has room for word_count divided by their words, rounded up. */
+static inline size_t pcompact_cut(uint64_t *words, size_t word_count, uint32_t region_log, pcompact_words *parts) {
+    size_t size = region_log <= 20 ? (size_t)1 << region_log : 0, count = 0;
+    for (size_t at = 0; size > 0 && at < word_count; at += size) {
+        parts[count].is_held = true;
+        parts[count].at = words + at;
+        parts[count].len = word_count - at < size ? word_count - at : size;
+        count++;
+    }
+    return count;
+}
+
+/* Like pcompact_collect, for a heap whose regions the host lends, from address 0 up, wherever each lies. They are collected
+ * there, without a copy of their words: afterwards each holds its region's words of the compaction, at the same place.
+ * Faults: those of pcompact_collect, and 4 if some words aren't held or are more or fewer than a region has. After any
+ * fault but 15 all is as it was. After fault 15 nothing is promised of the words and live addresses, and some aren't held.
+ * Takes the memory that a collection by one worker takes, about a quarter of pcompact_collect's. */
+uint32_t pcompact_collect_lent(pcompact_words *words, size_t region_count, uint64_t *live, size_t live_count,
+                               pcompact_settings settings, pcompact_answer *answer);
+
+/* The same for a heap with roots, with the faults of pcompact_collect_rooted. */
+uint32_t pcompact_collect_lent_rooted(pcompact_words *words, size_t region_count, uint64_t *roots, size_t root_count,
+                                      pcompact_settings settings, pcompact_answer *answer);
+
 /* Redirects references that are kept outside of the heap with these words and live addresses to where pcompact_collect will
  * take their objects; to be called before it. Each is 0, which stays, or 1 plus a live address. Returns the fault: 0, 3, 4,
  * 6 to 9, 11 if memory runs out, or 17 with the index of the first reference that is neither. After a fault the references

@@ -45,7 +45,9 @@ find_needs
 for caller in calls hostile refusals; do
     build "$caller" "tests/c/$caller.c"
 done
-build image_calls -Itests/c tests/c/image_calls.c tests/c/refusing_heap.c
+for caller in image_calls lent; do
+    build "$caller" -Itests/c "tests/c/$caller.c" tests/c/refusing_heap.c
+done
 for example in base rooted; do
     compact "$example"
     run calls "examples/$example.pcheap" "$room/$example" 0 19 3
@@ -53,6 +55,8 @@ for example in base rooted; do
 done
 run hostile
 run refusals
+try "$room/lent" 1000
+run lent 100
 try refuses_half
 # With a stack of 96 KiB, of which the system takes some.
 try env -i sh -c 'ulimit -s 96 && exec "$1"' sh "$room/refusals"

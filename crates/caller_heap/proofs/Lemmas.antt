@@ -1,3 +1,5 @@
 pub mod Compacted
 pub mod HeapBytes
+pub mod Lending
+pub mod LentHeap
 pub mod Regions

@@ -6,6 +6,9 @@
 
 mod collection;
 mod heap_words;
+mod lending;
+mod lent_collection;
+mod lent_words;
 mod live_list;
 mod reading;
 mod roots;
@@ -13,6 +16,7 @@ mod settings;
 
 pub use collection::{compact_image, put_tail, put_words};
 pub use heap_words::front_of;
+pub use lent_words::{collect_lent_rooted_words, collect_lent_words};
 pub use live_list::collect_words;
 pub use reading::image_of_heap;
 pub use roots::collect_rooted_words;

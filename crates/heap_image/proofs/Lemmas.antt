@@ -13,6 +13,7 @@ pub mod BlockWords
 pub mod Bodies
 pub mod Spans
 pub mod Parts
+pub mod Blocks
 pub mod Versions
 pub mod LiveWords
 pub mod TextLaws
@@ -42,6 +43,7 @@ pub mod RootsToLive
 pub mod RootLive
 pub mod Following
 pub mod FromTail
+pub mod Unchecked
 pub mod InOrder
 pub mod Upgrades
 pub mod Rows

@@ -11,6 +11,7 @@ pub mod Body
 pub mod Kept
 pub mod Refusals
 pub mod Reading
+pub mod Unchecked
 pub mod Outgoing
 pub mod Sizes
 pub mod Soundness

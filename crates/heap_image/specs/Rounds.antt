@@ -1,5 +1,5 @@
 -- The parts of a heap between two rounds, and the references on their way between them.
-use Rattle.std.specs.Prelude.{◌≡◌, ◌⊎◌, ℕ, ◌+◌, ◌-◌, ◌*◌, ◌/◌, ◌^◌, ◌<◌, ◌≤◌, Bool, ◌||◌, true, false, List, [], All, Contains, length, slice_index_or, IsTrue}
+use Rattle.std.specs.Prelude.{◌≡◌, ◌⊎◌, ℕ, ◌-◌, ◌*◌, ◌/◌, ◌^◌, ◌<◌, Bool, ◌||◌, true, false, List, [], Contains, length, slice_index_or, IsTrue}
 use Rattle.std.specs.List.{list_any}
 use Rattle.heap_image.specs.HeapImage.{HeapImage, heap_words, leads_to, refers_to}
 use Rattle.heap_image.specs.Bits.{has}

@@ -1,6 +1,5 @@
 -- What one part of the heap has marked, what waits there, and what it sends to the other parts.
-use Rattle.std.specs.Prelude.{◌≡◌, ◌⊎◌, ℕ, ◌+◌, ◌-◌, ◌*◌, ◌/◌, ◌^◌, ◌<◌, ◌≤◌, Bool, ◌&&◌, nat_le, nat_lt, true, IsTrue, List, [], All, Contains, length}
-use Rattle.std.specs.List.{list_any}
+use Rattle.std.specs.Prelude.{◌≡◌, ◌⊎◌, ℕ, ◌+◌, ◌-◌, ◌*◌, ◌/◌, ◌^◌, ◌<◌, ◌≤◌, Bool, ◌&&◌, nat_le, nat_lt, true, IsTrue, List, All, Contains, length}
 use Rattle.heap_image.specs.HeapImage.{HeapImage, heap_words, refers_to}
 use Rattle.heap_image.specs.Bits.{has}
 use Rattle.heap_image.specs.Marking.{unmarked, IsWellFormed}

@@ -25,6 +25,7 @@
 mod bits;
 mod check;
 mod fault;
+mod from_regions;
 pub mod header;
 mod heap;
 mod image;
@@ -38,6 +39,7 @@ mod version;
 pub use bits::Bits;
 pub use check::soundness::PIECE;
 pub use fault::Fault;
+pub use from_regions::{RefusedRegions, UncheckedParts, image_of_regions};
 pub use heap::Heap;
 pub use image::{Image, ImageParts};
 pub use io::body::Body;

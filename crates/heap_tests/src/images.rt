@@ -3,6 +3,7 @@
 mod buffered;
 pub(crate) mod devices;
 mod failing_once;
+mod from_regions;
 mod length_causes;
 pub(crate) mod refusals;
 pub(crate) mod roots;

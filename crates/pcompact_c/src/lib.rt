@@ -8,6 +8,8 @@
 mod answer;
 mod check;
 mod collect;
+mod collect_lent;
+mod collect_lent_rooted;
 mod collect_rooted;
 mod comparison;
 mod decode;
@@ -30,4 +32,5 @@ pub use answer::PcompactAnswer;
 pub use caller_heap::HeapSettings as PcompactSettings;
 pub use fault::PcompactFault;
 pub use heap::PcompactHeap;
+pub use raw_region::HostWords as PcompactWords;
 pub use verdict::PcompactVerdict;

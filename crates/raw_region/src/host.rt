@@ -82,6 +82,7 @@ impl HostWords {
         ensures held { IsTrue result → self.old.0 ≡ true }
         ensures nonempty { IsTrue result → 1 ≤ self.old.2 }
         ensures at_most { IsTrue result → self.old.2 ≤ MAX_WORDS }
+        ensures all { self.old.0 ≡ true → 1 ≤ self.old.2 → self.old.2 ≤ MAX_WORDS → IsTrue result }
         ensures same { self.new ≡ self.old }
     {
         self.is_held && 1 <= self.len && self.len <= MAX_WORDS
@@ -90,8 +91,11 @@ impl HostWords {
     /// Lends the words as a region. `None` if there are none, or more than `MAX_WORDS`, which the host keeps.
     pub fn lend(&mut self, alloc: Global) -> Option<Region>
         ensures words { IfSome result (λ r. r ≡ self.old.3) }
+        ensures held { IfSome result (λ _. self.old.0 ≡ true) }
         ensures gone { IfSome result (λ _. self.new.0 ≡ false) }
         ensures kept { IfNone result (self.new ≡ self.old) }
+        ensures refused { IfNone result
+            (self.old.0 ≡ true → 1 ≤ self.old.2 → self.old.2 ≤ MAX_WORDS → ⊥) }
     {
         if !self.is_region() {
             return None;

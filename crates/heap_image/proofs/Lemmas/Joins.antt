@@ -1,5 +1,5 @@
 -- The bits of the parts of a heap, one after the other.
-use Rattle.std.proofs.Common.{◌≡◌, ℕ, zero, suc, ◌+◌, ◌-◌, ◌*◌, ◌/◌, ◌%◌, ◌^◌, ◌≤◌, ◌<◌, inl, inr, Bool, true, false, List, [], ◌∷◌, ◌++◌, length, get_or, take, pow-add, refl, sym, ◌∙◌, ap, subst, arith, eqb, length-append}
+use Rattle.std.proofs.Common.{◌≡◌, ℕ, zero, suc, ◌+◌, ◌-◌, ◌*◌, ◌/◌, ◌%◌, ◌^◌, ◌≤◌, ◌<◌, inl, inr, false, List, [], ◌∷◌, ◌++◌, length, get_or, take, pow-add, refl, sym, ◌∙◌, ap, arith, eqb, length-append}
 use Rattle.std.proofs.Math.Nat.{div-mul-le_self, lt-div-mul-add, mul-le-mul_right}
 use Rattle.std.proofs.lemmas.Bool.{cases_lt}
 use Rattle.std.proofs.lemmas.List.{get_or_append_left, get_or-append_right, get_or-take, get_or_default, length-take-le}
@@ -9,7 +9,6 @@ use Rattle.heap_image.specs.Bits.{has}
 use Rattle.heap_image.specs.Rounds.{mark_of}
 use Rattle.heap_image.specs.declared.marking.part.Part.{Part}
 use Rattle.heap_image.proofs.Lemmas.Parts.{region_some}
-use Rattle.heap_image.proofs.Lemmas.Turns.{in_part}
 
 -- ---- bits of lists of words
 

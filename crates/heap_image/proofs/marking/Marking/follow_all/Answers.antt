@@ -1,8 +1,8 @@
-use Rattle.std.proofs.Common.{◌≡◌, ◌<◌, ◌/◌, ◌++◌, [], ℕ, List, length, sym, ◌∙◌, ap, subst, arith}
+use Rattle.std.proofs.Common.{◌≡◌, [], length, sym, ◌∙◌, ap, subst, arith}
 use Rattle.std.proofs.lemmas.Bool.{eqb-true}
 use Rattle.std.specs.Vec.{vec_len}
-use Rattle.heap_image.specs.HeapImage.{HeapImage, heap_words}
-use Rattle.heap_image.specs.Marking.{IsMarking, AreStacked, waiting_addresses, unmarked}
+use Rattle.heap_image.specs.HeapImage.{HeapImage}
+use Rattle.heap_image.specs.Marking.{IsMarking, AreStacked, waiting_addresses}
 use Rattle.heap_image.proofs.Lemmas.MarkingSteps.{none_left, batch_inside}
 use Rattle.heap_image.proofs.marking.Marking.follow_all.Goals as goal
 

@@ -1,6 +1,5 @@
-use Rattle.std.proofs.Common.{◌≡◌, ◌+◌, ◌-◌, ◌*◌, ◌/◌, ◌^◌, ◌<◌, ◌++◌, ◌∷◌, [], List, ℕ, length, take, refl, sym, ◌∙◌, ap, subst, arith}
+use Rattle.std.proofs.Common.{◌≡◌, ◌+◌, ◌-◌, ◌*◌, ◌/◌, ◌^◌, ◌<◌, ◌++◌, ◌∷◌, [], List, length, take, sym, ◌∙◌, ap, subst, arith}
 use Rattle.heap_image.specs.Bits.{has}
-use Rattle.heap_image.specs.Rounds.{mark_of}
 use Rattle.heap_image.specs.declared.marking.part.Part.{Part}
 use Rattle.heap_image.proofs.Lemmas.Joins.{AreJoined, joined_none, joined_more, whole_room, whole_marks, whole_outside, words_of_part}
 use Rattle.heap_image.proofs.marking.finish.join_bits.Goals as goal

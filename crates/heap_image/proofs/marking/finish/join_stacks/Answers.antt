@@ -1,4 +1,4 @@
-use Rattle.std.proofs.Common.{◌≡◌, ◌+◌, ◌<◌, ◌++◌, [], List, ℕ, length, sym, ◌∙◌, ap, subst, arith}
+use Rattle.std.proofs.Common.{◌++◌, List, sym, ◌∙◌, ap, subst, arith}
 use Rattle.heap_image.specs.declared.marking.part.Part.{Part}
 use Rattle.heap_image.proofs.Lemmas.Finish.{AreStackedUp, stacked_none, stacked_more}
 use Rattle.heap_image.proofs.marking.finish.join_stacks.Goals as goal

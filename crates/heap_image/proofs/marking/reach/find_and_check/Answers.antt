@@ -1,4 +1,4 @@
-use Rattle.std.proofs.Common.{inr, refl, sym, ◌∙◌}
+use Rattle.std.proofs.Common.{inr, refl, ◌∙◌}
 use Rattle.std.proofs.lemmas.Result.{err_from_is_err_and}
 use Rattle.heap_image.specs.HeapImage.{heap_words, with_live}
 use Rattle.heap_image.proofs.Lemmas.Faultless.{first_object_fault-None}

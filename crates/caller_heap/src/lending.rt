@@ -1,0 +1,96 @@
+//! Words that a host lends, a region each, and gets back.
+ghost use Rattle.std.specs.Prelude.{◌≡◌, ◌≤◌, ◌<◌, ◌^◌, ◌⊎◌, ◌++◌, true, false, All, IsTrue, IfOk, IfErr, OnOk, length, map, take, drop, vec_len};
+ghost use Rattle.std.specs.Vec.{vec_capacity};
+ghost use Rattle.heap_image.specs.HeapImage.{AreBlocks};
+ghost use Rattle.heap_image.specs.declared.fault.Fault.TheVariants.{Memory, Length};
+ghost use Rattle.fill.specs.FillFaults.{IsOverwritten};
+ghost use Rattle.caller_heap.specs.Lent.{IsHeld, IsGone, AreRegions, AreBack, told, held, words_in};
+
+use heap_image::Fault;
+use raw_region::{HostWords, Region};
+use std::alloc::Global;
+
+/// Lends all of these words, a region of `2 ^ region_log` words each.
+///
+/// After a fault they are back: 11 if memory runs out, 4 if some aren't held or are more or fewer, and after 15, where a
+/// region doesn't come back, some of them.
+pub(crate) fn lend_all(
+    alloc: Global,
+    words: &mut [HostWords],
+    region_log: u32,
+) -> Result<Vec<Region>, Fault>
+    ensures regions { IfOk result (λ regions. regions.items ≡ map words_in words.old) }
+    ensures whole { OnOk result (AreBlocks region_log (map words_in words.old)) }
+    ensures held { OnOk result (All IsHeld words.old) }
+    ensures gone { OnOk result (All IsGone words.new) }
+    ensures back { IfErr result (λ fault. AreBack words.old words.new ⊎ IsOverwritten fault) }
+    ensures fault { IfErr result (λ fault. (fault ≡ Memory)
+        ⊎ (((fault ≡ Length) × (AreRegions region_log words.old → ⊥)) ⊎ IsOverwritten fault)) }
+{
+    let mut regions = Vec::with_capacity(alloc, words.len())?;
+    if lend_each(alloc, words, region_log, &mut regions) {
+        return Ok(regions);
+    }
+    keep_all(words, regions)?;
+    Err(Fault::Length)
+}
+
+/// Lends words in their order, up to the first that aren't a region's. Returns whether all are.
+fn lend_each(
+    alloc: Global,
+    words: &mut [HostWords],
+    region_log: u32,
+    regions: &mut Vec<Region>,
+) -> bool
+    requires empty { vec_len regions.old ≡ 0 }
+    requires room { length words.old ≤ vec_capacity regions.old }
+    ensures lent { regions.new.items ≡ map words_in (take (vec_len regions.new) words.old) }
+    ensures held { All IsHeld (take (vec_len regions.new) words.old) }
+    ensures gone { All IsGone (take (vec_len regions.new) words.new) }
+    ensures rest { drop (vec_len regions.new) words.new ≡ drop (vec_len regions.new) words.old }
+    ensures few { vec_len regions.new ≤ length words.old }
+    ensures all { IsTrue result → vec_len regions.new ≡ length words.old }
+    ensures whole { IsTrue result → AreBlocks region_log (map words_in words.old) }
+    ensures stopped { result ≡ false → AreRegions region_log words.old → ⊥ }
+{
+    let size = region_size(region_log);
+    for place in words.iter_mut() {
+        let Some(region) = place.lend(alloc) else {
+            return false;
+        };
+        let is_whole = region.len() == size;
+        regions.push_reserved(region);
+        if !is_whole {
+            return false;
+        }
+    }
+    true
+}
+
+/// The number of words of a region, or 0 if no version allows as many.
+fn region_size(region_log: u32) -> usize
+    ensures size { region_log ≤ 20 → result ≡ 2 ^ region_log }
+    ensures none { 20 < region_log → result ≡ 0 }
+{
+    if region_log > 20 {
+        return 0;
+    }
+    1 << region_log
+}
+
+/// Gives the regions back as the first words of a list. Fails with fault 15 if one isn't a host's.
+pub(crate) fn keep_all(words: &mut [HostWords], mut regions: Vec<Region>) -> Result<(), Fault>
+    requires few { vec_len regions ≤ length words.old }
+    requires gone { All IsGone (take (vec_len regions) words.old) }
+    ensures kept { OnOk result (map told words.new
+        ≡ map held regions.items ++ map told (drop (vec_len regions) words.old)) }
+    ensures fault { IfErr result IsOverwritten }
+{
+    while let Some(region) = regions.pop() {
+        let r = regions.len();
+        if let Err(_other) = words[r].keep(region) {
+            return Err(Fault::Overwritten(r.min(u32::MAX as usize) as u32));
+        }
+    }
+    Ok(())
+}

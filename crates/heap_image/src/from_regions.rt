@@ -1,0 +1,173 @@
+//! An image of regions that a caller has, which no word is copied for.
+ghost use Rattle.std.specs.Prelude.{◌≡◌, ◌<◌, ◌≤◌, ◌^◌, ◌⊎◌, Some, None, [], All, length, map, IfOk, OnOk, IfErr, IfSome, option_map};
+ghost use Rattle.std.specs.List.{concat, range_with_len};
+ghost use Rattle.heap_image.specs.Bits.{MarkBegins};
+ghost use Rattle.heap_image.specs.HeapImage.{FormHeap, IsValid, IsWithinLimits, AreBlocks, image_of, block_of, region_count};
+ghost use Rattle.heap_image.specs.ImageText.{text, listed_text, from_tail, front, front_faults, first_fault, first_some, first_object_fault, live_list_faults};
+ghost use Rattle.heap_image.specs.Unchecked.{numbers_in};
+ghost use Rattle.heap_image.specs.Version.{Allows};
+
+use crate::check::unchecked::{Found, find_live_objects};
+use crate::heap::Heap;
+use crate::io::front::Front;
+use crate::marking::Alone;
+use crate::{Fault, Image, ImageParts, Version};
+use raw_region::Region;
+use std::alloc::Global;
+
+/// The parts of an image whose sizes and live objects aren't checked.
+#[derive(Drop)]
+pub struct UncheckedParts {
+    pub version: Version,
+    /// The logarithm, to base 2, of the number of words of a region.
+    pub region_log: u32,
+    /// The largest number of dead words that the dense prefix may keep.
+    pub allowance: u64,
+    /// The regions from address 0 on, each a block of `2 ^ region_log` words.
+    pub regions: Vec<Region>,
+    /// The numbers after the words: the live addresses in version 1, otherwise the roots.
+    pub tail: Vec<u64>,
+}
+
+/// Regions that are no image's, and why.
+#[derive(Drop)]
+pub struct RefusedRegions {
+    /// The same regions in the same order, with the same words.
+    pub regions: Vec<Region>,
+    pub fault: Fault,
+}
+
+/// The image of these parts, in the same regions. If it isn't valid, the regions come back with the first fault of its
+/// bytes, 3, 4, 6 to 9 or 17, or with fault 11 if memory runs out. Runs in the caller's thread alone.
+///
+/// Fault 11 comes also for 2^32 live addresses or roots and for 2^64 words, which the bytes of an image can't count.
+pub fn image_of_regions(alloc: Global, parts: UncheckedParts) -> Result<Image, RefusedRegions>
+    requires regions { AreBlocks parts.region_log parts.regions.items }
+    ensures valid { IfOk result (λ image. IsValid image) }
+    // The live objects are those of the list, or those that the roots reach.
+    ensures image { IfOk result (λ image. image ≡ from_tail parts.version (numbers_in parts)) }
+    ensures blocks { IfOk result (λ image. parts.regions.items ≡ map (block_of image) (range_with_len 0 (region_count image))) }
+    ensures text { IfOk result (λ image. text image ≡ listed_text parts.version (numbers_in parts)) }
+    ensures fault { IfErr result (λ refused. (refused.fault ≡ Fault.Memory)
+        ⊎ (first_fault (listed_text parts.version (numbers_in parts)) ≡ Some refused.fault)) }
+    ensures back { IfErr result (λ refused. refused.regions.items ≡ parts.regions.items) }
+{
+    let sized = parts.check_sizes();
+    let UncheckedParts {
+        version,
+        region_log,
+        allowance,
+        regions,
+        tail,
+    } = parts;
+    if let Err(fault) = sized {
+        return Err(RefusedRegions { regions, fault });
+    }
+    match find_sound_objects(alloc, version, region_log, regions.as_slice(), tail) {
+        Ok(found) => {
+            let parts = ImageParts {
+                version,
+                region_log,
+                allowance,
+                regions,
+                live: found.live,
+                roots: found.roots,
+            };
+            Ok(parts.with_seen(Some(found.begins), None))
+        }
+        Err(fault) => Err(RefusedRegions { regions, fault }),
+    }
+}
+
+impl UncheckedParts {
+    /// Checks the sizes by the front that the image would have, whose faults are 3 and 4.
+    fn check_sizes(&self) -> Result<(), Fault>
+        ensures limits { OnOk result
+            (IsWithinLimits self.now.region_log (length (concat self.now.regions.items)) (length self.now.tail.items)) }
+        ensures allowed { OnOk result
+            (Allows self.now.version self.now.region_log (length (concat self.now.regions.items))) }
+        ensures counted { OnOk result (length self.now.tail.items < 2 ^ 32) }
+        ensures words_fit { OnOk result (All (λ w. w < 2 ^ 64) (concat self.now.regions.items)) }
+        ensures tail_fit { OnOk result (All (λ w. w < 2 ^ 64) self.now.tail.items) }
+        ensures allowance_fits { OnOk result (self.now.allowance < 2 ^ 64) }
+        ensures fault { IfErr result (λ fault. (fault ≡ Fault.Memory)
+            ⊎ (first_some (front_faults (front self.now.version self.now.region_log (length self.now.tail.items)
+            (length (concat self.now.regions.items)) self.now.allowance)) ≡ Some fault)) }
+    {
+        let count = length_of(self.tail.as_slice());
+        let Some(words) = word_count(self.regions.as_slice()) else {
+            return Err(Fault::Memory);
+        };
+        if count > u64::from(u32::MAX) {
+            return Err(Fault::Memory);
+        }
+        check_front(Front {
+            version: self.version,
+            region_log: self.region_log,
+            count: count as u32,
+            words,
+            allowance: self.allowance,
+        })
+    }
+}
+
+/// Checks the sizes in a front, whose faults are 3 and 4.
+fn check_front(fields: Front) -> Result<(), Fault>
+    ensures limits { OnOk result (IsWithinLimits fields.region_log fields.words fields.count) }
+    ensures allowance_fits { fields.allowance < 2 ^ 64 }
+    ensures allowed { OnOk result (Allows fields.version fields.region_log fields.words) }
+    ensures fault { IfErr result (λ fault. first_some (front_faults
+        (front fields.version fields.region_log fields.count fields.words fields.allowance)) ≡ Some fault) }
+{
+    Front::parse(&fields.to_bytes())?;
+    Ok(())
+}
+
+/// The number of words of these regions, if it is below 2^64.
+fn word_count(regions: &[Region]) -> Option<u64>
+    ensures count { IfSome result (λ words. words ≡ length (concat regions.now)) }
+    ensures fit { IfSome result (λ _. All (λ w. w < 2 ^ 64) (concat regions.now)) }
+{
+    let mut words: u64 = 0;
+    for region in regions {
+        words = words.checked_add(length_of(region.words()))?;
+    }
+    Some(words)
+}
+
+/// The number of words.
+fn length_of(words: &[u64]) -> u64
+    ensures count { result ≡ length words.now }
+    ensures fit { All (λ w. w < 2 ^ 64) words.now }
+{
+    words.len() as u64
+}
+
+/// The live objects of the heap in these regions, which are sound. `tail` is what follows the words in a text of this
+/// version.
+fn find_sound_objects(
+    alloc: Global,
+    version: Version,
+    region_log: u32,
+    regions: &[Region],
+    tail: Vec<u64>,
+) -> Result<Found, Fault>
+    requires heap { FormHeap region_log regions.now }
+    requires few { length tail.items ≤ length (concat regions.now) }
+    requires counted { length tail.items < 2 ^ 32 }
+    ensures live { IfOk result
+        (λ found. found.live.items ≡ (from_tail version (image_of region_log 0 regions.now tail.items)).live) }
+    ensures roots { IfOk result
+        (λ found. option_map (λ v. v.items) found.roots ≡ (from_tail version (image_of region_log 0 regions.now tail.items)).roots) }
+    ensures begins { IfOk result
+        (λ found. MarkBegins found.live.items (length (concat regions.now)) found.begins) }
+    ensures sound { OnOk result
+        (first_some (live_list_faults (from_tail version (image_of region_log 0 regions.now tail.items))) ≡ None) }
+    ensures fault { IfErr result (λ fault. (fault ≡ Fault.Memory)
+        ⊎ (first_some (live_list_faults (from_tail version (image_of region_log 0 regions.now tail.items))) ≡ Some fault)) }
+{
+    let heap = Heap::new(regions, region_log);
+    let found = find_live_objects(alloc, &heap, version, tail, &Alone)?;
+    found.check(&heap)?;
+    Ok(found)
+}
