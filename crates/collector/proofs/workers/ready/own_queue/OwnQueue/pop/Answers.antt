@@ -9,4 +9,4 @@ returns-clause-pushed c =
     let same = ap (λ (q : Queue). q.pushed) c.self.view_is in
     let inside : c.self.inside.taken < length numbers.items = omega (arith, c.self.invariant.taken_first, c.if-self-len.false, c.len.ensures, numbers.ok.0) in
     subst (λ (xs : List ℕ). (x : ℕ) × (x < length xs) × (get_or xs x oldest ≡ oldest)) same
-        (c.self.inside.taken, inside, sym c.index-oldest.ensures)
+    (c.self.inside.taken, inside, sym c.index-oldest.ensures)
