@@ -6,7 +6,7 @@ use crate::rule::Law;
 use crate::rule::key::Key;
 use crate::rule::view::View;
 use atomic_table::Table;
-use history::IndexedMoves;
+use history::GivenMoves;
 use std::alloc::Global;
 
 /// An atomic word for each region, by which workers claim it, and one that counts the regions to be
@@ -14,8 +14,7 @@ use std::alloc::Global;
 #[derive(Drop)]
 pub struct Board {
     pub(crate) table: Table<u8, View, Key, Law, Global>,
-    /// The moves with an index, by which tickets find their sources.
-    pub(crate) moves: IndexedMoves,
+    pub(crate) moves: GivenMoves,
     /// For each region, the number of other regions that it reads.
     pub(crate) sources: Vec<usize>,
     pub(crate) workers: u32,

@@ -12,7 +12,7 @@ use crate::rule::Deal;
 use crate::rule::key::Key;
 use crate::rule::steps::{Place, Words};
 use atomic_table::Table;
-use history::{GivenMoves, IndexedMoves, Moves, count_readers, count_sources, how_counts_go_down};
+use history::{GivenMoves, Moves, count_readers, count_sources, how_counts_go_down};
 use std::alloc::{AllocError, Global};
 
 /// The first value of the word of a region with this number of readers.
@@ -86,15 +86,16 @@ impl Board {
         let Key { moves, workers: _ } = key;
         let board = Board {
             table,
-            moves: IndexedMoves::new(alloc, moves)?,
+            moves,
             sources,
             workers,
         };
         Ok((board, passes))
     }
 
-    /// The board's moves, for `Ticket::open`.
-    pub fn moves(&self) -> &IndexedMoves
+    /// The board's moves, for `Ticket::open`. They have no index: a plan, or `IndexedMoves` of the same moves, finds the
+    /// next source faster.
+    pub fn moves(&self) -> &GivenMoves
         ensures { result.now ≡ moves_of self.now }
     {
         &self.moves

@@ -4,6 +4,7 @@ pub mod Verdict
 pub mod Explanation
 pub mod Compared
 pub mod Ready
+pub mod ReadyKinds
 pub mod Halts
 pub mod Collections
 pub mod Streams

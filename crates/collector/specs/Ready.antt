@@ -2,12 +2,18 @@
 use Rattle.std.specs.Prelude.{◌≡◌, ℕ, ◌≤◌, true, List, ◌++◌, length}
 use mathlib.Core.Option.{some}
 use lib.ListN.{get_elem?}
-use Rattle.collector.specs.declared.workers.ready.Pushed.{Pushed}
+use Rattle.collector.specs.declared.workers.ready.shared_queue.Pushed.{Pushed}
 
 -- How many numbers a queue takes in all, and those that were pushed so far, oldest first, taken or not.
 pub record Queue : Type 0 where
   pub room : ℕ
   pub pushed : List ℕ
+
+-- what the list of a queue keeps, by the room of the queue, how many numbers were taken, and the room of the list
+pub record IsOwnQueue (room taken : ℕ) (numbers : List ℕ) (capacity : ℕ) : Type 0 where
+  pub taken_first : taken ≤ length numbers
+  pub within : length numbers ≤ room
+  pub reserved : room ≤ capacity
 
 -- what the owner of a deque knows
 abbrev pub pushed_so_far : List ℕ → Pushed

@@ -7,7 +7,7 @@ ghost use Rattle.region_cells.specs.Blocks.{moved_block};
 ghost use Rattle.region_cells.specs.Cells.{places};
 
 use crate::kept::{Kept, Place};
-use crate::slots::{WRITING, final_region, is_full, is_original, lock_for_write, original};
+use crate::slots::{WRITING, final_region, is_full, is_original, lock_for_write, put_original};
 use crate::source::Source;
 use crate::target::Target;
 use claim_board::{Opening, Right};
@@ -184,7 +184,8 @@ fn put_all(slots: &mut Vec<Counted<Kept>>, regions: Vec<Region>, first: Place)
 {
     let mut place = first;
     for region in regions {
-        add(slots, original(region, &place));
+        add(slots, Counted::new(Kept::Spoiled, &place));
+        put_original(&slots[slots.len() - 1], region);
         place.step();
     }
 }

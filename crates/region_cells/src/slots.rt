@@ -3,7 +3,7 @@ ghost use Rattle.std.specs.Prelude.{◌≡◌, ◌+◌, ◌%◌, ◌<◌, ◌≤
 ghost use Rattle.heap_image.specs.HeapImage.{block_of};
 ghost use Rattle.region_cells.specs.Blocks.{moved_block};
 
-use crate::kept::{Kept, Place};
+use crate::kept::Kept;
 use counted_slot::{Claim, Counted, FREE, ONE_READER, PRESENT, TAKEN};
 use raw_region::Region;
 use retry_policy::RetryPolicy;
@@ -28,21 +28,19 @@ pub(crate) fn is_full(word: u64) -> bool
     word >= CHANGED - ONE_READER
 }
 
-/// A slot that holds an original region.
+/// Puts the original region into a new slot, which is in its place already: a slot that moved right after the turn would
+/// wait until it is written.
 ///
 /// No one else has the slot yet, so the turn always wins. No contract says so; if it lost, the cell would be spoiled.
-pub(crate) fn original(region: Region, place: &Place) -> Counted<Kept>
-    requires { region ≡ block_of place.now.image place.now.region }
-    ensures { result ≡ place.now }
+pub(crate) fn put_original(slot: &Counted<Kept>, region: Region)
+    requires { region ≡ block_of slot.now.image slot.now.region }
 {
-    let slot = Counted::new(Kept::Spoiled, place);
     let (found, hand) = slot.turn(FREE, TAKEN);
     if found == FREE {
         hand.put(Kept::Original(region), PRESENT);
     } else {
         hand.done();
     }
-    slot
 }
 
 /// Claims the slot of a region that this writer has taken out. No one else turns the slot meanwhile, so the first turn

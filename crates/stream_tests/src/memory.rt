@@ -205,7 +205,15 @@ fn queues(alloc: Global) -> Result<bool, AllocError> {
     let thief = ready.thief()?;
     let pushed = (ready.push(5), ready.push(6), ready.push(7));
     let taken = (thief.steal().success(), ready.pop(), ready.pop());
-    Ok((pushed, taken) == ((true, true, false), (Some(5), Some(6), None)))
+    let alone = unshared_queue(alloc)?;
+    Ok(alone && (pushed, taken) == ((true, true, false), (Some(5), Some(6), None)))
+}
+
+/// Whether a queue that is not shared hands out as many numbers as its room.
+fn unshared_queue(alloc: Global) -> Result<bool, AllocError> {
+    let mut ready = Ready::unshared(alloc, 1)?;
+    let pushed = (ready.push(5), ready.push(6));
+    Ok((pushed, ready.pop()) == ((true, false), Some(5)))
 }
 
 #[test]

@@ -94,3 +94,22 @@ fn a_worker_takes_its_own_first_and_then_the_next_workers(rt: HostRuntime) -> Re
     equal(&rt, taken, [Some(6), Some(7), Some(4), Some(5), None]);
     Ok(())
 }
+
+/// What comes of a queue that is not shared, with room for two numbers: what three pushes answer, what a thief steals,
+/// and what three pops return.
+fn unshared_queue(alloc: Global) -> Result<([bool; 3], Option<u32>, [Option<u32>; 3]), AllocError> {
+    let mut ready = Ready::unshared(alloc, 2)?;
+    let thief = ready.thief()?;
+    let pushed = [ready.push(8), ready.push(9), ready.push(10)];
+    let stolen = thief.steal().success();
+    Ok((pushed, stolen, [ready.pop(), ready.pop(), ready.pop()]))
+}
+
+#[test]
+fn an_unshared_queue_gives_its_owner_all(rt: HostRuntime) -> Result<(), Fail> {
+    let (pushed, stolen, popped) = unshared_queue(rt.alloc())?;
+    equal(&rt, pushed, [true, true, false]);
+    equal(&rt, stolen, None);
+    equal(&rt, popped, [Some(8), Some(9), None]);
+    Ok(())
+}

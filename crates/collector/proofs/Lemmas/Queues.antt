@@ -7,7 +7,7 @@ use mathlib.Core.Option.{some, some-ne-none}
 use lib.ListN.{get_elem?}
 use Rattle.crossbeam_deque.specs.Tasks.{Pushes, Takes, Admits}
 use Rattle.crossbeam_deque.proofs.Lists.{at_set, at_snoc}
-use Rattle.collector.specs.declared.workers.ready.Pushed.{Pushed}
+use Rattle.collector.specs.declared.workers.ready.shared_queue.Pushed.{Pushed}
 use Rattle.collector.specs.Ready.{pushed_so_far, HoldsTheRest}
 
 abbrev guest : Pushed

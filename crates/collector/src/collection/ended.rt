@@ -93,12 +93,7 @@ where
         ensures seats { All (D.serves result.desk) result.seats.items }
     {
         while let Some(worker) = workers.pop() {
-            let Worker {
-                seat,
-                ready: _,
-                end: _,
-            } = worker;
-            seats.push_reserved(seat);
+            seats.push_reserved(worker.into_seat());
         }
         Worked {
             outcome,

@@ -1,52 +1,14 @@
 ghost use Rattle.std.specs.Prelude.{◌≡◌, ◌<◌, ◌++◌, [], ◌∷◌, ◌↔◌, length, true, false, IsTrue, IfOk, IfSome, Contains};
 ghost use Rattle.collector.specs.Ready.{Queue};
 
-use crossbeam_deque::protocol::{Outcome, Protocol};
-use crossbeam_deque::{Steal, Stealer, Worker};
+mod own_queue;
+mod shared_queue;
+
+use crossbeam_deque::Steal;
+use own_queue::OwnQueue;
+use shared_queue::{SharedQueue, Taker};
 use std::alloc::{AllocError, Global};
-use std::collections::LinkedList;
 use std::marker::Model;
-
-/// What a pass of the deque knows: whether it is the owner's, and if so, the numbers that were pushed. Used by proofs
-/// only.
-pub struct Pushed {
-    pub owner: bool,
-    pub numbers: LinkedList<u32>,
-}
-
-/// The protocol that proofs attach to the deque.
-struct InOrder;
-
-impl Protocol<u32, Pushed> for InOrder {
-    ghost use Rattle.std.specs.Prelude.{true, false, []};
-    ghost use Rattle.collector.specs.Ready.{pushed_so_far, HoldsTheRest};
-
-    ghost holds = { HoldsTheRest };
-
-    ghost first = { pushed_so_far [] };
-
-    ghost guest = { record { owner = false; numbers = [] } };
-}
-
-struct Push;
-
-impl Outcome<u32, Pushed> for Push {
-    ghost then = { λ view numbers next. next ≡ record { owner = view.owner; numbers = view.numbers ++ numbers } };
-}
-
-struct Pop;
-
-impl Outcome<u32, Pushed> for Pop {
-    ghost use Rattle.std.specs.Prelude.{All, Contains};
-
-    ghost then = { λ view numbers next. (next ≡ view) × All (Contains view.numbers) numbers };
-}
-
-struct Take;
-
-impl Outcome<u32, Pushed> for Take {
-    ghost then = { λ view _ next. next ≡ view };
-}
 
 /// The numbers of the regions that one worker has found ready, first in first out. The worker pushes and pops; others
 /// steal through a [`Thief`].
@@ -54,21 +16,23 @@ impl Outcome<u32, Pushed> for Take {
 /// Contracts view it as the room and all numbers pushed so far, taken or not.
 #[derive(Drop)]
 pub struct Ready {
-    deque: Worker<u32, Global, Pushed, InOrder>,
-    room: usize,
-    pushed: usize,
+    queue: AnyQueue,
+}
+
+/// A queue that others take from, or not.
+#[derive(Drop)]
+enum AnyQueue {
+    Own(OwnQueue),
+    Shared(SharedQueue),
 }
 
 impl Model for Ready {
-    ghost use Rattle.crossbeam_deque.specs.Handles.{worker_view, worker_flavor, worker_capacity, worker_index};
-    ghost use Rattle.collector.specs.Ready.{Queue, IsQueue};
+    ghost use Rattle.collector.specs.Ready.{Queue};
+    ghost use Rattle.collector.specs.ReadyKinds.{view_of};
 
     ghost Value = { Queue };
 
-    ghost view = { λ q. record { room = q.room; pushed = (worker_view q.deque).numbers } };
-
-    ghost invariant = { λ q. IsQueue q.room q.pushed (worker_view q.deque) (worker_flavor q.deque)
-        (worker_capacity q.deque) (worker_index q.deque) };
+    ghost view = { λ q. view_of q.queue };
 }
 
 impl Ready {
@@ -76,12 +40,17 @@ impl Ready {
     pub fn new(alloc: Global, room: usize) -> Result<Ready, AllocError>
         ensures { IfOk result (λ queue. queue ≡ record { room = room; pushed = [] }) }
     {
-        let deque = Worker::fifo_as(alloc, room)?;
-        Ok(Ready {
-            deque,
-            room,
-            pushed: 0,
-        })
+        let queue = AnyQueue::Shared(SharedQueue::new(alloc, room)?);
+        Ok(Ready { queue })
+    }
+
+    /// Like [`new`](Ready::new), for a worker that has no others: a [`Thief`] of the queue finds nothing. Pushes and
+    /// pops take no atomic steps.
+    pub fn unshared(alloc: Global, room: usize) -> Result<Ready, AllocError>
+        ensures { IfOk result (λ queue. queue ≡ record { room = room; pushed = [] }) }
+    {
+        let queue = AnyQueue::Own(OwnQueue::new(alloc, room)?);
+        Ok(Ready { queue })
     }
 
     /// Queues a number and returns true, or returns false and changes nothing if as many numbers as the room were
@@ -92,15 +61,9 @@ impl Ready {
         ensures queued { result ≡ true → self.new.pushed ≡ self.old.pushed ++ r ∷ [] }
         ensures refused { result ≡ false → self.new.pushed ≡ self.old.pushed }
     {
-        if self.pushed == self.room {
-            return false;
-        }
-        match self.deque.push_as::<Push>(r) {
-            Ok(()) => {
-                self.pushed += 1;
-                true
-            }
-            Err(_) => unreachable!(),
+        match &mut self.queue {
+            AnyQueue::Own(queue) => queue.push(r),
+            AnyQueue::Shared(queue) => queue.push(r),
         }
     }
 
@@ -109,7 +72,10 @@ impl Ready {
         ensures same { self.new ≡ self.old }
         ensures pushed { IfSome result (λ r. Contains self.old.pushed r) }
     {
-        self.deque.pop_as::<Pop>()
+        match &mut self.queue {
+            AnyQueue::Own(queue) => queue.pop(),
+            AnyQueue::Shared(queue) => queue.pop(),
+        }
     }
 
     /// Takes the oldest number that is left here, or else steals one from the other workers, in turn from the worker
@@ -133,23 +99,28 @@ impl Ready {
 
     /// A handle by which other threads take numbers. Fails if memory runs out.
     pub fn thief(&self) -> Result<Thief, AllocError> {
-        Ok(Thief {
-            deque: self.deque.stealer()?,
-        })
+        let taker = match &self.queue {
+            AnyQueue::Own(_) => None,
+            AnyQueue::Shared(queue) => Some(queue.taker()?),
+        };
+        Ok(Thief { taker })
     }
 }
 
 /// Takes numbers from another worker's queue, on any thread.
 #[derive(Drop)]
 pub struct Thief {
-    deque: Stealer<u32, Global, Pushed, InOrder>,
+    /// None of a queue that is not shared.
+    taker: Option<Taker>,
 }
 
 impl Thief {
     /// Takes the oldest number that is left. `Empty` means that there was none at some moment; `Retry` means that, or
     /// that another thread took a number meanwhile.
     pub fn steal(&self) -> Steal<u32> {
-        let mut pass = self.deque.pass();
-        self.deque.steal_as::<Take>(&mut pass)
+        match &self.taker {
+            Some(taker) => taker.steal(),
+            None => Steal::Empty,
+        }
     }
 }

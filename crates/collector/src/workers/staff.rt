@@ -61,7 +61,7 @@ fn first_regions(
     regions_to_fill();
     planned_image_is_valid(plan);
     let fill_regions = plan.fill_regions();
-    let mut ready = Ready::new(alloc, fill_regions as usize)?;
+    let mut ready = empty_queue(alloc, fill_regions as usize, workers)?;
     let mut place = 0;
     for region in 0..fill_regions {
         if plan.region(region).count > 0 {
@@ -74,4 +74,15 @@ fn first_regions(
         place += 1;
     }
     Ok(ready)
+}
+
+/// An empty queue that takes `room` pushes, for one of so many workers.
+fn empty_queue(alloc: Global, room: usize, workers: usize) -> Result<Ready, AllocError>
+    ensures { IfOk result (λ queue. queue ≡ record { room = room; pushed = [] }) }
+{
+    if workers == 1 {
+        Ready::unshared(alloc, room)
+    } else {
+        Ready::new(alloc, room)
+    }
 }

@@ -16,6 +16,18 @@ pub(crate) struct Worker<S> {
 }
 
 impl<S> Worker<S> {
+    /// Its seat, without the queue.
+    pub(crate) fn into_seat(self) -> S
+        ensures { result ≡ self.seat }
+    {
+        let Worker {
+            seat,
+            ready: _,
+            end: _,
+        } = self;
+        seat
+    }
+
     /// The fault that this worker has met itself, if any.
     #[tactic(auto, unfolding(crate::specs::Halts::met_fault))]
     pub(crate) fn fault(&self) -> Option<Fault>

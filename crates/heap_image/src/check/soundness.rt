@@ -1,9 +1,9 @@
 //! Checks a live list in parallel, and notes the sizes of its objects.
 //!
-//! Threads take the objects in pieces of 64: they first read all headers of a piece, so that the cache misses overlap,
-//! and then the references, a row of words at a time. References are looked up in a bit set with a bit for null and for
-//! each reference to a live object. If the objects are known to be well-formed, only their headers are read. The result
-//! only says whether all objects are sound: `check` finds the first fault.
+//! Threads take the objects in pieces of 64, and read the references a row of words at a time. References are looked up
+//! in a bit set with a bit for null and for each reference to a live object. If the objects are known to be well-formed,
+//! only their headers are read. The result only says whether all objects are sound: `check` finds the first fault.
+//! No object waits for another one, so that the processor reads some headers and references ahead by itself.
 ghost use Rattle.std.specs.Prelude.{◌≡◌, ◌<◌, ◌≤◌, ◌+◌, ◌*◌, ◌/◌, ◌%◌, ℕ, All, IfSome, IsTrue, OnOk, IfOk, length, [], min, slice_index, slice_index_or};
 ghost use Rattle.heap_image.specs.HeapImage.{HasLiveList, heap_words, size_at, with_live, word_at};
 ghost use Rattle.heap_image.specs.Bits.{has, room};
@@ -92,9 +92,8 @@ fn note_sizes(
 {
     let from = piece * PIECE;
     let to = live.len().min(from + PIECE);
-    let headers = headers_of(heap, &live[from..to]);
     for i in from..to {
-        sizes[i - from] = size_if_sound(heap, live, targets, i, headers[i - from]);
+        sizes[i - from] = size_if_sound(heap, live, targets, i);
     }
 }
 
@@ -124,41 +123,21 @@ fn are_noted(sizes: &[u32]) -> bool
     least > 0
 }
 
-/// The size of the live object with this index and this header, or 0 if it isn't sound.
+/// The size of the live object with this index, or 0 if it isn't sound.
 #[inline]
-fn size_if_sound(
-    heap: &Heap<'_>,
-    live: &[u64],
-    targets: Option<&Bits>,
-    i: usize,
-    header: u64,
-) -> u32
+fn size_if_sound(heap: &Heap<'_>, live: &[u64], targets: Option<&Bits>, i: usize) -> u32
     requires inside { All (λ a. a < heap_words heap.now) live.now }
     requires targets { AreTargetsOrWellFormed (with_live heap.now live.now) targets }
     requires index { i < length live.now }
-    requires header { header ≡ word_at heap.now (slice_index live.now i) }
     ensures sound { 0 < result → IsSoundObject (with_live heap.now live.now) i }
     ensures size { 0 < result → result ≡ size_at (with_live heap.now live.now) (slice_index live.now i) }
 {
+    let header = heap.word(live[i]);
     if is_sound(heap, live, targets, i, header) {
         header::size(header)
     } else {
         0
     }
-}
-
-/// The headers of a few objects, and zeros after them. The loop does nothing else, so that the cache misses overlap.
-#[inline]
-fn headers_of(heap: &Heap<'_>, objects: &[u64]) -> [u64; PIECE]
-    requires inside { All (λ a. a < heap_words heap.now) objects.now }
-    requires few { length objects.now ≤ 64 }
-    ensures { (i : ℕ) → i < length objects.now → slice_index result i ≡ word_at heap.now (slice_index objects.now i) }
-{
-    let mut headers = [0; PIECE];
-    for (i, &a) in objects.iter().enumerate() {
-        headers[i] = heap.word(a);
-    }
-    headers
 }
 
 /// Whether the live object with this index and this header fits in the heap, ends before the next one begins, and has
@@ -212,26 +191,30 @@ fn lead_to_targets(heap: &Heap<'_>, targets: &Bits, from: u64, to: u64) -> bool
         → IsTrue (has targets.now (min (word_at heap.now p) (heap_words heap.now + 1))) }
 {
     let beyond = heap.len() + 1;
-    let mut all = true;
     let mut next = from;
     while next < to {
         let row = heap.row(next, to);
-        all &= has_all(targets, row, beyond);
+        if !has_all(targets, row, beyond) {
+            return false;
+        }
         next += row.len() as u64;
     }
-    all
+    true
 }
 
 /// Whether each of these references, reduced to at most `highest`, is in a set.
+///
+/// It ends at the first that isn't: without that exit the loop is unrolled, and rows of a few references take longer.
 #[inline]
 fn has_all(targets: &Bits, references: &[u64], highest: u64) -> bool
     requires { highest < room targets.now }
     ensures { IsTrue result → (k : ℕ) → k < length references.now
         → IsTrue (has targets.now (min (slice_index references.now k) highest)) }
 {
-    let mut all = true;
     for reference in references {
-        all &= targets.has((*reference).min(highest));
+        if !targets.has((*reference).min(highest)) {
+            return false;
+        }
     }
-    all
+    true
 }

@@ -340,7 +340,7 @@ pub(crate) fn read_regions<R: Intake>(
     ensures lost { (came : List ℕ) × Consumes (R.left reader.old) (R.left reader.new) came }
     ensures failed { R.has_failed reader.new ≡ (is_io result || R.has_failed reader.old) }
 {
-    let mut regions = Vec::new(source.alloc);
+    let mut regions = source.list(count)?;
     for r in 0..count {
         regions.push(read_region(source, incoming, reader, region_log, r)?)?;
     }

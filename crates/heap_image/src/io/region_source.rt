@@ -1,5 +1,5 @@
 //! Where the regions of a body come from.
-ghost use Rattle.std.specs.Prelude.{◌≡◌, ◌+◌, ◌<◌, ◌≤◌, ◌^◌, None, length, IfOk, IfErr, IfSome};
+ghost use Rattle.std.specs.Prelude.{◌≡◌, ◌+◌, ◌<◌, ◌≤◌, ◌^◌, [], None, length, IfOk, IfErr, IfSome};
 ghost use Rattle.heap_image.specs.Body.{body_words};
 ghost use Rattle.heap_image.specs.RegionSource.{HasRegions, IsPoolOf};
 
@@ -42,6 +42,17 @@ impl<'a> RegionSource<'a> {
         RegionSource {
             first: self.first + count,
             ..self
+        }
+    }
+
+    /// An empty list, with room for `count` regions if they come from a pool. Otherwise the list grows as their words
+    /// come, since a text may claim more of them than it has.
+    pub(crate) fn list(&self, count: usize) -> Result<Vec<Region>, AllocError>
+        ensures { IfOk result (λ list. list.items ≡ []) }
+    {
+        match self.pool {
+            Some(_) => Vec::with_capacity(self.alloc, count),
+            None => Ok(Vec::new(self.alloc)),
         }
     }
 

@@ -6,7 +6,7 @@ use Rattle.heap_image.proofs.check.soundness.lead_to_targets.Given as goal
 -- the words so far are looked up
 abbrev pub invariant-loop-next : goal.invariant-loop-next
 invariant-loop-next l = record {
-  all : l.all ≡ true → (p : ℕ) → l.from ≤ p → p < l.next → has l.targets (min (word_at l.heap p) (heap_words l.heap + 1)) ≡ true;
+  all : (p : ℕ) → l.from ≤ p → p < l.next → has l.targets (min (word_at l.heap p) (heap_words l.heap + 1)) ≡ true;
   low : l.from ≤ l.next;
 }
 

@@ -18,7 +18,7 @@ use Rattle.heap_image.proofs.io.read.read_regions.Goals as goal
 
 pub returns-in_err-read_region-clause-truncated : goal.returns-in_err-read_region-clause-truncated
 returns-in_err-read_region-clause-truncated g c =
-    let p = err_from_is_err_and c.from_residual.result c.from_residual.ensures.1 in
+    let p = err_from_is_err_and c.from_residual-in_err-read_region.result c.from_residual-in_err-read_region.ensures.1 in
     let so_far = c.loop-r.invariant in
     let long = length-concat (2 ^ c.args.region_log) c.loop-r.regions.items so_far.whole in
     let counted : length c.loop-r.regions.items * 2 ^ c.args.region_log ≡ c.loop-r.r * 2 ^ c.args.region_log = ap (λ n. n * 2 ^ c.args.region_log) so_far.count in

@@ -1,5 +1,5 @@
 use Rattle.collector.proofs.Lemmas.Queues.{admits, takes_any}
-use Rattle.collector.proofs.workers.ready.Thief.steal.Goals as goal
+use Rattle.collector.proofs.workers.ready.shared_queue.Taker.steal.Goals as goal
 
 pub pass-pass-requires : goal.pass-pass-requires
 pass-pass-requires c = admits
