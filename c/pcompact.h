@@ -104,7 +104,7 @@ static inline size_t pcompact_cut(uint64_t *words, size_t word_count, uint32_t r
  * there, without a copy of their words: afterwards each holds its region's words of the compaction, at the same place.
  * Faults: those of pcompact_collect, and 4 if some words aren't held or are more or fewer than a region has. After any
  * fault but 15 all is as it was. After fault 15 nothing is promised of the words and live addresses, and some aren't held.
- * Takes the memory that a collection by one worker takes, about a quarter of pcompact_collect's. */
+ * Takes the memory that a collection by one worker takes. */
 uint32_t pcompact_collect_lent(pcompact_words *words, size_t region_count, uint64_t *live, size_t live_count,
                                pcompact_settings settings, pcompact_answer *answer);
 

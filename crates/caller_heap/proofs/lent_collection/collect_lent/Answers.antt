@@ -1,4 +1,4 @@
-use Rattle.std.proofs.Common.{◌≡◌, ◌⊎◌, ℕ, ◌≤◌, Some, List, length, map, option_map, vec_len, refl, sym, ◌∙◌, ap, subst, inl, inr, arith}
+use Rattle.std.proofs.Common.{◌≡◌, ◌⊎◌, ℕ, ◌≤◌, Some, List, length, map, vec_len, refl, sym, ◌∙◌, ap, inl, arith}
 use Rattle.std.proofs.lemmas.List.{length-map}
 use Rattle.std.proofs.lemmas.List.Elements.{All-take}
 use Rattle.heap_image.specs.HeapImage.{HeapImage, image_of}
@@ -7,8 +7,6 @@ use Rattle.heap_image.specs.declared.fault.Fault.TheVariants.{Memory}
 use Rattle.heap_image.specs.declared.from_regions.RefusedRegions.{RefusedRegions}
 use Rattle.heap_image.specs.declared.version.Version.{Version}
 use Rattle.caller_heap.specs.declared.settings.HeapSettings.{HeapSettings}
-use Rattle.summary.specs.Compaction.{compact}
-use Rattle.collector.specs.Collections.{figures_of}
 use Rattle.caller_heap.specs.Lent.{IsGone, held, words_in, blocks_of}
 use Rattle.caller_heap.proofs.Lemmas.Compacted.{compact-tail}
 use Rattle.caller_heap.proofs.Lemmas.Lending.{held_told}
