@@ -42,10 +42,11 @@ refuses_half() {
 }
 
 find_needs
-for caller in calls hostile refusals; do
+for caller in hostile refusals; do
     build "$caller" "tests/c/$caller.c"
 done
-build image_calls -Itests/c tests/c/image_calls.c tests/c/refusing_heap.c
+build calls -Itests/c tests/c/{calls,checks}.c
+build image_calls -Itests/c tests/c/{image_calls,checks,refusing_heap}.c
 for example in base rooted; do
     compact "$example"
     run calls "examples/$example.pcheap" "$room/$example" 0 19 3
