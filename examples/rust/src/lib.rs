@@ -1,7 +1,7 @@
 //! Safe calls of `libpcompact`, a sliding full collection of heaps in memory.
 //!
 //! A heap is a slice of words. The address of a word is its index. An object is a [`header`], then references, then data;
-//! a reference is 0, or 1 plus the address of an object, as [`reference`] gives it. `docs/HEAP.md` of the repository
+//! a reference is 0, or 1 plus the address of an object, as [`reference()`] gives it. `docs/HEAP.md` of the repository
 //! defines the rest.
 //!
 //! ```
