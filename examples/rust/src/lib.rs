@@ -17,12 +17,15 @@
 //! # Ok::<(), pcompact::Fault>(())
 //! ```
 //!
+//! Several threads of the host fill the regions of one heap by a [`Collection`].
+//!
 //! No call keeps state, starts a thread or waits. A call takes memory by `malloc`, and never ends the process.
 
 mod fault;
 mod heap;
 mod image;
 mod raw;
+mod workers;
 
 pub use fault::Fault;
 pub use heap::{header, reference, Figures, Settings};
@@ -30,6 +33,7 @@ pub use image::{
     check, decode, decode_rooted, encode, encode_rooted, summary_of_image, verify, Difference,
     Heap, Uncompared,
 };
+pub use workers::{Collection, Progress, Worker};
 
 /// The version of the library: `1_000_000 * major + 1_000 * minor + patch`.
 pub fn version() -> u32 {

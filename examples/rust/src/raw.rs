@@ -1,6 +1,8 @@
 //! The functions of `pcompact.h`.
 
 use crate::{Difference, Fault, Figures, Settings, Uncompared};
+use std::ffi::c_void;
+use std::ptr;
 
 #[repr(C)]
 pub struct Answer {
@@ -66,6 +68,37 @@ pub type Encode =
 /// Bytes, words, live addresses or roots, what they are.
 pub type Decode =
     unsafe extern "C" fn(*const u8, usize, *mut u64, usize, *mut u64, usize, *mut Decoded) -> u32;
+
+/// One worker's part in a collection, zero until it begins and once it has ended.
+#[repr(C)]
+#[derive(Debug)]
+pub struct Handle {
+    is_held: bool,
+    at: *mut c_void,
+}
+
+impl Default for Handle {
+    fn default() -> Handle {
+        Handle {
+            is_held: false,
+            at: ptr::null_mut(),
+        }
+    }
+}
+
+// SAFETY: a handle may move to another thread, as the header says, and each call takes it by `&mut`.
+unsafe impl Send for Handle {}
+
+/// Words, live addresses or roots, settings, handles.
+pub type Begin = unsafe extern "C" fn(
+    *const u64,
+    usize,
+    *const u64,
+    usize,
+    Settings,
+    *mut Handle,
+    usize,
+) -> Fault;
 
 extern "C" {
     pub fn pcompact_version() -> u32;
@@ -147,6 +180,35 @@ extern "C" {
         roots: *mut u64,
         root_room: usize,
         heap: *mut Decoded,
+    ) -> u32;
+    pub fn pcompact_begin(
+        words: *const u64,
+        word_count: usize,
+        live: *const u64,
+        live_count: usize,
+        settings: Settings,
+        handles: *mut Handle,
+        worker_count: usize,
+    ) -> Fault;
+    pub fn pcompact_begin_rooted(
+        words: *const u64,
+        word_count: usize,
+        roots: *const u64,
+        root_count: usize,
+        settings: Settings,
+        handles: *mut Handle,
+        worker_count: usize,
+    ) -> Fault;
+    pub fn pcompact_work(handle: *mut Handle, turns: u64) -> u32;
+    pub fn pcompact_work_all(handle: *mut Handle) -> u32;
+    pub fn pcompact_end(
+        handles: *mut Handle,
+        worker_count: usize,
+        words: *mut u64,
+        word_count: usize,
+        list: *mut u64,
+        list_count: usize,
+        answer: *mut Answer,
     ) -> u32;
 }
 
