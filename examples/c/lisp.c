@@ -1,8 +1,9 @@
 /* A small Lisp over the toy heap: numbers, symbols, lists and closures. Prints the value of each expression of a file.
  *
- *     cc -o lisp lisp.c toy_heap.c $(pkg-config --cflags --libs pcompact) && ./lisp lists.lisp
+ *     cc -pthread -o lisp lisp.c toy_heap.c $(pkg-config --cflags --libs pcompact) && ./lisp lists.lisp
  *
- * With -g each allocation collects first: then a value that is used after an allocation without being in a slot shows. */
+ * With -g each allocation collects first: then a value that is used after an allocation without being in a slot shows. With
+ * -t 4 four threads collect. */
 #include "toy_heap.h"
 #include <ctype.h>
 #include <inttypes.h>
@@ -279,14 +280,27 @@ static void start(void) {
     }
 }
 
+/* Takes the options. Returns the index of the word behind them. */
+static int take_options(int count, char **words) {
+    int at = 1;
+    if (at < count && strcmp(words[at], "-g") == 0) {
+        heap.collects_always = 1;
+        at++;
+    }
+    if (at + 1 < count && strcmp(words[at], "-t") == 0) {
+        heap.threads = strtoul(words[at + 1], NULL, 10);
+        at += 2;
+    }
+    return at;
+}
+
 int main(int count, char **words) {
-    int collects_always = count == 3 && strcmp(words[1], "-g") == 0;
-    if (count != 2 + collects_always || !(source = fopen(words[count - 1], "r"))) {
-        fprintf(stderr, "usage: lisp [-g] FILE\n");
+    heap = toy_heap_new(HEAP_WORDS, ROOT_ROOM);
+    int file = take_options(count, words), are_some = heap.threads >= 1 && heap.threads <= TOY_MAX_THREADS;
+    if (file + 1 != count || !are_some || !(source = fopen(words[file], "r"))) {
+        fprintf(stderr, "usage: lisp [-g] [-t THREADS] FILE\n");
         return 2;
     }
-    heap = toy_heap_new(HEAP_WORDS, ROOT_ROOM);
-    heap.collects_always = collects_always;
     start();
     for (int byte = next_byte(); byte != EOF; byte = next_byte()) {
         ungetc(byte, source);

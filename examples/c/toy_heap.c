@@ -1,5 +1,6 @@
 #include "toy_heap.h"
 #include <pcompact.h>
+#include <pthread.h>
 #include <stdio.h>
 #include <stdlib.h>
 #include <string.h>
@@ -13,7 +14,7 @@ static void fail(const char *why) {
 
 toy_heap toy_heap_new(size_t word_count, size_t root_room) {
     size_t regions = (word_count + (1 << REGION_LOG) - 1) >> REGION_LOG;
-    toy_heap heap = {.word_count = regions << REGION_LOG, .root_room = root_room};
+    toy_heap heap = {.word_count = regions << REGION_LOG, .root_room = root_room, .threads = 1};
     heap.words = calloc(heap.word_count, sizeof *heap.words);
     heap.roots = calloc(root_room, sizeof *heap.roots);
     if (!heap.words || !heap.roots) fail("memory");
@@ -25,11 +26,34 @@ void toy_heap_free(toy_heap *heap) {
     free(heap->roots);
 }
 
+/* One thread's part. Whatever goes wrong, pcompact_end tells. */
+static void *work(void *handle) {
+    pcompact_work_all(handle);
+    return NULL;
+}
+
+/* The words stay as they are until the end, which also fills what a thread that couldn't be started would have filled. */
+static uint32_t collect_by_threads(toy_heap *heap, pcompact_settings settings, pcompact_answer *answer) {
+    pcompact_handle handles[TOY_MAX_THREADS] = {{false, NULL}};
+    pthread_t threads[TOY_MAX_THREADS];
+    size_t started = 0;
+    answer->fault = pcompact_begin_rooted(heap->words, heap->word_count, heap->roots, heap->root_count, settings, handles,
+                                          heap->threads);
+    if (answer->fault.number != 0) return answer->fault.number;
+    while (started < heap->threads && pthread_create(&threads[started], NULL, work, &handles[started]) == 0) started++;
+    for (size_t i = 0; i < started; i++) pthread_join(threads[i], NULL);
+    return pcompact_end(handles, heap->threads, heap->words, heap->word_count, heap->roots, heap->root_count, answer);
+}
+
+static uint32_t collect_at_once(toy_heap *heap, pcompact_settings settings, pcompact_answer *answer) {
+    return pcompact_collect_rooted(heap->words, heap->word_count, heap->roots, heap->root_count, settings, answer);
+}
+
 /* All that the roots don't reach goes. A sixteenth of the heap may stay dead where that saves moving what lies low. */
 static void collect(toy_heap *heap) {
     pcompact_settings settings = {.region_log = REGION_LOG, .allowance = heap->word_count / 16};
     pcompact_answer answer;
-    if (pcompact_collect_rooted(heap->words, heap->word_count, heap->roots, heap->root_count, settings, &answer) != 0) {
+    if ((heap->threads > 1 ? collect_by_threads : collect_at_once)(heap, settings, &answer) != 0) {
         uint8_t text[64];
         pcompact_fault_text(answer.fault, text, sizeof text);
         fail((char *)text);

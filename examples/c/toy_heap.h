@@ -1,4 +1,4 @@
-/* The heap of a toy runtime. Objects are allocated by bumping. When it is full, one call compacts it. */
+/* The heap of a toy runtime. Objects are allocated by bumping. When it is full, one call compacts it, or several threads do. */
 #ifndef TOY_HEAP_H
 #define TOY_HEAP_H
 
@@ -12,6 +12,8 @@ typedef uint64_t value;
 /* A place on the stack of roots. */
 typedef size_t slot;
 
+enum { TOY_MAX_THREADS = 64 };
+
 typedef struct toy_heap {
     uint64_t *words; /* the heap, from address 0 up */
     size_t word_count;
@@ -19,6 +21,7 @@ typedef struct toy_heap {
     value *roots;
     size_t root_count, root_room;
     size_t collections; /* how many there were */
+    size_t threads; /* how many collect, at most TOY_MAX_THREADS; with 1 one call does it all */
     int collects_always; /* whether each allocation collects first, which finds values that are used after it */
 } toy_heap;
 

@@ -1,21 +1,10 @@
-/* Calls each function of pcompact.h on an image, and prints what is wrong.
+/* Calls the functions of pcompact.h that check, summarise and collect, and prints what is wrong. Links with checks.c.
  *
  * usage: calls IMAGE COMPACTION PREFIX_END NEW_TOP FILLED_REGIONS */
+#include "checks.h"
 #include "pcompact.h"
-#include <stdio.h>
 #include <stdlib.h>
 #include <string.h>
-
-static int passed, failed;
-
-static void check(int holds, const char *what) {
-    if (holds) {
-        passed++;
-    } else {
-        failed++;
-        printf("failed: %s\n", what);
-    }
-}
 
 static int has_text(pcompact_fault fault, const char *wanted) {
     uint8_t text[64];
@@ -43,28 +32,17 @@ static void check_cut_texts(void) {
     check(memcmp(text, "11 m\0xxx", 8) == 0, "no room, no byte");
 }
 
-static uint8_t *read_file(const char *name, size_t *len) {
-    FILE *file = fopen(name, "rb");
-    if (!file) exit(2);
-    fseek(file, 0, SEEK_END);
-    *len = (size_t)ftell(file);
-    rewind(file);
-    uint8_t *bytes = malloc(*len + 1);
-    if (!bytes || fread(bytes, 1, *len, file) != *len) exit(2);
-    fclose(file);
-    return bytes;
-}
-
-/* The base heap has the header of its first object at byte 32. */
+/* The base heap has the header of its first object at its first word. */
 static void check_image(const char *name) {
-    size_t len;
-    uint8_t *bytes = read_file(name, &len);
+    image it = read_image(name);
+    uint8_t *bytes = it.bytes;
+    size_t len = it.len;
     check(pcompact_check(bytes, len).number == 0, "a valid image");
     check(pcompact_check(bytes, 31).number == 1, "a cut head");
     check(pcompact_check(bytes, len - 1).number == 5, "a cut body");
     bytes[len] = 0;
     check(pcompact_check(bytes, len + 1).number == 10, "a byte too many");
-    bytes[32] ^= 1;
+    bytes[FRONT_BYTES] ^= 1;
     pcompact_fault fault = pcompact_check(bytes, len);
     check(fault.number == 7 && fault.place == 0, "a header that is none");
     bytes[0] ^= 1;
@@ -87,15 +65,14 @@ typedef struct heap {
 } heap;
 
 /* The heap of an image. The machine is little endian. */
-static heap read_heap(const uint8_t *bytes) {
+static heap read_heap(const image *from) {
     heap it;
-    it.settings = (pcompact_settings){(uint32_t)number_at(bytes + 8, 4), number_at(bytes + 24, 8)};
-    it.tail_count = number_at(bytes + 12, 4);
-    it.word_count = number_at(bytes + 16, 8);
-    it.is_rooted = bytes[7] != '1';
-    it.words = malloc(8 * (it.word_count + it.tail_count));
-    if (!it.words) exit(2);
-    memcpy(it.words, bytes + 32, 8 * (it.word_count + it.tail_count));
+    it.settings = (pcompact_settings){(uint32_t)number_at(from->bytes + 8, 4), number_at(from->bytes + 24, 8)};
+    it.tail_count = number_at(from->bytes + 12, 4);
+    it.word_count = number_at(from->bytes + 16, 8);
+    it.is_rooted = has_roots(from);
+    it.words = room_for(8 * (it.word_count + it.tail_count));
+    memcpy(it.words, from->bytes + FRONT_BYTES, 8 * (it.word_count + it.tail_count));
     it.tail = it.words + it.word_count;
     return it;
 }
@@ -110,9 +87,9 @@ static int has_figures(const pcompact_answer *answer, const pcompact_answer *wan
         && answer->filled_regions == wanted->filled_regions;
 }
 
-/* The same by words and live addresses. `bytes` are an image of version 1. */
-static void check_heap(const uint8_t *bytes, const pcompact_answer *wanted) {
-    heap it = read_heap(bytes);
+/* The same by words and live addresses. The image is of version 1. */
+static void check_heap(const image *of, const pcompact_answer *wanted) {
+    heap it = read_heap(of);
     uint64_t *live = it.tail;
     pcompact_answer answer;
     check(pcompact_summary(it.words, it.word_count, live, it.tail_count, it.settings, &answer) == 0, "a summary of a heap");
@@ -139,8 +116,8 @@ static uint32_t collect(heap *it, pcompact_answer *answer) {
 }
 
 /* A heap with a fault of this number at this place is left as it is. */
-static void check_refusal(const uint8_t *bytes, size_t index, uint64_t wrong, uint32_t fault, uint64_t place, const char *what) {
-    heap it = read_heap(bytes), same = read_heap(bytes);
+static void check_refusal(const image *of, size_t index, uint64_t wrong, uint32_t fault, uint64_t place, const char *what) {
+    heap it = read_heap(of), same = read_heap(of);
     it.words[index] = same.words[index] = wrong;
     pcompact_answer answer;
     check(collect(&it, &answer) == fault && answer.fault.number == fault && answer.fault.place == place, what);
@@ -151,17 +128,17 @@ static void check_refusal(const uint8_t *bytes, size_t index, uint64_t wrong, ui
 }
 
 /* `after` is the image of the compaction. The first root isn't null. */
-static void check_collection(const uint8_t *bytes, const uint8_t *after, const pcompact_answer *wanted) {
-    heap it = read_heap(bytes), compacted = read_heap(after);
+static void check_collection(const image *of, const image *after, const pcompact_answer *wanted) {
+    heap it = read_heap(of), compacted = read_heap(after);
     pcompact_answer answer;
     check(collect(&it, &answer) == 0 && answer.fault.number == 0, "a collection");
     check(has_figures(&answer, wanted), "the figures of a collection");
     check(is_same(&it, &compacted), "the memory holds the compaction");
     check(collect(&it, &answer) == 0, "a collection of the compaction");
-    heap other = read_heap(bytes);
+    heap other = read_heap(of);
     uint64_t object = other.tail[0] - (uint64_t)other.is_rooted, beyond = other.word_count + 1;
-    check_refusal(bytes, object, 0, 7, object, "a header that is none");
-    check_refusal(bytes, other.word_count, beyond, other.is_rooted ? 17 : 6, 0, "a number outside the heap");
+    check_refusal(of, object, 0, 7, object, "a header that is none");
+    check_refusal(of, other.word_count, beyond, other.is_rooted ? 17 : 6, 0, "a number outside the heap");
     free(it.words);
     free(other.words);
     free(compacted.words);
@@ -169,17 +146,16 @@ static void check_collection(const uint8_t *bytes, const uint8_t *after, const p
 
 /* The figures are those that `pcompact summary` prints. */
 static void check_summary(const char *name, const char *compaction, const pcompact_answer *wanted) {
-    size_t len, after_len;
-    uint8_t *bytes = read_file(name, &len), *after = read_file(compaction, &after_len);
+    image it = read_image(name), after = read_image(compaction);
     pcompact_answer answer;
-    check(pcompact_summary_of_image(bytes, len, &answer) == 0 && answer.fault.number == 0, "a summary");
+    check(pcompact_summary_of_image(it.bytes, it.len, &answer) == 0 && answer.fault.number == 0, "a summary");
     check(has_figures(&answer, wanted), "the figures of a summary");
-    if (bytes[7] == '1') check_heap(bytes, &answer);
-    check_collection(bytes, after, &answer);
-    check(pcompact_summary_of_image(bytes, len - 1, &answer) == 5 && answer.fault.number == 5, "fault 5");
+    if (!has_roots(&it)) check_heap(&it, &answer);
+    check_collection(&it, &after, &answer);
+    check(pcompact_summary_of_image(it.bytes, it.len - 1, &answer) == 5 && answer.fault.number == 5, "fault 5");
     check(answer.prefix_end == 0 && answer.new_top == 0 && answer.filled_regions == 0, "no figures");
-    free(bytes);
-    free(after);
+    free(it.bytes);
+    free(after.bytes);
 }
 
 int main(int argc, char **argv) {
@@ -191,6 +167,5 @@ int main(int argc, char **argv) {
     check_cut_texts();
     check_image(argv[1]);
     check_summary(argv[1], argv[2], &wanted);
-    printf("%d passed, %d failed\n", passed, failed);
-    return failed != 0;
+    return end_checks();
 }

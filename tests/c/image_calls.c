@@ -1,51 +1,12 @@
-/* Calls the functions of pcompact.h that redirect, compare, encode and decode, and prints what is wrong. Links with
- * refusing_heap.c.
+/* Calls the functions of pcompact.h that redirect, compare, encode and decode, and prints what is wrong. Links with checks.c
+ * and refusing_heap.c.
  *
  * usage: image_calls IMAGE COMPACTION */
+#include "checks.h"
 #include "pcompact.h"
 #include "refusing_heap.h"
-#include <stdio.h>
 #include <stdlib.h>
 #include <string.h>
-
-static int passed, failed;
-
-static void check(int holds, const char *what) {
-    if (holds) {
-        passed++;
-    } else {
-        failed++;
-        printf("failed: %s\n", what);
-    }
-}
-
-static void *room_for(size_t bytes) {
-    void *room = malloc(bytes > 0 ? bytes : 1);
-    if (!room) exit(2);
-    return room;
-}
-
-/* The bytes of an image. */
-typedef struct image {
-    uint8_t *bytes;
-    size_t len;
-} image;
-
-static image read_image(const char *name) {
-    FILE *file = fopen(name, "rb");
-    if (!file) exit(2);
-    fseek(file, 0, SEEK_END);
-    image it = {.len = (size_t)ftell(file)};
-    rewind(file);
-    it.bytes = room_for(it.len + 1);
-    if (fread(it.bytes, 1, it.len, file) != it.len) exit(2);
-    fclose(file);
-    return it;
-}
-
-static int has_roots(const image *it) {
-    return it->bytes[7] != '1';
-}
 
 /* The words of an image and its live addresses or roots, as the calls decode them. */
 typedef struct lists {
@@ -80,9 +41,9 @@ static void check_decoding(const image *it) {
     check(found.heap.version == (uint32_t)(it->bytes[7] - '0'), "the version");
     check(memcmp(&found.heap.settings.region_log, it->bytes + 8, 4) == 0, "the region log");
     check(memcmp(&found.heap.settings.allowance, it->bytes + 24, 8) == 0, "the allowance");
-    check(32 + words + tail == it->len, "the counts");
-    check(memcmp(found.words, it->bytes + 32, words) == 0, "the words");
-    check(memcmp(found.tail, it->bytes + 32 + words, tail) == 0, "the live addresses or roots");
+    check(FRONT_BYTES + words + tail == it->len, "the counts");
+    check(memcmp(found.words, it->bytes + FRONT_BYTES, words) == 0, "the words");
+    check(memcmp(found.tail, it->bytes + FRONT_BYTES + words, tail) == 0, "the live addresses or roots");
     end_lists(&found);
 }
 
@@ -149,7 +110,7 @@ static void check_encoding(const image *it) {
 
 /* Regions that version 2 doesn't allow. */
 static void check_large_regions(void) {
-    size_t words = (size_t)1 << 17, len = 32 + 8 * words;
+    size_t words = (size_t)1 << 17, len = FRONT_BYTES + 8 * words;
     uint64_t *heap = calloc(words, 8), none = 0;
     uint8_t *bytes = room_for(len);
     if (!heap) exit(2);
@@ -178,7 +139,7 @@ static int is_refused(const image *before, const image *after, uint32_t fault, u
 static void check_verdicts(const image *it, image *after) {
     check(is_verdict(it, after, 0, 0), "the compaction");
     uint64_t place = 0;
-    while (memcmp(it->bytes + 32 + 8 * place, after->bytes + 32 + 8 * place, 8) == 0) place++;
+    while (memcmp(it->bytes + FRONT_BYTES + 8 * place, after->bytes + FRONT_BYTES + 8 * place, 8) == 0) place++;
     check(is_verdict(it, it, 2, place), "the first word that differs");
     after->bytes[24]++;
     check(is_verdict(it, after, 1, 0), "another allowance");
@@ -204,7 +165,7 @@ static void check_other_live(void) {
 static void check_roots(const image *it, image *after) {
     uint64_t words;
     memcpy(&words, after->bytes + 16, 8);
-    uint8_t *roots = after->bytes + 32 + 8 * words, first[8];
+    uint8_t *roots = after->bytes + FRONT_BYTES + 8 * words, first[8];
     if (memcmp(roots, roots + 8, 8) == 0) return;
     memcpy(first, roots, 8);
     memcpy(roots, roots + 8, 8);
@@ -321,6 +282,5 @@ int main(int argc, char **argv) {
     check(blocks_held == 0, "no block is held in the end");
     free(before.bytes);
     free(after.bytes);
-    printf("%d passed, %d failed\n", passed, failed);
-    return failed != 0;
+    return end_checks();
 }

@@ -42,12 +42,12 @@ refuses_half() {
 }
 
 find_needs
-for caller in calls hostile refusals; do
+for caller in hostile refusals; do
     build "$caller" "tests/c/$caller.c"
 done
-for caller in image_calls lent; do
-    build "$caller" -Itests/c "tests/c/$caller.c" tests/c/refusing_heap.c
-done
+build calls -Itests/c tests/c/{calls,checks}.c
+build image_calls -Itests/c tests/c/{image_calls,checks,refusing_heap}.c
+build lent -Itests/c tests/c/{lent,refusing_heap}.c
 for example in base rooted; do
     compact "$example"
     run calls "examples/$example.pcheap" "$room/$example" 0 19 3

@@ -1,6 +1,7 @@
 #!/usr/bin/env bash
 # Builds the examples in C, C++ and Rust that call the library, and runs them. The toy runtime is also run with a collection
-# before each allocation, under the sanitizers for addresses and undefined behaviour, and under valgrind if it is there.
+# before each allocation, and by several threads, under the sanitizers for addresses, undefined behaviour and threads, and under
+# valgrind if it is there.
 #
 # usage: tests/c/test_examples.sh
 set -uo pipefail
@@ -17,7 +18,7 @@ prints() {
     return 1
 }
 
-# The toy runtime must collect, and print the same however often it does.
+# The toy runtime must collect, and print the same however often it does, and by however many threads.
 try_lisp() {
     local lines='range
 map
@@ -30,14 +31,28 @@ repeat
 230
 (101 102 103 104 105)
 (a (nested list) of symbols ())'
-    build_c lisp -O2 examples/c/lisp.c examples/c/toy_heap.c
-    build_c lisp-checked "${sanitized[@]}" examples/c/lisp.c examples/c/toy_heap.c
+    local program=(-pthread examples/c/lisp.c examples/c/toy_heap.c)
+    build_c lisp -O2 "${program[@]}"
+    build_c lisp-checked "${sanitized[@]}" "${program[@]}"
+    build_c lisp-raced -g -O1 -fsanitize=thread "${program[@]}"
     try prints "$lines" "$room/lisp" examples/c/lists.lisp
     try grep -q '^[1-9][0-9]* collections$' "$room/told"
     try prints "$lines" "$room/lisp" -g examples/c/lists.lisp
     try prints "$lines" "$room/lisp-checked" examples/c/lists.lisp
     try prints "$lines" "$room/lisp-checked" -g examples/c/lists.lisp
     try_watched "$room/lisp" examples/c/lists.lisp
+    try_threads "$lines"
+}
+
+# The same by four threads. The sanitizer for threads sees how the library copies words, and not the atomic steps between its
+# copies: those it leaves out.
+try_threads() {
+    local file=examples/c/lists.lisp
+    try prints "$1" "$room/lisp" -t 4 "$file"
+    try grep -q '^[1-9][0-9]* collections$' "$room/told"
+    try prints "$1" "$room/lisp-checked" -t 4 "$file"
+    try prints "$1" env TSAN_OPTIONS=ignore_interceptors_accesses=1 "$room/lisp-raced" -t 4 "$file"
+    try_watched "$room/lisp" -t 4 "$file"
 }
 
 try_first() {

@@ -16,6 +16,7 @@ import struct
 import subprocess
 import sys
 import tempfile
+from collections.abc import Callable
 
 # Finds the package `tests` from any folder, and writes nothing beside its modules.
 sys.dont_write_bytecode = True
@@ -147,16 +148,17 @@ def try_heaps(caller: Caller, seed: str, count: int) -> None:
             caller.try_heap(f"{what}, spoiled", spoiled(chance, image))
 
 
-def build(room: pathlib.Path, name: str, library: pathlib.Path, options: list[str]) -> pathlib.Path:
-    program = room / name
-    subprocess.run([compiler(), "-std=c11", *options, f"-I{library}", "tests/c/serve.c", library / "libpcompact.a", "-o", program],
+def build(source: str, program: pathlib.Path, library: pathlib.Path, options: list[str]) -> pathlib.Path:
+    """The program of one file of this folder, with the library."""
+    subprocess.run([compiler(), "-std=c11", *options, f"-I{library}", f"tests/c/{source}", library / "libpcompact.a", "-o", program],
                    cwd=pathlib.Path(__file__).resolve().parents[2], check=True)
     return program
 
 
-def main() -> int:
+def run(source: str, kind: type[Caller], try_some: Callable[[Caller, str, int], None], most: int, watched: int) -> int:
+    """Tries heaps of the seed and number that the command line gives by callers of this kind. Returns the exit status."""
     seed = sys.argv[1] if len(sys.argv) > 1 else "c"
-    count = int(sys.argv[2]) if len(sys.argv) > 2 else HEAPS
+    count = int(sys.argv[2]) if len(sys.argv) > 2 else most
     library, why = built_library()
     if not library or not compiler():
         print(why or "there is no C compiler")
@@ -164,11 +166,11 @@ def main() -> int:
         return 0
     with tempfile.TemporaryDirectory() as folder:
         room = pathlib.Path(folder)
-        callers = [(Caller([build(room, "checked", library, SANITIZED)]), count)]
+        callers = [(kind([build(source, room / "checked", library, SANITIZED)]), count)]
         if shutil.which("valgrind"):
-            callers.append((Caller([*VALGRIND, build(room, "plain", library, ["-O1"])]), min(count, WATCHED)))
+            callers.append((kind([*VALGRIND, build(source, room / "plain", library, ["-O1"])]), min(count, watched)))
         for caller, heaps in callers:
-            try_heaps(caller, seed, heaps)
+            try_some(caller, seed, heaps)
             caller.end()
     wrong = sum(caller.wrong for caller, _ in callers)
     print(f"{sum(caller.count for caller, _ in callers) - wrong} passed, {wrong} failed")
@@ -176,4 +178,4 @@ def main() -> int:
 
 
 if __name__ == "__main__":
-    sys.exit(main())
+    sys.exit(run("serve.c", Caller, try_heaps, HEAPS, WATCHED))

@@ -2,7 +2,7 @@ use crate::raw;
 use std::error::Error;
 use std::fmt::{self, Display, Formatter};
 
-/// Why there is no collection.
+/// Why a call did nothing.
 #[repr(C)]
 #[derive(Clone, Copy, Debug, PartialEq, Eq)]
 #[must_use]
@@ -13,6 +13,29 @@ pub struct Fault {
     pub field: u32,
     /// The index of faults 6 and 17, the address of faults 7 to 9, the region of fault 15, otherwise 0.
     pub place: u64,
+}
+
+impl Fault {
+    pub(crate) const NONE: Fault = Fault::of(0);
+    /// Memory ran out.
+    pub(crate) const MEMORY: Fault = Fault::of(11);
+
+    const fn of(number: u32) -> Fault {
+        Fault {
+            number,
+            field: 0,
+            place: 0,
+        }
+    }
+
+    /// No fault is success.
+    pub(crate) fn into_result(self) -> Result<(), Fault> {
+        if self.number == 0 {
+            Ok(())
+        } else {
+            Err(self)
+        }
+    }
 }
 
 /// For example `9 reference at 5 field 1`.

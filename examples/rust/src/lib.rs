@@ -1,7 +1,7 @@
 //! Safe calls of `libpcompact`, a sliding full collection of heaps in memory.
 //!
 //! A heap is a slice of words. The address of a word is its index. An object is a [`header`], then references, then data;
-//! a reference is 0, or 1 plus the address of an object, as [`reference`] gives it. `docs/HEAP.md` of the repository
+//! a reference is 0, or 1 plus the address of an object, as [`reference()`] gives it. `docs/HEAP.md` of the repository
 //! defines the rest.
 //!
 //! ```
@@ -17,46 +17,28 @@
 //! # Ok::<(), pcompact::Fault>(())
 //! ```
 //!
+//! Several threads of the host fill the regions of one heap by a [`Collection`].
+//!
 //! No call keeps state, starts a thread or waits. A call takes memory by `malloc`, and never ends the process.
 
 mod fault;
 mod heap;
+mod image;
 mod raw;
+mod workers;
 
 pub use fault::Fault;
 pub use heap::{header, reference, Figures, Settings};
+pub use image::{
+    check, decode, decode_rooted, encode, encode_rooted, summary_of_image, verify, Difference,
+    Heap, Uncompared,
+};
+pub use workers::{Collection, Progress, Worker};
 
 /// The version of the library: `1_000_000 * major + 1_000 * minor + patch`.
 pub fn version() -> u32 {
     // SAFETY: it takes and gives a number.
     unsafe { raw::pcompact_version() }
-}
-
-/// Looks whether these bytes are the text of a valid image.
-///
-/// # Errors
-///
-/// The first fault, 1 to 10 or 17; 11 if memory runs out.
-pub fn check(bytes: &[u8]) -> Result<(), Fault> {
-    // SAFETY: a slice isn't null, has as many bytes as it says, and nobody writes there meanwhile.
-    let fault = unsafe { raw::pcompact_check(bytes.as_ptr(), bytes.len()) };
-    if fault.number == 0 {
-        Ok(())
-    } else {
-        Err(fault)
-    }
-}
-
-/// Tells what a collection will do to the image with these bytes.
-///
-/// # Errors
-///
-/// The first fault, as [`check`] finds it.
-pub fn summary_of_image(bytes: &[u8]) -> Result<Figures, Fault> {
-    raw::answered(|answer| {
-        // SAFETY: as in `check`; the answer is the callee's alone.
-        unsafe { raw::pcompact_summary_of_image(bytes.as_ptr(), bytes.len(), answer) }
-    })
 }
 
 /// Tells what a collection will do to the heap with these words and live addresses, ascending.
@@ -127,4 +109,43 @@ pub fn collect_rooted(
             )
         }
     })
+}
+
+/// Redirects references that are kept outside of the heap with these words and live addresses to where [`collect`] will take
+/// their objects; to be called before it. Each is 0, which stays, or leads to a live object.
+///
+/// ```
+/// use pcompact::{collect, header, new_addresses, reference, Settings};
+///
+/// let mut words = [header(1, 0), header(1, 0), 0, 0, 0, 0, 0, 0];
+/// let (mut live, mut weak) = ([1], [0, reference(1)]);
+/// new_addresses(&words, &live, Settings::new(3), &mut weak)?;
+/// collect(&mut words, &mut live, Settings::new(3))?;
+/// assert_eq!(weak, [0, reference(live[0])]);
+/// # Ok::<(), pcompact::Fault>(())
+/// ```
+///
+/// # Errors
+///
+/// Those of [`summary`], and 17 with the index of the first reference that leads to no live object. After each of them the
+/// references are as they were.
+pub fn new_addresses(
+    words: &[u64],
+    live: &[u64],
+    settings: Settings,
+    references: &mut [u64],
+) -> Result<(), Fault> {
+    // SAFETY: a mutable slice overlaps no other, and nobody writes to the others meanwhile.
+    let fault = unsafe {
+        raw::pcompact_new_addresses(
+            words.as_ptr(),
+            words.len(),
+            live.as_ptr(),
+            live.len(),
+            settings,
+            references.as_mut_ptr(),
+            references.len(),
+        )
+    };
+    fault.into_result()
 }

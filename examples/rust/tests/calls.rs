@@ -1,6 +1,7 @@
 use pcompact::{
-    check, collect, collect_rooted, header, reference, summary, summary_of_image, version, Fault,
-    Figures, Settings,
+    check, collect, collect_rooted, decode, decode_rooted, encode, encode_rooted, header,
+    new_addresses, reference, summary, summary_of_image, verify, version, Difference, Fault,
+    Figures, Heap, Settings, Uncompared,
 };
 use std::thread;
 
@@ -129,6 +130,100 @@ fn images_are_checked() {
             field: 0,
             place: 0
         })
+    );
+}
+
+#[test]
+fn references_outside_move() {
+    let (words, live) = (list(), [3, 6]);
+    let mut references = [reference(6), 0, reference(3)];
+    assert_eq!(
+        new_addresses(&words, &live, SETTINGS, &mut references),
+        Ok(())
+    );
+    assert_eq!(references, [reference(3), 0, reference(0)]);
+    let stray = Fault {
+        number: 17,
+        field: 0,
+        place: 1,
+    };
+    let mut references = [reference(6), reference(0)];
+    assert_eq!(
+        new_addresses(&words, &live, SETTINGS, &mut references),
+        Err(stray)
+    );
+    assert_eq!(references, [reference(6), reference(0)]);
+}
+
+#[test]
+fn images_are_compared() {
+    let image = |words: &[u64], live: &[u64]| encode(words, live, SETTINGS).unwrap();
+    let (before, after) = (image(&list(), &[3, 6]), image(&compacted(), &[0, 3]));
+    assert_eq!(verify(&before, &after), Ok(None));
+    assert_eq!(verify(&before, &before), Ok(Some(Difference::Word(2))));
+    assert_eq!(
+        verify(&before, &image(&compacted(), &[0])),
+        Ok(Some(Difference::Shape))
+    );
+    let cut = check(&before[1..]).unwrap_err();
+    assert_eq!(verify(&before[1..], &after), Err(Uncompared::Before(cut)));
+    assert_eq!(verify(&before, &after[1..]), Err(Uncompared::After(cut)));
+    assert_eq!(
+        Uncompared::After(cut).to_string(),
+        "after the collection: 2 magic"
+    );
+}
+
+#[test]
+fn roots_are_compared() {
+    let image = |words: &[u64], roots: &[u64]| encode_rooted(words, roots, SETTINGS).unwrap();
+    let before = image(&list(), &[reference(6), reference(3)]);
+    let after = image(&compacted(), &[reference(3), reference(0)]);
+    let turned = image(&compacted(), &[reference(0), reference(3)]);
+    assert_eq!(verify(&before, &after), Ok(None));
+    assert_eq!(verify(&before, &turned), Ok(Some(Difference::Root(0))));
+}
+
+#[test]
+fn live_addresses_are_compared() {
+    let words = [header(2, 0), header(1, 0), 0, 0, 0, 0, 0, 0];
+    let image = |live: &[u64]| encode(&words, live, SETTINGS).unwrap();
+    assert_eq!(
+        verify(&image(&[0]), &image(&[1])),
+        Ok(Some(Difference::Live(0)))
+    );
+}
+
+#[test]
+fn decoding_gives_what_was_encoded() {
+    let settings = Settings {
+        region_log: 3,
+        allowance: 7,
+    };
+    let heap = |version, list| Heap {
+        version,
+        settings,
+        words: self::list().to_vec(),
+        list,
+    };
+    let image = encode(&list(), &[3, 6], settings).unwrap();
+    assert_eq!(decode(&image), Ok(heap(1, vec![3, 6])));
+    let rooted = heap(2, vec![reference(3), reference(6)]);
+    assert_eq!(decode_rooted(&image), Ok(rooted));
+    let image = encode_rooted(&list(), &[reference(6), 0], settings).unwrap();
+    assert_eq!(decode(&image), Ok(heap(2, vec![3, 6])));
+    assert_eq!(decode_rooted(&image), Ok(heap(2, vec![reference(6), 0])));
+    assert_eq!(decode(&image[1..]), Err(check(&image[1..]).unwrap_err()));
+    assert_eq!(decode(&[]).unwrap_err().to_string(), "1 truncated header");
+}
+
+#[test]
+fn heaps_are_encoded_unchecked() {
+    let image = encode(&[0; 8], &[9], SETTINGS).unwrap();
+    assert_eq!(image.len(), 32 + 8 * 9);
+    assert_eq!(
+        check(&image).unwrap_err().to_string(),
+        "6 live order at index 0"
     );
 }
 
