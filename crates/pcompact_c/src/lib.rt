@@ -6,28 +6,37 @@
 #![tactic(auto)]
 
 mod answer;
+mod begin;
+mod begin_rooted;
 mod check;
 mod collect;
 mod collect_rooted;
 mod comparison;
+mod dealing;
 mod decode;
 mod decode_rooted;
 mod encode;
 mod encode_rooted;
+mod end;
 mod fault;
 mod fault_text;
+mod handle;
 mod heap;
 mod heap_bytes;
 mod host_lists;
 mod new_addresses;
+mod raw_box;
 mod summary_of_heap;
 mod summary_of_image;
+mod taking;
 mod verdict;
 mod verify;
 mod version;
+mod work;
 
 pub use answer::PcompactAnswer;
 pub use caller_heap::HeapSettings as PcompactSettings;
 pub use fault::PcompactFault;
+pub use handle::PcompactHandle;
 pub use heap::PcompactHeap;
 pub use verdict::PcompactVerdict;
