@@ -1,8 +1,10 @@
 //! The C interface of the collector. `c/pcompact.h` declares it, and says what a caller must keep.
 //!
-//! No call keeps state, starts a thread or waits. Memory is allocated by the C library's heap alone.
+//! No call starts a thread or waits, and none keeps state but behind the handles of a collection by several threads. Memory
+//! is allocated by the C library's heap alone.
 //!
-//! Proved: what each contract says of what a call returns and writes. Only tested: the texts of faults.
+//! Proved: what each contract says of what a call returns and writes. Only tested: the texts of faults,
+//! and how far workers come.
 #![tactic(auto)]
 
 mod answer;

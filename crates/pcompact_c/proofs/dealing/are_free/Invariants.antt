@@ -1,0 +1,7 @@
+use Rattle.std.proofs.Common.{◌≡◌, ℕ, ◌<◌, false}
+use Rattle.std.specs.Prelude.{slice_index_or}
+use Rattle.pcompact_c.proofs.dealing.are_free.Given as goal
+
+-- the handles so far are free
+abbrev pub invariant-loop-handle : goal.invariant-loop-handle
+invariant-loop-handle l = (j : ℕ) (d : _) → j < l.handle-index → (slice_index_or l.handles j d).0 ≡ false
