@@ -16,18 +16,20 @@ use std::alloc::{AllocError, Global};
 const MOST_WORKERS: usize = 64;
 
 /// Whether a collection can begin with these handles: they are 1 to 64, and none is held.
-pub(crate) fn are_ready(handles: &[PcompactHandle]) -> bool
-    ensures few { IsTrue result → length handles.now ≤ 64 }
-    ensures free { IsTrue result → All (λ h. h.0 ≡ false) handles.now }
+pub(crate) fn are_ready(handles: &mut [PcompactHandle]) -> bool
+    ensures few { IsTrue result → length handles.old ≤ 64 }
+    ensures free { IsTrue result → All (λ h. h.0 ≡ false) handles.old }
+    ensures same { handles.new ≡ handles.old }
 {
     1 <= handles.len() && handles.len() <= MOST_WORKERS && are_free(handles)
 }
 
 /// Whether no handle is held.
-fn are_free(handles: &[PcompactHandle]) -> bool
-    ensures { IsTrue result → All (λ h. h.0 ≡ false) handles.now }
+fn are_free(handles: &mut [PcompactHandle]) -> bool
+    ensures free { IsTrue result → All (λ h. h.0 ≡ false) handles.old }
+    ensures same { handles.new ≡ handles.old }
 {
-    for handle in handles {
+    for handle in handles.iter_mut() {
         if handle.is_held() {
             return false;
         }

@@ -23,9 +23,12 @@ impl Model for PcompactHandle {
     ghost use Rattle.std.specs.Prelude.{◌≡◌, Bool, Option, is_some};
     ghost use Rattle.std.specs.Ptr.{Ptr};
     ghost use Rattle.collector.specs.declared.session.share.Share.{Share};
-    ghost use Rattle.pcompact_c.specs.Handles.{held};
+    ghost use Rattle.std.specs.Coded.{codes};
+    ghost use Rattle.pcompact_c.specs.Handles.{held, shares_coded};
 
     ghost Value = { Bool × Ptr × Option Share };
+
+    ghost coded = { Prim.hlevel (codes, shares_coded) };
 
     ghost view = { λ h. (h.is_held, h.at, h.share) };
 
@@ -80,8 +83,9 @@ impl PcompactHandle {
         let PcompactHandle { is_held: _, at: _ } = self;
     }
 
-    pub(crate) fn is_held(&self) -> bool
-        ensures { result ≡ self.now.0 }
+    pub(crate) fn is_held(&mut self) -> bool
+        ensures held { result ≡ self.old.0 }
+        ensures same { self.new ≡ self.old }
     {
         self.is_held
     }

@@ -10,7 +10,7 @@ use Rattle.std.specs.Prelude.{Option, Some, None}
 use Rattle.std.proofs.Crossing as heap
 use Rattle.std_alloc.proofs.SendSync.{quiet, lies}
 use Rattle.collector.specs.contracts.session.share.Share as Share
-use Rattle.collector.proofs.session.share.Share.TheSendSync.{the_send as share_send}
+use Rattle.pcompact_c.proofs.Lemmas.Crossing.{share_send}
 use Rattle.pcompact_c.specs.Handles.{held}
 use Rattle.pcompact_c.specs.declared.handle.PcompactHandle as Declared
 use Rattle.pcompact_c.specs.declared.handle.PcompactHandle.TheView as view
