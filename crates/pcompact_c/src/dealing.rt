@@ -86,8 +86,9 @@ fn hand_out(mut shares: Vec<Box<Share, Global>>, handles: &mut [PcompactHandle])
         → All (λ h. image_in h ≡ Some image) handles.new }
 {
     for handle in handles.iter_mut() {
-        if let Some(share) = shares.pop() {
-            handle.enter(share);
+        match shares.pop() {
+            Some(share) => handle.enter(share),
+            None => unreachable!(),
         }
     }
 }

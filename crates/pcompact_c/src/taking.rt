@@ -1,5 +1,5 @@
 //! How the workers' parts in a collection are taken back from a host, and its words are written.
-ghost use Rattle.std.specs.Prelude.{◌≡◌, ◌⊎◌, List, ◌++◌, ◌∷◌, [], Some, None, IfOk, OnErr, IfErr, IfSome, All, map, length};
+ghost use Rattle.std.specs.Prelude.{◌≡◌, ◌⊎◌, List, ◌++◌, ◌∷◌, [], Some, None, IfOk, OnErr, IfErr, MatchOption, MatchResult, All, map, length};
 ghost use Rattle.heap_image.specs.HeapImage.{HeapImage};
 ghost use Rattle.heap_image.specs.ImageText.{with_tail};
 ghost use Rattle.heap_image.specs.declared.fault.Fault.TheVariants.{Length, Memory, Workers};
@@ -63,7 +63,9 @@ fn with_share(
     taken: Result<Vec<Share>, Fault>,
     share: Option<Box<Share, Global>>,
 ) -> Result<Vec<Share>, Fault>
-    ensures shares { IfOk result (λ all. IfOk taken (λ so_far. IfSome share (λ more. all.items ≡ so_far.items ++ more.value ∷ []))) }
+    requires fault { IfErr taken (λ fault. (fault ≡ Workers) ⊎ (fault ≡ Memory)) }
+    ensures shares { IfOk result (λ all. MatchResult taken
+        (λ so_far. MatchOption share ⊥ (λ more. all.items ≡ so_far.items ++ more.value ∷ [])) (λ _. ⊥)) }
     ensures fault { IfErr result (λ fault. (fault ≡ Workers) ⊎ (fault ≡ Memory)) }
 {
     let mut shares = taken?;
