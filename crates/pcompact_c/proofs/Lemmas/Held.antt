@@ -4,7 +4,7 @@
 --     handle_in, handle_out    a handle by value is what stands behind its pointer
 --     some_of                  an option that is some
 use mathlib.Core.Path.{◌≡◌, refl, sym}
-use mathlib.Core.Bool.{Bool, true, false}
+use mathlib.Core.Bool.{Bool, true}
 use mathlib.Core.List.{List, [], ◌∷◌}
 use seplogic.Ra.Ura.{Ura}
 use mir.Syntax.{impl, tnil, dnil}

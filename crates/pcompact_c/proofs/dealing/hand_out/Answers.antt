@@ -1,5 +1,5 @@
-use Rattle.std.proofs.Common.{◌≡◌, ◌∙◌, ap, sym, subst, arith, Box, Global}
-use Rattle.std.specs.Prelude.{All, Some, option_map}
+use Rattle.std.proofs.Common.{◌≡◌, ◌∙◌, ap, arith, Box, Global}
+use Rattle.std.specs.Prelude.{Some, option_map}
 use Rattle.std.proofs.lemmas.List.{length-set}
 use Rattle.collector.specs.declared.session.share.Share.{Share}
 use Rattle.collector.specs.Sessions.{image_of}

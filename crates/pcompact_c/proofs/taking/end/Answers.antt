@@ -1,4 +1,4 @@
-use Rattle.std.proofs.Common.{◌≡◌, ◌∙◌, ap}
+use Rattle.std.proofs.Common.{◌∙◌, ap}
 use Rattle.std.specs.Prelude.{Some, map, option_map}
 use Rattle.heap_image.specs.HeapImage.{HeapImage}
 use Rattle.heap_image.specs.ImageText.{with_tail}

@@ -1,7 +1,7 @@
 -- `take` gives the box that the handle holds.
 use Rattle.std.proofs.Common.{◌≡◌, [], ◌∷◌, refl}
 use Rattle.std.proofs.raw_atomic.Walks.{proved}
-use Rattle.std.specs.Prelude.{Option, Some, is_some}
+use Rattle.std.specs.Prelude.{Option, is_some}
 use base.Logic.{id⊢, fst∗, never}
 use base.Fml.{ftrue}
 use mathlib.Core.Bool.{true}
