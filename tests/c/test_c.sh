@@ -56,7 +56,7 @@ done
 run hostile
 run refusals
 run threads
-try "$room/threads-raced"
+try env TSAN_OPTIONS=suppressions=tests/c/threads.supp "$room/threads-raced"
 try refuses_half
 # With a stack of 96 KiB, of which the system takes some.
 try env -i sh -c 'ulimit -s 96 && exec "$1"' sh "$room/refusals"
