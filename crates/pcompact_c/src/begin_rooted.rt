@@ -1,5 +1,5 @@
 //! The begin of a collection by several threads of a heap with roots.
-ghost use Rattle.std.specs.Prelude.{◌≡◌, ◌<◌, Some, All};
+ghost use Rattle.std.specs.Prelude.{◌≡◌, ◌<◌, ◌≤◌, Some, false, All, length};
 ghost use Rattle.heap_image.specs.declared.fault.Fault.{Fault};
 ghost use Rattle.heap_image.specs.declared.version.Version.TheVariants.{Three};
 ghost use Rattle.heap_image.specs.HeapImage.{HeapImage, IsValid};
@@ -31,6 +31,8 @@ pub extern "C" fn pcompact_begin_rooted(
     ensures begun { result.number ≡ 0 → (image : HeapImage) × IsValid image
         × (heap_bytes Three settings words.now roots.now ≡ text image)
         × All (λ h. image_in h ≡ Some image) handles.new }
+    ensures count { result.number ≡ 0 → (1 ≤ length handles.old) × (length handles.old ≤ 64) }
+    ensures free { result.number ≡ 0 → All (λ h. h.0 ≡ false) handles.old }
     ensures kept { 0 < result.number → handles.new ≡ handles.old }
     ensures fault { 0 < result.number → (fault : Fault) × IsOf fault result
         × IsWhyNotBegun (heap_bytes Three settings words.now roots.now) fault }

@@ -17,7 +17,7 @@ const MOST_WORKERS: usize = 64;
 
 /// Whether a collection can begin with these handles: they are 1 to 64, and none is held.
 pub(crate) fn are_ready(handles: &mut [PcompactHandle]) -> bool
-    ensures few { IsTrue result → length handles.old ≤ 64 }
+    ensures count { IsTrue result → (1 ≤ length handles.old) × (length handles.old ≤ 64) }
     ensures free { IsTrue result → All (λ h. h.0 ≡ false) handles.old }
     ensures same { handles.new ≡ handles.old }
 {

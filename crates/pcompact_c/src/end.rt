@@ -1,5 +1,5 @@
 //! The end of a collection by several threads.
-ghost use Rattle.std.specs.Prelude.{◌≡◌, ◌<◌, None, All};
+ghost use Rattle.std.specs.Prelude.{◌≡◌, ◌<◌, true, None, is_some, All};
 ghost use Rattle.heap_image.specs.declared.fault.Fault.{Fault};
 ghost use Rattle.heap_image.specs.HeapImage.{HeapImage};
 ghost use Rattle.heap_image.specs.ImageText.{with_tail};
@@ -30,6 +30,7 @@ pub extern "C" fn pcompact_end(
 ) -> u32
     ensures number { result ≡ answer.new.fault.number }
     ensures free { All (λ h. h.2 ≡ None) handles.new }
+    ensures held { result ≡ 0 → All (λ h. is_some h.2 ≡ true) handles.old }
     ensures collected { result ≡ 0 → (image : HeapImage) × IsLastIn image handles.old
         × (words.new ≡ (compact image).words) × (list.new ≡ (with_tail (compact image)).live)
         × IsSummaryOf image answer.new }

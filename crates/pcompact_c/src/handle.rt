@@ -1,5 +1,5 @@
 //! A worker's part in a collection, as a host keeps it.
-ghost use Rattle.std.specs.Prelude.{◌≡◌, true, false, Some, None, Option, MatchOption, IfSome, IfNone, is_some};
+ghost use Rattle.std.specs.Prelude.{◌≡◌, true, false, Some, None, Option, MatchOption, is_some};
 ghost use Rattle.collector.specs.declared.session.share.Share.{Share};
 ghost use Rattle.pcompact_c.specs.Handles.{shares_coded};
 
@@ -55,6 +55,7 @@ impl PcompactHandle {
         }
     }
 
+    /// The handle of a boxed share.
     fn of(share: RawBox<Share, Global>) -> PcompactHandle
         ensures { result.2 ≡ Some share.value }
     {
@@ -65,6 +66,7 @@ impl PcompactHandle {
         }
     }
 
+    /// The boxed share of a handle.
     fn take(self, alloc: Global) -> RawBox<Share, Global>
         requires { is_some self.2 ≡ true }
         ensures { self.2 ≡ Some result.value }
@@ -83,6 +85,7 @@ impl PcompactHandle {
         let PcompactHandle { is_held: _, at: _ } = self;
     }
 
+    /// Whether it has a share.
     pub(crate) fn is_held(&mut self) -> bool
         ensures held { result ≡ self.old.0 }
         ensures same { self.new ≡ self.old }
@@ -116,7 +119,7 @@ impl PcompactHandle {
     /// Lets the worker fill regions that are ready, at most `turns`. Returns `None` if the handle isn't held.
     pub(crate) fn work(&mut self, alloc: Global, turns: u64) -> Option<Result<Progress, Halt>>
         ensures image { image_in self.new ≡ image_in self.old }
-        ensures none { IfNone result (self.old.2 ≡ None) }
+        ensures held { MatchOption result (self.old.2 ≡ None) (λ _. is_some self.old.2 ≡ true) }
     {
         let mut share = self.leave(alloc)?;
         let worked = share.work(turns);
@@ -127,7 +130,7 @@ impl PcompactHandle {
     /// Lets the worker fill regions until all are settled. Returns `None` if the handle isn't held.
     pub(crate) fn work_all(&mut self, alloc: Global) -> Option<Result<(), Halt>>
         ensures image { image_in self.new ≡ image_in self.old }
-        ensures none { IfNone result (self.old.2 ≡ None) }
+        ensures held { MatchOption result (self.old.2 ≡ None) (λ _. is_some self.old.2 ≡ true) }
     {
         let mut share = self.leave(alloc)?;
         let worked = share.work_all();

@@ -17,6 +17,7 @@ impl<T, A: Allocator> Model for RawBox<T, A> {
 }
 
 impl<T, A: Allocator> RawBox<T, A> {
+    /// Takes a box apart.
     pub(crate) fn of(whole: Box<T, A>) -> RawBox<T, A>
     where
         T: Drop,
@@ -26,6 +27,7 @@ impl<T, A: Allocator> RawBox<T, A> {
         RawBox { at, alloc }
     }
 
+    /// Makes the box again.
     pub(crate) fn into_box(self) -> Box<T, A>
         ensures { result.value ≡ self.value }
     {

@@ -1,5 +1,5 @@
 //! How the workers' parts in a collection are taken back from a host, and its words are written.
-ghost use Rattle.std.specs.Prelude.{◌≡◌, ◌⊎◌, List, ◌++◌, ◌∷◌, [], Some, None, IfOk, OnErr, IfErr, MatchOption, MatchResult, All, map, length};
+ghost use Rattle.std.specs.Prelude.{◌≡◌, ◌⊎◌, List, ◌++◌, ◌∷◌, [], true, Some, None, is_some, IfOk, OnErr, IfErr, MatchOption, MatchResult, All, map, length};
 ghost use Rattle.heap_image.specs.HeapImage.{HeapImage};
 ghost use Rattle.heap_image.specs.ImageText.{with_tail};
 ghost use Rattle.heap_image.specs.declared.fault.Fault.TheVariants.{Length, Memory, Workers};
@@ -25,6 +25,7 @@ pub(crate) fn end(
     list: &mut [u64],
 ) -> Result<Figures, Fault>
     ensures free { All (λ h. h.2 ≡ None) handles.new }
+    ensures held { IfOk result (λ _. All (λ h. is_some h.2 ≡ true) handles.old) }
     ensures collected { IfOk result (λ figures. (image : HeapImage) × IsLastIn image handles.old
         × (words.new ≡ (compact image).words) × (list.new ≡ (with_tail (compact image)).live) × (figures ≡ figures_of image)) }
     ensures kept { OnErr result ((words.new ≡ words.old) × (list.new ≡ list.old)) }

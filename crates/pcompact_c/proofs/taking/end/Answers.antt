@@ -3,7 +3,7 @@ use Rattle.std.specs.Prelude.{Some, map, option_map}
 use Rattle.heap_image.specs.HeapImage.{HeapImage}
 use Rattle.heap_image.specs.ImageText.{with_tail}
 use Rattle.collector.specs.Sessions.{image_of}
-use Rattle.pcompact_c.proofs.Lemmas.Shares.{ends}
+use Rattle.pcompact_c.proofs.Lemmas.Shares.{each_some, ends}
 use Rattle.pcompact_c.proofs.taking.end.Goals as goal
 
 pub returns-clause-collected : goal.returns-clause-collected
@@ -17,3 +17,6 @@ returns-clause-collected c =
       put.list ∙ ap (λ (image : HeapImage). (with_tail image).live) made.3,
       made.4,
     )
+
+pub returns-clause-held : goal.returns-clause-held
+returns-clause-held c = each_some (λ h. h.2) c.args.handles.now c.in_ok-shares.shares.items c.in_ok-shares.ensures.shares
