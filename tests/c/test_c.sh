@@ -1,6 +1,6 @@
 #!/usr/bin/env bash
-# Builds callers of the library for C and runs them: plainly, under the sanitizers for addresses and undefined behaviour, and
-# under valgrind if it is there. The library is the one that fits the sources.
+# Builds callers of the library for C and runs them: plainly, under the sanitizers for addresses and undefined behaviour, the one
+# with threads under that for threads, and under valgrind if it is there. The library is the one that fits the sources.
 #
 # usage: tests/c/test_c.sh
 set -uo pipefail
@@ -48,6 +48,8 @@ done
 build calls -Itests/c tests/c/{calls,checks}.c
 build image_calls -Itests/c tests/c/{image_calls,checks,refusing_heap}.c
 build lent -Itests/c tests/c/{lent,refusing_heap}.c
+build threads -pthread -Itests/c tests/c/threads.c tests/c/refusing_heap.c
+build_c threads-raced -g -fsanitize=thread -pthread -Itests/c tests/c/threads.c tests/c/refusing_heap.c
 for example in base rooted; do
     compact "$example"
     run calls "examples/$example.pcheap" "$room/$example" 0 19 3
@@ -57,6 +59,8 @@ run hostile
 run refusals
 try "$room/lent" 1000
 run lent 100
+run threads
+try env TSAN_OPTIONS=suppressions=tests/c/threads.supp "$room/threads-raced"
 try refuses_half
 # With a stack of 96 KiB, of which the system takes some.
 try env -i sh -c 'ulimit -s 96 && exec "$1"' sh "$room/refusals"

@@ -2,8 +2,8 @@
 """Collects seeded heaps in memory by the C library, each with a live list and with roots, beside the model of
 tests/models, and such heaps with words, lists and sizes that are slightly wrong.
 
-After a collection the memory must be the model's compaction, and after a fault, which must be the model's, as it was. The
-caller, serve.c, runs under the sanitizers for addresses and undefined behaviour; for a few heaps it runs under valgrind,
+Half of them are collected by 1, 2, 4 or 16 threads too. After a collection the memory must be the model's compaction, and
+after a fault, which must be the model's, as it was. The caller, serve.c, runs under the sanitizers for addresses and undefined behaviour; for a few heaps it runs under valgrind,
 which sees the accesses of the library too, where that is there.
 
 usage: tests/c/test_seeded.py [SEED [COUNT]]      (needs a C compiler)
@@ -32,8 +32,10 @@ SELDOM = 50
 MANY_WORDS = 1 << 18
 # How many heaps valgrind sees.
 WATCHED = 40
-SUMMARY, COLLECT, COLLECT_ROOTED = range(3)
-REQUEST = struct.Struct("<IIQQQ")
+# By how many threads each second heap is collected too, in turn.
+THREADS = (1, 2, 4, 16)
+SUMMARY, COLLECT, COLLECT_ROOTED, COLLECT_BY_THREADS, COLLECT_ROOTED_BY_THREADS = range(5)
+REQUEST = struct.Struct("<IIQQQQ")
 REPLY = struct.Struct("<IIIIQQQ64s")
 SANITIZED = ["-g", "-fsanitize=address,undefined", "-fno-sanitize-recover"]
 VALGRIND = ["valgrind", "-q", "--leak-check=full", "--error-exitcode=3"]
@@ -66,9 +68,9 @@ class Caller:
             raise EOFError("the caller has ended before its answer")
         return got
 
-    def call(self, kind: int, image: Image) -> Reply:
+    def call(self, kind: int, image: Image, threads: int) -> Reply:
         words, tail = len(image.words), len(image.tail)
-        asked = REQUEST.pack(kind, image.region_log, image.allowance, words, tail)
+        asked = REQUEST.pack(kind, image.region_log, image.allowance, words, tail, threads)
         self.process.stdin.write(asked + struct.pack(f"<{words + tail}Q", *image.words, *image.tail))
         self.process.stdin.flush()
         returned, number, field, filled, place, prefix, top, text = REPLY.unpack(self.read(REPLY.size))
@@ -84,9 +86,11 @@ class Caller:
             self.wrong += 1
             print(f"{what}: " + "; ".join(f"{it} is {getattr(reply, it)!r} and not {wanted[it]!r}"[:600] for it in found))
 
-    def try_heap(self, what: str, image: Image) -> None:
-        """A heap, valid or not, by each call for its kind."""
+    def try_heap(self, what: str, image: Image, threads: int) -> None:
+        """A heap, valid or not, by each call for its kind, and by so many threads if they are any."""
         kinds = (SUMMARY, COLLECT) if image.version == 1 else (COLLECT_ROOTED,)
+        if threads:
+            kinds += (COLLECT_BY_THREADS if image.version == 1 else COLLECT_ROOTED_BY_THREADS,)
         same = {"words": image.words, "tail": image.tail}
         try:
             collection = Collection(decode(encode(image)))
@@ -94,13 +98,13 @@ class Caller:
             number = int(str(fault).split()[0])
             wanted = {"returned": number, "number": number, "text": str(fault), "figures": "prefix 0 top 0 filled 0\n", **same}
             for kind in kinds:
-                self.check(f"{what}, call {kind}", wanted, self.call(kind, image))
+                self.check(f"{what}, call {kind}", wanted, self.call(kind, image, threads))
             return
         after = collection.compaction()
         wanted = {"returned": 0, "number": 0, "text": "", "field": 0, "place": 0, "figures": collection.figures()}
         for kind in kinds:
             left = same if kind == SUMMARY else {"words": after.words, "tail": after.tail}
-            self.check(f"{what}, call {kind}", {**wanted, **left}, self.call(kind, image))
+            self.check(f"{what}, call {kind}", {**wanted, **left}, self.call(kind, image, threads))
 
     def end(self) -> None:
         self.process.stdin.close()
@@ -142,15 +146,16 @@ def both_kinds(image: Image) -> list[Image]:
 def try_heaps(caller: Caller, seed: str, count: int) -> None:
     for number in range(count):
         chance = random.Random(f"{seed} {number}")
+        threads = THREADS[number // 2 % len(THREADS)] if number % 2 else 0
         for image in both_kinds(make_heap(chance)):
             what = f"heap {number} of seed {seed}, version {image.version}"
-            caller.try_heap(what, image)
-            caller.try_heap(f"{what}, spoiled", spoiled(chance, image))
+            caller.try_heap(what, image, threads)
+            caller.try_heap(f"{what}, spoiled", spoiled(chance, image), threads)
 
 
 def build(source: str, program: pathlib.Path, library: pathlib.Path, options: list[str]) -> pathlib.Path:
     """The program of one file of this folder, with the library."""
-    subprocess.run([compiler(), "-std=c11", *options, f"-I{library}", f"tests/c/{source}", library / "libpcompact.a", "-o", program],
+    subprocess.run([compiler(), "-std=c11", "-pthread", *options, f"-I{library}", f"tests/c/{source}", library / "libpcompact.a", "-o", program],
                    cwd=pathlib.Path(__file__).resolve().parents[2], check=True)
     return program
 

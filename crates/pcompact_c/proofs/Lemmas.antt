@@ -1,2 +1,5 @@
 pub mod Alike
+pub mod Crossing
+pub mod Held
 pub mod Numbered
+pub mod Shares

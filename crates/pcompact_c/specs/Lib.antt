@@ -1,5 +1,6 @@
 pub mod Answers
 pub mod Decoded
 pub mod Faults
+pub mod Handles
 pub mod Strays
 pub mod Verdicts

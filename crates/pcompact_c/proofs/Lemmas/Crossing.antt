@@ -1,0 +1,53 @@
+-- A share may go to another thread.
+use denote.Param.Send.{IsSend, IsSync, AllSend, AllSync, struct_send, struct_sync, recorded_send, recorded_sync, sendable}
+use denote.Struct.Declared as declared
+use denote.Struct.Struct.{Struct}
+use Rattle.std.proofs.Crossing as heap
+use Rattle.std.proofs.Crossing.{crosses}
+use Rattle.std_alloc.specs.contracts.arc.Arc as Arc
+use Rattle.std_alloc.specs.contracts.vec.Vec as Vec
+use Rattle.std_heap.specs.contracts.Global as Heap
+use Rattle.std_heap.specs.contracts.GlobalAllocator.TheImpl.{ghosts}
+use Rattle.summary.specs.contracts.survey.Survey as Survey
+use Rattle.claim_board.specs.contracts.pass.Pass as Pass
+use Rattle.claim_board.proofs.board.Board.TheSendSync as board
+use Rattle.claim_board.proofs.pass.Pass.TheSendSync as pass
+use Rattle.region_cells.proofs.cells.Cells.TheSendSync as cells
+use Rattle.collector.specs.contracts.workers.ready.Thief as Thief
+use Rattle.collector.proofs.workers.ready.Thief.TheSendSync as thief
+use Rattle.collector.proofs.workers.worker.Worker.TheSendSync as worker
+use Rattle.collector.specs.contracts.session.Session as Session
+use Rattle.collector.specs.contracts.session.share.Share as Share
+
+survey_send : IsSend Survey.the_row
+survey_send = search (crosses, sendable) depth 60 fits 20000
+
+survey_sync : IsSync Survey.the_row
+survey_sync = search (crosses, sendable) depth 60 fits 20000
+
+thieves_send : IsSend (Vec.the_row Thief.the_row Heap.the_row ghosts)
+thieves_send = heap.Vec-send Thief.the_row thief.the_send
+
+thieves_sync : IsSync (Vec.the_row Thief.the_row Heap.the_row ghosts)
+thieves_sync = heap.Vec-sync Thief.the_row thief.the_sync
+
+session_send : IsSend Session.the_row
+session_send =
+    let T = Session.the_type in
+    let all : AllSend (declared.fields T) = (survey_send, (board.the_field_send, (cells.the_send, (thieves_send, (search (crosses, sendable), tt))))) in
+    recorded_send (Struct (declared.shape T)) T.D T.to T.to_one (struct_send (declared.shape T) all)
+
+session_sync : IsSync Session.the_row
+session_sync =
+    let T = Session.the_type in
+    let all : AllSync (declared.fields T) = (survey_sync, (board.the_field_sync, (cells.the_sync, (thieves_sync, (search (crosses, sendable), tt))))) in
+    recorded_sync (Struct (declared.shape T)) T.D T.to T.to_one (struct_sync (declared.shape T) all)
+
+session_shared : IsSend (Arc.the_row Session.the_row Heap.the_row ghosts)
+session_shared = heap.Arc-send Session.the_row session_send session_sync
+
+pub share_send : IsSend Share.the_row
+share_send =
+    let T = Share.the_type in
+    let all : AllSend (declared.fields T) = (session_shared, (worker.the_field_send Pass.the_row pass.the_send, (search sendable, tt))) in
+    recorded_send (Struct (declared.shape T)) T.D T.to T.to_one (struct_send (declared.shape T) all)
