@@ -5,6 +5,7 @@ ghost use Rattle.collection_commands.specs.Collect.{IsFirstOfBytes};
 ghost use Rattle.collection_commands.specs.Record.{IsRecording};
 ghost use Rattle.collection_commands.specs.Figures.{IsFigures, figures_line};
 
+use crate::collection::{Collected, Run, heap_words, image_beside};
 use crate::collection_times::CollectionTimes;
 use crate::figures::{FiguresLine, LINE_ROOM, with_line};
 use crate::out_file::OutFile;
@@ -14,12 +15,13 @@ use collector::{Gate, record_stream};
 use command_host::ImageFile;
 use command_line::Record;
 use command_support::{
-    FileId, FileTarget, FileWord, Output, Phase, Role, Stats, Stopwatch, SystemFile, TimedIntake,
-    TimedOutlet, Trouble, Watched, WorkDone, both_ended, failed, must_differ, output_must_differ,
-    same_file,
+    FileId, FileTarget, FileWord, Output, Role, SystemFile, TimedIntake, TimedOutlet, Trouble,
+    Watched, WorkDone, Writing, both_ended, failed, must_differ, output_must_differ, same_file,
 };
 use heap_image::{Fault, Intake, Outlet, ToWrite};
 use std::alloc::Global;
+use std::fs::OpenFile;
+use std::io::{Seek, Write};
 use std::os::unix::fs::FileExt;
 use std::rt::Files;
 use std::sync::Wait;
@@ -35,36 +37,69 @@ where
     R::File: FileExt + SystemFile + Sync,
     ensures { IfOk result (λ done. IsFigures done.text.items) }
 {
-    let watch = Stopwatch::start(rt, request.stats);
-    let (image, mut out, mut schedule) = image_out_and_schedule(rt, &request)?;
-    out.file.file().expect_len(image.regular_len());
-    let readers = request.workers as usize;
-    let image = ImageFile::read_ahead(rt, image.with_shape(request.shape), readers);
-    let mut image = TimedIntake::new(rt, watch, image);
-    let may_have_holes = out.may_have_holes;
-    let written = OutFile::new(&mut out.file, may_have_holes);
-    let mut output = TimedOutlet::new(rt, watch, written);
-    let mut lines = TimedOutlet::new(rt, watch, ToWrite::new(&mut schedule.file));
-    let gate = TimedGate::new(rt, watch);
+    let run = Run::start(rt, request.stats, request.workers);
+    let (image, mut outputs) = image_and_outputs(rt, &request)?;
+    let mut image = image_beside(rt, run, image.with_shape(request.shape), &outputs.out);
+    let collected = record_to_files(rt, run, &mut image, &mut outputs);
+    end(rt, collected, image.into_inner(), outputs)
+}
+
+/// The two files to write, open.
+#[derive(Drop)]
+struct Outputs<'a, F: Drop> {
+    out: Output<'a, F>,
+    schedule: Output<'a, F>,
+}
+
+/// Collects an image to the first of these files, writes the schedule to the second, and notes when each phase ends.
+fn record_to_files<
+    R: AllocGlobal + Threads + Wait + Clock + Sync,
+    I: Intake + Drop,
+    F: OpenFile + Write + Seek + Drop,
+>(
+    rt: &R,
+    run: Run,
+    image: &mut TimedIntake<'_, R, I>,
+    outputs: &mut Outputs<'_, F>,
+) -> Collected
+    ensures { IfOk result.outcome (λ done. IsFigures (string_bytes done.line)) }
+{
+    let may_have_holes = outputs.out.may_have_holes;
+    let written = OutFile::new(&mut outputs.out.file, may_have_holes);
+    let mut output = TimedOutlet::new(rt, run.watch, written);
+    let mut lines = TimedOutlet::new(rt, run.watch, ToWrite::new(&mut outputs.schedule.file));
+    let gate = TimedGate::new(rt, run.watch);
     let workers = Workers {
-        count: request.workers,
+        count: run.workers,
         gate: &gate,
     };
-    let outcome = record_into(rt, &mut image, &mut output, &mut lines, workers);
-    let times = CollectionTimes::of(&image, &gate, &output);
-    let mut written = output.into_inner();
-    let outcome = written.end(outcome);
-    let laps = times.laps().then(Phase::Schedule, lines.ended());
-    match outcome {
+    let outcome = record_into(rt, image, &mut output, &mut lines, workers);
+    let times = CollectionTimes::of(run, image, &gate, &output).with_schedule(lines.ended());
+    let outcome = output.into_inner().end(outcome);
+    Collected { outcome, times }
+}
+
+/// Ends the two files that a collection wrote, or abandons them.
+fn end<'a, H: Files>(
+    host: &H,
+    collected: Collected,
+    image: ImageFile<'a, H::File>,
+    outputs: Outputs<'a, H::File>,
+) -> Result<WorkDone<'a>, Trouble<'a>>
+where
+    H::File: SystemFile,
+    requires { IfOk collected.outcome (λ done. IsFigures (string_bytes done.line)) }
+    ensures { IfOk result (λ done. IsFigures done.text.items) }
+{
+    match collected.outcome {
         Ok(FiguresLine { figures, line }) => {
-            let moved = times.moved(figures, image.into_inner().heap_words());
-            let stats = Stats::of_collection(watch, laps, moved, request.workers);
-            Ok(both_ended(rt, line, out, schedule)?.with_stats(stats))
+            let stats = collected.times.stats(figures, heap_words(image));
+            let Outputs { out, schedule } = outputs;
+            Ok(both_ended(host, line, out, schedule)?.with_stats(stats))
         }
         Err(fault) => {
-            let trouble = Trouble::from(fault).if_workers(request.workers);
-            let image = image.into_inner().into_inner();
-            Err(failed_between_three(rt, trouble, &image, out, schedule))
+            let trouble = collected.times.trouble(fault);
+            Err(failed_between_three(host, trouble, &image.into_inner(), outputs))
         }
     }
 }
@@ -74,9 +109,9 @@ fn failed_between_three<'a, H: Files>(
     host: &H,
     trouble: Trouble<'a>,
     image: &Watched<'a, H::File>,
-    out: Output<'a, H::File>,
-    schedule: Output<'a, H::File>,
+    outputs: Outputs<'a, H::File>,
 ) -> Trouble<'a> {
+    let Outputs { out, schedule } = outputs;
     let trouble = trouble
         .if_image(image)
         .if_failed(&out.file)
@@ -86,14 +121,14 @@ fn failed_between_three<'a, H: Files>(
 }
 
 /// The file to read, and the two to write.
-type ImageOutAndSchedule<'a, F> = (Watched<'a, F>, Output<'a, F>, Output<'a, F>);
+type ImageAndOutputs<'a, F> = (Watched<'a, F>, Outputs<'a, F>);
 
 /// Opens the image, then creates or empties OUT and the schedule's file. No two may be one file, but for the first
 /// two with `--atomic`.
-fn image_out_and_schedule<'a, H: Files + AllocGlobal>(
+fn image_and_outputs<'a, H: Files + AllocGlobal>(
     host: &H,
     request: &Record<'a>,
-) -> Result<ImageOutAndSchedule<'a, H::File>, Trouble<'a>>
+) -> Result<ImageAndOutputs<'a, H::File>, Trouble<'a>>
 where
     H::File: SystemFile,
 {
@@ -104,9 +139,8 @@ where
     };
     names_must_differ(host.alloc(), named, request.atomic)?;
     let image = Watched::open(host, named.image)?;
-    let (out, schedule) = targets_beside(host, &image, named, request.atomic)?;
-    let (out, schedule) = begin_both(host, out, schedule)?;
-    Ok((image, out, schedule))
+    let outputs = outputs_beside(host, &image, named, request.atomic)?;
+    Ok((image, outputs))
 }
 
 /// The names of the three files, as the command line has them.
@@ -126,30 +160,52 @@ fn names_must_differ<'a>(alloc: Global, named: Named<'a>, atomic: bool) -> Resul
     must_differ(alloc, named.out, named.schedule)
 }
 
-/// The two files to write, before they are changed.
-type Targets<'a, F> = (FileTarget<'a, F>, FileTarget<'a, F>);
-
-/// Finds the two files to write. If two of the three are one file and may not be, both are left unchanged.
-fn targets_beside<'a, H: Files + AllocGlobal>(
+/// Finds the two files to write, and begins to write them.
+fn outputs_beside<'a, H: Files + AllocGlobal>(
     host: &H,
     image: &Watched<'a, H::File>,
     named: Named<'a>,
     atomic: bool,
-) -> Result<Targets<'a, H::File>, Trouble<'a>> {
+) -> Result<Outputs<'a, H::File>, Trouble<'a>>
+where
+    H::File: SystemFile,
+{
     let (id, writing) = (image.id()?, image.writing(atomic)?);
+    let targets = targets(host, named, writing)?;
+    let (out, schedule) = distinct(host, (named.image, id), targets)?;
+    begin_both(host, out, schedule)
+}
+
+/// The two files to write, before they are changed.
+type Targets<'a, F> = (FileTarget<'a, F>, FileTarget<'a, F>);
+
+/// Finds the two files to write.
+fn targets<'a, H: Files + AllocGlobal>(
+    host: &H,
+    named: Named<'a>,
+    writing: Writing,
+) -> Result<Targets<'a, H::File>, Trouble<'a>> {
     let out = FileTarget::find(host, named.out, writing)?;
     let schedule = FileTarget::find(host, named.schedule, writing)?;
-    if let Some((one, other)) = one_file(host, (named.image, id), &out, &schedule)? {
-        let same = same_file(host.alloc(), one, other);
-        schedule.leave(host);
-        out.leave(host);
-        return Err(same?);
-    }
     Ok((out, schedule))
 }
 
-/// The two files to write, open.
-type Outputs<'a, F> = (Output<'a, F>, Output<'a, F>);
+/// The same files. If two of the three are one file and may not be, both are left unchanged.
+fn distinct<'a, H: Files + AllocGlobal>(
+    host: &H,
+    image: (FileWord<'a>, FileId),
+    (out, schedule): Targets<'a, H::File>,
+) -> Result<Targets<'a, H::File>, Trouble<'a>> {
+    match one_file(host, image, &out, &schedule)? {
+        Some((one, other)) => {
+            let same = same_file(host.alloc(), one, other);
+            schedule.leave(host);
+            out.leave(host);
+            Err(same?)
+        }
+        None => Ok((out, schedule)),
+    }
+}
 
 /// Begins to write both files. No temporary file gets the name of a file to be replaced.
 fn begin_both<'a, H: Files + AllocGlobal>(
@@ -162,7 +218,7 @@ where
 {
     let out = out.begin_apart(host, schedule.place_name())?;
     match schedule.begin_apart(host, out.place_name()) {
-        Ok(schedule) => Ok((out, schedule)),
+        Ok(schedule) => Ok(Outputs { out, schedule }),
         Err(trouble) => Err(failed(host, trouble, out)),
     }
 }

@@ -14,6 +14,7 @@ use command_support::{
 use heap_image::{Fault, Image, Intake, read_image_by_threads};
 use rayon::current_num_threads;
 use std::alloc::Global;
+use std::fs::OpenFile;
 use std::os::unix::fs::FileExt;
 use std::rt::Files;
 use std::thread::Threads;
@@ -30,18 +31,100 @@ where
     R::File: FileExt + Sync,
     ensures { IfOk result (λ done. done.text.items ≡ codes "same\n") }
 {
-    let request = Verify {
+    let watch = Stopwatch::start(rt, request.stats);
+    let before = FileWord::new(Role::Before, request.before);
+    let after = FileWord::new(Role::After, request.after);
+    let wishes = Wishes {
         explain: request.explain || screen.shows_errors,
-        ..request
+        ignore_free: request.ignore_free,
     };
-    let (compared, stats) = compare(rt, &request)?;
+    let (was, is) = two_inputs(rt, before, after)?;
+    let mut inputs = Inputs::read_ahead(rt, watch, was.with_shape(request.shape), is);
+    match verify_images(rt.alloc(), &mut inputs.was, &mut inputs.is, rt, wishes) {
+        Ok(compared) => told(rt.alloc(), compared, after, inputs.stats(rt)),
+        Err(refused) => Err(inputs.trouble(rt, refused, wishes)),
+    }
+}
+
+/// The two images to read, and when they were read ahead.
+#[derive(Drop)]
+struct Inputs<'h, 'a, H, F: Drop> {
+    watch: Stopwatch,
+    was: TimedIntake<'h, H, ImageFile<'a, F>>,
+    /// When the first was read ahead.
+    first: Option<Duration>,
+    is: TimedIntake<'h, H, ImageFile<'a, F>>,
+    /// When the second was.
+    second: Option<Duration>,
+}
+
+impl<'h, 'a, H: AllocGlobal + Threads + Clock + Sync, F> Inputs<'h, 'a, H, F>
+where
+    F: OpenFile + FileExt + Sync + Drop,
+{
+    /// Reads both ahead, by as many threads as there are processors.
+    fn read_ahead(
+        rt: &'h H,
+        watch: Stopwatch,
+        was: Watched<'a, F>,
+        is: Watched<'a, F>,
+    ) -> Inputs<'h, 'a, H, F> {
+        let readers = current_num_threads(rt);
+        let was = TimedIntake::new(rt, watch, ImageFile::read_ahead(rt, was, readers));
+        let first = watch.elapsed(rt);
+        let is = TimedIntake::new(rt, watch, ImageFile::read_ahead(rt, is, readers));
+        let second = watch.elapsed(rt);
+        Inputs {
+            watch,
+            was,
+            first,
+            is,
+            second,
+        }
+    }
+
+    /// What `--stats` prints of a comparison that ends now.
+    fn stats(&self, rt: &H) -> Stats {
+        let Inputs { watch, was, is, .. } = self;
+        let (first, second) = (self.first, self.second);
+        let laps = Laps::new()
+            .then(Phase::ReadBefore, without(was.came(), first, second))
+            .then(Phase::CheckBefore, without(was.ended(), first, second))
+            .then(Phase::ReadAfter, is.came())
+            .then(Phase::CheckAfter, is.ended())
+            .then(Phase::Compare, watch.elapsed(rt));
+        Stats::of_comparison(*watch, laps)
+    }
+
+    /// The failure of a comparison, with lines that explain it if they are wanted.
+    fn trouble(self, rt: &H, refused: Refused, wishes: Wishes) -> Trouble<'a> {
+        let before = self.was.into_inner().into_inner();
+        let after = self.is.into_inner().into_inner();
+        let lines = match &refused.was {
+            Some(was) if wishes.explain => {
+                explanation_of_file(rt, was, after.file(), wishes.ignore_free)
+            }
+            _ => None,
+        };
+        trouble_of(refused.why, &before, &after).explained(lines)
+    }
+}
+
+/// What the command prints of a comparison, or the difference that was found in this file.
+fn told<'a>(
+    alloc: Global,
+    compared: Compared,
+    after: FileWord<'a>,
+    stats: Stats,
+) -> Result<WorkDone<'a>, Trouble<'a>>
+    ensures { IfOk result (λ done. done.text.items ≡ codes "same\n") }
+{
     match difference(compared.verdict) {
         None => {
-            let text = Vec::from_slice(rt.alloc(), b"same\n")?;
+            let text = Vec::from_slice(alloc, b"same\n")?;
             Ok(WorkDone::printing(text).with_stats(stats))
         }
         Some(difference) => {
-            let after = FileWord::new(Role::After, request.after);
             let trouble = Trouble::new(Failure::Differs(difference)).about(after);
             Err(trouble.explained(compared.explanation))
         }
@@ -58,52 +141,6 @@ fn difference(verdict: Verdict) -> Option<Difference>
         Verdict::Word(address) => Some(Difference::Word(address)),
         Verdict::Live(index) => Some(Difference::Live(index)),
         Verdict::Root(index) => Some(Difference::Root(index)),
-    }
-}
-
-/// Opens both files, reads and compares them, and returns the comparison with its timings.
-fn compare<'a, R: Files + AllocGlobal + Threads + Clock + Sync>(
-    rt: &R,
-    request: &Verify<'a>,
-) -> Result<(Compared, Stats), Trouble<'a>>
-where
-    R::File: FileExt + Sync,
-{
-    let watch = Stopwatch::start(rt, request.stats);
-    let before = FileWord::new(Role::Before, request.before);
-    let after = FileWord::new(Role::After, request.after);
-    let (before, after) = two_inputs(rt, before, after)?;
-    let readers = current_num_threads(rt);
-    let before = ImageFile::read_ahead(rt, before.with_shape(request.shape), readers);
-    let first = watch.elapsed(rt);
-    let after = ImageFile::read_ahead(rt, after, readers);
-    let second = watch.elapsed(rt);
-    let mut was = TimedIntake::new(rt, watch, before);
-    let mut is = TimedIntake::new(rt, watch, after);
-    let wishes = Wishes {
-        explain: request.explain,
-        ignore_free: request.ignore_free,
-    };
-    let verified = verify_images(rt.alloc(), &mut was, &mut is, rt, wishes);
-    let laps = Laps::new()
-        .then(Phase::ReadBefore, without(was.came(), first, second))
-        .then(Phase::CheckBefore, without(was.ended(), first, second))
-        .then(Phase::ReadAfter, is.came())
-        .then(Phase::CheckAfter, is.ended())
-        .then(Phase::Compare, watch.elapsed(rt));
-    match verified {
-        Ok(compared) => Ok((compared, Stats::of_comparison(watch, laps))),
-        Err(refused) => {
-            let before = was.into_inner().into_inner();
-            let after = is.into_inner().into_inner();
-            let lines = match &refused.was {
-                Some(was) if request.explain => {
-                    explanation_of_file(rt, was, after.file(), request.ignore_free)
-                }
-                _ => None,
-            };
-            Err(trouble_of(refused.why, &before, &after).explained(lines))
-        }
     }
 }
 
