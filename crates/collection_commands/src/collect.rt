@@ -47,12 +47,7 @@ fn collect_to_file<
     R: AllocGlobal + Threads + Wait + Clock + Sync,
     I: Intake + Drop,
     F: OpenFile + Write + Seek + Drop,
->(
-    rt: &R,
-    run: Run,
-    image: &mut TimedIntake<'_, R, I>,
-    out: &mut Output<'_, F>,
-) -> Collected
+>(rt: &R, run: Run, image: &mut TimedIntake<'_, R, I>, out: &mut Output<'_, F>) -> Collected
     ensures { IfOk result.outcome (λ done. IsFigures (string_bytes done.line)) }
 {
     let may_have_holes = out.may_have_holes;
@@ -81,13 +76,14 @@ where
     requires { IfOk collected.outcome (λ done. IsFigures (string_bytes done.line)) }
     ensures { IfOk result (λ done. IsFigures done.text.items) }
 {
-    match collected.outcome {
+    let Collected { outcome, times } = collected;
+    match outcome {
         Ok(FiguresLine { figures, line }) => {
-            let stats = collected.times.stats(figures, heap_words(image));
+            let stats = times.stats(figures, heap_words(image));
             Ok(ended(host, line, out)?.with_stats(stats))
         }
         Err(fault) => {
-            let trouble = collected.times.trouble(fault);
+            let trouble = times.trouble(fault);
             Err(failed_between(host, trouble, &image.into_inner(), out))
         }
     }

@@ -8,6 +8,7 @@ use std::time::{Clock, Duration};
 /// When the phases of a collection from one device to another ended, as far as that is known.
 #[derive(Clone, Copy)]
 pub struct CollectionTimes {
+    /// What was timed.
     run: Run,
     read: Option<Duration>,
     checked: Option<Duration>,
@@ -46,7 +47,7 @@ impl CollectionTimes {
     }
 
     /// What `--stats` prints of a collection with these figures, of a heap of this number of words.
-    pub fn stats(&self, figures: Figures, heap: Option<u64>) -> Stats {
+    pub fn stats(self, figures: Figures, heap: Option<u64>) -> Stats {
         let moved = Moved {
             heap,
             kept: figures.new_top,
@@ -57,12 +58,12 @@ impl CollectionTimes {
     }
 
     /// The failure of a collection that ended with this fault.
-    pub fn trouble<'a>(&self, fault: Fault) -> Trouble<'a> {
+    pub fn trouble<'a>(self, fault: Fault) -> Trouble<'a> {
         Trouble::from(fault).if_workers(self.run.workers)
     }
 
     /// How long each phase took.
-    fn laps(&self) -> Laps {
+    fn laps(self) -> Laps {
         Laps::new()
             .then(Phase::Read, self.read)
             .then(Phase::Check, self.checked)
@@ -74,7 +75,7 @@ impl CollectionTimes {
     }
 
     /// How long the collection took in memory, from the end of the check to the beginning of the writing.
-    fn in_memory(&self) -> Option<Duration> {
+    fn in_memory(self) -> Option<Duration> {
         Some(self.cleaned_up?.saturating_sub(self.checked?))
     }
 }

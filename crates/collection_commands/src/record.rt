@@ -56,12 +56,7 @@ fn record_to_files<
     R: AllocGlobal + Threads + Wait + Clock + Sync,
     I: Intake + Drop,
     F: OpenFile + Write + Seek + Drop,
->(
-    rt: &R,
-    run: Run,
-    image: &mut TimedIntake<'_, R, I>,
-    outputs: &mut Outputs<'_, F>,
-) -> Collected
+>(rt: &R, run: Run, image: &mut TimedIntake<'_, R, I>, outputs: &mut Outputs<'_, F>) -> Collected
     ensures { IfOk result.outcome (λ done. IsFigures (string_bytes done.line)) }
 {
     let may_have_holes = outputs.out.may_have_holes;
@@ -91,14 +86,15 @@ where
     requires { IfOk collected.outcome (λ done. IsFigures (string_bytes done.line)) }
     ensures { IfOk result (λ done. IsFigures done.text.items) }
 {
-    match collected.outcome {
+    let Collected { outcome, times } = collected;
+    match outcome {
         Ok(FiguresLine { figures, line }) => {
-            let stats = collected.times.stats(figures, heap_words(image));
+            let stats = times.stats(figures, heap_words(image));
             let Outputs { out, schedule } = outputs;
             Ok(both_ended(host, line, out, schedule)?.with_stats(stats))
         }
         Err(fault) => {
-            let trouble = collected.times.trouble(fault);
+            let trouble = times.trouble(fault);
             Err(failed_between_three(host, trouble, &image.into_inner(), outputs))
         }
     }

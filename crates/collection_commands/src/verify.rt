@@ -39,75 +39,93 @@ where
         ignore_free: request.ignore_free,
     };
     let (was, is) = two_inputs(rt, before, after)?;
-    let mut inputs = Inputs::read_ahead(rt, watch, was.with_shape(request.shape), is);
-    match verify_images(rt.alloc(), &mut inputs.was, &mut inputs.is, rt, wishes) {
-        Ok(compared) => told(rt.alloc(), compared, after, inputs.stats(rt)),
-        Err(refused) => Err(inputs.trouble(rt, refused, wishes)),
+    let (mut was, mut is, ahead) = read_ahead(rt, watch, was.with_shape(request.shape), is);
+    let verified = verify_images(rt.alloc(), &mut was, &mut is, rt, wishes);
+    let stats = ahead.stats(rt, &was, &is);
+    match verified {
+        Ok(compared) => told(rt.alloc(), compared, after, stats),
+        Err(refused) => {
+            let (was, is) = (was.into_inner(), is.into_inner());
+            Err(trouble(rt, refused, &was.into_inner(), &is.into_inner(), wishes))
+        }
     }
 }
 
-/// The two images to read, and when they were read ahead.
-#[derive(Drop)]
-struct Inputs<'h, 'a, H, F: Drop> {
-    watch: Stopwatch,
-    was: TimedIntake<'h, H, ImageFile<'a, F>>,
-    /// When the first was read ahead.
-    first: Option<Duration>,
-    is: TimedIntake<'h, H, ImageFile<'a, F>>,
-    /// When the second was.
-    second: Option<Duration>,
-}
+/// An image to read.
+type TimedImage<'h, 'a, H, F> = TimedIntake<'h, H, ImageFile<'a, F>>;
 
-impl<'h, 'a, H: AllocGlobal + Threads + Clock + Sync, F> Inputs<'h, 'a, H, F>
+/// The two images to read, and when they were read ahead.
+type TimedImages<'h, 'a, H, F> = (TimedImage<'h, 'a, H, F>, TimedImage<'h, 'a, H, F>, Ahead);
+
+/// Reads both ahead, by as many threads as there are processors.
+fn read_ahead<'h, 'a, H: AllocGlobal + Threads + Clock + Sync, F>(
+    rt: &'h H,
+    watch: Stopwatch,
+    was: Watched<'a, F>,
+    is: Watched<'a, F>,
+) -> TimedImages<'h, 'a, H, F>
 where
     F: OpenFile + FileExt + Sync + Drop,
 {
-    /// Reads both ahead, by as many threads as there are processors.
-    fn read_ahead(
-        rt: &'h H,
-        watch: Stopwatch,
-        was: Watched<'a, F>,
-        is: Watched<'a, F>,
-    ) -> Inputs<'h, 'a, H, F> {
-        let readers = current_num_threads(rt);
-        let was = TimedIntake::new(rt, watch, ImageFile::read_ahead(rt, was, readers));
-        let first = watch.elapsed(rt);
-        let is = TimedIntake::new(rt, watch, ImageFile::read_ahead(rt, is, readers));
-        let second = watch.elapsed(rt);
-        Inputs {
-            watch,
-            was,
-            first,
-            is,
-            second,
-        }
-    }
+    let readers = current_num_threads(rt);
+    let was = ImageFile::read_ahead(rt, was, readers);
+    let first = watch.elapsed(rt);
+    let is = ImageFile::read_ahead(rt, is, readers);
+    let ahead = Ahead {
+        watch,
+        first,
+        second: watch.elapsed(rt),
+    };
+    let was = TimedIntake::new(rt, watch, was);
+    (was, TimedIntake::new(rt, watch, is), ahead)
+}
 
-    /// What `--stats` prints of a comparison that ends now.
-    fn stats(&self, rt: &H) -> Stats {
-        let Inputs { watch, was, is, .. } = self;
-        let (first, second) = (self.first, self.second);
+/// When two images were read ahead.
+#[derive(Clone, Copy)]
+struct Ahead {
+    watch: Stopwatch,
+    first: Option<Duration>,
+    second: Option<Duration>,
+}
+
+impl Ahead {
+    /// What `--stats` prints of a comparison of these images that ends now.
+    fn stats<H: Clock, I: Drop>(
+        self,
+        clock: &H,
+        was: &TimedIntake<'_, H, I>,
+        is: &TimedIntake<'_, H, I>,
+    ) -> Stats {
         let laps = Laps::new()
-            .then(Phase::ReadBefore, without(was.came(), first, second))
-            .then(Phase::CheckBefore, without(was.ended(), first, second))
+            .then(Phase::ReadBefore, self.without(was.came()))
+            .then(Phase::CheckBefore, self.without(was.ended()))
             .then(Phase::ReadAfter, is.came())
             .then(Phase::CheckAfter, is.ended())
-            .then(Phase::Compare, watch.elapsed(rt));
-        Stats::of_comparison(*watch, laps)
+            .then(Phase::Compare, self.watch.elapsed(clock));
+        Stats::of_comparison(self.watch, laps)
     }
 
-    /// The failure of a comparison, with lines that explain it if they are wanted.
-    fn trouble(self, rt: &H, refused: Refused, wishes: Wishes) -> Trouble<'a> {
-        let before = self.was.into_inner().into_inner();
-        let after = self.is.into_inner().into_inner();
-        let lines = match &refused.was {
-            Some(was) if wishes.explain => {
-                explanation_of_file(rt, was, after.file(), wishes.ignore_free)
-            }
-            _ => None,
-        };
-        trouble_of(refused.why, &before, &after).explained(lines)
+    /// A time as if nothing had happened while the second was read ahead.
+    fn without(self, time: Option<Duration>) -> Option<Duration> {
+        Some(time?.saturating_sub(self.second?.saturating_sub(self.first?)))
     }
+}
+
+/// The failure of a comparison, with lines that explain it if they are wanted.
+fn trouble<'a, R: AllocGlobal + Threads + Sync, F: FileExt + Sync + Drop>(
+    rt: &R,
+    refused: Refused,
+    before: &Watched<'a, F>,
+    after: &Watched<'a, F>,
+    wishes: Wishes,
+) -> Trouble<'a> {
+    let lines = match &refused.was {
+        Some(was) if wishes.explain => {
+            explanation_of_file(rt, was, after.file(), wishes.ignore_free)
+        }
+        _ => None,
+    };
+    trouble_of(refused.why, before, after).explained(lines)
 }
 
 /// What the command prints of a comparison, or the difference that was found in this file.
@@ -142,15 +160,6 @@ fn difference(verdict: Verdict) -> Option<Difference>
         Verdict::Live(index) => Some(Difference::Live(index)),
         Verdict::Root(index) => Some(Difference::Root(index)),
     }
-}
-
-/// A time as if nothing had happened between these two times, in which AFTER was read ahead.
-fn without(
-    time: Option<Duration>,
-    first: Option<Duration>,
-    second: Option<Duration>,
-) -> Option<Duration> {
-    Some(time?.saturating_sub(second?.saturating_sub(first?)))
 }
 
 /// Says which file a fault is about.
