@@ -4,22 +4,13 @@ ghost use Rattle.collector.specs.Streams.{IsTextBegun};
 ghost use Rattle.collection_commands.specs.Collect.{IsCollection, IsFirstOfBytes};
 ghost use Rattle.collection_commands.specs.Figures.{IsFigures, figures_line};
 
-use crate::collection::{Collected, Run, heap_words, image_beside};
-use crate::collection_times::CollectionTimes;
+use crate::collection::{Run, collect_files};
 use crate::figures::{FiguresLine, LINE_ROOM, with_line};
-use crate::out_file::OutFile;
-use crate::timed_gate::TimedGate;
 use crate::workers::Workers;
 use collector::{Gate, collect_stream};
-use command_host::ImageFile;
 use command_line::Collect;
-use command_support::{
-    Output, SystemFile, TimedIntake, TimedOutlet, Trouble, WorkDone, ended, failed_between,
-    image_and_out,
-};
+use command_support::{SystemFile, Trouble, WorkDone, image_and_out};
 use heap_image::{Fault, Intake, Outlet};
-use std::fs::OpenFile;
-use std::io::{Seek, Write};
 use std::os::unix::fs::FileExt;
 use std::rt::Files;
 use std::sync::Wait;
@@ -36,57 +27,8 @@ where
     ensures { IfOk result (λ done. IsFigures done.text.items) }
 {
     let run = Run::start(rt, request.stats, request.workers);
-    let (image, mut out) = image_and_out(rt, request.image, request.out, request.atomic)?;
-    let mut image = image_beside(rt, run, image.with_shape(request.shape), &out);
-    let collected = collect_to_file(rt, run, &mut image, &mut out);
-    end(rt, collected, image.into_inner(), out)
-}
-
-/// Collects an image to this file, and notes when each phase ends.
-fn collect_to_file<
-    R: AllocGlobal + Threads + Wait + Clock + Sync,
-    I: Intake + Drop,
-    F: OpenFile + Write + Seek + Drop,
->(rt: &R, run: Run, image: &mut TimedIntake<'_, R, I>, out: &mut Output<'_, F>) -> Collected
-    ensures { IfOk result.outcome (λ done. IsFigures (string_bytes done.line)) }
-{
-    let may_have_holes = out.may_have_holes;
-    let written = OutFile::new(&mut out.file, may_have_holes);
-    let mut output = TimedOutlet::new(rt, run.watch, written);
-    let gate = TimedGate::new(rt, run.watch);
-    let workers = Workers {
-        count: run.workers,
-        gate: &gate,
-    };
-    let outcome = collect_into(rt, image, &mut output, workers);
-    let times = CollectionTimes::of(run, image, &gate, &output);
-    let outcome = output.into_inner().end(outcome);
-    Collected { outcome, times }
-}
-
-/// Ends the file that a collection wrote, or abandons it.
-fn end<'a, H: Files>(
-    host: &H,
-    collected: Collected,
-    image: ImageFile<'a, H::File>,
-    out: Output<'a, H::File>,
-) -> Result<WorkDone<'a>, Trouble<'a>>
-where
-    H::File: SystemFile,
-    requires { IfOk collected.outcome (λ done. IsFigures (string_bytes done.line)) }
-    ensures { IfOk result (λ done. IsFigures done.text.items) }
-{
-    let Collected { outcome, times } = collected;
-    match outcome {
-        Ok(FiguresLine { figures, line }) => {
-            let stats = times.stats(figures, heap_words(image));
-            Ok(ended(host, line, out)?.with_stats(stats))
-        }
-        Err(fault) => {
-            let trouble = times.trouble(fault);
-            Err(failed_between(host, trouble, &image.into_inner(), out))
-        }
-    }
+    let (image, out) = image_and_out(rt, request.image, request.out, request.atomic)?;
+    collect_files(rt, run, image.with_shape(request.shape), out, None)
 }
 
 /// Reads an image, collects it, and writes its compaction. Returns the figures of the collection, with the line for
