@@ -156,7 +156,8 @@ where
             Ok(all_ended(host, line, out, schedule)?.with_stats(stats))
         }
         Err(fault) => {
-            let trouble = times.trouble(fault).if_image(&image.into_inner());
+            let image = image.into_inner();
+            let trouble = times.trouble(fault).if_image(&image);
             Err(all_failed(host, trouble, out, schedule))
         }
     }
