@@ -23,7 +23,7 @@ pub fn explanation_of_images(
     ignore_free: bool,
     threads: &(impl Threads + Sync),
 ) -> Result<String, Fault> {
-    let sizes = Sizes { was, is };
+    let sizes = Sizes::of(was, is);
     let heap = is.heap();
     let has_roots = is.version().has_roots();
     let tail = if has_roots { is.roots() } else { is.live() };
@@ -112,28 +112,37 @@ fn explanation_of_words(
 
 /// The sizes of two images, of which those that differ are shown.
 #[derive(Clone, Copy)]
-struct Sizes<'a> {
-    was: &'a Image,
-    is: &'a Image,
+struct Sizes {
+    sizes: [Listed; 6],
 }
 
-impl fmt::Display for Sizes<'_> {
-    fn fmt<W: fmt::Write>(&self, f: &mut fmt::Formatter<W>) -> fmt::Result {
-        let Sizes { was, is } = self;
-        let log = |image: &Image| u64::from(image.region_log());
-        write_size("region-log", log(was), log(is), f)?;
-        write_size("words", was.len(), is.len(), f)?;
-        write_size("allowance", was.allowance(), is.allowance(), f)?;
-        let version = |image: &Image| u64::from(image.version().number());
-        write_size("version", version(was), version(is), f)?;
-        let live = |image: &Image| image.live().len() as u64;
-        write_size("live objects", live(was), live(is), f)?;
-        let roots = |image: &Image| image.roots().len() as u64;
-        write_size("roots", roots(was), roots(is), f)
+impl Sizes {
+    fn of(was: &Image, is: &Image) -> Sizes {
+        let (log, other_log) = (was.region_log(), is.region_log());
+        let (version, other) = (was.version().number(), is.version().number());
+        Sizes {
+            sizes: [
+                Listed::new("region-log", u64::from(log), u64::from(other_log)),
+                Listed::new("words", was.len(), is.len()),
+                Listed::new("allowance", was.allowance(), is.allowance()),
+                Listed::new("version", u64::from(version), u64::from(other)),
+                Listed::counted("live objects", was.live(), is.live()),
+                Listed::counted("roots", was.roots(), is.roots()),
+            ],
+        }
     }
 }
 
-/// How many live addresses or roots a file has to list, and how many it lists.
+impl fmt::Display for Sizes {
+    fn fmt<W: fmt::Write>(&self, f: &mut fmt::Formatter<W>) -> fmt::Result {
+        for size in &self.sizes {
+            write_size(size.name, size.expected, size.found, f)?;
+        }
+        Ok(())
+    }
+}
+
+/// A size that is expected, and the one that is found.
 #[derive(Clone, Copy)]
 struct Listed {
     name: &'static str,
@@ -142,17 +151,26 @@ struct Listed {
 }
 
 impl Listed {
+    fn new(name: &'static str, expected: u64, found: u64) -> Listed {
+        Listed {
+            name,
+            expected,
+            found,
+        }
+    }
+
+    /// The numbers of two lists.
+    fn counted(name: &'static str, expected: &[u64], found: &[u64]) -> Listed {
+        Listed::new(name, expected.len() as u64, found.len() as u64)
+    }
+
     fn of(was: &Image, has_roots: bool, found: usize) -> Listed {
         let (name, expected) = if has_roots {
             ("roots", was.roots().len())
         } else {
             ("live objects", was.live().len())
         };
-        Listed {
-            name,
-            expected: expected as u64,
-            found: found as u64,
-        }
+        Listed::new(name, expected as u64, found as u64)
     }
 }
 

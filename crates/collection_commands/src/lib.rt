@@ -22,6 +22,7 @@
 #![tactic(auto)]
 
 pub mod collect;
+mod collection;
 mod collection_times;
 mod explanation;
 mod figures;

@@ -5,20 +5,16 @@ ghost use Rattle.collection_commands.specs.Collect.{IsFirstOfBytes};
 ghost use Rattle.collection_commands.specs.Record.{IsRecording};
 ghost use Rattle.collection_commands.specs.Figures.{IsFigures, figures_line};
 
-use crate::collection_times::CollectionTimes;
+use crate::collection::{Run, collect_files};
 use crate::figures::{FiguresLine, LINE_ROOM, with_line};
-use crate::out_file::OutFile;
-use crate::timed_gate::TimedGate;
 use crate::workers::Workers;
 use collector::{Gate, record_stream};
-use command_host::ImageFile;
 use command_line::Record;
 use command_support::{
-    FileId, FileTarget, FileWord, Output, Phase, Role, Stats, Stopwatch, SystemFile, TimedIntake,
-    TimedOutlet, Trouble, Watched, WorkDone, both_ended, failed, must_differ, output_must_differ,
-    same_file,
+    FileId, FileTarget, FileWord, Output, Role, SystemFile, Trouble, Watched, WorkDone, failed,
+    must_differ, output_must_differ, same_file,
 };
-use heap_image::{Fault, Intake, Outlet, ToWrite};
+use heap_image::{Fault, Intake, Outlet};
 use std::alloc::Global;
 use std::os::unix::fs::FileExt;
 use std::rt::Files;
@@ -35,54 +31,10 @@ where
     R::File: FileExt + SystemFile + Sync,
     ensures { IfOk result (λ done. IsFigures done.text.items) }
 {
-    let watch = Stopwatch::start(rt, request.stats);
-    let (image, mut out, mut schedule) = image_out_and_schedule(rt, &request)?;
-    out.file.file().expect_len(image.regular_len());
-    let readers = request.workers as usize;
-    let image = ImageFile::read_ahead(rt, image.with_shape(request.shape), readers);
-    let mut image = TimedIntake::new(rt, watch, image);
-    let may_have_holes = out.may_have_holes;
-    let written = OutFile::new(&mut out.file, may_have_holes);
-    let mut output = TimedOutlet::new(rt, watch, written);
-    let mut lines = TimedOutlet::new(rt, watch, ToWrite::new(&mut schedule.file));
-    let gate = TimedGate::new(rt, watch);
-    let workers = Workers {
-        count: request.workers,
-        gate: &gate,
-    };
-    let outcome = record_into(rt, &mut image, &mut output, &mut lines, workers);
-    let times = CollectionTimes::of(&image, &gate, &output);
-    let mut written = output.into_inner();
-    let outcome = written.end(outcome);
-    let laps = times.laps().then(Phase::Schedule, lines.ended());
-    match outcome {
-        Ok(FiguresLine { figures, line }) => {
-            let moved = times.moved(figures, image.into_inner().heap_words());
-            let stats = Stats::of_collection(watch, laps, moved, request.workers);
-            Ok(both_ended(rt, line, out, schedule)?.with_stats(stats))
-        }
-        Err(fault) => {
-            let trouble = Trouble::from(fault).if_workers(request.workers);
-            let image = image.into_inner().into_inner();
-            Err(failed_between_three(rt, trouble, &image, out, schedule))
-        }
-    }
-}
-
-/// Abandons both files after this trouble, and says which file it is about.
-fn failed_between_three<'a, H: Files>(
-    host: &H,
-    trouble: Trouble<'a>,
-    image: &Watched<'a, H::File>,
-    out: Output<'a, H::File>,
-    schedule: Output<'a, H::File>,
-) -> Trouble<'a> {
-    let trouble = trouble
-        .if_image(image)
-        .if_failed(&out.file)
-        .if_failed(&schedule.file);
-    schedule.abandon(host);
-    failed(host, trouble, out)
+    let run = Run::start(rt, request.stats, request.workers);
+    let (image, out, schedule) = image_out_and_schedule(rt, &request)?;
+    let image = image.with_shape(request.shape);
+    collect_files(rt, run, image, out, Some(schedule))
 }
 
 /// The file to read, and the two to write.

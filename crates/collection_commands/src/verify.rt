@@ -14,6 +14,7 @@ use command_support::{
 use heap_image::{Fault, Image, Intake, read_image_by_threads};
 use rayon::current_num_threads;
 use std::alloc::Global;
+use std::fs::OpenFile;
 use std::os::unix::fs::FileExt;
 use std::rt::Files;
 use std::thread::Threads;
@@ -30,18 +31,118 @@ where
     R::File: FileExt + Sync,
     ensures { IfOk result (λ done. done.text.items ≡ codes "same\n") }
 {
-    let request = Verify {
+    let watch = Stopwatch::start(rt, request.stats);
+    let before = FileWord::new(Role::Before, request.before);
+    let after = FileWord::new(Role::After, request.after);
+    let wishes = Wishes {
         explain: request.explain || screen.shows_errors,
-        ..request
+        ignore_free: request.ignore_free,
     };
-    let (compared, stats) = compare(rt, &request)?;
+    let (was, is) = two_inputs(rt, before, after)?;
+    let (mut was, mut is, ahead) = read_ahead(rt, watch, was.with_shape(request.shape), is);
+    let verified = verify_images(rt.alloc(), &mut was, &mut is, rt, wishes);
+    let stats = ahead.stats(rt, &was, &is);
+    match verified {
+        Ok(compared) => told(rt.alloc(), compared, after, stats),
+        Err(refused) => {
+            let (was, is) = (was.into_inner(), is.into_inner());
+            Err(trouble(rt, refused, &was.into_inner(), &is.into_inner(), wishes))
+        }
+    }
+}
+
+/// An image to read.
+type TimedImage<'h, 'a, H, F> = TimedIntake<'h, H, ImageFile<'a, F>>;
+
+/// The two images to read, and when they were read ahead.
+type TimedImages<'h, 'a, H, F> = (TimedImage<'h, 'a, H, F>, TimedImage<'h, 'a, H, F>, Ahead);
+
+/// Reads both ahead, by as many threads as there are processors.
+fn read_ahead<'h, 'a, H: AllocGlobal + Threads + Clock + Sync, F>(
+    rt: &'h H,
+    watch: Stopwatch,
+    was: Watched<'a, F>,
+    is: Watched<'a, F>,
+) -> TimedImages<'h, 'a, H, F>
+where
+    F: OpenFile + FileExt + Sync + Drop,
+{
+    let readers = current_num_threads(rt);
+    let was = ImageFile::read_ahead(rt, was, readers);
+    let first = watch.elapsed(rt);
+    let is = ImageFile::read_ahead(rt, is, readers);
+    let ahead = Ahead {
+        watch,
+        first,
+        second: watch.elapsed(rt),
+    };
+    let was = TimedIntake::new(rt, watch, was);
+    (was, TimedIntake::new(rt, watch, is), ahead)
+}
+
+/// When two images were read ahead.
+#[derive(Clone, Copy)]
+struct Ahead {
+    watch: Stopwatch,
+    first: Option<Duration>,
+    second: Option<Duration>,
+}
+
+impl Ahead {
+    /// What `--stats` prints of a comparison of these images that ends now.
+    fn stats<H: Clock, I: Drop>(
+        self,
+        clock: &H,
+        was: &TimedIntake<'_, H, I>,
+        is: &TimedIntake<'_, H, I>,
+    ) -> Stats {
+        let laps = Laps::new()
+            .then(Phase::ReadBefore, self.without(was.came()))
+            .then(Phase::CheckBefore, self.without(was.ended()))
+            .then(Phase::ReadAfter, is.came())
+            .then(Phase::CheckAfter, is.ended())
+            .then(Phase::Compare, self.watch.elapsed(clock));
+        Stats::of_comparison(self.watch, laps)
+    }
+
+    /// A time as if nothing had happened while the second was read ahead.
+    fn without(self, time: Option<Duration>) -> Option<Duration> {
+        Some(time?.saturating_sub(self.second?.saturating_sub(self.first?)))
+    }
+}
+
+/// The failure of a comparison, with lines that explain it if they are wanted.
+fn trouble<'a, R: AllocGlobal + Threads + Sync, F: FileExt + Sync + Drop>(
+    rt: &R,
+    refused: Refused,
+    before: &Watched<'a, F>,
+    after: &Watched<'a, F>,
+    wishes: Wishes,
+) -> Trouble<'a> {
+    let lines = match &refused.was {
+        Some(was) if wishes.explain => {
+            explanation_of_file(rt, was, after.file(), wishes.ignore_free)
+        }
+        _ => None,
+    };
+    trouble_of(refused.why, before, after).explained(lines)
+}
+
+/// What the command prints of a comparison, or the difference that was found in this file.
+fn told<'a>(
+    alloc: Global,
+    compared: Compared,
+    after: FileWord<'a>,
+    stats: Stats,
+) -> Result<WorkDone<'a>, Trouble<'a>>
+    ensures { IfOk result (λ done. done.text.items ≡ codes "same\n") }
+{
     match difference(compared.verdict) {
         None => {
-            let text = Vec::from_slice(rt.alloc(), b"same\n")?;
+            let text = Vec::from_slice(alloc, b"same\n")?;
             Ok(WorkDone::printing(text).with_stats(stats))
         }
         Some(difference) => {
-            let after = FileWord::new(Role::After, request.after);
             let trouble = Trouble::new(Failure::Differs(difference)).about(after);
             Err(trouble.explained(compared.explanation))
         }
@@ -59,61 +160,6 @@ fn difference(verdict: Verdict) -> Option<Difference>
         Verdict::Live(index) => Some(Difference::Live(index)),
         Verdict::Root(index) => Some(Difference::Root(index)),
     }
-}
-
-/// Opens both files, reads and compares them, and returns the comparison with its timings.
-fn compare<'a, R: Files + AllocGlobal + Threads + Clock + Sync>(
-    rt: &R,
-    request: &Verify<'a>,
-) -> Result<(Compared, Stats), Trouble<'a>>
-where
-    R::File: FileExt + Sync,
-{
-    let watch = Stopwatch::start(rt, request.stats);
-    let before = FileWord::new(Role::Before, request.before);
-    let after = FileWord::new(Role::After, request.after);
-    let (before, after) = two_inputs(rt, before, after)?;
-    let readers = current_num_threads(rt);
-    let before = ImageFile::read_ahead(rt, before.with_shape(request.shape), readers);
-    let first = watch.elapsed(rt);
-    let after = ImageFile::read_ahead(rt, after, readers);
-    let second = watch.elapsed(rt);
-    let mut was = TimedIntake::new(rt, watch, before);
-    let mut is = TimedIntake::new(rt, watch, after);
-    let wishes = Wishes {
-        explain: request.explain,
-        ignore_free: request.ignore_free,
-    };
-    let verified = verify_images(rt.alloc(), &mut was, &mut is, rt, wishes);
-    let laps = Laps::new()
-        .then(Phase::ReadBefore, without(was.came(), first, second))
-        .then(Phase::CheckBefore, without(was.ended(), first, second))
-        .then(Phase::ReadAfter, is.came())
-        .then(Phase::CheckAfter, is.ended())
-        .then(Phase::Compare, watch.elapsed(rt));
-    match verified {
-        Ok(compared) => Ok((compared, Stats::of_comparison(watch, laps))),
-        Err(refused) => {
-            let before = was.into_inner().into_inner();
-            let after = is.into_inner().into_inner();
-            let lines = match &refused.was {
-                Some(was) if request.explain => {
-                    explanation_of_file(rt, was, after.file(), request.ignore_free)
-                }
-                _ => None,
-            };
-            Err(trouble_of(refused.why, &before, &after).explained(lines))
-        }
-    }
-}
-
-/// A time as if nothing had happened between these two times, in which AFTER was read ahead.
-fn without(
-    time: Option<Duration>,
-    first: Option<Duration>,
-    second: Option<Duration>,
-) -> Option<Duration> {
-    Some(time?.saturating_sub(second?.saturating_sub(first?)))
 }
 
 /// Says which file a fault is about.
