@@ -1,7 +1,7 @@
 //! Collections of a heap whose words the caller keeps, in the caller's thread. No call starts a thread or waits.
 //!
 //! Proved: that the words and the live addresses or roots are those of the compaction afterwards, or after a fault as they
-//! were. A call works on a copy of the words, and copies them back.
+//! were. A call works on a copy of the words, and copies them back, but for those over lent words, which copy none.
 #![tactic(auto)]
 
 mod collection;
