@@ -2,6 +2,7 @@
  *
  *     calls heap IMAGE OUT THREADS ROUNDS    each round collects a fresh copy of the heap, by one call or, if THREADS isn't 0,
  *                                            by so many threads; the last one's image is written
+ *     calls lent IMAGE OUT ROUNDS            the same by one call that is lent the regions
  *     calls small ROUNDS                     each round collects a heap of 64 words with a live list, and one with roots
  *
  * BY_THREADS is defined where the library has pcompact_begin. */
@@ -108,6 +109,16 @@ static void collect(heap *it) {
     if (fault != 0) fail_by(answer.fault);
 }
 
+/* Collects the regions where they lie. `parts` has room for all of them. */
+static void collect_lent(heap *it, pcompact_words *parts) {
+    const pcompact_heap *of = &it->shape;
+    pcompact_answer answer;
+    size_t count = pcompact_cut(it->words, of->word_count, of->settings.region_log, parts);
+    uint32_t fault = (of->version == 1 ? pcompact_collect_lent : pcompact_collect_lent_rooted)(
+        parts, count, it->list, of->count, of->settings, &answer);
+    if (fault != 0) fail_by(answer.fault);
+}
+
 #ifdef BY_THREADS
 static void *work(void *handle) {
     if (pcompact_work_all(handle) != PCOMPACT_SETTLED) fail("a worker has not settled");
@@ -159,6 +170,21 @@ static void time_heap(const char *image, const char *out, size_t thread_count, s
     free_heap(&it);
 }
 
+static void time_lent(const char *image, const char *out, size_t rounds) {
+    heap first = read_heap(image), it = new_heap(first.shape);
+    pcompact_words *parts = room_for(sizeof *parts * (first.shape.word_count >> first.shape.settings.region_log));
+    for (size_t round = 0; round < rounds; round++) {
+        copy_heap(&it, &first);
+        uint64_t begun = now();
+        collect_lent(&it, parts);
+        printf("%" PRIu64 "\n", now() - begun);
+    }
+    write_heap(&it, out);
+    free(parts);
+    free_heap(&first);
+    free_heap(&it);
+}
+
 /* Cells of four words in regions of eight. Every second one lives, and refers to the next that does. */
 static heap small_heap(uint32_t version) {
     pcompact_heap shape = {.version = version, .settings = {3, 0}, .word_count = SMALL_WORDS, .count = SMALL_LIVE};
@@ -189,10 +215,12 @@ static void time_small(size_t rounds) {
 int main(int count, char **words) {
     if (count == 6 && strcmp(words[1], "heap") == 0) {
         time_heap(words[2], words[3], strtoul(words[4], NULL, 10), strtoul(words[5], NULL, 10));
+    } else if (count == 5 && strcmp(words[1], "lent") == 0) {
+        time_lent(words[2], words[3], strtoul(words[4], NULL, 10));
     } else if (count == 3 && strcmp(words[1], "small") == 0) {
         time_small(strtoul(words[2], NULL, 10));
     } else {
-        fail("usage: calls heap IMAGE OUT THREADS ROUNDS | calls small ROUNDS");
+        fail("usage: calls heap IMAGE OUT THREADS ROUNDS | calls lent IMAGE OUT ROUNDS | calls small ROUNDS");
     }
     return fflush(stdout) != 0;
 }

@@ -8,6 +8,7 @@ processes of their own. For each heap it prints the least times of
 
 - one call, `pcompact_collect` or `pcompact_collect_rooted`, which copies the words in, checks and collects them, and copies them
   back;
+- one call that is lent the regions, `pcompact_collect_lent` or `_rooted`, which checks and collects them where they lie;
 - decoding the heap's bytes in memory, which copies and checks them too, and its collection, by one worker inside `pcompact`;
   and the collection alone;
 - the phases of the plain program, all but reading and writing files.
@@ -96,6 +97,9 @@ class Programs:
     def by_c(self, threads: int) -> dict[str, float]:
         return {"whole": min(int(time) for [time] in self.lines(self.calls, "heap", "image", "by-c", threads, COPIES))}
 
+    def by_lending(self) -> dict[str, float]:
+        return {"whole": min(int(time) for [time] in self.lines(self.calls, "lent", "image", "by-lending", COPIES))}
+
     def by_pcompact(self, workers: int) -> dict[str, float]:
         times = [tuple(map(int, words)) for words in self.lines(self.inside, workers, COPIES)]
         return {"whole": min(map(sum, times)), "collection": min(collection for _, collection in times)}
@@ -106,14 +110,14 @@ class Programs:
         return {"whole": sum(time for lap, time in laps.items() if lap not in ("read", "write"))}
 
     def jobs(self) -> dict:
-        jobs = {"call": lambda: self.by_c(0), "inside": lambda: self.by_pcompact(1), "plain": self.by_plain}
+        jobs = {"call": lambda: self.by_c(0), "lent": self.by_lending, "inside": lambda: self.by_pcompact(1), "plain": self.by_plain}
         if not self.why_skipped:
             jobs |= {"threads": lambda: self.by_c(THREADS), "workers": lambda: self.by_pcompact(THREADS)}
         return jobs
 
     def compare(self) -> None:
         """Ends the process where two programs left different images of one heap."""
-        for other in ("by-plain", "compacted"):
+        for other in ("by-lending", "by-plain", "compacted"):
             if not filecmp.cmp(self.folder / "by-c", self.folder / other, shallow=False):
                 sys.exit(f"by-c and {other} differ; the files are in {self.folder}")
 
@@ -153,12 +157,14 @@ def milliseconds(nanoseconds: float) -> str:
 
 def tell_heap(heap: Heap, least: dict[str, dict[str, float]], goals: Goals) -> None:
     """What was found of one call."""
-    call, inside, plain = (least[job]["whole"] for job in ("call", "inside", "plain"))
+    inside, plain = (least[job]["whole"] for job in ("inside", "plain"))
     alone = least["inside"]["collection"]
-    print(f"{heap}: one call {milliseconds(call)}")
-    print(f"  to the same inside pcompact, {milliseconds(inside)}: {goals.verdict(call / inside, TO_INSIDE)}")
-    print(f"  to its collection without decoding, {milliseconds(alone)}: {call / alone:.2f}")
-    print(f"  to the plain program's phases, {milliseconds(plain)}: {goals.verdict(call / plain, TO_PLAIN)}", flush=True)
+    print(f"{heap}: inside pcompact {milliseconds(inside)}, of that its collection {milliseconds(alone)}; the plain program's phases "
+          f"{milliseconds(plain)}")
+    for job, words in (("call", "one call"), ("lent", "one call, lent")):
+        call = least[job]["whole"]
+        print(f"  {words}, {milliseconds(call)}: to inside {goals.verdict(call / inside, TO_INSIDE)}; to the plain phases "
+              f"{goals.verdict(call / plain, TO_PLAIN)}; to the collection {call / alone:.2f}", flush=True)
 
 
 def tell_threads(least: dict[str, dict[str, float]], goals: Goals) -> None:
