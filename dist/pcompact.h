@@ -3,8 +3,9 @@
  * Link libpcompact.a. It takes memory by malloc, unless the program defines the three functions of heap.c: any allocator
  * that aligns to 16 bytes and that several threads may call can stand in its place.
  *
- * No call keeps state, starts a thread or waits, so several threads may be in calls at once, each with memory of its
- * own. No call may be made from a signal handler, or in a forked child of a process with threads. */
+ * No call starts a thread or waits, and none keeps state but behind the handles of a collection by several threads, so
+ * several threads may be in calls at once, each with memory and handles of its own. No call may be made from a signal
+ * handler, or in a forked child of a process with threads. */
 #ifndef PCOMPACT_H
 #define PCOMPACT_H
 
@@ -77,6 +78,87 @@ uint32_t pcompact_collect(uint64_t *words, size_t word_count, uint64_t *live, si
  * the roots reach, and afterwards the roots lead to their new addresses. Faults: 0, 3, 4, 7 to 9, 17, 11 and 15. */
 uint32_t pcompact_collect_rooted(uint64_t *words, size_t word_count, uint64_t *roots, size_t root_count,
                                  pcompact_settings settings, pcompact_answer *answer);
+
+/* Words of the host that it lends to a call, a region of a heap. The host fills one with true and its words; a zero one
+ * has none. While it is held, `len` words lie behind `at`, 1 to 1048576 of them, aligned to 8 bytes, in nothing else that the
+ * host lends. From the begin of a call until its end only the library uses them, and it alone writes the fields. */
+typedef struct pcompact_words {
+    bool is_held; /* 0 or 1 */
+    uint64_t *at;
+    size_t len;
+} pcompact_words;
+
+/* Cuts a heap into its regions, which may then be lent. The last is shorter where they don't divide the words. Returns
+ * how many there are: `parts` has room for word_count divided by their words, rounded up. */
+static inline size_t pcompact_cut(uint64_t *words, size_t word_count, uint32_t region_log, pcompact_words *parts) {
+    size_t size = region_log <= 20 ? (size_t)1 << region_log : 0, count = 0;
+    for (size_t at = 0; size > 0 && at < word_count; at += size) {
+        parts[count].is_held = true;
+        parts[count].at = words + at;
+        parts[count].len = word_count - at < size ? word_count - at : size;
+        count++;
+    }
+    return count;
+}
+
+/* Like pcompact_collect, for a heap whose regions the host lends, from address 0 up, wherever each lies. They are collected
+ * there, without a copy of their words: afterwards each holds its region's words of the compaction, at the same place.
+ * Faults: those of pcompact_collect, and 4 if some words aren't held or are more or fewer than a region has. After any
+ * fault but 15 all is as it was. After fault 15 nothing is promised of the words and live addresses, and some aren't held.
+ * Takes the memory that a collection by one worker takes. */
+uint32_t pcompact_collect_lent(pcompact_words *words, size_t region_count, uint64_t *live, size_t live_count,
+                               pcompact_settings settings, pcompact_answer *answer);
+
+/* The same for a heap with roots, with the faults of pcompact_collect_rooted. */
+uint32_t pcompact_collect_lent_rooted(pcompact_words *words, size_t region_count, uint64_t *roots, size_t root_count,
+                                      pcompact_settings settings, pcompact_answer *answer);
+
+/* One worker's part in a collection by several threads, or none. It begins as all zeros; afterwards only the library writes
+ * its fields, and nobody copies one that is held or touches what it leads to. One call at a time uses a handle. It may go to
+ * another thread by a start or join of a thread, a lock, or an atomic variable. */
+typedef struct pcompact_handle {
+    bool is_held;
+    void *at;
+} pcompact_handle;
+
+/* Begins a collection of the heap with these words and live addresses, as pcompact_collect has them, by 1 to 64 workers, and
+ * gives each of these handles a worker's part. Returns the fault: 12 if there aren't 1 to 64 handles or one is held, and
+ * otherwise 0, 3, 4, 6 to 9, or 11 if memory runs out. After a fault the handles are as they were. Takes the memory of a
+ * copy of the words, which the workers compact, and what a collection by so many workers takes. No pointer is null, also
+ * with a count of 0, nothing overlaps the handles, and nobody writes there meanwhile. */
+pcompact_fault pcompact_begin(const uint64_t *words, size_t word_count, const uint64_t *live, size_t live_count,
+                              pcompact_settings settings, pcompact_handle *handles, size_t worker_count);
+
+/* The same for a heap with roots, as pcompact_collect_rooted has them. Faults: 12, 0, 3, 4, 7 to 9, 17 and 11. */
+pcompact_fault pcompact_begin_rooted(const uint64_t *words, size_t word_count, const uint64_t *roots, size_t root_count,
+                                     pcompact_settings settings, pcompact_handle *handles, size_t worker_count);
+
+/* What pcompact_work returns. */
+enum {
+    PCOMPACT_SETTLED = 0,    /* all regions are filled */
+    PCOMPACT_TURNS_USED = 1, /* the turns are used up */
+    PCOMPACT_NONE_READY = 2, /* no region is ready: another worker may make some ready */
+    PCOMPACT_STOPPED = 3,    /* another worker has met a fault, which pcompact_end tells */
+    PCOMPACT_FAILED = 4,     /* this worker has met one */
+    PCOMPACT_NOT_HELD = 5    /* the handle isn't held */
+};
+
+/* Fills regions that are ready by the worker of a handle, at most `turns`. Returns how far the work has come. Takes no memory
+ * and never waits. `handle` isn't null. */
+uint32_t pcompact_work(pcompact_handle *handle, uint64_t turns);
+
+/* The same until all regions are filled; spins while none is ready, so it wants a processor for each worker. Returns
+ * PCOMPACT_SETTLED, PCOMPACT_STOPPED, PCOMPACT_FAILED or PCOMPACT_NOT_HELD. */
+uint32_t pcompact_work_all(pcompact_handle *handle);
+
+/* Ends a collection by the handles of one begin, in any order, once no other call uses them: fills what is left to fill, and
+ * writes the words of the compaction and the new live addresses or roots. No handle is held afterwards. Returns the number of
+ * the fault in `answer`: 0, 12 if these aren't all handles of one begin, 4 if the words or the list aren't as many as there,
+ * 11 if memory runs out, or 15 as of pcompact_collect. After a fault words and list are as they were, and the collection is
+ * lost. Collections that are begun and not ended keep their memory. No pointer is null, also with a count of 0, nothing
+ * overlaps, and nobody reads or writes there meanwhile. `answer` need not be filled before. */
+uint32_t pcompact_end(pcompact_handle *handles, size_t worker_count, uint64_t *words, size_t word_count, uint64_t *list,
+                      size_t list_count, pcompact_answer *answer);
 
 /* Redirects references that are kept outside of the heap with these words and live addresses to where pcompact_collect will
  * take their objects; to be called before it. Each is 0, which stays, or 1 plus a live address. Returns the fault: 0, 3, 4,

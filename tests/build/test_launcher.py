@@ -49,6 +49,7 @@ lib | test | run)
     done
     [ ! -e "$here/sleeps" ] || exec sleep "$(cat "$here/sleeps")"
     [ ! -e "$here/fails-$name" ] || exit 1
+    [ ! -e "$here/changes" ] || echo "//! Changed again." >"$(cat "$here/changes")"
     mkdir -p out/rlib out/incremental
     case $1 in
     lib) if [ "$name" = pcompact_c ]; then cp "$here/part.a" "out/lib$name.a"; else echo stamp >out/rlib/stamp; fi ;;
@@ -308,6 +309,17 @@ def try_failures(it: Launcher, copy: pathlib.Path) -> None:
     it.check("lib raw_region" in calls and "run pcompact" in calls, f"proved then: {calls}")
 
 
+def try_changes_meanwhile(it: Launcher, copy: pathlib.Path) -> None:
+    """A source that changes while others are proved: what was built isn't taken for its program."""
+    change(copy, "pcompact", "Changed once more.")
+    (it.kit / "changes").write_text(str(copy / "crates/raw_region/src/lib.rt"))
+    said, _ = it.call([copy / "prove"], 1, "a source that changes meanwhile")
+    it.check("sources have changed meanwhile" in said, f"that a source has changed isn't said: {said!r}")
+    (it.kit / "changes").unlink()
+    said, calls = it.call([copy / "pcompact", "a word"], 3, "the call after a source changed meanwhile")
+    it.check("lib raw_region" in calls and "run pcompact" in calls, f"proved after a source changed meanwhile: {calls}")
+
+
 def try_above(it: Launcher, copy: pathlib.Path) -> None:
     """Crates that are named, with those above them and their tests."""
     change(copy, "work_order", "Changed.")
@@ -474,6 +486,7 @@ def main() -> int:
         try_tools(it, copy)
         try_changes(it, copy)
         try_failures(it, copy)
+        try_changes_meanwhile(it, copy)
         try_above(it, copy)
         try_dist(it, copy)
         try_library(it, copy)
