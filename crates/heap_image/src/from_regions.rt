@@ -4,9 +4,11 @@ ghost use Rattle.std.specs.List.{concat, range_with_len};
 ghost use Rattle.heap_image.specs.Bits.{MarkBegins};
 ghost use Rattle.heap_image.specs.HeapImage.{FormHeap, IsValid, IsWithinLimits, AreBlocks, image_of, block_of, region_count};
 ghost use Rattle.heap_image.specs.ImageText.{text, listed_text, from_tail, front, front_faults, first_fault, first_some, first_object_fault, live_list_faults};
+ghost use Rattle.heap_image.specs.Sizes.{AreSizes};
 ghost use Rattle.heap_image.specs.Unchecked.{numbers_in};
 ghost use Rattle.heap_image.specs.Version.{Allows};
 
+use crate::check::soundness::PIECE;
 use crate::check::unchecked::{Found, find_live_objects};
 use crate::heap::Heap;
 use crate::io::front::Front;
@@ -64,16 +66,16 @@ pub fn image_of_regions(alloc: Global, parts: UncheckedParts) -> Result<Image, R
         return Err(RefusedRegions { regions, fault });
     }
     match find_sound_objects(alloc, version, region_log, regions.as_slice(), tail) {
-        Ok(found) => {
+        Ok(sound) => {
             let parts = ImageParts {
                 version,
                 region_log,
                 allowance,
                 regions,
-                live: found.live,
-                roots: found.roots,
+                live: sound.found.live,
+                roots: sound.found.roots,
             };
-            Ok(parts.with_seen(Some(found.begins), None))
+            Ok(parts.with_seen(Some(sound.found.begins), sound.sizes))
         }
         Err(fault) => Err(RefusedRegions { regions, fault }),
     }
@@ -143,6 +145,14 @@ fn length_of(words: &[u64]) -> u64
     words.len() as u64
 }
 
+/// Live objects that are sound.
+#[derive(Drop)]
+struct SoundObjects {
+    found: Found,
+    /// Their sizes, if there is memory for them.
+    sizes: Option<Vec<[u32; PIECE]>>,
+}
+
 /// The live objects of the heap in these regions, which are sound. `tail` is what follows the words in a text of this
 /// version.
 fn find_sound_objects(
@@ -151,16 +161,18 @@ fn find_sound_objects(
     region_log: u32,
     regions: &[Region],
     tail: Vec<u64>,
-) -> Result<Found, Fault>
+) -> Result<SoundObjects, Fault>
     requires heap { FormHeap region_log regions.now }
     requires few { length tail.items ≤ length (concat regions.now) }
     requires counted { length tail.items < 2 ^ 32 }
     ensures live { IfOk result
-        (λ found. found.live.items ≡ (from_tail version (image_of region_log 0 regions.now tail.items)).live) }
+        (λ sound. sound.found.live.items ≡ (from_tail version (image_of region_log 0 regions.now tail.items)).live) }
     ensures roots { IfOk result
-        (λ found. option_map (λ v. v.items) found.roots ≡ (from_tail version (image_of region_log 0 regions.now tail.items)).roots) }
+        (λ sound. option_map (λ v. v.items) sound.found.roots ≡ (from_tail version (image_of region_log 0 regions.now tail.items)).roots) }
     ensures begins { IfOk result
-        (λ found. MarkBegins found.live.items (length (concat regions.now)) found.begins) }
+        (λ sound. MarkBegins sound.found.live.items (length (concat regions.now)) sound.found.begins) }
+    ensures sizes { IfOk result (λ sound. IfSome sound.sizes
+        (λ sizes. AreSizes (image_of region_log 0 regions.now sound.found.live.items) sizes.items)) }
     ensures sound { OnOk result
         (first_some (live_list_faults (from_tail version (image_of region_log 0 regions.now tail.items))) ≡ None) }
     ensures fault { IfErr result (λ fault. (fault ≡ Fault.Memory)
@@ -168,6 +180,9 @@ fn find_sound_objects(
 {
     let heap = Heap::new(regions, region_log);
     let found = find_live_objects(alloc, &heap, version, tail, &Alone)?;
-    found.check(&heap)?;
-    Ok(found)
+    let sizes = found.sizes_if_sound(alloc, &heap, &Alone);
+    if sizes.is_none() {
+        found.check(&heap)?;
+    }
+    Ok(SoundObjects { found, sizes })
 }

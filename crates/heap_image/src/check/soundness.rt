@@ -1,7 +1,7 @@
-//! Checks a live list in parallel, and notes the sizes of its objects.
+//! Checks a live list in one thread or several, and notes the sizes of its objects.
 //!
-//! Threads take the objects in pieces of 64, and read the references a row of words at a time. References are looked up
-//! in a bit set with a bit for null and for each reference to a live object. If the objects are known to be well-formed,
+//! The objects are taken in pieces of 64, and their references are read a row of words at a time and looked up in a bit
+//! set with a bit for null and for each reference to a live object. If the objects are known to be well-formed,
 //! only their headers are read. The result only says whether all objects are sound: `check` finds the first fault.
 //! No object waits for another one, so that the processor reads some headers and references ahead by itself.
 ghost use Rattle.std.specs.Prelude.{◌≡◌, ◌<◌, ◌≤◌, ◌+◌, ◌*◌, ◌/◌, ◌%◌, ℕ, All, IfSome, IsTrue, OnOk, IfOk, length, [], min, slice_index, slice_index_or};
@@ -15,6 +15,7 @@ use super::is_unsound;
 use crate::bits::Bits;
 use crate::header;
 use crate::heap::Heap;
+use crate::marking::Marker;
 use std::alloc::{AllocError, Global};
 use std::thread::Threads;
 use thread_row::for_each_mut;
@@ -25,24 +26,25 @@ pub const PIECE: usize = 64;
 /// The least number of pieces that are worth a thread.
 const LEAST_PIECES: usize = 16;
 
-/// The sizes in words of the live objects, if all of them are sound. The crowd visits each object once. Returns `None`
-/// also if memory runs out.
+/// The sizes in words of the live objects, if all of them are sound. The marker's threads visit each object once. Returns
+/// `None` also if memory runs out.
 ///
 /// `targets` has the bits of null and of the references to live objects. It is `None` for objects that are known to be
 /// well-formed: then only overlaps are possible, and no reference is looked up.
-pub(crate) fn sizes_if_sound<T: Threads + Sync>(
+pub(crate) fn sizes_if_sound<M: Marker>(
     alloc: Global,
     heap: &Heap<'_>,
     live: &[u64],
     targets: Option<&Bits>,
-    crowd: &Crowd<'_, T>,
+    marker: &M,
 ) -> Option<Vec<[u32; PIECE]>>
+    requires marker { M.may_start }
     requires inside { All (λ a. a < heap_words heap.now) live.now }
     requires targets { AreTargetsOrWellFormed (with_live heap.now live.now) targets }
     ensures sound { IfSome result (λ _. HasLiveList (with_live heap.now live.now)) }
     ensures sizes { IfSome result (λ sizes. AreSizes (with_live heap.now live.now) sizes.items) }
 {
-    let Ok(sizes) = note_all_sizes(alloc, heap, live, targets, crowd) else {
+    let Ok(sizes) = marker.note_sizes(alloc, heap, live, targets) else {
         return None;
     };
     if are_all_noted(sizes.as_slice(), live.len()) {
@@ -52,8 +54,40 @@ pub(crate) fn sizes_if_sound<T: Threads + Sync>(
     }
 }
 
+/// The size of each sound live object, and 0 for each unsound one. Runs in the caller's thread alone.
+pub(crate) fn note_all_alone(
+    alloc: Global,
+    heap: &Heap<'_>,
+    live: &[u64],
+    targets: Option<&Bits>,
+) -> Result<Vec<[u32; PIECE]>, AllocError>
+    requires inside { All (λ a. a < heap_words heap.now) live.now }
+    requires targets { AreTargetsOrWellFormed (with_live heap.now live.now) targets }
+    ensures room { IfOk result (λ sizes. length live.now ≤ 64 * length sizes.items) }
+    ensures noted { IfOk result (λ sizes. (p : ℕ) → p < length sizes.items
+        → AreNoted (with_live heap.now live.now) p (slice_index_or sizes.items p [])) }
+{
+    let mut sizes = vec![in alloc; [0u32; PIECE]; live.len().div_ceil(PIECE)]?;
+    note_pieces(heap, live, targets, sizes.as_mut_slice());
+    Ok(sizes)
+}
+
+/// Notes the sizes of the sound live objects of all pieces.
+fn note_pieces(heap: &Heap<'_>, live: &[u64], targets: Option<&Bits>, sizes: &mut [[u32; PIECE]])
+    requires inside { All (λ a. a < heap_words heap.now) live.now }
+    requires targets { AreTargetsOrWellFormed (with_live heap.now live.now) targets }
+    requires pieces { (p : ℕ) → p < length sizes.old → 64 * p < length live.now }
+    ensures count { length sizes.new ≡ length sizes.old }
+    ensures noted { (p : ℕ) → p < length sizes.new
+        → AreNoted (with_live heap.now live.now) p (slice_index_or sizes.new p []) }
+{
+    for piece in 0..sizes.len() {
+        note_sizes(heap, live, targets, piece, &mut sizes[piece]);
+    }
+}
+
 /// The size of each sound live object, and 0 for each unsound one.
-fn note_all_sizes<T: Threads + Sync>(
+pub(crate) fn note_all_by_crowd<T: Threads + Sync>(
     alloc: Global,
     heap: &Heap<'_>,
     live: &[u64],

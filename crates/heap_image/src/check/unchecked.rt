@@ -6,7 +6,6 @@ ghost use Rattle.heap_image.specs.Soundness.{AreWellFormed};
 ghost use Rattle.heap_image.specs.HeapImage.{heap_words, with_live};
 ghost use Rattle.heap_image.specs.ImageText.{from_tail, first_some, first_object_fault, live_list_faults};
 
-use super::crowd::Crowd;
 use super::soundness::{PIECE, sizes_if_sound};
 use super::{check_live, misplaced_index};
 use crate::bits::Bits;
@@ -15,7 +14,6 @@ use crate::marking::Marker;
 use crate::marking::reach::{Reached, find_reachable};
 use crate::{Fault, Version};
 use std::alloc::Global;
-use std::thread::Threads;
 
 /// The live objects of an image that was read, before they are checked.
 #[derive(Drop)]
@@ -100,14 +98,15 @@ impl Found {
         check_live(heap, self.live.as_slice(), &self.begins, self.well_formed)
     }
 
-    /// The sizes of the live objects, if the crowd finds all of them sound. If they are known to be well-formed
-    /// already, it looks for overlaps alone. Returns `None` also if memory runs out.
-    pub(crate) fn sizes_if_sound<T: Threads + Sync>(
+    /// The sizes of the live objects, if all of them are sound. If they are known to be well-formed already, it looks for
+    /// overlaps alone. Returns `None` also if memory runs out.
+    pub(crate) fn sizes_if_sound<M: Marker>(
         &self,
         alloc: Global,
         heap: &Heap<'_>,
-        crowd: &Crowd<'_, T>,
+        marker: &M,
     ) -> Option<Vec<[u32; PIECE]>>
+        requires marker { M.may_start }
         requires inside { All (λ a. a < heap_words heap.now) self.now.live.items }
         requires begins { MarkBegins self.now.live.items (heap_words heap.now) self.now.begins }
         requires well_formed { IsTrue self.now.well_formed → AreWellFormed (with_live heap.now self.now.live.items) }
@@ -118,10 +117,10 @@ impl Found {
     {
         let live = self.live.as_slice();
         if self.well_formed {
-            return sizes_if_sound(alloc, heap, live, None, crowd);
+            return sizes_if_sound(alloc, heap, live, None, marker);
         }
         match self.begins.shift_up(alloc) {
-            Ok(targets) => sizes_if_sound(alloc, heap, live, Some(&targets), crowd),
+            Ok(targets) => sizes_if_sound(alloc, heap, live, Some(&targets), marker),
             Err(_) => None,
         }
     }

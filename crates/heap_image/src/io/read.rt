@@ -59,8 +59,13 @@ pub fn read_image<R: Intake>(alloc: Global, reader: &mut R) -> Result<Image, Fau
     ensures io { R.has_failed reader.new ≡ is_io result }
 {
     let read = read_unchecked(alloc, reader, &Alone)?;
-    let checked = read.found.check(&read.heap());
-    read.finish(reader, checked, None)
+    let sizes = read.found.sizes_if_sound(alloc, &read.heap(), &Alone);
+    // Most images are sound. Otherwise the first fault is looked for.
+    let checked = match &sizes {
+        Some(_) => Ok(()),
+        None => read.found.check(&read.heap()),
+    };
+    read.finish(reader, checked, sizes)
 }
 
 /// Like [`read_image`], but marks and checks the live objects in as many threads as there are processors. The result does not

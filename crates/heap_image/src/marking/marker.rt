@@ -1,20 +1,20 @@
 //! Marking, listing and checking in one thread or in several, for code that serves both.
-ghost use Rattle.std.specs.Prelude.{◌≡◌, ◌<◌, ◌^◌, All, IfOk, IsTrue, length};
-ghost use Rattle.heap_image.specs.HeapImage.{HasLiveList, heap_words, with_live};
+ghost use Rattle.std.specs.Prelude.{◌≡◌, ◌<◌, ◌≤◌, ◌*◌, ◌^◌, ℕ, [], All, IfOk, IsTrue, length, slice_index_or};
+ghost use Rattle.heap_image.specs.HeapImage.{heap_words, with_live};
 ghost use Rattle.heap_image.specs.Bits.{addresses_of};
 ghost use Rattle.heap_image.specs.Marking.{AreReached, AreReachedWell};
-ghost use Rattle.heap_image.specs.Soundness.{AreWellFormed};
+ghost use Rattle.heap_image.specs.Soundness.{AreNoted, AreTargetsOrWellFormed};
 
 use super::{Marked, mark, mark_by_crowd};
 use crate::bits::Bits;
 use crate::check::crowd::Crowd;
 use crate::check::live_list::{marked_addresses, marked_by_crowd};
-use crate::check::soundness::sizes_if_sound;
+use crate::check::soundness::{PIECE, note_all_alone, note_all_by_crowd};
 use crate::heap::Heap;
 use std::alloc::{AllocError, Global};
 use std::thread::Threads;
 
-/// The threads that mark, list what is marked, and look for overlaps.
+/// The threads that mark, list what is marked, and check the live objects.
 pub(crate) trait Marker {
     /// That several threads may hold what starts them.
     ghost may_start: { Type 0 };
@@ -32,12 +32,24 @@ pub(crate) trait Marker {
         requires few { length bits.now < 2 ^ 58 }
         ensures { IfOk result (λ live. live.items ≡ addresses_of bits.now) };
 
-    /// Whether these well-formed objects are known not to overlap. `false` says nothing of them.
-    fn are_apart(&self, alloc: Global, heap: &Heap<'_>, live: &[u64]) -> bool
+    /// The size of each sound live object, in pieces of 64, and 0 for each unsound one. `targets` has the bits of
+    /// null and of the references to live objects, or is `None` if the objects are known to be well-formed.
+    fn note_sizes(
+        &self,
+        alloc: Global,
+        heap: &Heap<'_>,
+        live: &[u64],
+        targets: Option<&Bits>,
+    ) -> Result<Vec<[u32; PIECE]>, AllocError>
         requires start { may_start }
         requires inside { All (λ a. a < heap_words heap.now) live.now }
-        requires well_formed { AreWellFormed (with_live heap.now live.now) }
-        ensures { IsTrue result → HasLiveList (with_live heap.now live.now) };
+        requires targets { AreTargetsOrWellFormed (with_live heap.now live.now) targets }
+        ensures room { IfOk result (λ sizes. length live.now ≤ 64 * length sizes.items) }
+        ensures noted { IfOk result (λ sizes. (p : ℕ) → p < length sizes.items
+            → AreNoted (with_live heap.now live.now) p (slice_index_or sizes.items p [])) };
+
+    /// Whether several threads may work. No contract depends on it.
+    fn are_several(&self) -> bool;
 }
 
 /// The caller's thread alone.
@@ -55,7 +67,17 @@ impl Marker for Alone {
         marked_addresses(alloc, bits)
     }
 
-    fn are_apart(&self, _alloc: Global, _heap: &Heap<'_>, _live: &[u64]) -> bool {
+    fn note_sizes(
+        &self,
+        alloc: Global,
+        heap: &Heap<'_>,
+        live: &[u64],
+        targets: Option<&Bits>,
+    ) -> Result<Vec<[u32; PIECE]>, AllocError> {
+        note_all_alone(alloc, heap, live, targets)
+    }
+
+    fn are_several(&self) -> bool {
         false
     }
 }
@@ -73,7 +95,17 @@ impl<T: Threads + Sync> Marker for Crowd<'_, T> {
         marked_by_crowd(alloc, bits, self)
     }
 
-    fn are_apart(&self, alloc: Global, heap: &Heap<'_>, live: &[u64]) -> bool {
-        sizes_if_sound(alloc, heap, live, None, self).is_some()
+    fn note_sizes(
+        &self,
+        alloc: Global,
+        heap: &Heap<'_>,
+        live: &[u64],
+        targets: Option<&Bits>,
+    ) -> Result<Vec<[u32; PIECE]>, AllocError> {
+        note_all_by_crowd(alloc, heap, live, targets, self)
+    }
+
+    fn are_several(&self) -> bool {
+        self.most > 1
     }
 }

@@ -2,7 +2,7 @@
 ghost use Rattle.std.specs.Prelude.{◌≡◌, ◌<◌, ◌≤◌, ◌^◌, ◌⊎◌, Some, None, [], All, length, find, nat_lt, slice_index, IfOk, OnOk, IfErr, IsTrue};
 ghost use Rattle.std.specs.List.{concat, range_with_len};
 ghost use Rattle.heap_image.specs.declared.version.Version.TheVariants.{Two};
-ghost use Rattle.heap_image.specs.HeapImage.{FormHeap, heap_words, image_of, reachable, with_live};
+ghost use Rattle.heap_image.specs.HeapImage.{FormHeap, HasLiveList, heap_words, image_of, reachable, with_live};
 ghost use Rattle.heap_image.specs.ImageText.{first_some, from_tail, live_list_faults, misplaced_root};
 ghost use Rattle.heap_image.specs.Bits.{MarkBegins};
 ghost use Rattle.heap_image.specs.Soundness.{AreWellFormed};
@@ -12,6 +12,7 @@ use crate::Fault;
 use crate::bits::Bits;
 use crate::check::check_live;
 use crate::check::crowd::Crowd;
+use crate::check::soundness::sizes_if_sound;
 use crate::heap::Heap;
 use raw_region::Region;
 use std::alloc::Global;
@@ -90,11 +91,22 @@ fn find_and_check<M: Marker>(
         begins,
         well_formed,
     } = find_reachable(alloc, heap, roots, marker)?;
-    if well_formed && marker.are_apart(alloc, heap, live.as_slice()) {
+    if well_formed && are_apart(alloc, heap, live.as_slice(), marker) {
         return Ok(live);
     }
     check_live(heap, live.as_slice(), &begins, well_formed)?;
     Ok(live)
+}
+
+/// Whether these well-formed objects are known not to overlap. `false` says nothing of them. One thread alone leaves this
+/// to the check that finds the first fault, which is faster then.
+fn are_apart<M: Marker>(alloc: Global, heap: &Heap<'_>, live: &[u64], marker: &M) -> bool
+    requires marker { M.may_start }
+    requires inside { All (λ a. a < heap_words heap.now) live.now }
+    requires well_formed { AreWellFormed (with_live heap.now live.now) }
+    ensures { IsTrue result → HasLiveList (with_live heap.now live.now) }
+{
+    marker.are_several() && sizes_if_sound(alloc, heap, live, None, marker).is_some()
 }
 
 /// The objects that are reachable from the roots of a heap, before they are checked.

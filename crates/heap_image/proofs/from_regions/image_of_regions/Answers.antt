@@ -32,20 +32,20 @@ fits_of parts limits allowed counted =
 pub with_seen-requires-clause-valid : goal.with_seen-requires-clause-valid
 with_seen-requires-clause-valid c =
     let sized = c.in_default.ensures in
-    valid c.args.parts c.as_slice.result.now c.in-Ok.found.live.items (option_map (λ v. v.items) c.in-Ok.found.roots) c.as_slice.ensures.value c.in-Ok.ensures.live c.in-Ok.ensures.roots
+    valid c.args.parts c.as_slice.result.now c.in-Ok.sound.found.live.items (option_map (λ v. v.items) c.in-Ok.sound.found.roots) c.as_slice.ensures.value c.in-Ok.ensures.live c.in-Ok.ensures.roots
     (fits_of c.args.parts sized.limits sized.allowed sized.counted sized.allowance_fits sized.words_fit sized.tail_fit) c.in-Ok.ensures.sound
 
 pub returns-in-Ok-clause-image : goal.returns-in-Ok-clause-image
 returns-in-Ok-clause-image c =
     c.with_seen.ensures
-    ∙ image_is c.args.parts c.as_slice.result.now c.in-Ok.found.live.items (option_map (λ v. v.items) c.in-Ok.found.roots) c.as_slice.ensures.value c.in-Ok.ensures.live c.in-Ok.ensures.roots
+    ∙ image_is c.args.parts c.as_slice.result.now c.in-Ok.sound.found.live.items (option_map (λ v. v.items) c.in-Ok.sound.found.roots) c.as_slice.ensures.value c.in-Ok.ensures.live c.in-Ok.ensures.roots
 
 pub returns-in-Ok-clause-blocks : goal.returns-in-Ok-clause-blocks
 returns-in-Ok-clause-blocks c =
     let parts = c.args.parts in
     let sized = c.in_default.ensures in
-    let live = c.in-Ok.found.live.items in
-    let roots = option_map (λ v. v.items) c.in-Ok.found.roots in
+    let live = c.in-Ok.sound.found.live.items in
+    let roots = option_map (λ v. v.items) c.in-Ok.sound.found.roots in
     let valid_found = valid parts c.as_slice.result.now live roots c.as_slice.ensures.value c.in-Ok.ensures.live c.in-Ok.ensures.roots
     (fits_of parts sized.limits sized.allowed sized.counted sized.allowance_fits sized.words_fit sized.tail_fit) c.in-Ok.ensures.sound in
     blocks_are parts.version parts.region_log parts.allowance parts.regions.items live roots (record { whole = c.requires.regions; valid = valid_found })

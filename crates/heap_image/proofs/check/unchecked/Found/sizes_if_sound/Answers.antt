@@ -16,7 +16,7 @@ pub returns-then-self-clause-ok : goal.returns-then-self-clause-ok
 returns-then-self-clause-ok g c = faultless c.args.heap.now c.args.self.now.live.items c.as_slice-live.result.now c.sizes_if_sound.result c.as_slice-live.ensures.value c.sizes_if_sound.ensures.sound
 
 pub sizes_if_sound-requires-in-Ok-clause-targets : goal.sizes_if_sound-requires-in-Ok-clause-targets
-sizes_if_sound-requires-in-Ok-clause-targets g c κs within =
+sizes_if_sound-requires-in-Ok-clause-targets g c =
     let heap = c.args.heap.now in
     let begins = c.args.self.now.begins in
     let marks = subst (λ xs. MarkBegins xs (heap_words heap) begins) (sym c.as_slice-live.ensures.value) c.requires.begins in

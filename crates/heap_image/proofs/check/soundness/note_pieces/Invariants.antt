@@ -1,0 +1,10 @@
+use Rattle.std.proofs.Common.{◌≡◌, ◌<◌, ℕ, length, [], get_or}
+use Rattle.heap_image.specs.HeapImage.{with_live}
+use Rattle.heap_image.specs.Soundness.{AreNoted}
+use Rattle.heap_image.proofs.check.soundness.note_pieces.Given as goal
+
+abbrev pub invariant-loop-piece : goal.invariant-loop-piece
+invariant-loop-piece l = record {
+  room : length l.sizes ≡ length l.initial.sizes;
+  noted : (p : ℕ) → p < l.piece → AreNoted (with_live l.heap l.live) p (get_or l.sizes p []);
+}
