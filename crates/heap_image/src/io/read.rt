@@ -59,12 +59,8 @@ pub fn read_image<R: Intake>(alloc: Global, reader: &mut R) -> Result<Image, Fau
     ensures io { R.has_failed reader.new ≡ is_io result }
 {
     let read = read_unchecked(alloc, reader, &Alone)?;
-    let sizes = read.found.sizes_if_sound(alloc, &read.heap(), &Alone);
-    // Most images are sound. Otherwise the first fault is looked for.
-    let checked = match &sizes {
-        Some(_) => Ok(()),
-        None => read.found.check(&read.heap()),
-    };
+    let sizes = read.sizes_if_sound(alloc, &Alone);
+    let checked = read.check(sizes.is_some());
     read.finish(reader, checked, sizes)
 }
 
@@ -127,12 +123,8 @@ pub fn read_image_by_workers<R: Intake>(
         most: workers,
     };
     let read = read_unchecked(alloc, reader, &crowd)?;
-    let sizes = read.found.sizes_if_sound(alloc, &read.heap(), &crowd);
-    // Most images are sound. Otherwise one thread looks for the first fault.
-    let checked = match &sizes {
-        Some(_) => Ok(()),
-        None => read.found.check(&read.heap()),
-    };
+    let sizes = read.sizes_if_sound(alloc, &crowd);
+    let checked = read.check(sizes.is_some());
     read.finish(reader, checked, sizes)
 }
 
@@ -184,6 +176,36 @@ impl Unchecked {
         ensures { result ≡ image_of self.now.front.region_log 0 self.now.regions.items [] }
     {
         Heap::new(self.regions.as_slice(), self.front.region_log)
+    }
+
+    /// The sizes of the live objects, if all of them are sound. Returns `None` also if memory runs out.
+    fn sizes_if_sound<M: Marker>(&self, alloc: Global, marker: &M) -> Option<Vec<[u32; PIECE]>>
+        requires marker { M.may_start }
+        requires heap { FormHeap self.now.front.region_log self.now.regions.items }
+        requires found { IsFound self.now }
+        ensures sound { IfSome result
+            (λ _. first_object_fault (image_of self.now.front.region_log 0 self.now.regions.items self.now.found.live.items) ≡ None) }
+        ensures sizes { IfSome result
+            (λ sizes. AreSizes (image_of self.now.front.region_log 0 self.now.regions.items self.now.found.live.items) sizes.items) }
+    {
+        self.found.sizes_if_sound(alloc, &self.heap(), marker)
+    }
+
+    /// Checks the live objects, unless they are known to be sound.
+    fn check(&self, are_sound: bool) -> Result<(), Fault>
+        requires heap { FormHeap self.now.front.region_log self.now.regions.items }
+        requires found { IsFound self.now }
+        requires sound { IsTrue are_sound
+            → first_object_fault (image_of self.now.front.region_log 0 self.now.regions.items self.now.found.live.items) ≡ None }
+        ensures ok { OnOk result
+            (first_object_fault (image_of self.now.front.region_log 0 self.now.regions.items self.now.found.live.items) ≡ None) }
+        ensures why { IfErr result
+            (λ fault. first_object_fault (image_of self.now.front.region_log 0 self.now.regions.items self.now.found.live.items) ≡ Some fault) }
+    {
+        if are_sound {
+            return Ok(());
+        }
+        self.found.check(&self.heap())
     }
 
     /// Returns the image, if `checked` is no fault and no byte follows. The image keeps `sizes`, the sizes of its live
