@@ -73,7 +73,8 @@ impl<T: Threads + Sync> Marker for Crowd<'_, T> {
         marked_by_crowd(alloc, bits, self)
     }
 
+    /// One thread alone leaves overlaps to the check that follows, which finds them sooner.
     fn are_apart(&self, alloc: Global, heap: &Heap<'_>, live: &[u64]) -> bool {
-        sizes_if_sound(alloc, heap, live, None, self).is_some()
+        self.most >= 2 && sizes_if_sound(alloc, heap, live, None, self).is_some()
     }
 }
