@@ -128,19 +128,8 @@ fn regions_of(alloc: Global, size: BodySize, words: &[u64]) -> Result<Vec<Region
     let mut rest = words;
     for _r in 0..size.regions {
         let (first, others) = rest.split_at(len);
-        regions.push(region_of(alloc, first)?)?;
+        regions.push(Region::of_words(alloc, first)?)?;
         rest = others;
     }
     Ok(regions)
-}
-
-/// Copies words into a region of their number.
-fn region_of(alloc: Global, words: &[u64]) -> Result<Region, AllocError>
-    requires some { 1 ≤ length words.now }
-    requires few { length words.now ≤ 1048576 }
-    ensures { IfOk result (λ region. region ≡ words.now) }
-{
-    let mut region = Region::new(alloc, words.len())?;
-    region.words_mut().copy_from_slice(words);
-    Ok(region)
 }

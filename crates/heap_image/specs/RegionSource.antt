@@ -9,13 +9,13 @@ pub record IsPoolOf (size : BodySize) (pool : FrameView) : Type 0 where
   pub words : pool.size ≡ 2 ^ size.region_log
   pub count : pool.count ≡ size.regions
 
--- the pool, if there is one, has this number of regions of 2 ^ log words, from the first on
-pub record HasRegions (source : RegionSource) (log count : ℕ) : Type 0 where
-  pub words : IfSome source.pool (λ pool. pool.now.size ≡ 2 ^ log)
+-- the pool, if there is one, has this number of regions of so many words, from the first on
+pub record HasRegions (source : RegionSource) (size count : ℕ) : Type 0 where
+  pub words : IfSome source.pool (λ pool. pool.now.size ≡ size)
   pub inside : IfSome source.pool (λ pool. source.first + count ≤ pool.now.count)
   pub fits : source.first + count < 2 ^ 64
 
 -- the source has the regions of a body of this size, which are the last ones of the pool, if there is one
 pub record HasRest (source : RegionSource) (size : BodySize) : Type 0 where
-  pub regions : HasRegions source size.region_log size.regions
+  pub regions : HasRegions source (2 ^ size.region_log) size.regions
   pub last : IfSome source.pool (λ pool. source.first + size.regions ≡ pool.now.count)

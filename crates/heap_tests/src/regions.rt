@@ -159,6 +159,34 @@ fn a_region_is_out_until_it_is_dropped(rt: HostRuntime) -> Result<(), Fail> {
 }
 
 #[test]
+fn regions_copy_given_words(rt: HostRuntime) -> Result<(), Fail> {
+    let mut own = Region::of_words(rt.alloc(), &[1, 2, u64::MAX])?;
+    equal_words(&rt, own.words(), &[1, 2, u64::MAX]);
+    own.set(0, 7);
+    equal_words(&rt, own.words(), &[7, 2, u64::MAX]);
+    let least = Region::of_words(rt.alloc(), &[9])?;
+    equal_words(&rt, least.words(), &[9]);
+    Ok(())
+}
+
+#[test]
+fn regions_of_a_pool_copy_given_words(rt: HostRuntime) -> Result<(), Fail> {
+    let pool = RegionPool::new(rt.alloc(), 3, 4)?;
+    let low = pool.take_with(0, &[1, 2, 3, 4]);
+    let high = pool.take_with(2, &[5, 6, 7, 8]);
+    let middle = pool.take_with(1, &[9, 0, 0, u64::MAX]);
+    equal(
+        &rt,
+        (ends(&low), ends(&middle), ends(&high)),
+        (Some((1, 4)), Some((9, u64::MAX)), Some((5, 8))),
+    );
+    holds(&rt, pool.take_with(0, &[0, 0, 0, 0]).is_none());
+    drop(low);
+    equal(&rt, ends(&pool.take(0)), Some((0, 0)));
+    Ok(())
+}
+
+#[test]
 fn a_region_outlives_its_pool(rt: HostRuntime) -> Result<(), Fail> {
     let pool = RegionPool::new(rt.alloc(), 2, MAX_WORDS)?;
     let region = take_filled(&pool, 1);

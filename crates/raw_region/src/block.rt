@@ -46,6 +46,17 @@ impl Block {
         Ok(Room::allocate(alloc, len)?.zeroed())
     }
 
+    /// Allocates a block with a copy of these words.
+    pub(crate) fn of_words(alloc: &Global, words: &[u64]) -> Result<Block, AllocError>
+        requires nonempty { 1 ≤ length words.now }
+        requires at_most { length words.now < 2 ^ 60 }
+        ensures words { IfOk result (λ b. b.words ≡ words.now) }
+        ensures length { IfOk result (λ b. b.len ≡ length words.now) }
+        ensures deed { IfOk result (λ b. b.deed ≡ Some (b.at, b.len)) }
+    {
+        Ok(Room::allocate(alloc, words.len())?.write(words))
+    }
+
     pub(crate) fn words(&self) -> &[u64]
         ensures value { result.now ≡ self.now.words }
         ensures length { length self.now.words ≡ self.now.len }

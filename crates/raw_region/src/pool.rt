@@ -1,10 +1,12 @@
 //! Regions that share one allocation.
-ghost use Rattle.std.specs.Prelude.{◌≡◌, ◌*◌, ◌^◌, ◌<◌, ◌≤◌, replicate, IfSome, IfOk};
+ghost use Rattle.std.specs.Prelude.{◌≡◌, ◌*◌, ◌^◌, ◌<◌, ◌≤◌, length, replicate, IfSome, IfOk};
+ghost use Rattle.raw_region.specs.RegionBlock.{IsLeased};
 
 use crate::block::MAX_WORDS;
 use crate::frame::Frame;
 use crate::home::{Lease, leave};
 use crate::region::Region;
+use crate::room::Room;
 use std::alloc::{AllocError, Global};
 use std::marker::Model;
 use std::sync::Arc;
@@ -67,14 +69,33 @@ impl RegionPool {
         requires { index < self.now.count }
         ensures { IfSome result (λ region. region ≡ replicate self.now.size 0) }
     {
+        let (lease, room) = self.lease(index)?;
+        Some(Region::of_lease(self.alloc, lease, room.zeroed()))
+    }
+
+    /// Takes a region with a copy of these words, and writes each word once. `None` if it is out already.
+    pub fn take_with(&self, index: usize, words: &[u64]) -> Option<Region>
+        requires inside { index < self.now.count }
+        requires whole { length words.now ≡ self.now.size }
+        ensures { IfSome result (λ region. region ≡ words.now) }
+    {
+        let (lease, room) = self.lease(index)?;
+        Some(Region::of_lease(self.alloc, lease, room.write(words)))
+    }
+
+    /// Takes the room of a region, with a share of the frame. `None` if it is out already.
+    fn lease(&self, index: usize) -> Option<(Lease, Room)>
+        requires { index < self.now.count }
+        ensures leased { IfSome result (λ out. IsLeased out.0 out.1) }
+        ensures length { IfSome result (λ out. out.1.len ≡ self.now.size) }
+        ensures nonempty { IfSome result (λ _. 1 ≤ self.now.size) }
+        ensures at_most { IfSome result (λ _. self.now.size ≤ MAX_WORDS) }
+    {
         let Ok(frame) = Arc::try_clone(&self.frame) else {
             return None;
         };
         match self.frame.take(index) {
-            Some(room) => {
-                let lease = Lease { frame, index };
-                Some(Region::of_lease(self.alloc, lease, room.zeroed()))
-            }
+            Some(room) => Some((Lease { frame, index }, room)),
             None => {
                 leave(frame, &self.alloc);
                 None

@@ -57,6 +57,21 @@ impl Region {
         })
     }
 
+    /// Allocates a region with a copy of these words. The only error is that memory runs out.
+    pub fn of_words(alloc: Global, words: &[u64]) -> Result<Region, AllocError>
+        requires nonempty { 1 ≤ length words.now }
+        requires at_most { length words.now ≤ MAX_WORDS }
+        ensures { IfOk result (λ region. region ≡ words.now) }
+    {
+        let block = Block::of_words(&alloc, words)?;
+        Ok(Region {
+            block,
+            is_clear: false,
+            home: Home::Own,
+            alloc,
+        })
+    }
+
     /// A region of a part of a frame.
     pub(crate) fn of_lease(alloc: Global, lease: Lease, block: Block) -> Region
         requires lease { IsLeased lease (room_of block) }

@@ -1,5 +1,5 @@
 //! Room for words, which have no value yet.
-ghost use Rattle.std.specs.Prelude.{◌≡◌, ◌^◌, ◌<◌, ◌≤◌, ℕ, replicate, Option, Some, IfOk};
+ghost use Rattle.std.specs.Prelude.{◌≡◌, ◌^◌, ◌<◌, ◌≤◌, ℕ, length, replicate, Option, Some, IfOk};
 ghost use Rattle.std.specs.Ptr.{Ptr};
 ghost use Rattle.raw_region.specs.Block.{room_owns};
 
@@ -81,6 +81,20 @@ impl Room {
         let mut i = 0;
         while i < len {
             unsafe { at.add(i).write(0) };
+            i += 1;
+        }
+        Block { at, len }
+    }
+
+    /// Writes a copy of these words.
+    pub(crate) fn write(self, words: &[u64]) -> Block
+        requires { length words.now ≡ self.len }
+        ensures { (room_of result ≡ self) × (result.words ≡ words.now) }
+    {
+        let Room { at, len } = self;
+        let mut i = 0;
+        while i < len {
+            unsafe { at.add(i).write(words[i]) };
             i += 1;
         }
         Block { at, len }

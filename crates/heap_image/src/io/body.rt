@@ -1,5 +1,5 @@
 //! The body: the part of an image's text after its front.
-ghost use Rattle.std.specs.Prelude.{◌≡◌, ◌≤◌, ◌+◌, ◌||◌, ℕ, List, OnOk, IfOk, IfErr, Err};
+ghost use Rattle.std.specs.Prelude.{◌≡◌, ◌≤◌, ◌+◌, ◌^◌, ◌||◌, ℕ, List, OnOk, IfOk, IfErr, Err};
 ghost use Rattle.std.specs.Io.KnownBytes.{Consumes};
 ghost use Rattle.heap_image.specs.Body.{IsBody, body_words};
 ghost use Rattle.heap_image.specs.Device.{is_io};
@@ -32,7 +32,7 @@ impl Body {
         size: BodySize,
     ) -> Result<Body, Fault>
         requires log { size.region_log ≤ 20 }
-        requires source { HasRegions source.now size.region_log size.regions }
+        requires source { HasRegions source.now (2 ^ size.region_log) size.regions }
         requires in_range { IsInRange incoming.old }
         requires enough { body_words size ≤ expected incoming.old }
         ensures in_range { OnOk result (IsInRange incoming.new) }

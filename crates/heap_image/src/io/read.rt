@@ -349,7 +349,7 @@ pub(crate) fn read_regions<R: Intake>(
 ) -> Result<Vec<Region>, Fault>
     requires log { region_log ≤ 20 }
     requires in_range { IsInRange incoming.old }
-    requires source { HasRegions source.now region_log count }
+    requires source { HasRegions source.now (2 ^ region_log) count }
     requires enough { count * 2 ^ region_log ≤ expected incoming.old }
     ensures in_range { OnOk result (IsInRange incoming.new) }
     ensures bytes { IfOk result
@@ -368,39 +368,45 @@ pub(crate) fn read_regions<R: Intake>(
     ensures failed { R.has_failed reader.new ≡ (is_io result || R.has_failed reader.old) }
 {
     let mut regions = source.list(count)?;
+    if count == 0 {
+        return Ok(regions);
+    }
+    let mut words = vec![in source.alloc; 0u64; 1 << region_log]?;
     for r in 0..count {
-        regions.push(read_region(source, incoming, reader, region_log, r)?)?;
+        let words = words.as_mut_slice();
+        regions.push(read_region(source, incoming, reader, r, words)?)?;
     }
     Ok(regions)
 }
 
-/// Reads the words of the region with this number.
+/// Reads the words of the region with this number into `words`, and copies them into the region.
 fn read_region<R: Intake>(
     source: &RegionSource<'_>,
     incoming: &mut Incoming<'_>,
     reader: &mut R,
-    region_log: u32,
     index: usize,
+    words: &mut [u64],
 ) -> Result<Region, Fault>
-    requires log { region_log ≤ 20 }
+    requires some { 1 ≤ length words.old }
+    requires few { length words.old ≤ 1048576 }
     requires in_range { IsInRange incoming.old }
-    requires source { HasRegions source.now region_log (index + 1) }
-    requires enough { 2 ^ region_log ≤ expected incoming.old }
+    requires source { HasRegions source.now (length words.old) (index + 1) }
+    requires enough { length words.old ≤ expected incoming.old }
     ensures in_range { OnOk result (IsInRange incoming.new) }
     ensures bytes { IfOk result
         (λ region. Consumes (known_rest incoming.old (R.left reader.old))
         (known_rest incoming.new (R.left reader.new)) (numbers region)) }
-    ensures whole { IfOk result (λ region. length region ≡ 2 ^ region_log) }
+    ensures whole { IfOk result (λ region. length region ≡ length words.old) }
+    ensures same_length { length words.new ≡ length words.old }
     ensures fit { IfOk result (λ region. All (λ w. w < 2 ^ 64) region) }
     ensures expected { OnOk result
-        (expected incoming.new + 2 ^ region_log ≡ expected incoming.old) }
+        (expected incoming.new + length words.old ≡ expected incoming.old) }
     ensures truncated { result ≡ Err Fault.TruncatedBody → FallsShort
         (known_rest incoming.old (R.left reader.old)) (R.left reader.new) (expected incoming.old) }
     ensures fault { IfErr result IsOfBody }
     ensures lost { (came : List ℕ) × Consumes (R.left reader.old) (R.left reader.new) came }
     ensures failed { R.has_failed reader.new ≡ (is_io result || R.has_failed reader.old) }
 {
-    let mut region = source.region(index, region_log)?;
-    incoming.read(reader, region.words_mut())?;
-    Ok(region)
+    incoming.read(reader, words)?;
+    source.region(index, words)
 }

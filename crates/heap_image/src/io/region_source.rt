@@ -56,17 +56,20 @@ impl<'a> RegionSource<'a> {
         }
     }
 
-    /// The region with this number, of `2 ^ region_log` words. Fault 11 if memory runs out, or if it is out of the pool.
-    #[tactic(auto, using(crate::proofs::Lemmas::Parts::region_few))]
-    pub(crate) fn region(&self, index: usize, region_log: u32) -> Result<Region, Fault>
-        requires log { region_log ≤ 20 }
-        requires has { HasRegions self.now region_log (index + 1) }
-        ensures length { IfOk result (λ region. length region ≡ 2 ^ region_log) }
+    /// The region with this number, with a copy of these words. Fault 11 if memory runs out, or if it is out of the
+    /// pool.
+    pub(crate) fn region(&self, index: usize, words: &[u64]) -> Result<Region, Fault>
+        requires some { 1 ≤ length words.now }
+        requires few { length words.now ≤ 1048576 }
+        requires has { HasRegions self.now (length words.now) (index + 1) }
+        ensures words { IfOk result (λ region. region ≡ words.now) }
         ensures fault { IfErr result (λ fault. fault ≡ Fault.Memory) }
     {
         match self.pool {
-            Some(pool) => pool.take(self.first + index).ok_or(Fault::Memory),
-            None => Ok(Region::new(self.alloc, 1 << region_log)?),
+            Some(pool) => pool
+                .take_with(self.first + index, words)
+                .ok_or(Fault::Memory),
+            None => Ok(Region::of_words(self.alloc, words)?),
         }
     }
 }

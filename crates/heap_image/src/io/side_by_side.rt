@@ -145,7 +145,7 @@ fn body_in_row<S: Store>(
     let others = most - 1;
     let rest = source.after(low.size.regions);
     let first = move || -> Option<Body>
-        requires { IsExtent low × HasRegions source low.size.region_log low.size.regions }
+        requires { IsExtent low × HasRegions source (2 ^ low.size.region_log) low.size.regions }
         ensures { IfSome result (IsBodyOf (S.bytes store.entry.now) low) }
     { body_in_order(source, store, low) };
     let second = move || -> Option<Body>
@@ -159,7 +159,7 @@ fn body_in_row<S: Store>(
 /// Reads the body in an extent in this thread. Returns `None` as [`body_at`] does.
 fn body_in_order<S: Store>(source: RegionSource<'_>, store: &S, extent: Extent) -> Option<Body>
     requires extent { IsExtent extent }
-    requires source { HasRegions source extent.size.region_log extent.size.regions }
+    requires source { HasRegions source (2 ^ extent.size.region_log) extent.size.regions }
     ensures { IfSome result (IsBodyOf (S.bytes store.now) extent) }
 {
     let Ok(mut buffer) = vec![in source.alloc; 0u8; BUFFER_BYTES] else {

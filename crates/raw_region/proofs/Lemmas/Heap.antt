@@ -3,12 +3,14 @@
 --     forgotten      memory whose words are given up is room
 --     told           a proof's step: the two cases of what `allocate` answered
 --     zeros_more     one more word is written to a row of zeros
+--     words_more     one more of some words is written to a row of them
 use mathlib.Core.Bool.{true, false}
 use mathlib.Core.Path.{◌≡◌, refl, ap, ◌∙◌}
 use mathlib.Core.List.{List, [], ◌∷◌, ◌++◌}
 use Prim.Native.Nat.{ℕ, zero, suc, ◌+◌, ◌*◌, ◌<◌, ◌^◌}
 use native.Mathlib.Omega.{arith}
-use lib.ListN.{replicate}
+use native.Mathlib.Nat.{le_of_suc-le-suc, not-suc-le-zero}
+use lib.ListN.{get_or, length, replicate, take}
 use seplogic.Ra.Ura.{Ura}
 use base.Fraction.{full_share}
 use base.Logic.{ent, sep, id⊢}
@@ -69,3 +71,17 @@ zeros_more 𝓛 (suc i) b o =
     qed 𝓛 (‵ (row u64 full_share (replicate (suc i) 0) b o) ∷ ‵ (part_at u64 full_share 0 b (suc i * 8 + o)) ∷ []) ∵ fsplit ! $ move ! (1 ∷ 2 ∷ []) $
     rewrite ! 1 (λ (k : ℕ). ‵ (part_at u64 full_share 0 b k)) here refl $
     use2 𝓛 (‵ (row u64 full_share (replicate (suc i) 0) b (o + 8))) (zeros_more 𝓛 i b (o + 8)) $ move ! (1 ∷ 0 ∷ []) $ fjoin ! $ done !
+
+-- one more of the words xs after i of them
+pub words_more : {M : Type 1} {𝓤 : Ura M} (𝓛 : Logic 𝓤) (xs : List ℕ) (i b o : ℕ) → i < length xs
+    → ent 𝓤 (sep 𝓤 (sem 𝓛 (row u64 full_share (take i xs) b o)) (sem 𝓛 (part_at u64 full_share (get_or xs i 0) b (i * 8 + o)))) (sem 𝓛 (row u64 full_share (take (suc i) xs) b o))
+words_more 𝓛 [] i b o inside = absurd (not-suc-le-zero inside)
+words_more 𝓛 (x ∷ xs) zero b o inside =
+    let here : 0 * 8 + o ≡ o = omega arith in
+    qed 𝓛 (‵ ftrue ∷ ‵ (part_at u64 full_share x b (0 * 8 + o)) ∷ []) ∵ drop ! $ rewrite ! 0 (λ (k : ℕ). ‵ (part_at u64 full_share x b k)) here refl $
+    nothing ! $ move ! (1 ∷ 0 ∷ []) $ fjoin ! $ done !
+words_more 𝓛 (x ∷ xs) (suc i) b o inside =
+    let here : suc i * 8 + o ≡ i * 8 + (o + 8) = omega arith in let word : ℕ = get_or xs i 0 in
+    qed 𝓛 (‵ (row u64 full_share (x ∷ take i xs) b o) ∷ ‵ (part_at u64 full_share word b (suc i * 8 + o)) ∷ []) ∵ fsplit ! $ move ! (1 ∷ 2 ∷ []) $
+    rewrite ! 1 (λ (k : ℕ). ‵ (part_at u64 full_share word b k)) here refl $
+    use2 𝓛 (‵ (row u64 full_share (take (suc i) xs) b (o + 8))) (words_more 𝓛 xs i b (o + 8) (le_of_suc-le-suc inside)) $ move ! (1 ∷ 0 ∷ []) $ fjoin ! $ done !

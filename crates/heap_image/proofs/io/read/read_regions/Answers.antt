@@ -1,5 +1,6 @@
-use Rattle.std.proofs.Common.{◌≡◌, ◌<◌, ◌+◌, ◌*◌, ◌^◌, ◌++◌, ◌∷◌, [], List, ℕ, length, get_or, ap, sym, subst, ◌∙◌, arith, length-append}
+use Rattle.std.proofs.Common.{◌≡◌, ◌<◌, ◌≤◌, ◌+◌, ◌*◌, ◌^◌, ◌++◌, ◌∷◌, [], List, ℕ, length, get_or, ap, sym, subst, ◌∙◌, arith, length-append}
 use Rattle.std.proofs.lemmas.Result.{err_from_is_err_and}
+use Rattle.std.proofs.Math.Nat.{pow-le-pow_right}
 use Rattle.std.proofs.lemmas.List.{append-nil}
 use Rattle.std.proofs.lemmas.List.Elements.{All-push, All-append}
 use Rattle.std.specs.Prelude.{All}
@@ -38,6 +39,12 @@ returns-in_err-push-clause-lost g c =
     let now = c.read_region.ensures.lost in
     (before.0 ++ now.0, consumes_more (g.R.Intake.left c.args.reader.now) (g.R.Intake.left c.loop-r.reader) (g.R.Intake.left c.read_region.new.reader) before.0 now.0 before.1 now.1)
 
+pub read_region-requires-clause-few : goal.read_region-requires-clause-few
+read_region-requires-clause-few g c =
+    let few : 2 ^ c.args.region_log ≤ 2 ^ 20 = pow-le-pow_right {n = 2} (omega arith) c.requires.log in
+    let lent = c.as_mut_slice-words.ensures.len ∙ c.loop-r.invariant.words in
+    omega arith
+
 pub loop-r-preserved : goal.loop-r-preserved
 loop-r-preserved g c =
     let so_far = c.loop-r.invariant in
@@ -49,6 +56,7 @@ loop-r-preserved g c =
     let counted = so_far.count in
     let same = so_far.expected in
     let fewer = c.in_ok-read_region.ensures.expected in
+    let lent = c.as_mut_slice-words.ensures.len ∙ so_far.words in
     let before = known_rest c.args.incoming.now (g.R.Intake.left c.args.reader.now) in
     let after = known_rest c.read_region.new.incoming (g.R.Intake.left c.read_region.new.reader) in
     let grown : concat regions ++ region ≡ concat c.push.new.self.items = ap (λ xs. concat regions ++ xs) (sym (append-nil region)) ∙ sym (concat-append regions (region ∷ [])) ∙ ap concat (sym pushed) in
@@ -58,7 +66,8 @@ loop-r-preserved g c =
     record {
       in_range = c.in_ok-read_region.ensures.in_range;
       count = omega arith;
-      whole = subst (λ blocks. (k : ℕ) → (d : List ℕ) → k < length blocks → length (get_or blocks k d) ≡ 2 ^ c.args.region_log) (sym pushed) (All-push (λ block. length block ≡ 2 ^ c.args.region_log) regions region so_far.whole c.in_ok-read_region.ensures.whole);
+      words = so_far.words;
+      whole = subst (λ blocks. (k : ℕ) → (d : List ℕ) → k < length blocks → length (get_or blocks k d) ≡ 2 ^ c.args.region_log) (sym pushed) (All-push (λ block. length block ≡ 2 ^ c.args.region_log) regions region so_far.whole (c.in_ok-read_region.ensures.whole ∙ lent));
       fit = subst (λ ws. All (λ w. w < 2 ^ 64) ws) grown (All-append (λ w. w < 2 ^ 64) (concat regions) region so_far.fit c.in_ok-read_region.ensures.fit);
       expected = omega arith;
       bytes = subst (λ bytes. Consumes before after bytes) joined (consumes_more before (known_rest c.loop-r.incoming (g.R.Intake.left c.loop-r.reader)) after (numbers (concat regions)) (numbers region) so_far.bytes c.in_ok-read_region.ensures.bytes);

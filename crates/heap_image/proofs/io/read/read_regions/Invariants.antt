@@ -11,6 +11,7 @@ abbrev pub invariant-loop-r : goal.invariant-loop-r
 invariant-loop-r g l = record {
   in_range : IsInRange l.incoming;
   count : length l.regions.items ≡ l.r;
+  words : l.words.len ≡ 2 ^ l.region_log;
   whole : AreBlocks l.region_log l.regions.items;
   fit : All (λ w. w < 2 ^ 64) (concat l.regions.items);
   expected : expected l.incoming + l.r * 2 ^ l.region_log ≡ expected l.initial.incoming;
