@@ -6,9 +6,9 @@ use Rattle.heap_image.specs.Refusals.{IsReason}
 use Rattle.heap_image.specs.declared.fault.Fault.TheVariants.{Memory}
 use Rattle.summary.specs.NewAddresses.{new_top}
 use Rattle.summary.specs.Compaction.{compact}
-use Rattle.collector.specs.Verdict.{IsVerdict, IsVerdictBelow}
-use Rattle.collector.specs.declared.verdict.Verdict.{Verdict}
-use Rattle.collector.specs.declared.verdict.Verdict.TheVariants.{Shape, Word, Live, Root}
+use Rattle.verification.specs.Verdict.{IsVerdict, IsVerdictBelow}
+use Rattle.verification.specs.declared.verdict.Verdict.{Verdict}
+use Rattle.verification.specs.declared.verdict.Verdict.TheVariants.{Shape, Word, Live, Root}
 use Rattle.command_support.specs.declared.difference.Difference.{Difference}
 use Rattle.collection_commands.specs.declared.verify.Unverified.{Unverified}
 use Rattle.command_support.specs.Command.{Command}

@@ -1,6 +1,6 @@
 ghost use Rattle.std.specs.Prelude.{◌≡◌, codes, ℕ, List, IfOk, IfErr, MatchOption};
 ghost use Rattle.heap_image.specs.declared.fault.Fault.TheVariants.{Memory};
-ghost use Rattle.collector.specs.declared.verdict.Verdict.TheVariants.{Same};
+ghost use Rattle.verification.specs.declared.verdict.Verdict.TheVariants.{Same};
 ghost use Rattle.collection_commands.specs.Verify.{IsVerdictOf, IsVerdictOn, IsUnverified, verdict_of};
 
 use crate::explanation::{explanation_of_file, explanation_of_images};

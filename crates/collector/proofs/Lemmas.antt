@@ -1,9 +1,3 @@
-pub mod Joined
-pub mod Gaps
-pub mod FirstPlace
-pub mod Placing
-pub mod Strides
-pub mod Telling
 pub mod Queues
 pub mod Passes
 pub mod Settled
@@ -12,7 +6,4 @@ pub mod Reasons
 pub mod Streams
 pub mod Losses
 pub mod Upgrades
-pub mod Tallies
-pub mod Visits
-pub mod Comparing
 pub mod Ends

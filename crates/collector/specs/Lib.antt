@@ -1,8 +1,3 @@
-pub mod Difference
-pub mod Tally
-pub mod Verdict
-pub mod Explanation
-pub mod Compared
 pub mod Ready
 pub mod ReadyKinds
 pub mod Halts

@@ -1,4 +1,4 @@
-//! A full collection by many workers, and the check of a collected image.
+//! A full collection by many workers. It passes on the calls of `verification`, the check of a collected image.
 //!
 //! - [`collect`] compacts an image with 1 to 64 workers, each in a thread of its own if one can be started.
 //!   [`collect_stream`] does so from bytes to bytes.
@@ -7,10 +7,6 @@
 //!   [`Share`] for each, [`Share::work`] fills regions, and [`Share::end`] returns the compaction.
 //! - [`record`] collects as `collect` does, and returns the schedule of everything that the workers did.
 //!   [`record_stream`] does so from bytes to bytes.
-//! - [`verify`] says whether an image is the compaction of another, and if not, where it first differs: in its shape,
-//!   its words, its live list or its roots. [`verify_below_top`] passes over the words above the top.
-//! - [`explain`] says which words differ from the compaction's, in which objects, and where wrong references lead, also
-//!   for the words of a file that is no valid image.
 //! - [`Ready`] holds the regions that one worker has found ready to be filled, first in first out. Its room is reserved
 //!   when it is made, so that no push allocates. Others steal from it through a [`Thief`]; [`Ready::take`] tries the
 //!   worker's own queue and then all others.
@@ -29,11 +25,8 @@
 //! the word machine allows and that settles all regions to fill; `record_stream` writes the texts of both, and nothing
 //! before `record` has succeeded.
 //!
-//! `verify` returns `Same` exactly if the second image is the compaction of the first by the definitions of `summary`,
-//! and otherwise the first difference; its only error is that memory runs out. `explain` returns the number of words
-//! that differ, and the first ten with what the compaction has there. `push` returns true exactly while fewer
-//! numbers than the room were pushed, and then the number is queued after the earlier ones; what `pop` returns was
-//! pushed. A gate refuses only where it states that it may.
+//! `push` returns true exactly while fewer numbers than the room were pushed, and then the number is queued after the
+//! earlier ones; what `pop` returns was pushed. A gate refuses only where it states that it may.
 //!
 //! # What is only tested, or not stated
 //!
@@ -42,7 +35,7 @@
 //! contract. That the schedule of `record` is what its own workers did: tests force orders by a gate. That what a
 //! `Thief` takes was pushed, and that each number is taken once: a test steals with two threads. The order in which
 //! `take` tries the queues. That the workers of `record` begin together: a test counts those that have a share of a
-//! small heap. No contract says how long a call takes, nor that `verify` has enough memory.
+//! small heap. No contract says how long a call takes.
 #![tactic(auto)]
 
 mod collection;
@@ -50,8 +43,6 @@ mod gate;
 mod laws;
 mod outcome;
 mod session;
-mod verdict;
-mod verification;
 mod workers;
 
 pub use collection::alone::collect_alone;
@@ -65,13 +56,10 @@ pub use outcome::{Figures, Outcome, Refusal};
 pub use session::Session;
 pub use session::progress::Progress;
 pub use session::share::Share;
-pub use verdict::Verdict;
-pub use verification::comparison_explained::{Found, explain};
-pub use verification::difference_tally::{LISTED, OtherWord};
-pub use verification::verdict_explanation::{
-    ExplainedWord, Explanation, Lead, Moved, OtherLive, OtherRoot, Part,
+pub use verification::{
+    ExplainedWord, Explanation, Found, LISTED, Lead, Moved, OtherLive, OtherRoot, OtherWord, Part,
+    Verdict, explain, verify, verify_below_top,
 };
-pub use verification::{verify, verify_below_top};
 pub use workers::Workers;
 pub use workers::ready::{Ready, Thief};
 pub use workers::worker::Halt;

@@ -5,9 +5,9 @@ use Rattle.heap_image.specs.declared.fault.Fault.TheVariants.{Memory}
 use Rattle.heap_image.specs.HeapImage.{HeapImage, IsValid}
 use Rattle.heap_image.specs.ImageText.{text, first_fault}
 use Rattle.summary.specs.Compaction.{compact}
-use Rattle.collector.specs.Verdict.{IsVerdict}
-use Rattle.collector.specs.declared.verdict.Verdict.{Verdict}
-use Rattle.collector.specs.declared.verdict.Verdict.TheVariants.{Same, Shape, Word, Live, Root}
+use Rattle.verification.specs.Verdict.{IsVerdict}
+use Rattle.verification.specs.declared.verdict.Verdict.{Verdict}
+use Rattle.verification.specs.declared.verdict.Verdict.TheVariants.{Same, Shape, Word, Live, Root}
 use Rattle.caller_heap.specs.Collected.{IsWhyKept}
 use Rattle.pcompact_c.specs.declared.verdict.PcompactVerdict.{PcompactVerdict}
 

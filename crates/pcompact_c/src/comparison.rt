@@ -1,8 +1,8 @@
 //! Compares two images.
 ghost use Rattle.std.specs.Prelude.{◌≡◌, ◌↔◌, IsTrue, MatchOption, length, slice_index};
 ghost use Rattle.heap_image.specs.HeapImage.{heap_words, word_at};
-ghost use Rattle.collector.specs.Difference.{AreAlike, IsLeastDifference};
-ghost use Rattle.collector.specs.Verdict.{IsVerdict, HaveSameShape};
+ghost use Rattle.verification.specs.Difference.{AreAlike, IsLeastDifference};
+ghost use Rattle.verification.specs.Verdict.{IsVerdict, HaveSameShape};
 
 use collector::Verdict;
 use heap_image::{Image, image_is_valid};

@@ -4,7 +4,7 @@ ghost use Rattle.heap_image.specs.declared.fault.Fault.{Fault};
 ghost use Rattle.heap_image.specs.HeapImage.{HeapImage, IsValid};
 ghost use Rattle.heap_image.specs.ImageText.{text};
 ghost use Rattle.summary.specs.Compaction.{compact};
-ghost use Rattle.collector.specs.declared.verdict.Verdict.{Verdict};
+ghost use Rattle.verification.specs.declared.verdict.Verdict.{Verdict};
 ghost use Rattle.caller_heap.specs.Collected.{IsWhyKept};
 ghost use Rattle.pcompact_c.specs.Faults.{IsOf};
 ghost use Rattle.pcompact_c.specs.Verdicts.{IsVerdictOf, AreCompared, IsWhyUncompared};

@@ -5,8 +5,8 @@ use Rattle.std.specs.Option.{is_some}
 use Rattle.std.proofs.lemmas.Bool.{true≢false}
 use Rattle.std.proofs.lemmas.List.{ext_get_or}
 use Rattle.heap_image.specs.HeapImage.{HeapImage, heap_words, word_at, roots_or, roots_of}
-use Rattle.collector.specs.Difference.{AreAlike}
-use Rattle.collector.specs.Verdict.{HaveSameShape}
+use Rattle.verification.specs.Difference.{AreAlike}
+use Rattle.verification.specs.Verdict.{HaveSameShape}
 
 same_image : (x y : HeapImage) → x.version ≡ y.version → x.region_log ≡ y.region_log → x.allowance ≡ y.allowance → x.words ≡ y.words
     → x.live ≡ y.live → x.roots ≡ y.roots → x ≡ y

@@ -1,5 +1,5 @@
 use Rattle.heap_image.specs.HeapImage.{HeapImage, roots_of}
-use Rattle.collector.specs.Verdict.{HaveSameShape}
+use Rattle.verification.specs.Verdict.{HaveSameShape}
 use Rattle.pcompact_c.proofs.Lemmas.Alike.{all_alike, same_lists}
 use Rattle.pcompact_c.proofs.comparison.verdict_between.Goals as goal
 

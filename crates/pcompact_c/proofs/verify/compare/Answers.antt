@@ -1,6 +1,6 @@
 use Rattle.std.proofs.Common.{sym, ◌∙◌, subst, inl, inr}
 use Rattle.heap_image.specs.HeapImage.{HeapImage}
-use Rattle.collector.specs.Verdict.{IsVerdict}
+use Rattle.verification.specs.Verdict.{IsVerdict}
 use Rattle.pcompact_c.proofs.Lemmas.Numbered.{is_numbered}
 use Rattle.pcompact_c.proofs.verify.compare.Goals as goal
 

@@ -6,12 +6,15 @@ use Rattle.heap_image.specs.HeapImage.{HeapImage, IsValid, AreBlocks, versioned_
 use Rattle.summary.specs.NewAddresses.{new_address, new_top}
 use Rattle.summary.specs.Compaction.{compact, redirected}
 use Rattle.fill.specs.MovedHeap.{cleared}
-use Rattle.collector.proofs.Lemmas.Telling.{same_image}
 use Rattle.collector.proofs.collection.clean_up.clean_up.Goals as goal
 
 -- a vector whose items are all replaced
 all_new : {X : Type 0} (n : ℕ) (new old : List X) → length new ≡ n → take n (new ++ drop (length new) old) ≡ new
 all_new n new old e = ap (λ k. take k (new ++ drop (length new) old)) (sym e) ∙ take-append_seam new (drop (length new) old)
+
+-- two images alike in every part
+same_image : (x y : HeapImage) → x.version ≡ y.version → x.region_log ≡ y.region_log → x.allowance ≡ y.allowance → x.words ≡ y.words → x.live ≡ y.live → x.roots ≡ y.roots → x ≡ y
+same_image x y v a b c d e = λ i. record { version = v i; region_log = a i; allowance = b i; words = c i; live = d i; roots = e i }
 
 pub into_image-requires-clause-regions : goal.into_image-requires-clause-regions
 into_image-requires-clause-regions g c =

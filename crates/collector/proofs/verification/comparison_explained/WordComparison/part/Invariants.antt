@@ -1,5 +1,0 @@
-use Rattle.collector.specs.Explanation.{IsOfNone}
-use Rattle.collector.proofs.verification.comparison_explained.WordComparison.part.Given as goal
-
-abbrev pub invariant-loop-a : goal.invariant-loop-a
-invariant-loop-a l = IsOfNone l.self.before.now l.a-index l.p

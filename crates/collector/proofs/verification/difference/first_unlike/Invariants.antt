@@ -1,6 +1,0 @@
-use Rattle.std.proofs.Common.{◌≡◌, ℕ, ◌+◌, ◌<◌}
-use Rattle.heap_image.specs.HeapImage.{word_at}
-use Rattle.collector.proofs.verification.difference.first_unlike.Given as goal
-
-abbrev pub invariant-loop-j : goal.invariant-loop-j
-invariant-loop-j l = (k : ℕ) → k < l.j → word_at l.image (l.at + k) ≡ word_at l.wanted (l.from + k)

@@ -1,0 +1,9 @@
+pub mod Joined
+pub mod Gaps
+pub mod FirstPlace
+pub mod Placing
+pub mod Strides
+pub mod Telling
+pub mod Tallies
+pub mod Visits
+pub mod Comparing

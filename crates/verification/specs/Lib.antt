@@ -1,0 +1,5 @@
+pub mod Difference
+pub mod Tally
+pub mod Verdict
+pub mod Explanation
+pub mod Compared

@@ -1,0 +1,33 @@
+//! Whether an image is the compaction of another, and if not, how it differs.
+//!
+//! - [`verify`] says whether an image is the compaction of another, and if not, where it first differs: in its shape,
+//!   its words, its live list or its roots. [`verify_below_top`] passes over the words above the top.
+//! - [`explain`] says which words differ from the compaction's, in which objects, and where wrong references lead, also
+//!   for the words of a file that is no valid image.
+//!
+//! # What is proved
+//!
+//! `verify` returns `Same` exactly if the second image is the compaction of the first by the definitions of `summary`,
+//! and otherwise the first difference; its only error is that memory runs out. `explain` returns the number of words
+//! that differ, and the first ten with what the compaction has there.
+//!
+//! # What is only tested, or not stated
+//!
+//! No contract says how long a call takes, nor that `verify` has enough memory.
+#![tactic(auto)]
+
+mod comparison;
+mod comparison_explained;
+mod difference;
+mod difference_tally;
+mod verdict;
+mod verdict_explanation;
+mod verifying;
+
+pub use comparison_explained::{Found, explain};
+pub use difference_tally::{LISTED, OtherWord};
+pub use verdict::Verdict;
+pub use verdict_explanation::{
+    ExplainedWord, Explanation, Lead, Moved, OtherLive, OtherRoot, Part,
+};
+pub use verifying::{verify, verify_below_top};
