@@ -1,10 +1,10 @@
 -- A copy of the word machine, as it is made in a list of words.
 use Rattle.std.proofs.Common.{◌≡◌, ◌≢◌, ℕ, zero, suc, Bool, ◌+◌, ◌-◌, ◌*◌, ◌/◌, ◌%◌, ◌<◌, ◌≤◌, true, false, List, [], ◌∷◌, ◌++◌, length, get_or, take, Some, refl, sym, ap, ◌∙◌, subst, inl, inr, ◌⊎◌, arith}
-use Rattle.std.specs.Prelude.{slice_index, map, All, IsTrue, ◌↔◌}
-use Rattle.std.proofs.lemmas.Bool.{ne_eqb, cases_lt}
+use Rattle.std.specs.Prelude.{slice_index, map, All, IsTrue, ◌↔◌, ◌&&◌, nat_lt}
+use Rattle.std.proofs.lemmas.Bool.{ne_eqb, cases_lt, ltb-true, and_parts}
 use Rattle.std.proofs.lemmas.Nat.{div-mul-add, mod-mul-add}
 use Rattle.std.proofs.lemmas.List.{map-append}
-use Rattle.std.proofs.lemmas.List.Elements.{All-nil, All-cons}
+use Rattle.std.proofs.lemmas.List.Elements.{All-nil, All-cons, All-get_or}
 use Rattle.heap_image.specs.HeapImage.{HeapImage, IsValid, heap_words, word_at, start_of}
 use Rattle.summary.specs.NewAddresses.{new_top}
 use Rattle.summary.specs.WordMoves.{origin}
@@ -13,7 +13,7 @@ use Rattle.scheduler.specs.State.{State, opening, state_after, Allows, AllAreSet
 use Rattle.scheduler.specs.PackedLine.{IsSmall}
 use Rattle.scheduler.specs.Scheduler.{state_in}
 use Rattle.scheduler.specs.History.{entry, AreSteps, IsLegal, IsReached}
-use Rattle.scheduler.specs.Schedule.{ScheduleView, IsSchedule, is_line, line_of}
+use Rattle.scheduler.specs.Schedule.{ScheduleView, IsSchedule, is_event, is_told_reply, is_line, line_of}
 use Rattle.history.specs.Slide.{Slide, IsSlideOf, Machine, next_place, write_words, word_for, words_of, AllowsWords, machine_after, copied}
 use Rattle.scheduler.specs.ImageMoves.{image_table}
 use Rattle.history.specs.WordMachine.{image_slide, machine_start, machine_of}
@@ -188,6 +188,16 @@ module _ (law : MachineLaws) (image : HeapImage) (valid : IsValid image) (v : Sc
           each = λ a l. line_copies.holds heap' here others a l ∙ ap (λ (w : Machine). w.heap a) (sym after);
         };
       }
+
+-- a line of the schedule has one of the ledger's workers
+pub worker_fits : (v : ScheduleView) (items : List Line) (number : ℕ) (ledger : Ledger) (line : Line) → IsSchedule v → items ≡ v.lines → ledger.scheduler.workers ≡ v.workers
+    → number < length items → line ≡ get_or items number no_line → line.worker < ledger.scheduler.workers
+worker_fits v items number ledger line formed same workers inside there =
+    let lines : All (λ (l : Line). IsTrue (is_line v.workers l)) items = subst (λ (ls : List Line). All (λ (l : Line). IsTrue (is_line v.workers l)) ls) (sym same) formed.lines in
+    let item : is_line v.workers (get_or items number no_line) ≡ true = All-get_or (λ (l : Line). IsTrue (is_line v.workers l)) items number no_line inside lines in
+    let fits : is_line v.workers line ≡ true = ap (is_line v.workers) there ∙ item in
+    let low = ltb-true line.worker v.workers (and_parts (nat_lt line.worker v.workers) (is_event line.event && is_told_reply line.event line.reply) fits).0 in
+    subst (λ (n : ℕ). line.worker < n) (sym workers) low
 
 -- all lines are carried out
 pub carried_out : (image : HeapImage) (v : ScheduleView) (items : List Line) (number : ℕ) (ledger : Ledger) (lines : List Line) (heap : List ℕ) (done : Bool) → items ≡ v.lines → IsUnderWay image v number ledger lines heap

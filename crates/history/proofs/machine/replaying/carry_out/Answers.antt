@@ -7,7 +7,7 @@ use Rattle.history.specs.Slide.{word_for}
 use Rattle.history.specs.WordMachine.{image_slide}
 use Rattle.history.specs.Ledger.{RefusesLine}
 use Rattle.scheduler.specs.declared.schedule.line.Line.{Line}
-use Rattle.history.proofs.Lemmas.Copies.{followed_of, first_way, line_copies, line_fits, way_on, carried_out}
+use Rattle.history.proofs.Lemmas.Copies.{followed_of, first_way, line_copies, line_fits, way_on, worker_fits, carried_out}
 use Rattle.history.proofs.Lemmas.Following.{item_is, refused_at}
 use Rattle.history.proofs.machine.replaying.carry_out.Goals as goal
 
@@ -57,3 +57,8 @@ pub of-requires : goal.of-requires
 of-requires c =
     line_fits c.machine_laws.ensures c.args.plan.now (subst IsValid c.requires.plan c.requires.kept.valid) c.args.schedule.now c.lines-line-items.result.now c.loop-i.i c.loop-i.ledger c.follow.new.self c.loop-i.lines.items c.loop-i.heap c.line-line.result c.in-Ok.reply
     c.lines-line-items.ensures.lines c.loop-i.invariant c.loop-i-test.true (c.line-line.ensures ∙ item_is c.lines-line-items.result.now c.loop-i.i c.line-item.result c.loop-i-test.true c.line-item.is) c.in-Ok.ensures.call c.in-Ok.ensures.leads c.lines-line-items.ensures.formed.few
+
+pub follow-requires-clause-worker : goal.follow-requires-clause-worker
+follow-requires-clause-worker c =
+    worker_fits c.args.schedule.now c.lines-line-items.result.now c.loop-i.i c.loop-i.ledger c.line-line.result c.lines-line-items.ensures.formed c.lines-line-items.ensures.lines c.loop-i.invariant.kept.workers c.loop-i-test.true
+    (c.line-line.ensures ∙ item_is c.lines-line-items.result.now c.loop-i.i c.line-item.result c.loop-i-test.true c.line-item.is)
