@@ -21,7 +21,7 @@ use Rattle.scheduler.specs.declared.schedule.line.Line.{Line}
 use Rattle.scheduler.specs.declared.reply.Reply.{Reply}
 use Rattle.scheduler.specs.declared.reply.Reply.TheVariants.{Yes, No, Open, Outside, Claimed, Filled, Last, NotLast, Done, All, More}
 use Rattle.history.proofs.Lemmas.KnownBytes.{consumes_held, consumes_more, take_put_back}
-use Rattle.history.proofs.Lemmas.LineTexts.{IsTextLine, text_line, open_small, outside_small}
+use Rattle.history.proofs.Lemmas.LineTexts.{text_line, open_small, outside_small}
 use Rattle.history.proofs.Lemmas.ScheduleTexts.{text_more}
 use Rattle.history.proofs.Lemmas.Texts.{split_unique, decimal_without, without-append}
 

@@ -2,11 +2,11 @@
 use Rattle.std.proofs.Common.{◌≡◌, ◌≢◌, ℕ, ◌*◌, ◌%◌, ◌<◌, ◌≤◌, Bool, true, false, length, refl, sym, ap, ◌∙◌, inl, inr, arith, zero-add}
 use Rattle.std.specs.Prelude.{◌==◌, ◌&&◌, not}
 use Rattle.std.specs.List.{range_with_len}
-use Rattle.std.proofs.lemmas.Bool.{and_parts, and_from, lt-ltb, ltb-true, eqb-false, ne_eqb, not-true, not_from_false, cases_lt, false_from_ne_true}
+use Rattle.std.proofs.lemmas.Bool.{and_parts, ltb-true, eqb-false, not-true, cases_lt, false_from_ne_true}
 use Rattle.std.proofs.lemmas.Nat.{div-add-mod', mul-le}
 use Rattle.std.proofs.lemmas.List.{length-map, get_or_past}
 use Rattle.std.proofs.lemmas.List.FromFn.{get_or-map-range_with_len, length-range_with_len}
-use Rattle.heap_image.specs.HeapImage.{HeapImage, IsValid, heap_words, region_words, region_count, region_of, start_of}
+use Rattle.heap_image.specs.HeapImage.{HeapImage, IsValid, heap_words, region_words, region_count, start_of}
 use Rattle.summary.specs.NewAddresses.{new_top}
 use Rattle.summary.specs.WordMoves.{is_to_fill}
 use Rattle.summary.specs.WordMoves.{reads as image_reads}
