@@ -1,7 +1,7 @@
 //! A collection in steps, whose workers run by the caller's calls.
 ghost use Rattle.std.specs.Prelude.{◌≡◌, ◌<◌, ◌⊎◌, ◌↔◌, All, vec_len, IfOk, IfErr, Err};
 ghost use Rattle.summary.specs.Compaction.{compact};
-ghost use Rattle.history.specs.ImageMoves.{image_table};
+ghost use Rattle.scheduler.specs.ImageMoves.{image_table};
 ghost use Rattle.claim_board.specs.Boards.{moves as moves_of, identity, board_of};
 ghost use Rattle.fill.specs.FillFaults.{IsOverwritten};
 ghost use Rattle.collector.specs.Collections.{figures_of, AreNoneOrTooMany};
