@@ -41,7 +41,7 @@ pub(crate) fn end_lent(
     let room = room_for(alloc, handles.len())?;
     match take_into(alloc, Ok(room), handles) {
         Ok(shares) => end_shares(shares, words, list),
-        Err(_) => Err(Fault::Overwritten(0)),
+        Err(fault) => Err(contradiction(fault)),
     }
 }
 
@@ -87,7 +87,8 @@ fn count_in(alloc: Global, handles: &mut [PcompactHandle]) -> bool
 {
     let mut are_held = true;
     for handle in handles.iter_mut() {
-        are_held &= handle.count_in(alloc);
+        let is_held = handle.count_in(alloc);
+        are_held = are_held && is_held;
     }
     are_held
 }
@@ -120,7 +121,17 @@ fn end_shares(
         return Err(Fault::Overwritten(0));
     }
     match end_lent_words(words, list, share, shares) {
-        Err(Fault::Workers) => Err(Fault::Overwritten(0)),
-        ended => ended,
+        Ok(figures) => Ok(figures),
+        Err(fault) => Err(contradiction(fault)),
+    }
+}
+
+/// Fault 15, for a fault that contradicts what was tested before.
+fn contradiction(fault: Fault) -> Fault
+    ensures { IsOverwritten result }
+{
+    match fault {
+        Fault::Overwritten(region) => Fault::Overwritten(region),
+        _ => Fault::Overwritten(0),
     }
 }
