@@ -5,7 +5,7 @@ use Rattle.std.proofs.lemmas.List.{length-set, map-append, take_more}
 use Rattle.heap_image.specs.declared.fault.Fault.{Fault}
 use Rattle.collector.specs.declared.session.share.Share.{Share}
 use Rattle.pcompact_c.proofs.Lemmas.Shares.{behind, next, one_more, all_of}
-use Rattle.pcompact_c.proofs.taking.take_shares.Goals as goal
+use Rattle.pcompact_c.proofs.taking.take_into.Goals as goal
 
 -- where the shares were those of the first handles, they are so with that of one more
 grown : (before after : Result (Vec Share Global) Fault) (share : Option (Box Share Global)) (first : List (Bool × Ptr × Option Share)) (h : Bool × Ptr × Option Share)
