@@ -8,7 +8,7 @@
 //! - `Board::claim`, `look`, `drain`, `complete`, `settle` and `poll` make one atomic step each, on one
 //!   word, which their contracts name with its operands, and never repeat it. They allocate nothing and
 //!   don't wait.
-//! - Contracts see a pass as two lists: `seen`, a legal history of `history`'s scheduler, and `mine`,
+//! - Contracts see a pass as two lists: `seen`, a legal history of the scheduler, and `mine`,
 //!   the worker's own calls in it. A call appends one entry to a legal history that begins with `seen`.
 //!   `Board::meet` and `Board::finish` join what passes have seen.
 //! - `Ticket`, `Opening`, `Closed`, `Right`, `Written` and `Done` can't be dropped. Each must be spent

@@ -4,7 +4,7 @@ ghost use Rattle.scheduler.specs.MoveTable.{region_count};
 ghost use Rattle.claim_board.specs.Boards.{moves as moves_of, identity, board_of, AllOf};
 
 use crate::checks::{equal, expect_memory_fault};
-use crate::scheduler::moves_with_prefix;
+use crate::schedulers::moves_with_prefix;
 use crate::tables::table_of;
 use claim_board::{Board, Drained, Pass, Recorder, Ticket};
 use scheduler::{CallFault, GivenMoves, Moves, Reply};
