@@ -133,6 +133,17 @@ pcompact_fault pcompact_begin(const uint64_t *words, size_t word_count, const ui
 pcompact_fault pcompact_begin_rooted(const uint64_t *words, size_t word_count, const uint64_t *roots, size_t root_count,
                                      pcompact_settings settings, pcompact_handle *handles, size_t worker_count);
 
+/* Like pcompact_begin, for a heap whose regions the host lends, as pcompact_collect_lent has them: the workers compact them where
+ * they lie, without a copy. From the begin to the end the words are the library's, none is held, and nobody else uses them or
+ * writes their fields. Only pcompact_end_lent ends such a collection. Faults: those of pcompact_begin, 4 if some words aren't
+ * held or are more or fewer than a region has, or 15 as of pcompact_collect. After any fault but 15 all is as it was. */
+pcompact_fault pcompact_begin_lent(pcompact_words *words, size_t region_count, const uint64_t *live, size_t live_count,
+                                   pcompact_settings settings, pcompact_handle *handles, size_t worker_count);
+
+/* The same for a heap with roots, with the faults of pcompact_begin_rooted. */
+pcompact_fault pcompact_begin_lent_rooted(pcompact_words *words, size_t region_count, const uint64_t *roots, size_t root_count,
+                                          pcompact_settings settings, pcompact_handle *handles, size_t worker_count);
+
 /* What pcompact_work returns. */
 enum {
     PCOMPACT_SETTLED = 0,    /* all regions are filled */
@@ -159,6 +170,12 @@ uint32_t pcompact_work_all(pcompact_handle *handle);
  * overlaps, and nobody reads or writes there meanwhile. `answer` need not be filled before. */
 uint32_t pcompact_end(pcompact_handle *handles, size_t worker_count, uint64_t *words, size_t word_count, uint64_t *list,
                       size_t list_count, pcompact_answer *answer);
+
+/* The same for a collection that pcompact_begin_lent or pcompact_begin_lent_rooted began, whose words these are: afterwards each
+ * holds its region's words of the compaction, at the same place. After faults 4, 11 and 12 all is as it was, handles too, and the
+ * collection goes on. After fault 15 no handle is held, nothing is promised of words and list, and some words aren't held. */
+uint32_t pcompact_end_lent(pcompact_handle *handles, size_t worker_count, pcompact_words *words, size_t region_count,
+                           uint64_t *list, size_t list_count, pcompact_answer *answer);
 
 /* Redirects references that are kept outside of the heap with these words and live addresses to where pcompact_collect will
  * take their objects; to be called before it. Each is 0, which stays, or 1 plus a live address. Returns the fault: 0, 3, 4,

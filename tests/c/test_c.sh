@@ -1,5 +1,5 @@
 #!/usr/bin/env bash
-# Builds callers of the library for C and runs them: plainly, under the sanitizers for addresses and undefined behaviour, the one
+# Builds callers of the library for C and runs them: plainly, under the sanitizers for addresses and undefined behaviour, those
 # with threads under that for threads, and under valgrind if it is there. The library is the one that fits the sources.
 #
 # usage: tests/c/test_c.sh
@@ -49,6 +49,8 @@ build calls -Itests/c tests/c/{calls,checks}.c
 build image_calls -Itests/c tests/c/{image_calls,checks,refusing_heap}.c
 build lent -Itests/c tests/c/{lent,refusing_heap}.c
 build threads -pthread -Itests/c tests/c/threads.c tests/c/refusing_heap.c
+build lent_threads -pthread -Itests/c tests/c/lent_threads.c tests/c/refusing_heap.c
+build_c lent_threads-raced -g -fsanitize=thread -pthread -Itests/c tests/c/lent_threads.c tests/c/refusing_heap.c
 build_c threads-raced -g -fsanitize=thread -pthread -Itests/c tests/c/threads.c tests/c/refusing_heap.c
 for example in base rooted; do
     compact "$example"
@@ -60,7 +62,10 @@ run refusals
 try "$room/lent" 1000
 run lent 100
 run threads
-try env TSAN_OPTIONS=suppressions=tests/c/threads.supp "$room/threads-raced"
+run lent_threads
+for caller in threads lent_threads; do
+    try env TSAN_OPTIONS=suppressions=tests/c/threads.supp "$room/$caller-raced"
+done
 try refuses_half
 # With a stack of 96 KiB, of which the system takes some.
 try env -i sh -c 'ulimit -s 96 && exec "$1"' sh "$room/refusals"

@@ -2,10 +2,10 @@
  *
  *     calls heap IMAGE OUT THREADS ROUNDS    each round collects a fresh copy of the heap, by one call or, if THREADS isn't 0,
  *                                            by so many threads; the last one's image is written
- *     calls lent IMAGE OUT ROUNDS            the same by one call that is lent the regions
+ *     calls lent IMAGE OUT THREADS ROUNDS    the same over lent regions
  *     calls small ROUNDS                     each round collects a heap of 64 words with a live list, and one with roots
  *
- * BY_THREADS is defined where the library has pcompact_begin. */
+ * BY_THREADS is defined where the library has pcompact_begin_lent. */
 #define _POSIX_C_SOURCE 199309L
 #include <inttypes.h>
 #include <pcompact.h>
@@ -125,27 +125,48 @@ static void *work(void *handle) {
     return NULL;
 }
 
-/* The calling thread is one of them. */
-static void collect_by(heap *it, size_t thread_count) {
-    const pcompact_heap *of = &it->shape;
-    pcompact_handle handles[MAX_THREADS] = {{false, NULL}};
+/* Lets all workers work. The calling thread is one of them. */
+static void work_by(pcompact_handle *handles, size_t thread_count) {
     pthread_t threads[MAX_THREADS];
-    pcompact_answer answer;
-    pcompact_fault fault = (of->version == 1 ? pcompact_begin : pcompact_begin_rooted)(
-        it->words, of->word_count, it->list, of->count, of->settings, handles, thread_count);
-    if (fault.number != 0) fail_by(fault);
     for (size_t i = 1; i < thread_count; i++) {
         if (pthread_create(&threads[i], NULL, work, &handles[i]) != 0) fail("a thread can't be started");
     }
     work(&handles[0]);
     for (size_t i = 1; i < thread_count; i++) pthread_join(threads[i], NULL);
+}
+
+static void collect_by(heap *it, size_t thread_count) {
+    const pcompact_heap *of = &it->shape;
+    pcompact_handle handles[MAX_THREADS] = {{false, NULL}};
+    pcompact_answer answer;
+    pcompact_fault fault = (of->version == 1 ? pcompact_begin : pcompact_begin_rooted)(
+        it->words, of->word_count, it->list, of->count, of->settings, handles, thread_count);
+    if (fault.number != 0) fail_by(fault);
+    work_by(handles, thread_count);
     if (pcompact_end(handles, thread_count, it->words, of->word_count, it->list, of->count, &answer) != 0) fail_by(answer.fault);
+}
+
+static void collect_lent_by(heap *it, pcompact_words *parts, size_t thread_count) {
+    const pcompact_heap *of = &it->shape;
+    pcompact_handle handles[MAX_THREADS] = {{false, NULL}};
+    pcompact_answer answer;
+    size_t count = pcompact_cut(it->words, of->word_count, of->settings.region_log, parts);
+    pcompact_fault fault = (of->version == 1 ? pcompact_begin_lent : pcompact_begin_lent_rooted)(
+        parts, count, it->list, of->count, of->settings, handles, thread_count);
+    if (fault.number != 0) fail_by(fault);
+    work_by(handles, thread_count);
+    if (pcompact_end_lent(handles, thread_count, parts, count, it->list, of->count, &answer) != 0) fail_by(answer.fault);
 }
 #else
 static void collect_by(heap *it, size_t thread_count) {
     (void)it;
     (void)thread_count;
     fail("the library has no calls for several threads");
+}
+
+static void collect_lent_by(heap *it, pcompact_words *parts, size_t thread_count) {
+    (void)parts;
+    collect_by(it, thread_count);
 }
 #endif
 
@@ -170,13 +191,17 @@ static void time_heap(const char *image, const char *out, size_t thread_count, s
     free_heap(&it);
 }
 
-static void time_lent(const char *image, const char *out, size_t rounds) {
+static void time_lent(const char *image, const char *out, size_t thread_count, size_t rounds) {
     heap first = read_heap(image), it = new_heap(first.shape);
     pcompact_words *parts = room_for(sizeof *parts * (first.shape.word_count >> first.shape.settings.region_log));
     for (size_t round = 0; round < rounds; round++) {
         copy_heap(&it, &first);
         uint64_t begun = now();
-        collect_lent(&it, parts);
+        if (thread_count == 0) {
+            collect_lent(&it, parts);
+        } else {
+            collect_lent_by(&it, parts, thread_count);
+        }
         printf("%" PRIu64 "\n", now() - begun);
     }
     write_heap(&it, out);
@@ -215,12 +240,12 @@ static void time_small(size_t rounds) {
 int main(int count, char **words) {
     if (count == 6 && strcmp(words[1], "heap") == 0) {
         time_heap(words[2], words[3], strtoul(words[4], NULL, 10), strtoul(words[5], NULL, 10));
-    } else if (count == 5 && strcmp(words[1], "lent") == 0) {
-        time_lent(words[2], words[3], strtoul(words[4], NULL, 10));
+    } else if (count == 6 && strcmp(words[1], "lent") == 0) {
+        time_lent(words[2], words[3], strtoul(words[4], NULL, 10), strtoul(words[5], NULL, 10));
     } else if (count == 3 && strcmp(words[1], "small") == 0) {
         time_small(strtoul(words[2], NULL, 10));
     } else {
-        fail("usage: calls heap IMAGE OUT THREADS ROUNDS | calls lent IMAGE OUT ROUNDS | calls small ROUNDS");
+        fail("usage: calls heap IMAGE OUT THREADS ROUNDS | calls lent IMAGE OUT THREADS ROUNDS | calls small ROUNDS");
     }
     return fflush(stdout) != 0;
 }

@@ -13,7 +13,8 @@ processes of their own. For each heap it prints the least times of
   and the collection alone;
 - the phases of the plain program, all but reading and writing files.
 
-Then the same by four threads of a C program, each with a handle, and by four workers inside `pcompact`; a call on a heap of
+Then the same by four threads of a C program, each with a handle, over words that are copied and over lent ones, and by four
+workers inside `pcompact`; a call on a heap of
 64 words; and the size of the library without symbols. The lines say which goals are kept. Ends with status 1 where one is
 missed, or where two programs left different images. A second run with the same scratch folder builds only what has changed.
 
@@ -69,7 +70,7 @@ class Programs:
         self.library, why = built_library()
         if not self.library or not compiler():
             sys.exit(why or "there is no C compiler")
-        self.has_threads = "pcompact_begin(" in (self.library / "pcompact.h").read_text()
+        self.has_threads = "pcompact_begin_lent(" in (self.library / "pcompact.h").read_text()
         self.why_skipped = why_skipped(self.has_threads)
         self.calls = self.compiled()
 
@@ -97,8 +98,8 @@ class Programs:
     def by_c(self, threads: int) -> dict[str, float]:
         return {"whole": min(int(time) for [time] in self.lines(self.calls, "heap", "image", "by-c", threads, COPIES))}
 
-    def by_lending(self) -> dict[str, float]:
-        return {"whole": min(int(time) for [time] in self.lines(self.calls, "lent", "image", "by-lending", COPIES))}
+    def by_lending(self, threads: int) -> dict[str, float]:
+        return {"whole": min(int(time) for [time] in self.lines(self.calls, "lent", "image", "by-lending", threads, COPIES))}
 
     def by_pcompact(self, workers: int) -> dict[str, float]:
         times = [tuple(map(int, words)) for words in self.lines(self.inside, workers, COPIES)]
@@ -110,9 +111,10 @@ class Programs:
         return {"whole": sum(time for lap, time in laps.items() if lap not in ("read", "write"))}
 
     def jobs(self) -> dict:
-        jobs = {"call": lambda: self.by_c(0), "lent": self.by_lending, "inside": lambda: self.by_pcompact(1), "plain": self.by_plain}
+        jobs = {"call": lambda: self.by_c(0), "lent": lambda: self.by_lending(0), "inside": lambda: self.by_pcompact(1), "plain": self.by_plain}
         if not self.why_skipped:
-            jobs |= {"threads": lambda: self.by_c(THREADS), "workers": lambda: self.by_pcompact(THREADS)}
+            jobs |= {"threads": lambda: self.by_c(THREADS), "lent threads": lambda: self.by_lending(THREADS),
+                     "workers": lambda: self.by_pcompact(THREADS)}
         return jobs
 
     def compare(self) -> None:
@@ -125,7 +127,7 @@ class Programs:
 def why_skipped(has_threads: bool) -> str:
     """Why threads of a C program aren't measured here, if they aren't."""
     if not has_threads:
-        return "the library has no pcompact_begin"
+        return "the library has no pcompact_begin_lent"
     return "" if len(os.sched_getaffinity(0)) >= THREADS else f"there are fewer than {THREADS} processors"
 
 
@@ -168,9 +170,11 @@ def tell_heap(heap: Heap, least: dict[str, dict[str, float]], goals: Goals) -> N
 
 
 def tell_threads(least: dict[str, dict[str, float]], goals: Goals) -> None:
-    threads, workers = least["threads"]["whole"], least["workers"]["whole"]
-    print(f"  by {THREADS} threads {milliseconds(threads)}, to {THREADS} workers inside pcompact, {milliseconds(workers)}: "
-          f"{goals.verdict(threads / workers, BY_FOUR)}", flush=True)
+    workers = least["workers"]["whole"]
+    for job, words in (("threads", "threads"), ("lent threads", "threads over lent words")):
+        threads = least[job]["whole"]
+        print(f"  by {THREADS} {words} {milliseconds(threads)}, to {THREADS} workers inside pcompact, {milliseconds(workers)}: "
+              f"{goals.verdict(threads / workers, BY_FOUR)}", flush=True)
 
 
 def tell_small(programs: Programs, goals: Goals) -> None:

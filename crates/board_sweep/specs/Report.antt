@@ -1,9 +1,9 @@
 -- The report of a sweep by two workers.
 use Rattle.std.specs.Prelude.{◌≡◌, ℕ, zero, suc, true, ◌==◌, if◌then◌else◌, List, [], ◌∷◌, ◌++◌, codes, decimal, count_by}
-use Rattle.history.specs.declared.entry.Entry.{Entry}
-use Rattle.history.specs.MoveTable.{MoveTable, region_count}
-use Rattle.history.specs.State.{unsettled}
-use Rattle.history.specs.History.{IsLegal, is_grant, state_of}
+use Rattle.scheduler.specs.declared.entry.Entry.{Entry}
+use Rattle.scheduler.specs.MoveTable.{MoveTable, region_count}
+use Rattle.scheduler.specs.State.{unsettled}
+use Rattle.scheduler.specs.History.{IsLegal, is_grant, state_of}
 use Rattle.board_sweep.specs.Tallies.{completes}
 
 -- the line of a region with its numbers of claims and completions

@@ -1,9 +1,9 @@
 -- A worker after its sweep.
 use Rattle.std.specs.Prelude.{◌≡◌, ℕ, Bool, ◌==◌, List}
-use Rattle.history.specs.MoveTable.{MoveTable, region_count}
-use Rattle.history.specs.State.{unsettled}
-use Rattle.history.specs.History.{IsLegal, calls_by, state_of}
-use Rattle.history.specs.declared.entry.Entry.{Entry}
+use Rattle.scheduler.specs.MoveTable.{MoveTable, region_count}
+use Rattle.scheduler.specs.State.{unsettled}
+use Rattle.scheduler.specs.History.{IsLegal, calls_by, state_of}
+use Rattle.scheduler.specs.declared.entry.Entry.{Entry}
 use Rattle.claim_board.specs.declared.board.Board.{Board}
 use Rattle.claim_board.specs.Boards.{moves, identity, board_of, worker, mine}
 use Rattle.board_sweep.specs.declared.sweeper.Swept.{Swept}

@@ -1,9 +1,9 @@
 -- A worker's counts of its own calls.
 use Rattle.std.specs.Prelude.{◌≡◌, ℕ, ◌+◌, ◌<◌, Bool, false, ◌==◌, cond, List, length, slice_index_or, count_by}
-use Rattle.history.specs.declared.event.Event.{Event}
-use Rattle.history.specs.declared.event.Event.TheVariants.{Complete}
-use Rattle.history.specs.declared.entry.Entry.{Entry}
-use Rattle.history.specs.History.{is_grant}
+use Rattle.scheduler.specs.declared.event.Event.{Event}
+use Rattle.scheduler.specs.declared.event.Event.TheVariants.{Complete}
+use Rattle.scheduler.specs.declared.entry.Entry.{Entry}
+use Rattle.scheduler.specs.History.{is_grant}
 use Rattle.board_sweep.specs.declared.tally.Tally.{Tally}
 
 -- the event completes the region

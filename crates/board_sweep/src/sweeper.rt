@@ -1,6 +1,6 @@
 //! The sweep of one worker over the regions.
 ghost use Rattle.std.specs.Prelude.{◌≡◌, ◌<◌, [], IfOk};
-ghost use Rattle.history.specs.MoveTable.{region_count};
+ghost use Rattle.scheduler.specs.MoveTable.{region_count};
 ghost use Rattle.claim_board.specs.Boards.{moves as moves_of, identity, board_of, worker, mine, caller};
 ghost use Rattle.claim_board.specs.Tickets.{IsUnused, IsTicketOf};
 ghost use Rattle.board_sweep.specs.Tallies.{Adds, AreTallies};
@@ -10,7 +10,7 @@ use claim_board::{
     Board, Pass, Ticket, appended_calls_are_gained, one_more_source_is_drained,
     swept_tickets_have_none_left,
 };
-use history::{Moves, moves_are_lawful};
+use scheduler::{Moves, moves_are_lawful};
 use std::alloc::{AllocError, Global};
 
 /// A worker after its sweep.

@@ -1,6 +1,6 @@
 //! The sweep of two workers with one board, and its report.
 ghost use Rattle.std.specs.Prelude.{◌≡◌, IfOk, string_bytes, vec_len};
-ghost use Rattle.history.specs.MoveTable.{region_count};
+ghost use Rattle.scheduler.specs.MoveTable.{region_count};
 ghost use Rattle.claim_board.specs.Boards.{moves as moves_of, worker_count, identity, board_of, worker, mine, ArePasses, IsNew};
 ghost use Rattle.board_sweep.specs.Report.{IsBoardText, IsReportOf, three_regions};
 ghost use Rattle.board_sweep.specs.Sweeps.{IsSweptBy, IsOutcome};
@@ -8,7 +8,7 @@ ghost use Rattle.board_sweep.specs.Sweeps.{IsSweptBy, IsOutcome};
 use crate::report::lines;
 use crate::sweeper::{Swept, sweep};
 use claim_board::{Board, Pass};
-use history::{GivenMoves, Moves};
+use scheduler::{GivenMoves, Moves};
 use std::alloc::{AllocError, Global};
 use std::thread;
 use std::thread::Threads;

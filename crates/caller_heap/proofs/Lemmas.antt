@@ -3,3 +3,4 @@ pub mod HeapBytes
 pub mod Lending
 pub mod LentHeap
 pub mod Regions
+pub mod Shares

@@ -63,7 +63,7 @@ pub(crate) fn collect_lent(
 
 /// Why regions were not collected.
 #[derive(Drop)]
-enum Failure {
+pub(crate) enum Failure {
     /// No word has moved.
     Kept(RefusedRegions),
     /// Words may have moved.

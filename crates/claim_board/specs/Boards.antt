@@ -1,11 +1,11 @@
 -- What a board and a pass show.
 use Rattle.std.specs.Prelude.{◌≡◌, ℕ, suc, List, [], ◌∷◌, ◌++◌}
 use Rattle.atomic_table.specs.Seated.{TableId}
-use Rattle.history.specs.declared.event.Event.{Event}
-use Rattle.history.specs.declared.reply.Reply.{Reply}
-use Rattle.history.specs.declared.entry.Entry.{Entry}
-use Rattle.history.specs.MoveTable.{MoveTable}
-use Rattle.history.specs.History.{BeginsWith, calls_by}
+use Rattle.scheduler.specs.declared.event.Event.{Event}
+use Rattle.scheduler.specs.declared.reply.Reply.{Reply}
+use Rattle.scheduler.specs.declared.entry.Entry.{Entry}
+use Rattle.scheduler.specs.MoveTable.{MoveTable}
+use Rattle.scheduler.specs.History.{BeginsWith, calls_by}
 use Rattle.claim_board.specs.declared.board.Board.{Board}
 use Rattle.claim_board.specs.declared.pass.Pass.{Pass}
 use Rattle.claim_board.specs.declared.rule.view.Touch.{Touch}

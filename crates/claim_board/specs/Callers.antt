@@ -1,11 +1,11 @@
 -- The callers of a desk.
 use Rattle.std.specs.Prelude.{◌≡◌, ℕ, List, [], ◌∷◌, ◌++◌}
 use Rattle.atomic_table.specs.Seated.{TableId}
-use Rattle.history.specs.declared.event.Event.{Event}
-use Rattle.history.specs.declared.reply.Reply.{Reply}
-use Rattle.history.specs.declared.entry.Entry.{Entry}
-use Rattle.history.specs.State.{State}
-use Rattle.history.specs.History.{BeginsWith, entry, state_of}
+use Rattle.scheduler.specs.declared.event.Event.{Event}
+use Rattle.scheduler.specs.declared.reply.Reply.{Reply}
+use Rattle.scheduler.specs.declared.entry.Entry.{Entry}
+use Rattle.scheduler.specs.State.{State}
+use Rattle.scheduler.specs.History.{BeginsWith, entry, state_of}
 
 -- A worker of a board, with the history that it has seen and its own calls in it, oldest first.
 pub record Caller : Type 0 where

@@ -1,6 +1,6 @@
 -- What contracts see of a finished board.
 use Rattle.std.specs.Prelude.{List}
-use Rattle.history.specs.declared.entry.Entry.{Entry}
+use Rattle.scheduler.specs.declared.entry.Entry.{Entry}
 use Rattle.claim_board.specs.declared.finished.Finished.{Finished}
 
 -- the whole history

@@ -1,9 +1,9 @@
 -- What the grant of a region says, at that moment and later.
 use Rattle.std.specs.Prelude.{◌≡◌, ℕ, false, List}
-use Rattle.history.specs.declared.entry.Entry.{Entry}
-use Rattle.history.specs.MoveTable.{MoveTable}
-use Rattle.history.specs.State.{is_pending}
-use Rattle.history.specs.History.{BeginsWith, IsLegal, state_of}
+use Rattle.scheduler.specs.declared.entry.Entry.{Entry}
+use Rattle.scheduler.specs.MoveTable.{MoveTable}
+use Rattle.scheduler.specs.State.{is_pending}
+use Rattle.scheduler.specs.History.{BeginsWith, IsLegal, state_of}
 
 -- The region has no pending readers after this history, nor after any legal history that begins with it.
 pub record IsGranted (m : MoveTable) (workers region : ℕ) (seen : List Entry) : Type 0 where

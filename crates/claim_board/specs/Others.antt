@@ -1,6 +1,6 @@
 -- What a caller's calls for one region leave of its values for others.
 use Rattle.std.specs.Prelude.{◌≢◌, ℕ}
-use Rattle.history.specs.MoveTable.{MoveTable}
+use Rattle.scheduler.specs.MoveTable.{MoveTable}
 use Rattle.claim_board.specs.declared.tokens.done.Done.{Done}
 use Rattle.claim_board.specs.declared.tokens.ticket.Ticket.{Ticket}
 use Rattle.claim_board.specs.Callers.{Caller}

@@ -2,7 +2,7 @@
 use Rattle.std.specs.Prelude.{◌≡◌, ◌⊎◌, ℕ, []}
 use Rattle.heap_image.specs.declared.fault.Fault.{Fault}
 use Rattle.heap_image.specs.declared.fault.Fault.TheVariants.{Memory, Overwritten}
-use Rattle.history.specs.MoveTable.{MoveTable}
+use Rattle.scheduler.specs.MoveTable.{MoveTable}
 use Rattle.claim_board.specs.declared.desk.recorder.Recorder.{Recorder}
 use Rattle.claim_board.specs.Callers.{Caller}
 

@@ -3,13 +3,13 @@ use Rattle.std.specs.Prelude.{◌≡◌, ℕ, suc, ◌+◌, ◌%◌, ◌<◌, co
 use mathlib.Core.Option.{some}
 use lib.ListN.{get_elem?}
 use Rattle.atomic_table.specs.Table.{State as Table, Me, Step}
-use Rattle.history.specs.declared.event.Event.{Event}
-use Rattle.history.specs.declared.reply.Reply.{Reply}
-use Rattle.history.specs.declared.reply.Reply.TheVariants.{Yes, No, Open, Outside, Claimed, Filled, Last, NotLast, Done, All, More}
-use Rattle.history.specs.declared.entry.Entry.{Entry}
-use Rattle.history.specs.MoveTable.{MoveTable, IsMoveTable, to_fill, region_count}
-use Rattle.history.specs.State.{State, readers_left, unsettled}
-use Rattle.history.specs.History.{entry, calls_by, state_of, BeginsWith, IsLegal}
+use Rattle.scheduler.specs.declared.event.Event.{Event}
+use Rattle.scheduler.specs.declared.reply.Reply.{Reply}
+use Rattle.scheduler.specs.declared.reply.Reply.TheVariants.{Yes, No, Open, Outside, Claimed, Filled, Last, NotLast, Done, All, More}
+use Rattle.scheduler.specs.declared.entry.Entry.{Entry}
+use Rattle.scheduler.specs.MoveTable.{MoveTable, IsMoveTable, to_fill, region_count}
+use Rattle.scheduler.specs.State.{State, readers_left, unsettled}
+use Rattle.scheduler.specs.History.{entry, calls_by, state_of, BeginsWith, IsLegal}
 use Rattle.claim_board.specs.declared.rule.key.Key.{Key}
 use Rattle.claim_board.specs.declared.rule.view.View.{View}
 use Rattle.claim_board.specs.Views.{fresh, rest_of, head_of, times_held, total, AllFit, ViewFits, IsPassView, worker_of, seen_of, mine_of, steps_of}

@@ -1,9 +1,9 @@
 -- The six kinds of atomic step, by their words and operands.
 use Rattle.std.specs.Prelude.{ℕ}
 use Rattle.atomic_table.specs.Table.{Step}
-use Rattle.history.specs.declared.event.Event.{Event}
-use Rattle.history.specs.declared.event.Event.TheVariants.{Claim, Look, Drain, Complete, Settle, Poll, Copy}
-use Rattle.history.specs.MoveTable.{MoveTable, region_count}
+use Rattle.scheduler.specs.declared.event.Event.{Event}
+use Rattle.scheduler.specs.declared.event.Event.TheVariants.{Claim, Look, Drain, Complete, Settle, Poll, Copy}
+use Rattle.scheduler.specs.MoveTable.{MoveTable, region_count}
 use Rattle.claim_board.specs.declared.rule.view.Touch.{Touch}
 
 abbrev pub touch : ℕ → ℕ → ℕ → Touch

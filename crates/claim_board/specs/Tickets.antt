@@ -1,11 +1,11 @@
 -- What a ticket, and the values made from it, say about the caller that claimed it.
 use Rattle.std.specs.Prelude.{◌≡◌, ◌≢◌, ℕ, ◌<◌, ◌≤◌, false, IsTrue, Option, Some, option_map}
 use Rattle.atomic_table.specs.Seated.{TableId}
-use Rattle.history.specs.declared.event.Event.{Event}
-use Rattle.history.specs.declared.event.Event.TheVariants.{Claim, Look, Drain, Complete, Settle, Poll, Copy}
-use Rattle.history.specs.MoveTable.{MoveTable, region_count, reads}
-use Rattle.history.specs.State.{is_pending, IsFilling}
-use Rattle.history.specs.Scheduler.{sources_left}
+use Rattle.scheduler.specs.declared.event.Event.{Event}
+use Rattle.scheduler.specs.declared.event.Event.TheVariants.{Claim, Look, Drain, Complete, Settle, Poll, Copy}
+use Rattle.scheduler.specs.MoveTable.{MoveTable, region_count, reads}
+use Rattle.scheduler.specs.State.{is_pending, IsFilling}
+use Rattle.scheduler.specs.Scheduler.{sources_left}
 use Rattle.claim_board.specs.declared.tokens.ticket.Ticket.{Ticket}
 use Rattle.claim_board.specs.declared.tokens.closed.Closed.{Closed}
 use Rattle.claim_board.specs.declared.tokens.written.Written.{Written}

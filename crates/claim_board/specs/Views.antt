@@ -1,7 +1,7 @@
 -- What the seats of the table know.
 use Rattle.std.specs.Prelude.{◌≡◌, ℕ, zero, suc, ◌+◌, ◌<◌, cond, ◌==◌, List, [], ◌∷◌}
-use Rattle.history.specs.declared.entry.Entry.{Entry}
-use Rattle.history.specs.History.{calls_by, BeginsWith}
+use Rattle.scheduler.specs.declared.entry.Entry.{Entry}
+use Rattle.scheduler.specs.History.{calls_by, BeginsWith}
 use Rattle.claim_board.specs.declared.rule.view.Hold.{Hold}
 use Rattle.claim_board.specs.declared.rule.view.Touch.{Touch}
 use Rattle.claim_board.specs.declared.rule.view.View.{View}

@@ -1,12 +1,12 @@
 ghost use Rattle.std.specs.Prelude.{◌≡◌, ◌<◌, suc};
-ghost use Rattle.history.specs.MoveTable.{IsMoveTable, region_count};
-ghost use Rattle.history.specs.Scheduler.{ArePairCounts};
+ghost use Rattle.scheduler.specs.MoveTable.{IsMoveTable, region_count};
+ghost use Rattle.scheduler.specs.Scheduler.{ArePairCounts};
 
 use crate::rule::Law;
 use crate::rule::key::Key;
 use crate::rule::view::View;
 use atomic_table::Table;
-use history::GivenMoves;
+use scheduler::GivenMoves;
 use std::alloc::Global;
 
 /// An atomic word for each region, by which workers claim it, and one that counts the regions to be

@@ -1,8 +1,8 @@
 //! The six calls of a board. Each makes one atomic step on one word, and never repeats it.
 ghost use Rattle.std.specs.Prelude.{◌≡◌, ◌==◌, ◌-◌, ℕ, ◌<◌, count_by, true, IfSome, is_some, if◌then◌else◌};
-ghost use Rattle.history.specs.declared.event.Event.TheVariants.{Claim, Look, Drain, Complete, Settle, Poll};
-ghost use Rattle.history.specs.declared.reply.Reply.TheVariants.{Yes, No, All, More, Done as Completed};
-ghost use Rattle.history.specs.MoveTable.{region_count};
+ghost use Rattle.scheduler.specs.declared.event.Event.TheVariants.{Claim, Look, Drain, Complete, Settle, Poll};
+ghost use Rattle.scheduler.specs.declared.reply.Reply.TheVariants.{Yes, No, All, More, Done as Completed};
+ghost use Rattle.scheduler.specs.MoveTable.{region_count};
 ghost use Rattle.claim_board.specs.Rule.{look_reply, drain_reply};
 ghost use Rattle.claim_board.specs.Boards.{moves, worker_count, identity, board_of, caller, seen, Appends};
 ghost use Rattle.claim_board.specs.Drains.{reply_of};
@@ -17,7 +17,7 @@ use crate::tokens::done::Done;
 use crate::tokens::drained::Drained;
 use crate::tokens::ticket::Ticket;
 use crate::tokens::written::Written;
-use history::{
+use scheduler::{
     Reply, how_counts_go_down, legal_histories_are_orderly, pairs_slide_down, what_own_calls_tell,
 };
 use std::marker::Brand;

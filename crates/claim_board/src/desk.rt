@@ -1,8 +1,8 @@
 ghost use Rattle.std.specs.Prelude.{◌≡◌, ◌==◌, ◌-◌, ◌<◌, count_by, IsOk, IfOk, IfErr, IfSome, OnOk, is_some, if◌then◌else◌};
-ghost use Rattle.history.specs.declared.event.Event.TheVariants.{Claim, Look, Drain, Complete, Settle, Poll};
-ghost use Rattle.history.specs.declared.reply.Reply.TheVariants.{Yes, No, All, More, Done as Completed};
+ghost use Rattle.scheduler.specs.declared.event.Event.TheVariants.{Claim, Look, Drain, Complete, Settle, Poll};
+ghost use Rattle.scheduler.specs.declared.reply.Reply.TheVariants.{Yes, No, All, More, Done as Completed};
 ghost use Rattle.heap_image.specs.declared.fault.Fault.{Fault};
-ghost use Rattle.history.specs.MoveTable.{MoveTable, region_count};
+ghost use Rattle.scheduler.specs.MoveTable.{MoveTable, region_count};
 ghost use Rattle.claim_board.specs.Callers.{Caller, Gains};
 ghost use Rattle.claim_board.specs.Drains.{reply_of};
 ghost use Rattle.claim_board.specs.Faults.{NamesNoOther};
@@ -18,7 +18,7 @@ use crate::tokens::drained::Drained;
 use crate::tokens::ticket::Ticket;
 use crate::tokens::written::Written;
 use heap_image::Fault;
-use history::Reply;
+use scheduler::Reply;
 
 /// Who may call a desk, and what contracts see of it.
 pub trait Seating {

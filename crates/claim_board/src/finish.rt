@@ -1,9 +1,9 @@
 //! `Board::finish`.
 ghost use Rattle.std.specs.Prelude.{◌≡◌, suc, List, vec_len, IsSome, IfSome, ◌↔◌};
-ghost use Rattle.history.specs.declared.entry.Entry.{Entry};
-ghost use Rattle.history.specs.MoveTable.{region_count};
-ghost use Rattle.history.specs.State.{unsettled};
-ghost use Rattle.history.specs.History.{IsLegal, state_of};
+ghost use Rattle.scheduler.specs.declared.entry.Entry.{Entry};
+ghost use Rattle.scheduler.specs.MoveTable.{region_count};
+ghost use Rattle.scheduler.specs.State.{unsettled};
+ghost use Rattle.scheduler.specs.History.{IsLegal, state_of};
 ghost use Rattle.claim_board.specs.Rule.{surveys};
 ghost use Rattle.claim_board.specs.Boards.{moves, worker_count, identity, AllOf, AllStand};
 ghost use Rattle.claim_board.specs.Finishes.{history};

@@ -1,13 +1,13 @@
 //! Theorems about tickets and completions over several calls, and about two tickets. The functions do nothing; call one
 //! where a proof needs its contract.
 ghost use Rattle.std.specs.Prelude.{◌≡◌, ◌≢◌, ℕ, ◌+◌, ◌<◌, ◌≤◌, List, false};
-ghost use Rattle.history.specs.declared.event.Event.{Event};
-ghost use Rattle.history.specs.declared.event.Event.TheVariants.{Drain};
-ghost use Rattle.history.specs.declared.entry.Entry.{Entry};
-ghost use Rattle.history.specs.declared.reply.Reply.{Reply};
-ghost use Rattle.history.specs.MoveTable.{MoveTable, IsMoveTable, reads};
-ghost use Rattle.history.specs.State.{is_pending};
-ghost use Rattle.history.specs.History.{IsLegal, calls_by};
+ghost use Rattle.scheduler.specs.declared.event.Event.{Event};
+ghost use Rattle.scheduler.specs.declared.event.Event.TheVariants.{Drain};
+ghost use Rattle.scheduler.specs.declared.entry.Entry.{Entry};
+ghost use Rattle.scheduler.specs.declared.reply.Reply.{Reply};
+ghost use Rattle.scheduler.specs.MoveTable.{MoveTable, IsMoveTable, reads};
+ghost use Rattle.scheduler.specs.State.{is_pending};
+ghost use Rattle.scheduler.specs.History.{IsLegal, calls_by};
 ghost use Rattle.claim_board.specs.declared.board.Board.{Board};
 ghost use Rattle.claim_board.specs.declared.tokens.done.Done.{Done};
 ghost use Rattle.claim_board.specs.declared.pass.Pass.{Pass};
@@ -17,7 +17,7 @@ ghost use Rattle.claim_board.specs.Callers.{Caller, Gains, own};
 ghost use Rattle.claim_board.specs.Tickets.{IsTicketOf, IsDoneOf, IsSwept, Spares};
 ghost use Rattle.claim_board.specs.Others.{LeavesOthers};
 
-use history::{how_counts_go_down, what_legal_histories_keep, what_own_calls_tell};
+use scheduler::{how_counts_go_down, what_legal_histories_keep, what_own_calls_tell};
 
 /// The caller that a pass shows gains each call that is appended to the pass.
 pub fn appended_calls_are_gained()

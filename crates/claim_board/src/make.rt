@@ -1,7 +1,7 @@
 //! `Board::new`, and the board's moves.
 ghost use Rattle.std.specs.Prelude.{◌≡◌, ℕ, ◌+◌, ◌<◌, ◌≤◌, suc, [], vec_len, IfOk, slice_index, cond};
-ghost use Rattle.history.specs.MoveTable.{IsMoveTable, region_count};
-ghost use Rattle.history.specs.State.{opening, unsettled};
+ghost use Rattle.scheduler.specs.MoveTable.{IsMoveTable, region_count};
+ghost use Rattle.scheduler.specs.State.{opening, unsettled};
 ghost use Rattle.claim_board.specs.Views.{fresh};
 ghost use Rattle.claim_board.specs.Rule.{word_of};
 ghost use Rattle.claim_board.specs.Boards.{moves as moves_of, worker_count, identity, ArePasses};
@@ -12,7 +12,7 @@ use crate::rule::Deal;
 use crate::rule::key::Key;
 use crate::rule::steps::{Place, Words};
 use atomic_table::Table;
-use history::{GivenMoves, Moves, count_readers, count_sources, how_counts_go_down};
+use scheduler::{GivenMoves, Moves, count_readers, count_sources, how_counts_go_down};
 use std::alloc::{AllocError, Global};
 
 /// The first value of the word of a region with this number of readers.

@@ -1,7 +1,7 @@
 //! `Board::meet`.
 ghost use Rattle.std.specs.Prelude.{◌≡◌, suc};
-ghost use Rattle.history.specs.MoveTable.{region_count};
-ghost use Rattle.history.specs.History.{IsLegal, BeginsWith, calls_by};
+ghost use Rattle.scheduler.specs.MoveTable.{region_count};
+ghost use Rattle.scheduler.specs.History.{IsLegal, BeginsWith, calls_by};
 ghost use Rattle.claim_board.specs.Rule.{sees, takes_told};
 ghost use Rattle.claim_board.specs.Views.{seen_of};
 ghost use Rattle.claim_board.specs.Told.{IsToldView};

@@ -23,9 +23,9 @@ impl TableRule<u8, View, Key> for Law {
 /// The entry that a step adds.
 pub trait About {
     ghost use Rattle.std.specs.Prelude.{ℕ};
-    ghost use Rattle.history.specs.MoveTable.{MoveTable};
-    ghost use Rattle.history.specs.declared.event.Event.{Event};
-    ghost use Rattle.history.specs.declared.reply.Reply.{Reply};
+    ghost use Rattle.scheduler.specs.MoveTable.{MoveTable};
+    ghost use Rattle.scheduler.specs.declared.event.Event.{Event};
+    ghost use Rattle.scheduler.specs.declared.reply.Reply.{Reply};
 
     ghost moves: { MoveTable };
 
@@ -39,8 +39,8 @@ pub trait About {
 
 impl About for Brand {
     ghost use Rattle.std.specs.Prelude.{[]};
-    ghost use Rattle.history.specs.declared.event.Event.TheVariants.{Poll};
-    ghost use Rattle.history.specs.declared.reply.Reply.TheVariants.{More};
+    ghost use Rattle.scheduler.specs.declared.event.Event.TheVariants.{Poll};
+    ghost use Rattle.scheduler.specs.declared.reply.Reply.TheVariants.{More};
 
     ghost moves = { record { fill = []; pairs = [] } };
 

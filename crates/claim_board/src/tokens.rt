@@ -1,7 +1,7 @@
 //! The openings and the right that a ticket gives out. The methods are in a module of their own because their contracts
 //! use the type `Ticket`.
 ghost use Rattle.std.specs.Prelude.{◌≡◌, ℕ, ◌+◌, ◌<◌, ◌≤◌, ◌↔◌, true, false, IfSome, IfNone, IsSome, IsTrue};
-ghost use Rattle.history.specs.MoveTable.{MoveTable, region_count, reads};
+ghost use Rattle.scheduler.specs.MoveTable.{MoveTable, region_count, reads};
 ghost use Rattle.claim_board.specs.Callers.{Caller};
 ghost use Rattle.claim_board.specs.Tickets.{IsTicketOf};
 
@@ -13,9 +13,9 @@ pub(crate) mod right;
 pub(crate) mod ticket;
 pub(crate) mod written;
 
-use history::Moves;
 use opening::Opening;
 use right::Right;
+use scheduler::Moves;
 use std::snapshot::Snapshot;
 use ticket::Ticket;
 

@@ -8,7 +8,7 @@ use Rattle.heap_image.specs.Outgoing.{TakesBeginning}
 use Rattle.heap_image.specs.declared.fault.Fault.{Fault}
 use Rattle.heap_image.specs.declared.fault.Fault.TheVariants.{TruncatedHeader, Magic, RegionLog, Length, TruncatedBody, Root, LiveOrder, Header, Overlap, Reference, Trailing}
 use Rattle.summary.specs.Compaction.{compact}
-use Rattle.history.specs.Schedule.{ScheduleView}
+use Rattle.scheduler.specs.Schedule.{ScheduleView}
 use Rattle.history.specs.ScheduleText.{schedule_text}
 use Rattle.history.specs.Record.{IsRecord}
 use Rattle.collector.specs.Collections.{figures_of}

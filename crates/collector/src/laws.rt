@@ -3,7 +3,7 @@ ghost use Rattle.std.specs.Prelude.{◌≡◌};
 ghost use Rattle.heap_image.specs.HeapImage.{HeapImage};
 ghost use Rattle.heap_image.specs.Upgrade.{upgraded};
 ghost use Rattle.summary.specs.Compaction.{compact};
-ghost use Rattle.history.specs.ImageMoves.{image_table};
+ghost use Rattle.scheduler.specs.ImageMoves.{image_table};
 ghost use Rattle.collector.specs.Collections.{figures_of};
 
 /// Collecting an image and collecting its upgrade give the same words, live list and figures, by the same moves of

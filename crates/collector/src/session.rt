@@ -1,10 +1,13 @@
 //! A collection in steps, whose workers run by the caller's calls.
-ghost use Rattle.std.specs.Prelude.{◌≡◌, ◌<◌, ◌⊎◌, ◌↔◌, All, vec_len, IfOk, IfErr, Err};
+ghost use Rattle.std.specs.Prelude.{◌≡◌, ◌<◌, ◌⊎◌, ◌↔◌, All, length, vec_len, IfOk, IfErr, IfSome, Err};
+ghost use Rattle.heap_image.specs.HeapImage.{region_count};
+ghost use Rattle.heap_image.specs.ImageText.{with_tail};
 ghost use Rattle.summary.specs.Compaction.{compact};
-ghost use Rattle.history.specs.ImageMoves.{image_table};
+ghost use Rattle.scheduler.specs.ImageMoves.{image_table};
 ghost use Rattle.claim_board.specs.Boards.{moves as moves_of, identity, board_of};
 ghost use Rattle.fill.specs.FillFaults.{IsOverwritten};
-ghost use Rattle.collector.specs.Collections.{figures_of, AreNoneOrTooMany};
+ghost use Rattle.collector.specs.Collections.{figures_of, AreNoneOrTooMany, IfKept, IfLost};
+ghost use Rattle.collector.specs.declared.outcome.Refusal.TheVariants.{Kept};
 ghost use Rattle.collector.specs.Ends.{MayEnd};
 
 mod dealing;
@@ -15,20 +18,20 @@ use crate::collection::clean_up::clean_up;
 use crate::collection::hands::Alone;
 use crate::collection::prepared::Prepared;
 use crate::gate::OpenGate;
-use crate::outcome::{Figures, Outcome};
+use crate::outcome::{Figures, Outcome, Refusal};
 use crate::workers::crew::Crew;
 use crate::workers::ready::Thief;
 use crate::workers::start_line::StartLine;
 use crate::workers::worker::{Halt, Worker};
 use claim_board::{Board, Pass};
 use dealing::shares_of;
-use heap_image::{Fault, Image};
+use heap_image::{Fault, Image, Version};
 use progress::Progress;
 use region_cells::Cells;
 use retry_policy::Tries;
 use share::Share;
 use std::alloc::Global;
-use std::sync::atomic::{AtomicBool, Ordering};
+use std::sync::atomic::{AtomicBool, AtomicUsize, Ordering};
 use summary::Survey;
 
 /// What the workers of a collection in steps have in common. Each of them has a [`Share`].
@@ -41,8 +44,13 @@ pub struct Session {
     thieves: Vec<Thief>,
     /// Set once some worker has met a fault.
     stop: AtomicBool,
+    /// How many live addresses the image has in version 1, otherwise how many roots.
+    numbers: usize,
+    /// How many shares their owner counts.
+    at_hand: AtomicUsize,
     ghost moves: { moves_of desk ≡ image_table survey },
     ghost same_cells: { cells ≡ survey },
+    ghost listed: { numbers ≡ length (with_tail survey).live },
 }
 
 impl Session {
@@ -51,18 +59,47 @@ impl Session {
     /// Prepares the compaction of an image by 1 to 64 workers, and returns a share for each. Starts no thread, and never
     /// waits.
     ///
-    /// Fails with fault 12 exactly if the number of workers, which is tested first, isn't 1 to 64, and with fault 11 if
-    /// memory runs out. The image is lost then.
-    pub fn prepare(alloc: Global, image: Image, workers: u32) -> Result<Vec<Share>, Fault>
+    /// Returns `Kept` with fault 12 exactly if the number of workers, which is tested first, isn't 1 to 64, and with fault
+    /// 11 if memory runs out. Returns `Lost` with fault 15 if a cell contradicts that no region has been written.
+    pub fn prepare(alloc: Global, image: Image, workers: u32) -> Result<Vec<Share>, Refusal>
         ensures count { IfOk result (λ shares. vec_len shares ≡ workers) }
         ensures image { IfOk result (λ shares. All (λ share. image_of share ≡ image) shares.items) }
-        ensures fault { IfErr result (λ fault. (fault ≡ Fault.Memory) ⊎ (fault ≡ Fault.Workers)) }
-        ensures workers { result ≡ Err Fault.Workers ↔ AreNoneOrTooMany workers }
+        ensures kept { IfErr result (λ refusal. IfKept refusal
+            (λ back fault. (back ≡ image) × ((fault ≡ Fault.Memory) ⊎ (fault ≡ Fault.Workers)))) }
+        ensures workers { result ≡ Err (Kept image Fault.Workers) ↔ AreNoneOrTooMany workers }
+        ensures lost { IfErr result (λ refusal. IfLost refusal IsOverwritten) }
     {
-        match Prepared::<Board>::new(alloc, image, workers, &Alone) {
-            Ok(prepared) => Ok(shares_of(alloc, prepared)?),
-            Err((_image, fault)) => Err(fault),
+        let numbers = numbers_of(&image);
+        let prepared = match Prepared::<Board>::new(alloc, image, workers, &Alone) {
+            Ok(prepared) => prepared,
+            Err((image, fault)) => return Err(Refusal::Kept(image, fault)),
+        };
+        match shares_of(alloc, prepared, numbers) {
+            Ok(shares) => Ok(shares),
+            Err(Some(image)) => Err(Refusal::Kept(image, Fault::Memory)),
+            Err(None) => Err(Refusal::Lost(Fault::Overwritten(0))),
         }
+    }
+
+    /// How many regions the heap has.
+    fn regions(&self) -> u32
+        ensures { result ≡ region_count self.now.survey }
+    {
+        self.survey.plan().regions()
+    }
+
+    /// The image, if no region has been written.
+    fn into_image(self) -> Option<Image>
+        ensures { IfSome result (λ image. image ≡ self.survey) }
+    {
+        let Session {
+            survey: _,
+            desk: _,
+            cells,
+            thieves: _,
+            ..
+        } = self;
+        cells.into_image()
     }
 
     /// Lets a worker fill regions that are ready, at most `turns`. A fault of this worker stops the others.
@@ -111,10 +148,20 @@ impl Session {
             desk: _,
             cells,
             thieves: _,
-            stop: _,
+            ..
         } = self;
         let image = clean_up(cells, &survey, &Alone)?;
         let figures = Figures::of(survey.plan());
         Ok(Outcome { image, figures })
+    }
+}
+
+/// How many live addresses an image of version 1 has, otherwise how many roots.
+fn numbers_of(image: &Image) -> usize
+    ensures { result ≡ length (with_tail image.now).live }
+{
+    match image.version() {
+        Version::One => image.live().len(),
+        Version::Two | Version::Three => image.roots().len(),
     }
 }

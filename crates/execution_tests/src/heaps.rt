@@ -1,15 +1,15 @@
 //! Heaps whose regions are filled by a board's only worker.
 ghost use Rattle.std.specs.Prelude.{◌≡◌, IfOk};
-ghost use Rattle.history.specs.ImageMoves.{image_table};
+ghost use Rattle.scheduler.specs.ImageMoves.{image_table};
 ghost use Rattle.claim_board.specs.Boards.{moves as moves_of, identity, board_of};
 
 use crate::setups::{board_for_one, cells_of, end_fault};
 use claim_board::{Board, Pass};
 use fill::{clear_above, fill_region, update_deferred};
 use heap_image::{Fault, Image};
-use history::moves_of_images;
 use raw_region::Region;
 use region_cells::Cells;
+use scheduler::moves_of_images;
 use std::alloc::{AllocError, Global};
 use std::sync::Wait;
 use std::test::Fail;

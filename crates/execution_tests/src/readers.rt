@@ -1,7 +1,7 @@
 //! Two threads that read one region of the base heap at the same time.
 ghost use Rattle.std.specs.Prelude.{◌≡◌, ◌<◌, IfSome};
 ghost use Rattle.heap_image.specs.HeapImage.{region_count};
-ghost use Rattle.history.specs.MoveTable.{region_count as table_regions};
+ghost use Rattle.scheduler.specs.MoveTable.{region_count as table_regions};
 ghost use Rattle.claim_board.specs.Boards.{moves as moves_of, identity, board_of};
 
 use crate::cells::base_cells;
@@ -9,8 +9,8 @@ use crate::checks::equal;
 use crate::setups::board_of_four;
 use claim_board::{Board, Pass, Ticket, one_more_source_is_drained};
 use heap_samples::BASE_LIVE;
-use history::GivenMoves;
 use region_cells::Cells;
+use scheduler::GivenMoves;
 use std::alloc::Global;
 use std::sync::Wait;
 use std::sync::atomic::{AtomicBool, Ordering};

@@ -1,6 +1,6 @@
 //! What a recorder keeps of fills of the base heap: how many words are reported, and when.
 ghost use Rattle.std.specs.Prelude.{◌≡◌, ◌<◌, IfOk};
-ghost use Rattle.history.specs.ImageMoves.{image_table};
+ghost use Rattle.scheduler.specs.ImageMoves.{image_table};
 ghost use Rattle.claim_board.specs.Recorders.{moves as moves_of, worker_count};
 ghost use Rattle.claim_board.specs.Tickets.{IsUnused};
 
@@ -11,8 +11,9 @@ use claim_board::{Desk, Done, Recorder, Ticket};
 use fill::fill_region;
 use heap_image::Fault;
 use heap_samples::{BASE_LIVE, base_image};
-use history::{Schedule, moves_of_images, write_schedule};
+use history::write_schedule;
 use region_cells::Cells;
+use scheduler::{Schedule, moves_of_images};
 use std::alloc::Global;
 use std::sync::Wait;
 use std::test::Fail;

@@ -2,15 +2,15 @@
 //! a board of its own.
 ghost use Rattle.std.specs.Prelude.{◌≡◌, ◌<◌, IfOk};
 ghost use Rattle.heap_image.specs.HeapImage.{region_count};
-ghost use Rattle.history.specs.MoveTable.{region_count as table_regions};
+ghost use Rattle.scheduler.specs.MoveTable.{region_count as table_regions};
 ghost use Rattle.claim_board.specs.Boards.{moves as moves_of, identity, board_of};
 
 use claim_board::{Board, Opening, Pass, Right};
 use heap_image::{Fault, Image};
 use heap_samples::base_image;
-use history::{GivenMoves, Moves};
 use mark_bitmap::Marks;
 use region_cells::Cells;
+use scheduler::{GivenMoves, Moves};
 use std::alloc::Global;
 use std::sync::Wait;
 use std::test::Fail;

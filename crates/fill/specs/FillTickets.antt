@@ -1,6 +1,6 @@
 -- The ticket of a fill, at its start and at its end. `tells` says that the desk's contracts show the caller's calls.
 use Rattle.std.specs.Prelude.{◌≡◌, ℕ}
-use Rattle.history.specs.MoveTable.{MoveTable}
+use Rattle.scheduler.specs.MoveTable.{MoveTable}
 use Rattle.claim_board.specs.declared.tokens.ticket.Ticket.{Ticket}
 use Rattle.claim_board.specs.Callers.{Caller}
 use Rattle.claim_board.specs.Tickets.{IsTicketOf}

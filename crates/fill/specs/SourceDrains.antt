@@ -1,11 +1,11 @@
 -- The calls that a fill makes of the scheduler, and the sources that it reports.
 use Rattle.std.specs.Prelude.{◌≡◌, ℕ, Bool, true, false, List, [], ◌∷◌, ◌++◌, map, filter}
 use Rattle.std.specs.List.{range_with_len, FoldsTo}
-use Rattle.history.specs.declared.entry.Entry.{Entry}
-use Rattle.history.specs.declared.event.Event.TheVariants.{Drain, Complete}
-use Rattle.history.specs.declared.reply.Reply.TheVariants.{Done}
-use Rattle.history.specs.MoveTable.{MoveTable, region_count, reads}
-use Rattle.history.specs.History.{BeginsWith, entry}
+use Rattle.scheduler.specs.declared.entry.Entry.{Entry}
+use Rattle.scheduler.specs.declared.event.Event.TheVariants.{Drain, Complete}
+use Rattle.scheduler.specs.declared.reply.Reply.TheVariants.{Done}
+use Rattle.scheduler.specs.MoveTable.{MoveTable, region_count, reads}
+use Rattle.scheduler.specs.History.{BeginsWith, entry}
 use Rattle.claim_board.specs.declared.tokens.drained.Drained.{Drained}
 use Rattle.claim_board.specs.declared.tokens.drained.Drained.TheVariants.{Last, NotLast}
 use Rattle.claim_board.specs.Callers.{Caller}

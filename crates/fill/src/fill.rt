@@ -1,6 +1,6 @@
 ghost use Rattle.std.specs.Prelude.{◌≡◌, ◌≤◌, IfOk, IfErr, OnOk, Err};
 ghost use Rattle.summary.specs.RegionData.{fill_count};
-ghost use Rattle.history.specs.ImageMoves.{image_table};
+ghost use Rattle.scheduler.specs.ImageMoves.{image_table};
 ghost use Rattle.claim_board.specs.Tickets.{IsUnused, IsTicketOf, IsDoneOf};
 ghost use Rattle.fill.specs.SourceDrains.{HasFilled};
 ghost use Rattle.fill.specs.FillFaults.{IsFaultOf};
@@ -10,9 +10,9 @@ use crate::region::guide::Guide;
 use crate::region::site::Site;
 use claim_board::{Desk, Done, Ticket};
 use heap_image::Fault;
-use history::moves_of_images;
 use region_cells::{Cells, Placed};
 use retry_policy::RetryPolicy;
+use scheduler::moves_of_images;
 use summary::Survey;
 use summary::laws::plans::planned_image_is_valid;
 use summary::laws::region_data::regions_to_fill;

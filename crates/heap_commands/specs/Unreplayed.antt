@@ -6,7 +6,7 @@ use Rattle.heap_image.specs.ImageText.{text}
 use Rattle.heap_image.specs.Refusals.{IsOfReading, IsReason}
 use Rattle.heap_image.specs.declared.fault.Fault.{Fault}
 use Rattle.heap_image.specs.declared.fault.Fault.TheVariants.{Io, Memory, Schedule}
-use Rattle.history.specs.Schedule.{ScheduleView}
+use Rattle.scheduler.specs.Schedule.{ScheduleView}
 use Rattle.history.specs.ScheduleText.{schedule_text}
 use Rattle.history.specs.ReadSchedule.{IsMalformedAt}
 use Rattle.history.specs.Replay.{IsRefusedAt}

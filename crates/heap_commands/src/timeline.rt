@@ -20,8 +20,8 @@ use heap_image::{
     Fault, FromRead, Image, Intake, Outlet, ToWrite, give_all, read_image_by_threads,
 };
 use heap_map::Style;
-use history::Schedule;
 use schedule_timeline::Names;
+use scheduler::Schedule;
 use std::alloc::{AllocError, Global};
 use std::rt::Files;
 use std::thread::Threads;

@@ -2,17 +2,17 @@
 use Rattle.std.specs.Prelude.{◌≡◌, ℕ, ◌+◌, ◌-◌, min, List, length, slice_index, slice_set}
 use Rattle.heap_image.specs.HeapImage.{HeapImage, region_words, region_count, start_of}
 use Rattle.summary.specs.RegionData.{destination, data_words}
-use Rattle.history.specs.Scheduler.{state_in}
-use Rattle.history.specs.ImageMoves.{image_table}
+use Rattle.scheduler.specs.Scheduler.{state_in}
+use Rattle.scheduler.specs.ImageMoves.{image_table}
 use Rattle.history.specs.Slide.{Machine, IsMachineStep, machine_after}
 use Rattle.history.specs.WordMachine.{image_slide}
 use Rattle.history.specs.Replay.{IsCallOfLine}
 use Rattle.history.specs.LineCause.{IsCause}
-use Rattle.history.specs.declared.entry.Entry.{Entry}
-use Rattle.history.specs.declared.event.Event.{Event}
-use Rattle.history.specs.declared.event.Event.TheVariants.{Copy}
+use Rattle.scheduler.specs.declared.entry.Entry.{Entry}
+use Rattle.scheduler.specs.declared.event.Event.{Event}
+use Rattle.scheduler.specs.declared.event.Event.TheVariants.{Copy}
 use Rattle.history.specs.declared.machine.ledger.Ledger.{Ledger}
-use Rattle.history.specs.declared.schedule.line.Line.{Line}
+use Rattle.scheduler.specs.declared.schedule.line.Line.{Line}
 use Rattle.history.specs.declared.machine.line_cause.LineCause.{LineCause}
 
 -- a ledger of an image and this number of workers

@@ -1,17 +1,17 @@
 -- Why the word machine refuses a line of a schedule.
 use Rattle.std.specs.Prelude.{◌≡◌, ◌≢◌, ℕ, Some}
 use Rattle.heap_image.specs.HeapImage.{HeapImage}
-use Rattle.history.specs.History.{entry}
-use Rattle.history.specs.Schedule.{ScheduleView}
-use Rattle.history.specs.ImageMoves.{image_table}
+use Rattle.scheduler.specs.History.{entry}
+use Rattle.scheduler.specs.Schedule.{ScheduleView}
+use Rattle.scheduler.specs.ImageMoves.{image_table}
 use Rattle.history.specs.Slide.{Machine, IsMachineStep}
 use Rattle.history.specs.WordMachine.{image_slide, machine_of}
 use Rattle.history.specs.Replay.{IsRefusedAt}
-use Rattle.history.specs.declared.schedule.line.Line.{Line}
+use Rattle.scheduler.specs.declared.schedule.line.Line.{Line}
 use Rattle.history.specs.declared.machine.line_cause.LineCause.{LineCause}
 use Rattle.history.specs.declared.machine.line_cause.LineCause.TheVariants.{NotAllowed, OtherReply}
 use Rattle.history.specs.declared.machine.refused_line.RefusedLine.{RefusedLine}
-use Rattle.history.specs.declared.reply.Reply.{Reply}
+use Rattle.scheduler.specs.declared.reply.Reply.{Reply}
 
 -- the line's event is a step of the machine with no reply; or it is with this reply, and the line has another
 abbrev pub IsCause : HeapImage → ℕ → Machine → Line → LineCause → Type 0

@@ -1,9 +1,9 @@
 -- Which line of a text is malformed.
 use Rattle.std.specs.Prelude.{◌≡◌, ◌≢◌, ℕ, ◌+◌, ◌≤◌, Bool, ◌&&◌, ◌⊎◌, IsTrue, All, List, [], ◌++◌, length}
-use Rattle.history.specs.Schedule.{ScheduleView, is_line}
+use Rattle.scheduler.specs.Schedule.{ScheduleView, is_line}
 use Rattle.history.specs.ScheduleText.{line_text, header_text, schedule_text}
 use Rattle.history.specs.Verb.{has_numbers}
-use Rattle.history.specs.declared.schedule.line.Line.{Line}
+use Rattle.scheduler.specs.declared.schedule.line.Line.{Line}
 
 -- a line of a worker below this number, with numbers that a text may have
 abbrev pub is_text_line : ℕ → Line → Bool

@@ -1,12 +1,12 @@
 -- A schedule recorded to the end of a collection.
 use Rattle.std.specs.Prelude.{◌≡◌, ℕ, List}
 use Rattle.heap_image.specs.HeapImage.{HeapImage}
-use Rattle.history.specs.State.{AllAreSettled}
-use Rattle.history.specs.Schedule.{ScheduleView, schedule_of}
-use Rattle.history.specs.ImageMoves.{image_table}
+use Rattle.scheduler.specs.State.{AllAreSettled}
+use Rattle.scheduler.specs.Schedule.{ScheduleView, schedule_of}
+use Rattle.scheduler.specs.ImageMoves.{image_table}
 use Rattle.history.specs.WordMachine.{machine_of, IsAllowed}
-use Rattle.history.specs.Whole.{HasEachOnce}
-use Rattle.history.specs.declared.entry.Entry.{Entry}
+use Rattle.scheduler.specs.Whole.{HasEachOnce}
+use Rattle.scheduler.specs.declared.entry.Entry.{Entry}
 
 -- The schedule has each call with its reply. The word machine of the image allows the calls, and all regions to be filled
 -- are settled after them. Each of these regions is granted, completed and settled once, and each pair is drained once.

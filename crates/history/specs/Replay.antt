@@ -1,13 +1,13 @@
 -- The result of a replay: the calls, or the first line that the word machine refuses.
 use Rattle.std.specs.Prelude.{◌≡◌, ℕ, ◌+◌, ◌⊎◌, ◌↔◌, Bool, IsTrue, List, [], ◌∷◌, ◌++◌, length, Some, None}
 use Rattle.heap_image.specs.HeapImage.{HeapImage}
-use Rattle.history.specs.State.{AllAreSettled}
-use Rattle.history.specs.Schedule.{ScheduleView}
-use Rattle.history.specs.ImageMoves.{image_table}
+use Rattle.scheduler.specs.State.{AllAreSettled}
+use Rattle.scheduler.specs.Schedule.{ScheduleView}
+use Rattle.scheduler.specs.ImageMoves.{image_table}
 use Rattle.history.specs.Slide.{IsMachineStep}
 use Rattle.history.specs.WordMachine.{image_slide, machine_of, IsAllowed}
-use Rattle.history.specs.declared.entry.Entry.{Entry}
-use Rattle.history.specs.declared.schedule.line.Line.{Line}
+use Rattle.scheduler.specs.declared.entry.Entry.{Entry}
+use Rattle.scheduler.specs.declared.schedule.line.Line.{Line}
 
 -- the call of the line, with the line's reply, or with any reply if the line leaves it open
 pub record IsCallOfLine (line : Line) (e : Entry) : Type 0 where

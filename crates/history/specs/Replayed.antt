@@ -2,17 +2,17 @@
 use Rattle.std.specs.Prelude.{◌≡◌, ℕ, ◌+◌, ◌<◌, ◌↔◌, Bool, IsTrue, List, length, map, slice_index}
 use Rattle.heap_image.specs.HeapImage.{HeapImage, heap_words, start_of}
 use Rattle.summary.specs.Compaction.{compact}
-use Rattle.history.specs.State.{AllAreSettled}
-use Rattle.history.specs.ImageMoves.{image_table}
+use Rattle.scheduler.specs.State.{AllAreSettled}
+use Rattle.scheduler.specs.ImageMoves.{image_table}
 use Rattle.history.specs.Slide.{Machine}
-use Rattle.history.specs.Schedule.{ScheduleView, line_of, schedule_of}
+use Rattle.scheduler.specs.Schedule.{ScheduleView, line_of, schedule_of}
 use Rattle.history.specs.WordMachine.{machine_of, IsDrainedBeforeWritten}
 use Rattle.history.specs.Replay.{IsReplay}
-use Rattle.history.specs.declared.entry.Entry.{Entry}
-use Rattle.history.specs.declared.event.Event.{Event}
-use Rattle.history.specs.declared.event.Event.TheVariants.{Copy}
+use Rattle.scheduler.specs.declared.entry.Entry.{Entry}
+use Rattle.scheduler.specs.declared.event.Event.{Event}
+use Rattle.scheduler.specs.declared.event.Event.TheVariants.{Copy}
 use Rattle.history.specs.declared.machine.ledger.Ledger.{Ledger}
-use Rattle.history.specs.declared.schedule.line.Line.{Line}
+use Rattle.scheduler.specs.declared.schedule.line.Line.{Line}
 use Rattle.history.specs.declared.machine.replayed.End.{End}
 use Rattle.history.specs.declared.machine.replayed.End.TheVariants.{Finished, Open}
 use Rattle.history.specs.declared.machine.replayed.Replayed.{Replayed}

@@ -1,9 +1,10 @@
 -- The results of parsing a reply.
 use Rattle.std.specs.Prelude.{◌≡◌, ◌≢◌, ℕ, IsTrue, List, Option, MatchOption}
-use Rattle.history.specs.Schedule.{is_reply_to, is_told_reply}
-use Rattle.history.specs.ScheduleText.{reply_text, told_text}
-use Rattle.history.specs.declared.event.Event.{Event}
-use Rattle.history.specs.declared.reply.Reply.{Reply}
+use Rattle.scheduler.specs.Schedule.{is_reply_to, is_told_reply}
+use Rattle.scheduler.specs.CallText.{reply_text}
+use Rattle.history.specs.ScheduleText.{told_text}
+use Rattle.scheduler.specs.declared.event.Event.{Event}
+use Rattle.scheduler.specs.declared.reply.Reply.{Reply}
 
 -- these bytes are the text of this reply to the event, or of none
 abbrev pub ReadsReply : Event → List ℕ → Option Reply → Type 0

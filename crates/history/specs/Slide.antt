@@ -1,10 +1,10 @@
 -- The word machine: the scheduler's steps with a heap, for words that slide down.
 use Rattle.std.specs.Prelude.{◌≡◌, ◌≢◌, ℕ, zero, suc, ◌+◌, ◌-◌, ◌*◌, ◌/◌, ◌%◌, ◌<◌, ◌≤◌, min, ◌==◌, nat_lt, if◌then◌else◌, IsTrue, Option, Some, None, List, [], ◌∷◌}
-use Rattle.history.specs.MoveTable.{MoveTable, reads, to_fill}
-use Rattle.history.specs.State.{State, opening, state_after, IsStep}
-use Rattle.history.specs.declared.event.Event.{Event}
-use Rattle.history.specs.declared.event.Event.TheVariants.{Claim, Look, Drain, Complete, Settle, Poll, Copy}
-use Rattle.history.specs.declared.entry.Entry.{Entry}
+use Rattle.scheduler.specs.MoveTable.{MoveTable, reads, to_fill}
+use Rattle.scheduler.specs.State.{State, opening, state_after, IsStep}
+use Rattle.scheduler.specs.declared.event.Event.{Event}
+use Rattle.scheduler.specs.declared.event.Event.TheVariants.{Claim, Look, Drain, Complete, Settle, Poll, Copy}
+use Rattle.scheduler.specs.declared.entry.Entry.{Entry}
 
 -- Which word goes where, and how it is written. The address a lies in the region a / size.
 pub record Slide : Type 0 where

@@ -1,9 +1,9 @@
 -- The parts of an event's text.
 use Rattle.std.specs.Prelude.{ℕ, ◌^◌, Bool, true, ◌&&◌, nat_lt, List, ◌∷◌, ◌++◌, codes, decimal}
-use Rattle.history.specs.declared.schedule.verb.Verb.{Verb}
-use Rattle.history.specs.declared.schedule.verb.Verb.TheVariants as verb
-use Rattle.history.specs.declared.event.Event.{Event}
-use Rattle.history.specs.declared.event.Event.TheVariants.{Claim, Look, Drain, Complete, Settle, Poll, Copy}
+use Rattle.scheduler.specs.declared.schedule.verb.Verb.{Verb}
+use Rattle.scheduler.specs.declared.schedule.verb.Verb.TheVariants as verb
+use Rattle.scheduler.specs.declared.event.Event.{Event}
+use Rattle.scheduler.specs.declared.event.Event.TheVariants.{Claim, Look, Drain, Complete, Settle, Poll, Copy}
 
 abbrev pub verb_text : Verb → List ℕ
 verb_text verb.Claim = codes "claim"

@@ -7,8 +7,8 @@ use Rattle.summary.specs.WordMoves.{origin}
 use Rattle.summary.specs.Fillers.{filler_word}
 use Rattle.summary.specs.Compaction.{is_reference_of, is_deferred, redirected, moved_word}
 use Rattle.history.specs.Slide.{Slide, Machine, machine_at_first, machine_from, AreMachineSteps, AllFind, AllFilled}
-use Rattle.history.specs.ImageMoves.{image_table}
-use Rattle.history.specs.declared.entry.Entry.{Entry}
+use Rattle.scheduler.specs.ImageMoves.{image_table}
+use Rattle.scheduler.specs.declared.entry.Entry.{Entry}
 
 module _ (image : HeapImage) where
   -- q is a reference of a live object that isn't deferred

@@ -1,50 +1,16 @@
-ghost use Rattle.std.specs.Prelude.{ℕ, List, IsTrue};
+ghost use Rattle.std.specs.Prelude.{ℕ, List};
 ghost use Rattle.heap_image.specs.HeapImage.{HeapImage, IsValid};
-ghost use Rattle.history.specs.MoveTable.{MoveTable, IsMoveTable, Slides, reads};
-ghost use Rattle.history.specs.State.{State};
-ghost use Rattle.history.specs.History.{IsLegal, IsOrderly, IsReached, TellsOwn, CountsDown, state_of, calls_by};
+ghost use Rattle.history.specs.MachineLaws.{MachineLaws};
 ghost use Rattle.history.specs.WordMachine.{IsAllowed, IsDrainedBeforeWritten};
-ghost use Rattle.history.specs.declared.entry.Entry.{Entry};
+ghost use Rattle.scheduler.specs.declared.entry.Entry.{Entry};
 
 pub(crate) mod image_laws;
 pub(crate) mod record_laws;
 pub(crate) mod replay_laws;
 pub(crate) mod text_laws;
-pub(crate) mod whole_histories;
 
-use crate::moves::Moves;
+use scheduler::{calls_are_lines, how_counts_go_down, moves_of_images, what_legal_histories_keep};
 use summary::laws::plan_laws;
-
-/// For any number of workers and any order of calls: a region is granted at most once, when it has no
-/// pending readers and will have none; only its claimant completes it, after all its reads are drained;
-/// and exactly the last settling returns `All`.
-pub fn legal_histories_are_orderly()
-    ensures { (m : MoveTable) (workers : ℕ) (log : List Entry) → IsLegal m workers log → IsOrderly m log }
-{}
-
-/// In each state to which a legal history leads, settled regions are filled, filled regions are
-/// claimed, a claimed region has no pending readers and a filled one no undrained sources.
-pub fn what_legal_histories_keep()
-    ensures { (m : MoveTable) (workers : ℕ) (log : List Entry) → IsLegal m workers log → IsReached m (state_of log) }
-{}
-
-/// One worker's own calls in a legal history determine the state of each region that it claimed,
-/// whatever the other workers called in between, and say nothing about any other region.
-pub fn what_own_calls_tell()
-    ensures { (m : MoveTable) (workers worker : ℕ) (log : List Entry) → IsLegal m workers log → TellsOwn worker (state_of (calls_by worker log)) (state_of log) }
-{}
-
-/// The counts of readers, sources and unsettled regions that are left: a region has at most two
-/// readers, and each drain and each settling lowers its own counts by one and leaves the others.
-pub fn how_counts_go_down()
-    ensures { (m : MoveTable) (now : State) → IsMoveTable m → CountsDown m now }
-{}
-
-/// In each pair of a table of moves, words slide down, from a region in range to one that is to be
-/// filled.
-pub fn pairs_slide_down()
-    ensures { (m : MoveTable) (d s : ℕ) → IsMoveTable m → IsTrue (reads m d s) → Slides m.fill (d, s) }
-{}
 
 /// No word is overwritten before it is copied out. For a valid image and any number of workers: in
 /// every list of calls that the word machine allows, each copy finds each origin word as it was at the
@@ -53,12 +19,16 @@ pub fn pairs_slide_down()
 pub fn drained_before_written()
     ensures { (image : HeapImage) → IsValid image → (workers : ℕ) (log : List Entry) → IsAllowed image workers log → IsDrainedBeforeWritten image log }
 {
-    plan_laws();
+    machine_laws();
 }
 
-/// Moves keep the laws of a table.
-pub fn moves_are_lawful<M: Moves>(moves: &M)
-    ensures { IsMoveTable (M.table moves.now) }
+/// What the proofs of the word machine use of plans, of the image's table, of legal histories and of lines.
+pub(crate) fn machine_laws()
+    ensures { MachineLaws }
 {
-    moves.regions();
+    plan_laws();
+    moves_of_images();
+    how_counts_go_down();
+    what_legal_histories_keep();
+    calls_are_lines();
 }

@@ -1,5 +1,5 @@
 //! How the workers' parts in a collection are given to a host.
-ghost use Rattle.std.specs.Prelude.{◌≡◌, ◌⊎◌, ◌<◌, ◌≤◌, Some, false, IsTrue, IfOk, OnErr, IfErr, All, length, vec_len};
+ghost use Rattle.std.specs.Prelude.{◌≡◌, ◌⊎◌, ◌<◌, ◌≤◌, Some, false, IsTrue, All, length, vec_len};
 ghost use Rattle.heap_image.specs.HeapImage.{HeapImage};
 ghost use Rattle.heap_image.specs.declared.fault.Fault.TheVariants.{Memory, Workers};
 ghost use Rattle.collector.specs.Sessions.{image_of};
@@ -8,9 +8,10 @@ ghost use Rattle.pcompact_c.specs.Handles.{image_in};
 
 use crate::fault::PcompactFault;
 use crate::handle::PcompactHandle;
-use collector::{Session, Share};
+use caller_heap::boxed_shares;
+use collector::{Refusal, Share};
 use heap_image::{Fault, Image};
-use std::alloc::{AllocError, Global};
+use std::alloc::Global;
 
 /// The most workers of a collection.
 const MOST_WORKERS: usize = 64;
@@ -46,40 +47,27 @@ pub(crate) fn deal(alloc: Global, image: Image, handles: &mut [PcompactHandle]) 
     ensures kept { 0 < result.number → handles.new ≡ handles.old }
     ensures fault { 0 < result.number → IsOf Workers result ⊎ IsOf Memory result }
 {
-    match shares_of(alloc, image, handles.len() as u32) {
+    match boxed_shares(alloc, image, handles.len() as u32) {
         Ok(shares) => {
             hand_out(shares, handles);
             PcompactFault::NONE
         }
-        Err(fault) => PcompactFault::of(fault),
+        Err(refusal) => PcompactFault::of(fault_of(refusal)),
     }
 }
 
-/// The parts of so many workers in the compaction of an image, each in a box of its own.
-fn shares_of(alloc: Global, image: Image, workers: u32) -> Result<Vec<Box<Share, Global>>, Fault>
-    ensures count { IfOk result (λ shares. vec_len shares ≡ workers) }
-    ensures image { IfOk result (λ shares. All (λ share. image_of share.value ≡ image) shares.items) }
-    ensures fault { IfErr result (λ fault. (fault ≡ Memory) ⊎ (fault ≡ Workers)) }
+/// The fault of a begin over a copy of the words, which may be lost: 12 if there aren't 1 to 64 workers, otherwise 11.
+fn fault_of(refusal: Refusal) -> Fault
+    ensures { (result ≡ Memory) ⊎ (result ≡ Workers) }
 {
-    let shares = Session::prepare(alloc, image, workers)?;
-    Ok(boxed(alloc, shares)?)
-}
-
-/// Moves each share into a box of its own. Fails if memory runs out.
-fn boxed(alloc: Global, mut shares: Vec<Share>) -> Result<Vec<Box<Share, Global>>, AllocError>
-    ensures count { IfOk result (λ boxes. vec_len boxes ≡ vec_len shares) }
-    ensures image { (image : HeapImage) → All (λ share. image_of share ≡ image) shares.items
-        → IfOk result (λ boxes. All (λ share. image_of share.value ≡ image) boxes.items) }
-{
-    let mut boxes = Vec::with_capacity(alloc, shares.len())?;
-    while let Some(share) = shares.pop() {
-        boxes.push(Box::new(alloc, share)?)?;
+    match refusal.fault() {
+        Fault::Workers => Fault::Workers,
+        _ => Fault::Memory,
     }
-    Ok(boxes)
 }
 
 /// Gives each handle one of as many shares.
-fn hand_out(mut shares: Vec<Box<Share, Global>>, handles: &mut [PcompactHandle])
+pub(crate) fn hand_out(mut shares: Vec<Box<Share, Global>>, handles: &mut [PcompactHandle])
     requires free { All (λ h. h.0 ≡ false) handles.old }
     requires count { vec_len shares ≡ length handles.old }
     ensures image { (image : HeapImage) → All (λ share. image_of share.value ≡ image) shares.items

@@ -1,9 +1,10 @@
 //! A worker's part in a collection, as a host keeps it.
-ghost use Rattle.std.specs.Prelude.{◌≡◌, true, false, Some, None, Option, MatchOption, is_some};
+ghost use Rattle.std.specs.Prelude.{◌≡◌, true, false, IsTrue, Some, None, Option, MatchOption, is_some};
 ghost use Rattle.collector.specs.declared.session.share.Share.{Share};
 ghost use Rattle.pcompact_c.specs.Handles.{shares_coded};
 
 use crate::raw_box::RawBox;
+use caller_heap::suits;
 use collector::{Halt, Progress, Share};
 use std::alloc::Global;
 use std::marker::{Model, Send};
@@ -114,6 +115,53 @@ impl PcompactHandle {
         ensures { self.new.2 ≡ Some share.value }
     {
         mem::replace(self, PcompactHandle::of(RawBox::of(share))).vacate();
+    }
+
+    /// Counts the share among those at hand. Returns whether the handle is held.
+    pub(crate) fn count_in(&mut self, alloc: Global) -> bool
+        ensures share { self.new.2 ≡ self.old.2 }
+        ensures held { IsTrue result → is_some self.old.2 ≡ true }
+    {
+        let Some(share) = self.leave(alloc) else {
+            return false;
+        };
+        share.count_in();
+        self.enter(share);
+        true
+    }
+
+    /// Takes the share, if it has one, out of that count.
+    pub(crate) fn count_out(&mut self, alloc: Global)
+        ensures { self.new.2 ≡ self.old.2 }
+    {
+        if let Some(share) = self.leave(alloc) {
+            share.count_out();
+            self.enter(share);
+        }
+    }
+
+    /// Whether it has a share, just so many shares are counted, and they are all of its session.
+    pub(crate) fn are_all_counted(&mut self, alloc: Global, shares: usize) -> bool
+        ensures { self.new.2 ≡ self.old.2 }
+    {
+        let Some(share) = self.leave(alloc) else {
+            return false;
+        };
+        let are_all = share.are_all_counted(shares);
+        self.enter(share);
+        are_all
+    }
+
+    /// Whether it has a share of a session whose image has so many regions, and live addresses or roots.
+    pub(crate) fn suits(&mut self, alloc: Global, regions: usize, numbers: usize) -> bool
+        ensures { self.new.2 ≡ self.old.2 }
+    {
+        let Some(share) = self.leave(alloc) else {
+            return false;
+        };
+        let suits = suits(&share, regions, numbers);
+        self.enter(share);
+        suits
     }
 
     /// Lets the worker fill regions that are ready, at most `turns`. Returns `None` if the handle isn't held.

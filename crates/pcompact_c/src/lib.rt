@@ -9,6 +9,8 @@
 
 mod answer;
 mod begin;
+mod begin_lent;
+mod begin_lent_rooted;
 mod begin_rooted;
 mod check;
 mod collect;
@@ -22,6 +24,7 @@ mod decode_rooted;
 mod encode;
 mod encode_rooted;
 mod end;
+mod end_lent;
 mod fault;
 mod fault_text;
 mod handle;
@@ -33,6 +36,7 @@ mod raw_box;
 mod summary_of_heap;
 mod summary_of_image;
 mod taking;
+mod taking_lent;
 mod verdict;
 mod verify;
 mod version;

@@ -44,7 +44,24 @@ fn take_shares(alloc: Global, handles: &mut [PcompactHandle]) -> Result<Vec<Shar
     ensures shares { IfOk result (λ shares. map (λ h. h.2) handles.old ≡ map Some shares.items) }
     ensures fault { IfErr result (λ fault. (fault ≡ Workers) ⊎ (fault ≡ Memory)) }
 {
-    let mut taken = room_for(alloc, handles.len());
+    let room = room_for(alloc, handles.len());
+    take_into(alloc, room, handles)
+}
+
+/// Takes the shares out of these handles, in their order, into a list, unless there is a fault. Fails as
+/// [`take_shares`].
+pub(crate) fn take_into(
+    alloc: Global,
+    room: Result<Vec<Share>, Fault>,
+    handles: &mut [PcompactHandle],
+) -> Result<Vec<Share>, Fault>
+    requires none { IfOk room (λ shares. shares.items ≡ []) }
+    requires fault { IfErr room (λ fault. (fault ≡ Workers) ⊎ (fault ≡ Memory)) }
+    ensures free { All (λ h. h.2 ≡ None) handles.new }
+    ensures shares { IfOk result (λ shares. map (λ h. h.2) handles.old ≡ map Some shares.items) }
+    ensures fault { IfErr result (λ fault. (fault ≡ Workers) ⊎ (fault ≡ Memory)) }
+{
+    let mut taken = room;
     for handle in handles.iter_mut() {
         taken = with_share(taken, handle.leave(alloc));
     }
@@ -52,7 +69,7 @@ fn take_shares(alloc: Global, handles: &mut [PcompactHandle]) -> Result<Vec<Shar
 }
 
 /// No share, with room for so many. Fails with fault 11 if memory runs out.
-fn room_for(alloc: Global, count: usize) -> Result<Vec<Share>, Fault>
+pub(crate) fn room_for(alloc: Global, count: usize) -> Result<Vec<Share>, Fault>
     ensures none { IfOk result (λ shares. shares.items ≡ []) }
     ensures fault { IfErr result (λ fault. fault ≡ Memory) }
 {

@@ -1,4 +1,4 @@
-ghost use Rattle.std.specs.Prelude.{◌≡◌, ℕ, ◌+◌, ◌<◌, ◌≤◌, ◌∷◌, [], ◌++◌, length, map, option_map, IfOk, IfErr, vec_len};
+ghost use Rattle.std.specs.Prelude.{◌≡◌, ℕ, ◌+◌, ◌<◌, ◌≤◌, ◌∷◌, [], ◌++◌, length, map, option_map, IfOk, IfErr, IfSome, vec_len};
 ghost use Rattle.std.specs.List.{range_with_len};
 ghost use Rattle.std.specs.Vec.{vec_capacity};
 ghost use Rattle.heap_image.specs.HeapImage.{IsValid, region_words, region_count, block_of};
@@ -162,6 +162,21 @@ impl Cells {
             add(&mut parts.regions, region);
         }
         Ok(parts)
+    }
+
+    /// The image again, if no region has been written. `None` if one was; the image is lost then.
+    pub fn into_image(self) -> Option<Image>
+        ensures { IfSome result (λ image. image ≡ self) }
+    {
+        let Cells {
+            slots,
+            fill_regions: _,
+            mut parts,
+        } = self;
+        for slot in slots {
+            add(&mut parts.regions, final_region(slot, false)?);
+        }
+        Some(parts.into_image())
     }
 
     fn slot(&self, region: u32) -> &Counted<Kept>

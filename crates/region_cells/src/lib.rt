@@ -2,7 +2,8 @@
 //!
 //! [`Cells::of`] moves each region of an image into a cell. [`Cells::read`] opens one for reading, as a [`Source`],
 //! with an opening from the board; [`Cells::write`] takes one out for writing, as a [`Target`], with a right from the
-//! board. [`Cells::into_regions`] returns the regions once those to be filled have moved.
+//! board. [`Cells::into_regions`] returns the regions once those to be filled have moved, and [`Cells::into_image`] the
+//! image while none has.
 //!
 //! A cell holds its region in its original state, moved, or spoiled. Only an original region can be read. Only
 //! [`Target::put`] makes one moved, and it requires the moved words. No one sees the words of a spoiled region. No call

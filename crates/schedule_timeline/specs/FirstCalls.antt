@@ -1,7 +1,7 @@
 -- Tables of the first calls that grant, complete or settle regions.
 use Rattle.std.specs.Prelude.{◌≡◌, ℕ, ◌<◌, ◌≤◌, IsTrue, All, List, length, Option, Some, None, slice_index_or}
-use Rattle.history.specs.History.{is_grant}
-use Rattle.history.specs.declared.entry.Entry.{Entry}
+use Rattle.scheduler.specs.History.{is_grant}
+use Rattle.scheduler.specs.declared.entry.Entry.{Entry}
 use Rattle.schedule_timeline.specs.Timeline.{does, first_call}
 use Rattle.schedule_timeline.specs.declared.timeline.call.Call.{Call}
 use Rattle.schedule_timeline.specs.declared.timeline.deed.Deed.{Deed}

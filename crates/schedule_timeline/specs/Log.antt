@@ -1,7 +1,7 @@
 -- Schedules with the replies of all calls.
 use Rattle.std.specs.Prelude.{◌≡◌, List, map}
-use Rattle.history.specs.Schedule.{ScheduleView, entries_of, line_of}
-use Rattle.history.specs.declared.entry.Entry.{Entry}
+use Rattle.scheduler.specs.Schedule.{ScheduleView, entries_of, line_of}
+use Rattle.scheduler.specs.declared.entry.Entry.{Entry}
 
 -- the calls of the lines that have a reply
 abbrev pub log_of : ScheduleView → List Entry

@@ -2,20 +2,20 @@
 use Rattle.std.specs.Prelude.{◌≡◌, ℕ, ◌+◌, ◌==◌, Bool, false, if◌then◌else◌, List, Option, Some, None, option_map, slice_get}
 use Rattle.std.specs.List.{enumerate_from, filter_map}
 use Rattle.heap_image.specs.HeapImage.{HeapImage}
-use Rattle.history.specs.State.{AllAreSettled}
-use Rattle.history.specs.History.{is_grant, is_settling_of}
-use Rattle.history.specs.Whole.{is_completion_of}
-use Rattle.history.specs.Schedule.{ScheduleView, schedule_of}
-use Rattle.history.specs.ImageMoves.{image_table}
+use Rattle.scheduler.specs.State.{AllAreSettled}
+use Rattle.scheduler.specs.History.{is_grant, is_settling_of}
+use Rattle.scheduler.specs.Whole.{is_completion_of}
+use Rattle.scheduler.specs.Schedule.{ScheduleView, schedule_of}
+use Rattle.scheduler.specs.ImageMoves.{image_table}
 use Rattle.history.specs.WordMachine.{machine_of}
 use Rattle.history.specs.Replay.{IsReplay}
-use Rattle.history.specs.declared.entry.Entry.{Entry}
-use Rattle.history.specs.declared.event.Event.{Event}
-use Rattle.history.specs.declared.event.Event.TheVariants.{Claim, Drain}
+use Rattle.scheduler.specs.declared.entry.Entry.{Entry}
+use Rattle.scheduler.specs.declared.event.Event.{Event}
+use Rattle.scheduler.specs.declared.event.Event.TheVariants.{Claim, Drain}
 use Rattle.history.specs.declared.machine.replayed.End.{End}
 use Rattle.history.specs.declared.machine.replayed.End.TheVariants as end
-use Rattle.history.specs.declared.reply.Reply.{Reply}
-use Rattle.history.specs.declared.reply.Reply.TheVariants.{Yes, Last}
+use Rattle.scheduler.specs.declared.reply.Reply.{Reply}
+use Rattle.scheduler.specs.declared.reply.Reply.TheVariants.{Yes, Last}
 use Rattle.schedule_timeline.specs.declared.timeline.bar.Bar.{Bar}
 use Rattle.schedule_timeline.specs.declared.timeline.call.Call.{Call}
 use Rattle.schedule_timeline.specs.declared.timeline.deed.Deed.{Deed}

@@ -1,7 +1,7 @@
 ghost use Rattle.std.specs.Prelude.{◌≡◌, ◌<◌, Some, length, slice_get};
 ghost use Rattle.schedule_timeline.specs.Log.{HasAllReplies, log_of};
 
-use history::{Entry, Reply, Schedule};
+use scheduler::{Entry, Reply, Schedule};
 
 /// The call of line `i`, counted from 0, of a schedule in which each line has its reply.
 pub(crate) fn entry_at(schedule: &Schedule, i: usize) -> Entry

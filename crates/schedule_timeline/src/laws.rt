@@ -2,11 +2,12 @@
 ghost use Rattle.std.specs.Prelude.{ℕ, List};
 ghost use Rattle.heap_image.specs.HeapImage.{HeapImage, region_count};
 ghost use Rattle.history.specs.Replay.{IsReplay};
-ghost use Rattle.history.specs.declared.entry.Entry.{Entry};
-ghost use Rattle.history.specs.declared.schedule.line.Line.{Line};
+ghost use Rattle.scheduler.specs.declared.entry.Entry.{Entry};
+ghost use Rattle.scheduler.specs.declared.schedule.line.Line.{Line};
 ghost use Rattle.schedule_timeline.specs.FirstCalls.{AreGrantedBelow};
 
-use history::{moves_of_images, what_replays_keep};
+use history::what_replays_keep;
+use scheduler::moves_of_images;
 
 /// A call grants only a region of the image.
 pub fn grants_are_inside()

@@ -7,9 +7,10 @@ mod page_layout;
 mod page_script;
 
 use crate::names::{Names, write_names};
-use history::{Schedule, append_schedule};
+use history::append_schedule;
 use page_layout::{AFTER_SCHEDULE, BEFORE_MOVES, BEFORE_SCHEDULE, HEAD, TAIL};
 use page_script::SCRIPT;
+use scheduler::Schedule;
 use std::alloc::{AllocError, Global};
 use summary::Plan;
 

@@ -33,7 +33,8 @@ use first_calls::{call_at, call_of, first_calls};
 use freeing::Freeing;
 use heap_image::{Fault, Image};
 use heap_map::Style;
-use history::{End, Entry, Event, Replayed, Reply, Schedule, replay};
+use history::{End, Replayed, replay};
+use scheduler::{Entry, Event, Reply, Schedule};
 use std::alloc::{AllocError, Global};
 use summary::{Plan, Survey};
 

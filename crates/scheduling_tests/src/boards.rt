@@ -1,13 +1,13 @@
 //! Boards over given tables of moves, and their passes.
 ghost use Rattle.std.specs.Prelude.{◌≡◌, ◌≤◌, ◌<◌, IfOk, OnOk, IfSome, OnSome};
-ghost use Rattle.history.specs.MoveTable.{region_count};
+ghost use Rattle.scheduler.specs.MoveTable.{region_count};
 ghost use Rattle.claim_board.specs.Boards.{moves as moves_of, identity, board_of, AllOf};
 
 use crate::checks::{equal, expect_memory_fault};
 use crate::scheduler::moves_with_prefix;
 use crate::tables::table_of;
 use claim_board::{Board, Drained, Pass, Recorder, Ticket};
-use history::{CallFault, GivenMoves, Moves, Reply};
+use scheduler::{CallFault, GivenMoves, Moves, Reply};
 use std::alloc::{AllocError, Global};
 use std::test::Fail;
 

@@ -1,6 +1,6 @@
-//! The tests of `history` and `claim_board`, through their public calls only.
+//! The tests of `scheduler`, `history` and `claim_board`, through their public calls only.
 //!
-//! They are in a crate of their own so that checking them doesn't prove `history` and `claim_board` again.
+//! They are in a crate of their own so that checking them doesn't prove those again.
 #![tactic(auto)]
 
 #[cfg(test)]
@@ -16,7 +16,7 @@ mod replays;
 #[cfg(test)]
 mod rooted;
 #[cfg(test)]
-mod scheduler;
+mod schedulers;
 #[cfg(test)]
 mod schedules;
 #[cfg(test)]

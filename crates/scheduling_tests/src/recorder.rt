@@ -1,6 +1,6 @@
 //! The calls that a recorder keeps: the base heap by one worker, refused calls, and refused memory.
 ghost use Rattle.std.specs.Prelude.{◌≡◌, ℕ, ◌<◌, ◌≤◌, IfOk};
-ghost use Rattle.history.specs.MoveTable.{region_count};
+ghost use Rattle.scheduler.specs.MoveTable.{region_count};
 ghost use Rattle.claim_board.specs.Recorders.{moves as moves_of, worker_count};
 
 use crate::boards::{BASE_FILLED, BASE_PAIRS, is_claimed};
@@ -8,7 +8,8 @@ use crate::checks::{equal, equal_items, expect_memory_fault, holds};
 use crate::replays::RECORDED;
 use claim_board::{Desk, Drained, Recorder, Ticket};
 use heap_image::Fault;
-use history::{GivenMoves, Moves, Reply, write_schedule};
+use history::write_schedule;
+use scheduler::{GivenMoves, Moves, Reply};
 use std::alloc::{AllocError, Global};
 use std::sync::Wait;
 use std::test::Fail;

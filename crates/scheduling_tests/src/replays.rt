@@ -2,7 +2,8 @@
 use crate::checks::{equal_at, equal_items, expect_memory_fault, holds};
 use heap_image::{Fault, decode_by_threads, encode};
 use heap_samples::{Base, MOVED_LIVE, MOVED_WORDS, Settings, image_text};
-use history::{End, Replayed, Schedule, check, read_schedule, replay, write_schedule};
+use history::{End, Replayed, check, read_schedule, replay, write_schedule};
+use scheduler::Schedule;
 use std::alloc::{AllocError, Global};
 use std::process::Abort;
 use std::test::Fail;

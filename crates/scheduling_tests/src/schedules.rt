@@ -1,6 +1,7 @@
 //! Parsing of schedules.
 use crate::checks::{equal, holds};
-use history::{Event, Reply, read_schedule};
+use history::read_schedule;
+use scheduler::{Event, Reply};
 use std::test::Fail;
 
 #[test]

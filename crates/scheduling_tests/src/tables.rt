@@ -1,9 +1,9 @@
 //! Tables of moves: which lists are refused, and the look-ups of plain and indexed tables.
 ghost use Rattle.std.specs.Prelude.{◌≡◌, ◌<◌};
-ghost use Rattle.history.specs.MoveTable.{region_count};
+ghost use Rattle.scheduler.specs.MoveTable.{region_count};
 
 use crate::checks::{equal, equal_at, holds};
-use history::{GivenMoves, IndexedMoves, Moves};
+use scheduler::{GivenMoves, IndexedMoves, Moves};
 use std::alloc::{AllocError, Global};
 use std::process::Abort;
 use std::test::Fail;

@@ -1,6 +1,6 @@
 //! Workers in their own threads: two that claim one region, and many on boards over random moves.
 ghost use Rattle.std.specs.Prelude.{◌≡◌, ◌<◌, ◌≤◌, All, IfOk, OnOk};
-ghost use Rattle.history.specs.MoveTable.{region_count};
+ghost use Rattle.scheduler.specs.MoveTable.{region_count};
 ghost use Rattle.claim_board.specs.Boards.{moves as moves_of, identity, board_of, AllOf};
 
 use crate::boards::{board_of_moves, board_with, is_claimed, take_two};
@@ -9,7 +9,7 @@ use claim_board::{
     Board, Pass, appended_calls_are_gained, one_more_source_is_drained,
     swept_tickets_have_none_left,
 };
-use history::{GivenMoves, Moves};
+use scheduler::{GivenMoves, Moves};
 use std::alloc::{AllocError, Global};
 use std::sync::atomic::{AtomicU64, Ordering};
 use std::test::Fail;

@@ -1,6 +1,6 @@
 //! A worker with one ticket, and with several at once: each reply, and the state of the board after it.
 ghost use Rattle.std.specs.Prelude.{◌≡◌, ℕ, ◌<◌, IfSome, OnOk};
-ghost use Rattle.history.specs.MoveTable.{region_count};
+ghost use Rattle.scheduler.specs.MoveTable.{region_count};
 ghost use Rattle.claim_board.specs.Boards.{moves as moves_of, identity, board_of, caller, AllOf};
 ghost use Rattle.claim_board.specs.Tickets.{IsTicketOf, IsDoneOf};
 ghost use Rattle.claim_board.specs.Others.{LeavesOthers};
@@ -8,8 +8,8 @@ ghost use Rattle.claim_board.specs.Others.{LeavesOthers};
 use crate::boards::{BASE_FILLED, BASE_PAIRS, board_with, is_claimed, put, take_two};
 use crate::checks::{equal_items, holds};
 use claim_board::{Board, Done, Drained, Pass, Ticket, appended_calls_leave_others};
-use history::Reply::{All, Claimed, Filled, Last, More, No, NotLast, Open, Outside, Yes};
-use history::{Moves, Reply};
+use scheduler::Reply::{All, Claimed, Filled, Last, More, No, NotLast, Open, Outside, Yes};
+use scheduler::{Moves, Reply};
 use std::alloc::{AllocError, Global};
 use std::process::Abort;
 use std::test::Fail;

@@ -4,8 +4,8 @@ use Rattle.std.specs.Prelude.{◌==◌, ◌++◌, slice_index_or, count_by}
 use Rattle.std.proofs.lemmas.Bool.{eq-eqb, ne_eqb, cases_eq, cases_lt}
 use Rattle.std.proofs.lemmas.List.{get_or_append_left, length-append}
 use Rattle.std.proofs.Math.Seq.{get_or-append_seam}
-use Rattle.history.specs.declared.entry.Entry.{Entry}
-use Rattle.history.specs.History.{is_grant}
+use Rattle.scheduler.specs.declared.entry.Entry.{Entry}
+use Rattle.scheduler.specs.History.{is_grant}
 use Rattle.board_sweep.specs.declared.tally.Tally.{Tally}
 use Rattle.board_sweep.specs.Tallies.{Adds, AreTallies, claims_in, completions_in, completes, none}
 

@@ -2,10 +2,10 @@
 use Rattle.std.proofs.Common.{◌≡◌, ℕ, zero, suc, ◌+◌, ◌<◌, Bool, true, false, cond, List, [], ◌∷◌, refl, sym, ap, ◌∙◌, inl, inr, ◌⊎◌, arith}
 use Rattle.std.specs.Prelude.{◌==◌, ◌++◌, count_by}
 use Rattle.std.proofs.lemmas.List.Sums.{sum_by-cons}
-use Rattle.history.specs.declared.entry.Entry.{Entry}
-use Rattle.history.specs.MoveTable.{MoveTable, region_count}
-use Rattle.history.specs.State.{State, opening, state_after}
-use Rattle.history.specs.History.{AreSteps, IsLegal, calls_by, is_grant}
+use Rattle.scheduler.specs.declared.entry.Entry.{Entry}
+use Rattle.scheduler.specs.MoveTable.{MoveTable, region_count}
+use Rattle.scheduler.specs.State.{State, opening, state_after}
+use Rattle.scheduler.specs.History.{AreSteps, IsLegal, calls_by, is_grant}
 use Rattle.board_sweep.specs.declared.tally.Tally.{Tally}
 use Rattle.board_sweep.specs.Tallies.{AreTallies, claims_in, completions_in, completes}
 use Rattle.board_sweep.specs.Report.{lines_of, sweep_line}

@@ -2,12 +2,12 @@
 use Rattle.std.proofs.Common.{◌≡◌, ℕ, ◌/◌, ◌^◌, ◌≤◌, ◌++◌, ◌⊎◌, inl, inr, List, length, min, refl, sym, ◌∙◌, ap, subst, arith, Some, Result, Err}
 use Rattle.std.proofs.lemmas.List.{drop_all, append-nil}
 use Rattle.std.proofs.lemmas.List.FromFn.{length-map-range_with_len}
-use Rattle.std.specs.Prelude.{IfErr, map, drop}
+use Rattle.std.specs.Prelude.{All, IfErr, map, drop}
 use Rattle.std.specs.List.{concat}
 use Rattle.heap_image.specs.HeapImage.{HeapImage, image_of, block_of, region_count}
 use Rattle.heap_image.specs.ImageText.{from_tail, first_fault, listed_text, with_tail, numbers, front}
 use Rattle.heap_image.specs.declared.fault.Fault.{Fault}
-use Rattle.heap_image.specs.declared.fault.Fault.TheVariants.{Memory}
+use Rattle.heap_image.specs.declared.fault.Fault.TheVariants.{Memory, Workers}
 use Rattle.heap_image.specs.declared.version.Version.{Version}
 use Rattle.heap_image.specs.declared.version.Version.TheVariants.{One, Two, Three}
 use Rattle.summary.specs.Compaction.{compact}
@@ -17,8 +17,10 @@ use Rattle.caller_heap.specs.declared.lent_collection.Failure.{Failure}
 use Rattle.caller_heap.specs.declared.lent_collection.Failure.TheVariants.{Kept}
 use Rattle.caller_heap.specs.Collected.{IsWhyKept}
 use Rattle.caller_heap.specs.HeapWords.{heap_bytes}
-use Rattle.caller_heap.specs.Lent.{Lent, IfKept, blocks_of, heap_in, told, held, words_in}
+use Rattle.fill.specs.FillFaults.{IsOverwritten}
+use Rattle.caller_heap.specs.Lent.{Lent, IfKept, IsHeld, IsWhyLentKept, blocks_of, heap_in, told, held, words_in}
 use Rattle.caller_heap.proofs.Lemmas.Compacted.{compact-words}
+use Rattle.caller_heap.proofs.Lemmas.Lending.{held_told}
 
 -- the version and the numbers after the words are those of the text
 pub version_of_tail : (version : Version) (log allowance : ℕ) (blocks : List (List ℕ)) (tail : List ℕ) → (from_tail version (image_of log allowance blocks tail)).version ≡ version
@@ -60,3 +62,15 @@ all_told after middle regions n all kept =
 -- what is said of regions that are kept
 pub kept_of : {A : Type 0} (result : Result A Failure) (failure : Failure) (refused : RefusedRegions) (fact : RefusedRegions → Type 0) → result ≡ Err failure → failure ≡ Kept refused → IfErr result (λ f. IfKept f fact) → fact refused
 kept_of result failure refused fact e f h = subst (λ x. IfKept x fact) f (subst (λ r. IfErr r (λ x. IfKept x fact)) e h)
+
+-- words whose blocks are back are as they were
+pub all_held_again : (words after : List Lent) (blocks : List (List ℕ)) → blocks ≡ map words_in words → All IsHeld words → map told after ≡ map held blocks → map told after ≡ map told words
+all_held_again words after blocks b h e = e ∙ ap (map held) b ∙ held_told words h
+
+-- why a collection by several workers isn't begun
+pub why_not_begun : (log : ℕ) (words : List Lent) (bytes listed : List ℕ) (fault : Fault) → bytes ≡ listed
+    → (fault ≡ Workers) ⊎ ((fault ≡ Memory) ⊎ ((first_fault listed ≡ Some fault) ⊎ IsOverwritten fault)) → (fault ≡ Workers) ⊎ IsWhyLentKept log words bytes fault
+why_not_begun log words bytes listed fault e (inl workers) = inl workers
+why_not_begun log words bytes listed fault e (inr (inl memory)) = inr (inl (inl memory))
+why_not_begun log words bytes listed fault e (inr (inr (inl first))) = inr (inl (inr (inl (ap first_fault e ∙ first))))
+why_not_begun log words bytes listed fault e (inr (inr (inr over))) = inr (inl (inr (inr over)))

@@ -1,9 +1,9 @@
 -- Tickets of two workers whose calls are in one history.
 use Rattle.std.proofs.Common.{◌≡◌, ℕ, false, List, Some, sym, ◌∙◌}
-use Rattle.history.specs.declared.entry.Entry.{Entry}
-use Rattle.history.specs.MoveTable.{MoveTable}
-use Rattle.history.specs.State.{State, is_pending}
-use Rattle.history.specs.History.{IsLegal, AgreeOn, calls_by, state_of}
+use Rattle.scheduler.specs.declared.entry.Entry.{Entry}
+use Rattle.scheduler.specs.MoveTable.{MoveTable}
+use Rattle.scheduler.specs.State.{State, is_pending}
+use Rattle.scheduler.specs.History.{IsLegal, AgreeOn, calls_by, state_of}
 use Rattle.claim_board.specs.declared.tokens.ticket.Ticket.{Ticket}
 use Rattle.claim_board.specs.Callers.{Caller, own}
 use Rattle.claim_board.specs.Tickets.{IsTicketOf}

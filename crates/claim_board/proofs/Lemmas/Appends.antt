@@ -3,12 +3,12 @@ use Rattle.std.proofs.Common.{◌≡◌, ◌≢◌, ◌⊎◌, ℕ, ◌<◌, ◌
 use mathlib.Core.Option.{some}
 use lib.ListN.{get_elem?}
 use Rattle.atomic_table.proofs.Lists.{at_set}
-use Rattle.history.specs.declared.event.Event.{Event}
-use Rattle.history.specs.declared.reply.Reply.{Reply}
-use Rattle.history.specs.declared.entry.Entry.{Entry}
-use Rattle.history.specs.MoveTable.{MoveTable, region_count}
-use Rattle.history.specs.State.{opening, state_after, IsStep, unsettled}
-use Rattle.history.specs.History.{entry, state_of, IsLegal, calls_by}
+use Rattle.scheduler.specs.declared.event.Event.{Event}
+use Rattle.scheduler.specs.declared.reply.Reply.{Reply}
+use Rattle.scheduler.specs.declared.entry.Entry.{Entry}
+use Rattle.scheduler.specs.MoveTable.{MoveTable, region_count}
+use Rattle.scheduler.specs.State.{opening, state_after, IsStep, unsettled}
+use Rattle.scheduler.specs.History.{entry, state_of, IsLegal, calls_by}
 use Rattle.claim_board.proofs.Lemmas.Logs.{legal_snoc, state_snoc, calls_mine, calls_other, begins_refl, begins_longer, tested}
 use Rattle.claim_board.specs.declared.rule.view.Hold.{Hold}
 use Rattle.claim_board.specs.declared.rule.view.Touch.{Touch}

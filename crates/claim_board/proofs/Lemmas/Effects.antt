@@ -6,14 +6,14 @@ use mathlib.Core.Option.{some}
 use lib.ListN.{get_elem?}
 use prog.Atomic.{either}
 use Rattle.atomic_table.specs.Table.{Me, Step, keeps, Allows}
-use Rattle.history.specs.declared.event.Event.{Event}
-use Rattle.history.specs.declared.event.Event.TheVariants.{Claim, Look, Drain, Complete, Settle, Poll}
-use Rattle.history.specs.declared.reply.Reply.{Reply}
-use Rattle.history.specs.declared.reply.Reply.TheVariants.{Yes, No, Open, Outside, Claimed, Filled, Done, All, More}
-use Rattle.history.specs.declared.entry.Entry.{Entry}
-use Rattle.history.specs.MoveTable.{MoveTable, IsMoveTable, region_count, to_fill, reads}
-use Rattle.history.specs.State.{State, state_after, IsStep, unsettled, readers_left, may_claim, is_pending, IsFilling}
-use Rattle.history.specs.History.{entry, state_of, IsLegal, calls_by, TellsOwn, AgreeOn}
+use Rattle.scheduler.specs.declared.event.Event.{Event}
+use Rattle.scheduler.specs.declared.event.Event.TheVariants.{Claim, Look, Drain, Complete, Settle, Poll}
+use Rattle.scheduler.specs.declared.reply.Reply.{Reply}
+use Rattle.scheduler.specs.declared.reply.Reply.TheVariants.{Yes, No, Open, Outside, Claimed, Filled, Done, All, More}
+use Rattle.scheduler.specs.declared.entry.Entry.{Entry}
+use Rattle.scheduler.specs.MoveTable.{MoveTable, IsMoveTable, region_count, to_fill, reads}
+use Rattle.scheduler.specs.State.{State, state_after, IsStep, unsettled, readers_left, may_claim, is_pending, IsFilling}
+use Rattle.scheduler.specs.History.{entry, state_of, IsLegal, calls_by, TellsOwn, AgreeOn}
 use Rattle.claim_board.specs.declared.rule.key.Key.{Key}
 use Rattle.claim_board.specs.declared.rule.view.View.{View}
 use Rattle.claim_board.specs.declared.rule.view.Touch.{Touch}

@@ -1,8 +1,8 @@
 -- Passes gathered in one seat.
 use Rattle.std.proofs.Common.{◌≡◌, ℕ, List, [], ◌∷◌, ◌++◌, length, arith, refl, sym, ap, ◌∙◌, subst}
 use Rattle.atomic_table.specs.Seated.{TableId}
-use Rattle.history.specs.declared.entry.Entry.{Entry}
-use Rattle.history.specs.History.{BeginsWith, calls_by}
+use Rattle.scheduler.specs.declared.entry.Entry.{Entry}
+use Rattle.scheduler.specs.History.{BeginsWith, calls_by}
 use Rattle.claim_board.specs.declared.pass.Pass.{Pass}
 use Rattle.claim_board.specs.declared.rule.view.Hold.{Hold}
 use Rattle.claim_board.specs.declared.rule.view.View.{View}

@@ -2,12 +2,12 @@
 use Rattle.std.proofs.Common.{◌≡◌, ℕ, Bool, true, false, List, [], ◌∷◌, ◌++◌, refl, sym, ap, ◌∙◌, eq-eqb, append_assoc}
 use Rattle.std.proofs.lemmas.List.{append-nil}
 use Rattle.std.specs.Prelude.{◌&&◌}
-use Rattle.history.specs.declared.event.Event.TheVariants.{Claim}
-use Rattle.history.specs.declared.reply.Reply.TheVariants.{Yes}
-use Rattle.history.specs.declared.entry.Entry.{Entry}
-use Rattle.history.specs.MoveTable.{MoveTable}
-use Rattle.history.specs.State.{is_pending}
-use Rattle.history.specs.History.{entry, state_of, IsLegal, IsOrderly}
+use Rattle.scheduler.specs.declared.event.Event.TheVariants.{Claim}
+use Rattle.scheduler.specs.declared.reply.Reply.TheVariants.{Yes}
+use Rattle.scheduler.specs.declared.entry.Entry.{Entry}
+use Rattle.scheduler.specs.MoveTable.{MoveTable}
+use Rattle.scheduler.specs.State.{is_pending}
+use Rattle.scheduler.specs.History.{entry, state_of, IsLegal, IsOrderly}
 use Rattle.claim_board.specs.Rule.{Extends}
 use Rattle.claim_board.specs.Grants.{IsGranted}
 

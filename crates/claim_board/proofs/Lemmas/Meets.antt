@@ -4,9 +4,9 @@ use mathlib.Core.Option.{some}
 use lib.ListN.{get_elem?}
 use Rattle.atomic_table.specs.Table.{State as Table, Me, Step, keeps, Allows, Splits, Joins}
 use Rattle.atomic_table.proofs.Lists.{at_set, at_snoc, set_again}
-use Rattle.history.specs.declared.entry.Entry.{Entry}
-use Rattle.history.specs.MoveTable.{region_count}
-use Rattle.history.specs.History.{BeginsWith, calls_by}
+use Rattle.scheduler.specs.declared.entry.Entry.{Entry}
+use Rattle.scheduler.specs.MoveTable.{region_count}
+use Rattle.scheduler.specs.History.{BeginsWith, calls_by}
 use Rattle.claim_board.proofs.Lemmas.Logs.{calls-append, begins_refl}
 use Rattle.claim_board.specs.declared.rule.key.Key.{Key}
 use Rattle.claim_board.specs.declared.rule.view.Hold.{Hold}

@@ -7,9 +7,9 @@ use lib.ListN.{get_elem?}
 use Rattle.atomic_table.specs.Seated.{TableId}
 use Rattle.atomic_table.specs.Table.{Splits, opening as opened}
 use Rattle.atomic_table.proofs.Lists.{at_set, at_snoc}
-use Rattle.history.specs.declared.entry.Entry.{Entry}
-use Rattle.history.specs.MoveTable.{MoveTable, IsMoveTable, region_count, to_fill}
-use Rattle.history.specs.State.{opening, readers_left, unsettled}
+use Rattle.scheduler.specs.declared.entry.Entry.{Entry}
+use Rattle.scheduler.specs.MoveTable.{MoveTable, IsMoveTable, region_count, to_fill}
+use Rattle.scheduler.specs.State.{opening, readers_left, unsettled}
 use Rattle.claim_board.proofs.Lemmas.Logs.{tested}
 use Rattle.claim_board.specs.declared.rule.key.Key.{Key}
 use Rattle.claim_board.specs.declared.pass.Pass.{Pass}

@@ -1,10 +1,10 @@
 -- What a call leaves of the tickets for other regions.
 use Rattle.std.proofs.Common.{◌≢◌, ℕ, Some, sym, ap, ◌∙◌, subst}
-use Rattle.history.specs.declared.event.Event.{Event}
-use Rattle.history.specs.declared.reply.Reply.{Reply}
-use Rattle.history.specs.MoveTable.{MoveTable}
-use Rattle.history.specs.State.{State}
-use Rattle.history.specs.History.{AgreeOn}
+use Rattle.scheduler.specs.declared.event.Event.{Event}
+use Rattle.scheduler.specs.declared.reply.Reply.{Reply}
+use Rattle.scheduler.specs.MoveTable.{MoveTable}
+use Rattle.scheduler.specs.State.{State}
+use Rattle.scheduler.specs.History.{AgreeOn}
 use Rattle.claim_board.specs.declared.board.Board.{Board}
 use Rattle.claim_board.specs.declared.tokens.done.Done.{Done}
 use Rattle.claim_board.specs.declared.pass.Pass.{Pass}

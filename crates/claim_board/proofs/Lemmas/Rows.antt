@@ -1,10 +1,10 @@
 -- The worked row of docs/SCHEDULER.md, "Claim words", computed from the definitions.
 use Rattle.std.proofs.Common.{◌≡◌, ◌++◌, ℕ, true, false, List, [], ◌∷◌, map, refl}
 use Rattle.std.specs.List.{range_with_len}
-use Rattle.history.specs.MoveTable.{MoveTable, table_of, region_count}
-use Rattle.history.specs.State.{State, opening, state_after, reply_to, unsettled}
-use Rattle.history.specs.declared.event.Event.{Event}
-use Rattle.history.specs.declared.event.Event.TheVariants.{Claim, Drain, Complete, Settle}
+use Rattle.scheduler.specs.MoveTable.{MoveTable, table_of, region_count}
+use Rattle.scheduler.specs.State.{State, opening, state_after, reply_to, unsettled}
+use Rattle.scheduler.specs.declared.event.Event.{Event}
+use Rattle.scheduler.specs.declared.event.Event.TheVariants.{Claim, Drain, Complete, Settle}
 use Rattle.claim_board.specs.Rule.{word_of}
 
 -- the words of all regions, and the remaining word

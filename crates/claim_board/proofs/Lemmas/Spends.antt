@@ -3,15 +3,15 @@ use Rattle.std.proofs.Common.{◌≡◌, ℕ, ◌-◌, ◌<◌, ◌≤◌, Bool,
 use Rattle.std.proofs.Math.Path.{fun_ext}
 use Rattle.std.specs.Prelude.{◌&&◌, ◌||◌, ◌==◌, not, count_by, IsTrue}
 use Rattle.std.proofs.lemmas.Bool.{eqb-true, and_right}
-use Rattle.history.specs.declared.event.Event.{Event}
-use Rattle.history.specs.declared.event.Event.TheVariants.{Claim, Drain, Complete}
-use Rattle.history.specs.declared.reply.Reply.{Reply}
-use Rattle.history.specs.declared.reply.Reply.TheVariants.{Yes, No, Done}
-use Rattle.history.specs.declared.entry.Entry.{Entry}
-use Rattle.history.specs.MoveTable.{MoveTable, IsMoveTable}
-use Rattle.history.specs.State.{State, opening, state_after, may_claim, is_pending, IsFilling}
-use Rattle.history.specs.Scheduler.{sources_left}
-use Rattle.history.specs.History.{entry, state_of, IsLegal, AgreeOn}
+use Rattle.scheduler.specs.declared.event.Event.{Event}
+use Rattle.scheduler.specs.declared.event.Event.TheVariants.{Claim, Drain, Complete}
+use Rattle.scheduler.specs.declared.reply.Reply.{Reply}
+use Rattle.scheduler.specs.declared.reply.Reply.TheVariants.{Yes, No, Done}
+use Rattle.scheduler.specs.declared.entry.Entry.{Entry}
+use Rattle.scheduler.specs.MoveTable.{MoveTable, IsMoveTable}
+use Rattle.scheduler.specs.State.{State, opening, state_after, may_claim, is_pending, IsFilling}
+use Rattle.scheduler.specs.Scheduler.{sources_left}
+use Rattle.scheduler.specs.History.{entry, state_of, IsLegal, AgreeOn}
 use Rattle.claim_board.specs.Rule.{Extends}
 use Rattle.claim_board.proofs.Lemmas.Premises.{Own, Counts}
 use Rattle.claim_board.proofs.Lemmas.Logs.{legal_last, state_snoc}

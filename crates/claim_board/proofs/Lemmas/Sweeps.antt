@@ -4,14 +4,14 @@ use native.Mathlib.Decide.{dec_le}
 use Rattle.std.proofs.Math.Path.{fun_ext}
 use Rattle.std.specs.Prelude.{◌&&◌, ◌||◌, ◌==◌, not, count_by, IsTrue, option_map}
 use Rattle.std.proofs.lemmas.Bool.{cases_Bool, and_left, and_right, or_right, eqb-true}
-use Rattle.history.specs.declared.event.Event.{Event}
-use Rattle.history.specs.declared.event.Event.TheVariants.{Claim, Look, Drain, Complete, Settle, Poll, Copy}
-use Rattle.history.specs.declared.reply.Reply.{Reply}
-use Rattle.history.specs.declared.reply.Reply.TheVariants.{Yes}
-use Rattle.history.specs.MoveTable.{MoveTable, IsMoveTable, reads, region_count}
-use Rattle.history.specs.State.{State, opening, state_after, is_pending, IsFilling}
-use Rattle.history.specs.Scheduler.{sources_left}
-use Rattle.history.specs.History.{entry, state_of, AgreeOn}
+use Rattle.scheduler.specs.declared.event.Event.{Event}
+use Rattle.scheduler.specs.declared.event.Event.TheVariants.{Claim, Look, Drain, Complete, Settle, Poll, Copy}
+use Rattle.scheduler.specs.declared.reply.Reply.{Reply}
+use Rattle.scheduler.specs.declared.reply.Reply.TheVariants.{Yes}
+use Rattle.scheduler.specs.MoveTable.{MoveTable, IsMoveTable, reads, region_count}
+use Rattle.scheduler.specs.State.{State, opening, state_after, is_pending, IsFilling}
+use Rattle.scheduler.specs.Scheduler.{sources_left}
+use Rattle.scheduler.specs.History.{entry, state_of, AgreeOn}
 use Rattle.claim_board.specs.declared.tokens.ticket.Ticket.{Ticket}
 use Rattle.claim_board.specs.Callers.{Caller, own, Gains}
 use Rattle.claim_board.specs.Tickets.{IsTicketOf, IsSwept, Spares}

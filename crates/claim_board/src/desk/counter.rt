@@ -12,7 +12,7 @@ use crate::tokens::drained::Drained;
 use crate::tokens::ticket::Ticket;
 use crate::tokens::written::Written;
 use heap_image::Fault;
-use history::Reply;
+use scheduler::Reply;
 
 /// The seats are the passes, and each call is the board's call of the same name. None of them fails or
 /// waits.

@@ -1,9 +1,9 @@
 //! `Recorder`: a board under a lock that keeps its calls.
-ghost use Rattle.history.specs.Schedule.{IsHistory};
-ghost use Rattle.history.specs.Scheduler.{ArePairCounts};
+ghost use Rattle.scheduler.specs.Schedule.{IsHistory};
+ghost use Rattle.scheduler.specs.Scheduler.{ArePairCounts};
 
 use crate::rule::key::Key;
-use history::{LockedBoard, Schedule};
+use scheduler::{LockedBoard, Schedule};
 use std::snapshot::Snapshot;
 
 /// A board under a lock that keeps each call with its reply, for a schedule. Threads share it by

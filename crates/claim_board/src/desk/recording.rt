@@ -12,7 +12,7 @@ use crate::tokens::drained::Drained;
 use crate::tokens::ticket::Ticket;
 use crate::tokens::written::Written;
 use heap_image::Fault;
-use history::{CallFault, Event, GivenMoves, LockedBoard, Moves, Reply, count_sources};
+use scheduler::{CallFault, Event, GivenMoves, LockedBoard, Moves, Reply, count_sources};
 use std::alloc::{AllocError, Global};
 use std::snapshot::Snapshot;
 use std::sync::Wait;

@@ -1,4 +1,4 @@
-use history::GivenMoves;
+use scheduler::GivenMoves;
 
 /// The moves and the number of workers to which the rule of a board's words refers. After the board is
 /// made, only proofs read it.

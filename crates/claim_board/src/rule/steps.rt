@@ -1,9 +1,9 @@
 //! The six kinds of atomic step, each on one word. The caller's proof says, through `E`, which entry the step adds.
 ghost use Rattle.std.specs.Prelude.{◌≡◌, ℕ, ◌<◌, suc, false, IsTrue, Some};
-ghost use Rattle.history.specs.declared.event.Event.TheVariants.{Claim, Look, Drain, Complete, Settle, Poll};
-ghost use Rattle.history.specs.MoveTable.{region_count};
-ghost use Rattle.history.specs.State.{is_pending, IsFilling};
-ghost use Rattle.history.specs.History.{state_of};
+ghost use Rattle.scheduler.specs.declared.event.Event.TheVariants.{Claim, Look, Drain, Complete, Settle, Poll};
+ghost use Rattle.scheduler.specs.MoveTable.{region_count};
+ghost use Rattle.scheduler.specs.State.{is_pending, IsFilling};
+ghost use Rattle.scheduler.specs.History.{state_of};
 ghost use Rattle.claim_board.specs.Rule.{added, claim_reply, drain_reply, complete_reply, settle_reply, poll_reply, look_reply};
 ghost use Rattle.claim_board.specs.Views.{IsPassView, worker_of, mine_of};
 ghost use Rattle.atomic_table.specs.Table.{step};
@@ -13,7 +13,7 @@ use super::key::Key;
 use super::view::View;
 use super::{About, Adds, Law};
 use atomic_table::{Seat, Shared};
-use history::{how_counts_go_down, what_legal_histories_keep, what_own_calls_tell};
+use scheduler::{how_counts_go_down, what_legal_histories_keep, what_own_calls_tell};
 
 pub(crate) type Words = Shared<u8, View, Key, Law>;
 

@@ -5,8 +5,8 @@ use Rattle.std.specs.List.{range_with_len}
 use Rattle.std.proofs.lemmas.Bool.{false≢true}
 use Rattle.std.proofs.lemmas.List.FromFn.{length-range_with_len, get_or-range_with_len}
 use Rattle.std.proofs.lemmas.List.Sums.{get_or-le-sum_by}
-use Rattle.history.specs.MoveTable.{MoveTable, region_count, to_fill}
-use Rattle.history.specs.State.{State, unsettled, AllAreSettled}
+use Rattle.scheduler.specs.MoveTable.{MoveTable, region_count, to_fill}
+use Rattle.scheduler.specs.State.{State, unsettled, AllAreSettled}
 
 -- if the count is 0, no element passes
 none_passes : (p : ℕ → Bool) (xs : List ℕ) (k : ℕ) → count_by p xs ≡ 0 → k < length xs → p (get_or xs k 0) ≡ false

@@ -1,6 +1,6 @@
 ghost use Rattle.std.specs.Prelude.{◌≡◌, ◌<◌, ◌≤◌, All, vec_len, IfOk, IfErr};
 ghost use Rattle.heap_image.specs.declared.fault.Fault.TheVariants.{Memory};
-ghost use Rattle.history.specs.ImageMoves.{image_table};
+ghost use Rattle.scheduler.specs.ImageMoves.{image_table};
 
 use super::collection_desk::CollectionDesk;
 use super::hands::Hands;

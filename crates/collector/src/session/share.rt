@@ -1,5 +1,7 @@
-ghost use Rattle.std.specs.Prelude.{◌≡◌, ◌<◌, ◌⊎◌, true, vec_len, IfOk, IfErr, IfSome};
+ghost use Rattle.std.specs.Prelude.{◌≡◌, ◌<◌, ◌⊎◌, true, length, vec_len, IfOk, IfErr, IfSome};
 ghost use Rattle.std.specs.Arc.{arc_value};
+ghost use Rattle.heap_image.specs.HeapImage.{region_count};
+ghost use Rattle.heap_image.specs.ImageText.{with_tail};
 ghost use Rattle.summary.specs.Compaction.{compact};
 ghost use Rattle.claim_board.specs.Boards.{identity, board_of};
 ghost use Rattle.fill.specs.FillFaults.{IsOverwritten};
@@ -7,14 +9,16 @@ ghost use Rattle.collector.specs.Collections.{figures_of};
 ghost use Rattle.collector.specs.Ends.{MayEnd, may_end};
 
 use super::Session;
+use super::dealing::image_of_last;
 use super::progress::Progress;
 use crate::outcome::Outcome;
 use crate::workers::worker::{Halt, Worker};
 use claim_board::Pass;
 use crossbeam_utils::Backoff;
-use heap_image::Fault;
+use heap_image::{Fault, Image};
 use std::alloc::Global;
 use std::sync::Arc;
+use std::sync::atomic::Ordering;
 
 /// One worker's part in a session, which one thread at a time may use.
 #[derive(Drop)]
@@ -98,6 +102,49 @@ impl Share {
         }
         drop(others);
         self.close()
+    }
+
+    /// Returns the image of a session in which no region has been written, by its last share. `None` if there are other
+    /// shares, or a region was written.
+    pub fn give_back(self) -> Option<Image>
+        ensures { IfSome result (λ image. image ≡ image_of self) }
+    {
+        let Share {
+            session,
+            worker: _,
+            number: _,
+        } = self;
+        image_of_last(session)
+    }
+
+    /// How many regions the heap of the session has.
+    pub fn regions(&self) -> u32
+        ensures { result ≡ region_count (image_of self.now) }
+    {
+        self.session.regions()
+    }
+
+    /// How many live addresses the session's image has in version 1, otherwise how many roots.
+    pub fn numbers(&self) -> usize
+        ensures { result ≡ length (with_tail (image_of self.now)).live }
+    {
+        self.session.numbers
+    }
+
+    /// Counts this share among those that its session's owner has at hand.
+    pub fn count_in(&self) {
+        self.session.at_hand.fetch_add(1, Ordering::SeqCst);
+    }
+
+    /// Takes this share out of that count.
+    pub fn count_out(&self) {
+        self.session.at_hand.fetch_sub(1, Ordering::SeqCst);
+    }
+
+    /// Whether just so many shares are counted, and they are all of the session.
+    pub fn are_all_counted(&self, shares: usize) -> bool {
+        self.session.at_hand.load(Ordering::SeqCst) == shares
+            && self.session.thieves.len() == shares
     }
 
     /// Ends the session whose last share this is.

@@ -1,7 +1,7 @@
 //! What each worker of a collection does.
 ghost use Rattle.std.specs.Prelude.{◌≡◌, ◌<◌, ◌≤◌, ◌^◌, length, All, IfOk, IfErr, IfSome};
 ghost use Rattle.summary.specs.RegionData.{fill_count};
-ghost use Rattle.history.specs.ImageMoves.{image_table};
+ghost use Rattle.scheduler.specs.ImageMoves.{image_table};
 ghost use Rattle.claim_board.specs.Tickets.{IsUnused, IsTicketOf, IsDoneOf};
 ghost use Rattle.collector.specs.Halts.{MayHalt, MayBeRefused};
 ghost use Rattle.fill.specs.FillFaults.{IsFaultOf};
@@ -16,9 +16,9 @@ use claim_board::{Desk, Done, Ticket};
 use crossbeam_utils::Backoff;
 use fill::fill_region;
 use heap_image::Fault;
-use history::moves_of_images;
 use region_cells::Cells;
 use retry_policy::RetryPolicy;
+use scheduler::moves_of_images;
 use std::sync::atomic::{AtomicBool, Ordering};
 use std::thread::Threads;
 use summary::Survey;

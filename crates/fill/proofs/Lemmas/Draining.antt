@@ -11,12 +11,12 @@ use Rattle.heap_image.specs.HeapImage.{HeapImage, IsValid}
 use Rattle.heap_image.specs.HeapImage.{region_count as heap_regions}
 use Rattle.summary.specs.WordMoves.{reads as image_reads}
 use Rattle.summary.specs.PlanLaws.{PlanLaws}
-use Rattle.history.specs.ImageMoves.{image_table}
-use Rattle.history.specs.declared.entry.Entry.{Entry}
-use Rattle.history.specs.declared.event.Event.TheVariants.{Drain, Complete}
-use Rattle.history.specs.declared.reply.Reply.TheVariants.{Done}
-use Rattle.history.specs.MoveTable.{MoveTable, region_count, reads}
-use Rattle.history.specs.History.{BeginsWith, entry}
+use Rattle.scheduler.specs.ImageMoves.{image_table}
+use Rattle.scheduler.specs.declared.entry.Entry.{Entry}
+use Rattle.scheduler.specs.declared.event.Event.TheVariants.{Drain, Complete}
+use Rattle.scheduler.specs.declared.reply.Reply.TheVariants.{Done}
+use Rattle.scheduler.specs.MoveTable.{MoveTable, region_count, reads}
+use Rattle.scheduler.specs.History.{BeginsWith, entry}
 use Rattle.claim_board.specs.declared.tokens.drained.Drained.{Drained}
 use Rattle.claim_board.specs.declared.tokens.drained.Drained.TheVariants.{Last, NotLast}
 use Rattle.claim_board.specs.Callers.{Caller, Gains, IsSeenLast}

@@ -1,8 +1,8 @@
 ghost use Rattle.std.specs.Prelude.{◌≡◌, ◌+◌, ◌-◌, ◌<◌, ◌≤◌, ◌^◌, [], IfOk, IfErr, OnOk};
 ghost use Rattle.heap_image.specs.HeapImage.{region_count};
 ghost use Rattle.summary.specs.NewAddresses.{prefix_end};
-ghost use Rattle.history.specs.declared.event.Event.TheVariants.{Drain};
-ghost use Rattle.history.specs.ImageMoves.{image_table};
+ghost use Rattle.scheduler.specs.declared.event.Event.TheVariants.{Drain};
+ghost use Rattle.scheduler.specs.ImageMoves.{image_table};
 ghost use Rattle.claim_board.specs.Callers.{Gains};
 ghost use Rattle.claim_board.specs.Drains.{reply_of};
 ghost use Rattle.claim_board.specs.Tickets.{IsTicketOf, IsClosedOf};
@@ -18,9 +18,9 @@ use claim_board::{
     swept_tickets_have_none_left,
 };
 use heap_image::Fault;
-use history::moves_of_images;
 use region_cells::{Cells, Target};
 use retry_policy::RetryPolicy;
+use scheduler::moves_of_images;
 use summary::laws::plan_laws;
 use summary::laws::readers::reads_by_words;
 

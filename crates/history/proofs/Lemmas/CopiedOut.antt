@@ -1,6 +1,6 @@
 -- Whether all words that go from one region to another are written, by counts.
 use Rattle.std.proofs.Common.{◌≡◌, ◌≢◌, ℕ, ◌+◌, ◌-◌, ◌*◌, ◌/◌, ◌%◌, ◌<◌, ◌≤◌, true, Some, sym, ap, ◌∙◌, subst, inl, inr, arith}
-use Rattle.std.specs.Prelude.{◌==◌, not}
+use Rattle.std.specs.Prelude.{◌==◌, ◌&&◌, not}
 use Rattle.std.proofs.lemmas.Bool.{and_parts, eqb-false, not-true, cases_lt}
 use Rattle.std.proofs.lemmas.Nat.{div-mul-add, mod-mul-add, div-add-mod', mul-le}
 use Rattle.heap_image.specs.HeapImage.{HeapImage, IsValid, region_words, region_count, start_of}
@@ -10,12 +10,11 @@ use Rattle.summary.specs.WordMoves.{reads as image_reads}
 use Rattle.summary.specs.RegionData.{destination, data_words}
 use Rattle.summary.specs.PlanLaws.{PlanLaws}
 use Rattle.history.proofs.Lemmas.Regions.{region_some, region_low}
-use Rattle.history.specs.MoveTable.{reads}
+use Rattle.scheduler.specs.MoveTable.{reads}
 use Rattle.history.specs.Slide.{Machine, IsCopiedOut, IsWritten}
-use Rattle.history.specs.ImageMoves.{image_table}
+use Rattle.scheduler.specs.ImageMoves.{image_table}
 use Rattle.history.specs.WordMachine.{image_slide}
 use Rattle.history.specs.Ledger.{taken_up_to}
-use Rattle.history.proofs.Lemmas.ImageTables.{table-reads}
 
 -- the data of a region that another one reads
 pub record IsRead (image : HeapImage) (d s : ℕ) : Type 0 where
@@ -25,11 +24,11 @@ pub record IsRead (image : HeapImage) (d s : ℕ) : Type 0 where
   pub before : destination image s < start_of image d + region_words image
   pub behind : start_of image d < destination image s + data_words image s
 
-module _ (law : PlanLaws) (image : HeapImage) (valid : IsValid image) (d s : ℕ) where
+module _ (law : PlanLaws) (image : HeapImage) (valid : IsValid image) (pairs : (d s : ℕ) → reads (image_table image) d s ≡ (not (d == s) && image_reads image d s)) (d s : ℕ) where
   -- a region is another one than those that it reads
   other_read : reads (image_table image) d s ≡ true → (d ≢ s) × (image_reads image d s ≡ true)
   other_read e =
-      let both = and_parts (not (d == s)) (image_reads image d s) (sym (table-reads law image valid d s) ∙ e) in
+      let both = and_parts (not (d == s)) (image_reads image d s) (sym (pairs d s) ∙ e) in
       (eqb-false d s (not-true (d == s) both.0), both.1)
 
   high_read : d ≢ s → image_reads image d s ≡ true → prefix_end image ≤ start_of image s

@@ -1,39 +1,36 @@
 -- A copy of the word machine, as it is made in a list of words.
 use Rattle.std.proofs.Common.{◌≡◌, ◌≢◌, ℕ, zero, suc, Bool, ◌+◌, ◌-◌, ◌*◌, ◌/◌, ◌%◌, ◌<◌, ◌≤◌, true, false, List, [], ◌∷◌, ◌++◌, length, get_or, take, Some, refl, sym, ap, ◌∙◌, subst, inl, inr, ◌⊎◌, arith}
-use Rattle.std.specs.Prelude.{slice_index, map, All, IsTrue, ◌↔◌}
-use Rattle.std.proofs.lemmas.Bool.{ne_eqb, cases_lt}
+use Rattle.std.specs.Prelude.{slice_index, map, All, IsTrue, ◌↔◌, ◌&&◌, nat_lt}
+use Rattle.std.proofs.lemmas.Bool.{ne_eqb, cases_lt, ltb-true, and_parts}
 use Rattle.std.proofs.lemmas.Nat.{div-mul-add, mod-mul-add}
 use Rattle.std.proofs.lemmas.List.{map-append}
+use Rattle.std.proofs.lemmas.List.Elements.{All-nil, All-cons, All-get_or}
 use Rattle.heap_image.specs.HeapImage.{HeapImage, IsValid, heap_words, word_at, start_of}
 use Rattle.summary.specs.NewAddresses.{new_top}
 use Rattle.summary.specs.WordMoves.{origin}
-use Rattle.history.specs.MoveTable.{MoveTable}
-use Rattle.history.specs.State.{State, opening, state_after, Allows, AllAreSettled}
-use Rattle.history.specs.PackedLine.{IsSmall}
-use Rattle.history.specs.Scheduler.{state_in}
-use Rattle.history.specs.History.{entry, IsLegal, IsReached}
-use Rattle.history.specs.Schedule.{ScheduleView, IsSchedule, is_line, line_of}
+use Rattle.scheduler.specs.MoveTable.{MoveTable, IsMoveTable}
+use Rattle.scheduler.specs.State.{State, opening, state_after, Allows, AllAreSettled}
+use Rattle.scheduler.specs.PackedLine.{IsSmall}
+use Rattle.scheduler.specs.Scheduler.{state_in}
+use Rattle.scheduler.specs.History.{entry, AreSteps, IsLegal, IsReached}
+use Rattle.scheduler.specs.Schedule.{ScheduleView, IsSchedule, is_event, is_told_reply, is_line, line_of}
 use Rattle.history.specs.Slide.{Slide, IsSlideOf, Machine, next_place, write_words, word_for, words_of, AllowsWords, machine_after, copied}
-use Rattle.history.specs.ImageMoves.{image_table}
+use Rattle.scheduler.specs.ImageMoves.{image_table}
 use Rattle.history.specs.WordMachine.{image_slide, machine_start, machine_of}
 use Rattle.history.specs.Replay.{IsCallOfLine, IsReplay}
 use Rattle.history.specs.Replayed.{Holds, IsCarriedOut, IsReplayed, IsEndOf, places_of}
+use Rattle.history.specs.MachineLaws.{MachineLaws}
 use Rattle.history.specs.Ledger.{IsLedger, Tells, Leads}
-use Rattle.history.specs.declared.entry.Entry.{Entry}
-use Rattle.history.specs.declared.event.Event.{Event}
-use Rattle.history.specs.declared.event.Event.TheVariants.{Claim, Look, Drain, Complete, Settle, Poll, Copy}
+use Rattle.scheduler.specs.declared.entry.Entry.{Entry}
+use Rattle.scheduler.specs.declared.event.Event.{Event}
+use Rattle.scheduler.specs.declared.event.Event.TheVariants.{Claim, Look, Drain, Complete, Settle, Poll, Copy}
 use Rattle.history.specs.declared.machine.ledger.Ledger.{Ledger}
-use Rattle.history.specs.declared.schedule.line.Line.{Line}
-use Rattle.history.specs.declared.reply.Reply.{Reply}
+use Rattle.scheduler.specs.declared.schedule.line.Line.{Line}
+use Rattle.scheduler.specs.declared.reply.Reply.{Reply}
 use Rattle.history.specs.declared.machine.replayed.Replayed.{Replayed}
 use Rattle.history.proofs.Lemmas.Drained.{IsKept, origin_stands, write_words_known, written-write_words, write_words_kept, history_kept}
 use Rattle.summary.specs.Compaction.{moved_word}
-use Rattle.summary.specs.PlanLaws.{PlanLaws}
-use Rattle.history.proofs.Lemmas.ImageTables.{image_slides, table-lawful}
 use Rattle.history.proofs.Lemmas.DrainedBefore.{drained_before}
-use Rattle.history.proofs.Lemmas.Books.{step_fits, steps_fit}
-use Rattle.history.proofs.Lemmas.SmallLines.{line_small}
-use Rattle.history.proofs.Lemmas.Reaches.{legal_reached}
 use Rattle.history.proofs.Lemmas.Carrying.{origin_inside}
 use Rattle.history.proofs.Lemmas.Machines.{machine_of-push, legal_steps, known-machine_from}
 use Rattle.history.proofs.Lemmas.Following.{IsFollowed, no_line, followed_more, followed_by, followed_all}
@@ -81,7 +78,7 @@ pub record IsCopy (image : HeapImage) (heap : List ℕ) (first number : ℕ) (af
   pub holds : (new : List ℕ) → ((a : ℕ) → first ≤ a → a < first + number → slice_index new a ≡ word_for (image_slide image) (word_at image) a)
       → ((a : ℕ) → (a < first) ⊎ (first + number ≤ a) → slice_index new a ≡ slice_index heap a) → (a : ℕ) → a < heap_words image → slice_index new a ≡ after a
 
-module _ (law : PlanLaws) (image : HeapImage) (valid : IsValid image) (workers : ℕ) (log : List Entry) (heap : List ℕ) (holds : Holds image heap (machine_of image log)) where
+module _ (law : MachineLaws) (image : HeapImage) (valid : IsValid image) (workers : ℕ) (log : List Entry) (heap : List ℕ) (holds : Holds image heap (machine_of image log)) where
   no_copy : IsCopy image heap 0 0 (machine_of image log).heap
   no_copy =
       record {
@@ -96,11 +93,11 @@ module _ (law : PlanLaws) (image : HeapImage) (valid : IsValid image) (workers :
   copy_of d n worker kept own unfilled some room =
       let p : Slide = image_slide image in
       let w : Machine = machine_of image log in
-      let slides = image_slides law image valid in
+      let slides = law.slides image valid in
       record {
         below = omega arith;
         stands = λ a x low high from.
-            holds.each x (origin_inside law image valid a x from)
+            holds.each x (origin_inside law.plan image valid a x from)
             ∙ origins_stand (image_table image) p (word_at image) w worker d n slides kept own unfilled room a x low high from;
         holds = λ new here others a l. elim (cases_lt a (next_place p d w)) [
           | inl low ↦ others a (inl low) ∙ (holds.each a l ∙ sym (write_words-other p d n w a (inl low)))
@@ -150,14 +147,14 @@ first_way image v ledger lines heap kept tells none same =
       holds = record { long = ap (length {A = ℕ}) same; each = λ a l. ap (λ (xs : List ℕ). slice_index xs a) same };
     }
 
-module _ (law : PlanLaws) (image : HeapImage) (valid : IsValid image) (v : ScheduleView) (items : List Line) (number : ℕ) (old new : Ledger) (lines : List Line) (heap : List ℕ) (line : Line) (r : Reply)
+module _ (law : MachineLaws) (image : HeapImage) (valid : IsValid image) (v : ScheduleView) (items : List Line) (number : ℕ) (old new : Ledger) (lines : List Line) (heap : List ℕ) (line : Line) (r : Reply)
     (same : items ≡ v.lines) (way : IsUnderWay image v number old lines heap) (inside : number < length items) (there : line ≡ get_or items number no_line)
     (call : IsCallOfLine line (entry line.worker line.event r)) (leads : Leads image old.scheduler.workers old (entry line.worker line.event r) new) where
   -- the words that the line's event copies
   pub line_copies : IsCopy image heap (places_of image old line.event).0 (places_of image old line.event).1 (copied (image_slide image) (machine_of image way.log) line.event).heap
   line_copies =
       let step = (leads (machine_of image way.log) way.tells).0 in
-      let kept = (history_kept (image_table image) (image_slide image) v.workers (word_at image) way.log (image_slides law image valid) way.taken.allowed).1 in
+      let kept = (history_kept (image_table image) (image_slide image) v.workers (word_at image) way.log (law.slides image valid) (λ now. law.counts (image_table image) now (law.lawful image valid)) way.taken.allowed).1 in
       event_copies law image valid v.workers way.log heap way.holds old line.worker line.event kept way.tells step.1.allowed step.2
 
   -- the line with its reply goes into twelve bytes
@@ -166,8 +163,8 @@ module _ (law : PlanLaws) (image : HeapImage) (valid : IsValid image) (v : Sched
       let step = (leads (machine_of image way.log) way.tells).0 in
       let e : Entry = entry line.worker line.event r in
       let few : old.scheduler.workers ≤ 64 = subst (λ (n : ℕ). n ≤ 64) (sym way.kept.workers) most in
-      line_small old.scheduler.workers (line_of e) few
-      (step_fits (image_table image) old.scheduler.workers (machine_of image way.log).known (state_after (machine_of image way.log).known e.worker e.event e.reply) e (table-lawful law image valid) step.0 step.1)
+      law.small old.scheduler.workers (line_of e) few
+      (law.call (image_table image) old.scheduler.workers (machine_of image way.log).known (state_after (machine_of image way.log).known e.worker e.event e.reply) e (law.lawful image valid) step.0 step.1)
 
   -- one line more
   pub way_on : (lines' : List Line) (heap' : List ℕ) → IsLedger image old.scheduler.workers new → lines' ≡ lines ++ (record { worker = line.worker; event = line.event; reply = Some r }) ∷ []
@@ -192,6 +189,16 @@ module _ (law : PlanLaws) (image : HeapImage) (valid : IsValid image) (v : Sched
         };
       }
 
+-- a line of the schedule has one of the ledger's workers
+pub worker_fits : (v : ScheduleView) (items : List Line) (number : ℕ) (ledger : Ledger) (line : Line) → IsSchedule v → items ≡ v.lines → ledger.scheduler.workers ≡ v.workers
+    → number < length items → line ≡ get_or items number no_line → line.worker < ledger.scheduler.workers
+worker_fits v items number ledger line formed same workers inside there =
+    let lines : All (λ (l : Line). IsTrue (is_line v.workers l)) items = subst (λ (ls : List Line). All (λ (l : Line). IsTrue (is_line v.workers l)) ls) (sym same) formed.lines in
+    let item : is_line v.workers (get_or items number no_line) ≡ true = All-get_or (λ (l : Line). IsTrue (is_line v.workers l)) items number no_line inside lines in
+    let fits : is_line v.workers line ≡ true = ap (is_line v.workers) there ∙ item in
+    let low = ltb-true line.worker v.workers (and_parts (nat_lt line.worker v.workers) (is_event line.event && is_told_reply line.event line.reply) fits).0 in
+    subst (λ (n : ℕ). line.worker < n) (sym workers) low
+
 -- all lines are carried out
 pub carried_out : (image : HeapImage) (v : ScheduleView) (items : List Line) (number : ℕ) (ledger : Ledger) (lines : List Line) (heap : List ℕ) (done : Bool) → items ≡ v.lines → IsUnderWay image v number ledger lines heap
     → length items ≤ number → IsTrue done ↔ AllAreSettled ledger.scheduler.moves (state_in ledger.scheduler) → IsCarriedOut image v lines done heap
@@ -201,30 +208,37 @@ carried_out image v items number ledger lines heap done same way all tells =
     record { log = way.log; taken = checked.taken; replies = way.replies; tells = checked.tells; holds = way.holds }
 
 -- the heap of a schedule by which all regions are settled
-pub settled_heap : PlanLaws → (image : HeapImage) (v : ScheduleView) (lines : List Line) (heap : List ℕ) (done : Bool) → IsValid image → IsCarriedOut image v lines done heap → done ≡ true
+pub settled_heap : MachineLaws → (image : HeapImage) (v : ScheduleView) (lines : List Line) (heap : List ℕ) (done : Bool) → IsValid image → IsCarriedOut image v lines done heap → done ≡ true
     → (a : ℕ) → a < heap_words image → slice_index heap a ≡ moved_word image a
 settled_heap law image v lines heap done valid all is a inside =
     let settled : AllAreSettled (image_table image) (machine_of image all.log).known = all.tells.0 is in
     let legal : IsLegal (image_table image) v.workers all.log = legal_steps (image_table image) (image_slide image) v.workers (machine_start image) all.log all.taken.allowed in
-    let reached : IsReached (image_table image) (machine_of image all.log).known = subst (λ (k : State). IsReached (image_table image) k) (sym (known-machine_from (image_slide image) (machine_start image) all.log)) (legal_reached (image_table image) v.workers all.log legal) in
+    let reached : IsReached (image_table image) (machine_of image all.log).known = subst (λ (k : State). IsReached (image_table image) k) (sym (known-machine_from (image_slide image) (machine_start image) all.log)) (law.reached (image_table image) v.workers all.log legal) in
     all.holds.each a inside ∙ (drained_before law image valid v.workers all.log all.taken.allowed).moved (λ r fills. reached.settled_filled r (settled r fills)) a
 
+-- the calls of a legal history are lines of a schedule
+steps_fit : MachineLaws → (m : MoveTable) (workers : ℕ) (now : State) (log : List Entry) → IsMoveTable m → AreSteps m workers now log → All (λ line. IsTrue (is_line workers line)) (map line_of log)
+steps_fit law m workers now [] table steps = All-nil (λ line. IsTrue (is_line workers line))
+steps_fit law m workers now (e ∷ es) table steps =
+    let after : State = state_after now e.worker e.event e.reply in
+    All-cons (λ line. IsTrue (is_line workers line)) (line_of e) (map line_of es) (law.call m workers now after e table steps.0 steps.1) (steps_fit law m workers after es table steps.2)
+
 -- the lines with their replies are a schedule
-pub replied_schedule : PlanLaws → (image : HeapImage) (v : ScheduleView) (lines : List Line) (heap : List ℕ) (done : Bool) → IsValid image → IsSchedule v → IsCarriedOut image v lines done heap
+pub replied_schedule : MachineLaws → (image : HeapImage) (v : ScheduleView) (lines : List Line) (heap : List ℕ) (done : Bool) → IsValid image → IsSchedule v → IsCarriedOut image v lines done heap
     → IsSchedule (record { workers = v.workers; lines = lines })
 replied_schedule law image v lines heap done valid formed all =
     let legal : IsLegal (image_table image) v.workers all.log = legal_steps (image_table image) (image_slide image) v.workers (machine_start image) all.log all.taken.allowed in
     record {
       some = formed.some;
       few = formed.few;
-      lines = subst (λ (ls : List Line). All (λ line. IsTrue (is_line v.workers line)) ls) (sym all.replies) (steps_fit (image_table image) v.workers opening all.log (table-lawful law image valid) legal);
+      lines = subst (λ (ls : List Line). All (λ line. IsTrue (is_line v.workers line)) ls) (sym all.replies) (steps_fit law (image_table image) v.workers opening all.log (law.lawful image valid) legal);
     }
 
 abbrev view_of : ℕ → List Line → ScheduleView
 view_of n ls = record { workers = n; lines = ls }
 
 -- the result of a replay
-pub replayed : PlanLaws → (image : HeapImage) (v : ScheduleView) (lines : List Line) (heap : List ℕ) (done : Bool) (gives : Replayed) → IsValid image → IsCarriedOut image v lines done heap
+pub replayed : MachineLaws → (image : HeapImage) (v : ScheduleView) (lines : List Line) (heap : List ℕ) (done : Bool) (gives : Replayed) → IsValid image → IsCarriedOut image v lines done heap
     → gives.lines ≡ record { workers = v.workers; lines = lines } → ((log : List Entry) → IsTrue done ↔ AllAreSettled (image_table image) (machine_of image log).known → IsEndOf image log gives.ended) → IsReplayed image v gives
 replayed law image v lines heap done gives valid all told ended =
     record {

@@ -1,15 +1,15 @@
 use Rattle.std.proofs.Common.{◌≡◌, ◌≢◌, ℕ, zero, suc, ◌+◌, ◌*◌, ◌/◌, ◌%◌, ◌<◌, ◌≤◌, Bool, true, false, List, [], ◌∷◌, Option, Some, None, refl, sym, ap, ◌∙◌, subst, inl, inr, ◌⊎◌, arith}
-use Rattle.std.specs.Prelude.{if◌then◌else◌, IsTrue, ◌==◌, ◌&&◌, not}
+use Rattle.std.specs.Prelude.{if◌then◌else◌, IsTrue, ◌==◌, ◌&&◌, not, is_none}
 use Rattle.std.proofs.lemmas.Bool.{lt-ltb, le-ltb, and_parts, or_cases, or_right, eqb-true, cases_eq, cases_lt, eq-eqb, ne_eqb, false≢true}
 use Rattle.std.proofs.lemmas.Nat.{div-mul-add, mod-mul-add, div-add-mod'}
-use Rattle.history.specs.MoveTable.{MoveTable, reads}
-use Rattle.history.specs.State.{State, may_claim, state_after, claimed_by, IsStep}
-use Rattle.history.proofs.Lemmas.Reaches.{MayClaim, may_claim_tells}
-use Rattle.history.specs.declared.event.Event.{Event}
-use Rattle.history.specs.declared.event.Event.TheVariants.{Claim, Look, Drain, Complete, Settle, Poll, Copy}
-use Rattle.history.specs.declared.reply.Reply.{Reply}
-use Rattle.history.specs.declared.reply.Reply.TheVariants.{Yes, No}
-use Rattle.history.specs.declared.entry.Entry.{Entry}
+use Rattle.scheduler.specs.MoveTable.{MoveTable, reads, to_fill}
+use Rattle.scheduler.specs.State.{State, is_pending, readers_left, may_claim, state_after, claimed_by, IsStep}
+use Rattle.scheduler.specs.History.{CountsDown}
+use Rattle.scheduler.specs.declared.event.Event.{Event}
+use Rattle.scheduler.specs.declared.event.Event.TheVariants.{Claim, Look, Drain, Complete, Settle, Poll, Copy}
+use Rattle.scheduler.specs.declared.reply.Reply.{Reply}
+use Rattle.scheduler.specs.declared.reply.Reply.TheVariants.{Yes, No}
+use Rattle.scheduler.specs.declared.entry.Entry.{Entry}
 use Rattle.history.specs.Slide.{Slide, IsSlideOf, word_from, word_for, moved_heap, words_of, Machine, machine_at_first, next_place, write_one, write_words, IsWritten, IsCopiedOut, AllowsWords, copied, machine_after, machine_from, AreMachineSteps, Finds, AllFind, AllFilled}
 
 -- What holds after each call.
@@ -222,11 +222,18 @@ drained_where_not_pending true true e f = refl
 drained_where_not_pending true false e f = sym e
 drained_where_not_pending false b e f = absurd (false≢true f)
 
+-- a region that may be claimed has no pending readers
+idle_where_claimable : (m : MoveTable) (now : State) (r : ℕ) → CountsDown m now → may_claim m now r ≡ true → (d : ℕ) → is_pending m now d r ≡ false
+idle_where_claimable m now r counts e d =
+    let a = and_parts (to_fill m r) (is_none (now.claimed r) && (readers_left m now r == 0)) e in
+    let b = and_parts (is_none (now.claimed r)) (readers_left m now r == 0) a.1 in
+    counts.no_reader d r (eqb-true (readers_left m now r) 0 b.1)
+
 -- a granted claim
 pub claim_kept : (m : MoveTable) (p : Slide) (start : ℕ → ℕ) (w : Machine) (worker r : ℕ)
-    → IsKept m p start w → MayClaim m w.known r
+    → IsKept m p start w → ((d : ℕ) → is_pending m w.known d r ≡ false)
     → IsKept m p start (record { known = claimed_by w.known worker r Yes; heap = w.heap; written = w.written })
-claim_kept m p start w worker r kept may =
+claim_kept m p start w worker r kept idle =
     record {
       untouched = λ d none. untouched' d none (choice_cases d r (Some worker) (w.known.claimed d));
       read_out = λ d s by own reads_it. read_out' d s by own reads_it (choice_cases s r (Some worker) (w.known.claimed s));
@@ -246,20 +253,20 @@ claim_kept m p start w worker r kept may =
     read_out' : (d s by : ℕ) → (if s == r then Some worker else w.known.claimed s) ≡ Some by → IsTrue (reads m d s)
         → ((s ≡ r) × ((if s == r then Some worker else w.known.claimed s) ≡ Some worker)) ⊎ ((s ≢ r) × ((if s == r then Some worker else w.known.claimed s) ≡ w.known.claimed s))
         → IsTrue (w.known.drained d s)
-    read_out' d s by own reads_it (inl h) = rw h.0 (drained_where_not_pending (reads m d r) (w.known.drained d r) (may.idle d) (rw h.0 at reads_it))
+    read_out' d s by own reads_it (inl h) = rw h.0 (drained_where_not_pending (reads m d r) (w.known.drained d r) (idle d) (rw h.0 at reads_it))
     read_out' d s by own reads_it (inr h) = kept.read_out d s by (sym h.1 ∙ own) reads_it
 
 -- one more call: each word is found as it was at the start, and the invariant stays
 pub step_kept : (m : MoveTable) (p : Slide) (start : ℕ → ℕ) (w : Machine) (worker : ℕ) (event : Event) (reply : Reply)
-    → IsSlideOf m p → IsKept m p start w
+    → IsSlideOf m p → CountsDown m w.known → IsKept m p start w
     → IsStep m w.known worker event reply (state_after w.known worker event reply) → AllowsWords p w event
     → Finds p start w event × IsKept m p start (record { known = state_after w.known worker event reply; heap = (copied p w event).heap; written = (copied p w event).written })
-step_kept m p start w worker (Claim r) Yes slide kept step allowed =
-    (tt, claim_kept m p start w worker r kept (may_claim_tells m w.known r (yes_tells (may_claim m w.known r) step.replied)))
-step_kept m p start w worker (Claim r) reply slide kept step allowed = (tt, kept)
-step_kept m p start w worker (Look r) reply slide kept step allowed = (tt, kept)
-step_kept m p start w worker Poll reply slide kept step allowed = (tt, kept)
-step_kept m p start w worker (Drain d s) reply slide kept step allowed = (
+step_kept m p start w worker (Claim r) Yes slide counts kept step allowed =
+    (tt, claim_kept m p start w worker r kept (idle_where_claimable m w.known r counts (yes_tells (may_claim m w.known r) step.replied)))
+step_kept m p start w worker (Claim r) reply slide counts kept step allowed = (tt, kept)
+step_kept m p start w worker (Look r) reply slide counts kept step allowed = (tt, kept)
+step_kept m p start w worker Poll reply slide counts kept step allowed = (tt, kept)
+step_kept m p start w worker (Drain d s) reply slide counts kept step allowed = (
   tt,
   record {
     untouched = kept.untouched;
@@ -277,7 +284,7 @@ step_kept m p start w worker (Drain d s) reply slide kept step allowed = (
     out e t (inl h) =
         let both = and_parts (e == d) (t == s) h in
         rw (eqb-true e d both.0, eqb-true t s both.1) allowed
-step_kept m p start w worker (Complete d) reply slide kept step allowed = (
+step_kept m p start w worker (Complete d) reply slide counts kept step allowed = (
   tt,
   record {
     untouched = kept.untouched;
@@ -293,21 +300,21 @@ step_kept m p start w worker (Complete d) reply slide kept step allowed = (
     done' : (r : ℕ) → ((r == d) ≡ true) ⊎ (w.known.filled r ≡ true) → w.written r ≡ words_of p r
     done' r (inl h) = rw (eqb-true r d h) allowed
     done' r (inr h) = kept.done r h
-step_kept m p start w worker (Settle d) reply slide kept step allowed =
+step_kept m p start w worker (Settle d) reply slide counts kept step allowed =
     (tt, record { untouched = kept.untouched; read_out = kept.read_out; copied_out = kept.copied_out; within = kept.within; done = kept.done; moved = kept.moved; stands = kept.stands })
-step_kept m p start w worker (Copy d n) reply slide kept step allowed = (
+step_kept m p start w worker (Copy d n) reply slide counts kept step allowed = (
   copy_finds m p start w worker d n slide kept step.allowed.0.0 step.allowed.0.1 allowed,
   kept_known m p start (write_words p d n w) w.known (write_words_known p d n w) (write_words_kept m p start w worker d n slide kept step.allowed.0.0 step.allowed.0.1 allowed),
 )
 
 -- a whole history
 pub steps_kept : (m : MoveTable) (p : Slide) (workers : ℕ) (start : ℕ → ℕ) (w : Machine) (log : List Entry)
-    → IsSlideOf m p → IsKept m p start w → AreMachineSteps m p workers w log
+    → IsSlideOf m p → ((now : State) → CountsDown m now) → IsKept m p start w → AreMachineSteps m p workers w log
     → AllFind p start w log × IsKept m p start (machine_from p w log)
-steps_kept m p workers start w [] slide kept steps = (tt, kept)
-steps_kept m p workers start w (e ∷ es) slide kept steps =
-    let one = step_kept m p start w e.worker e.event e.reply slide kept steps.0.1 steps.0.2 in
-    let rest = steps_kept m p workers start (machine_after p w e) es slide one.1 steps.1 in
+steps_kept m p workers start w [] slide counts kept steps = (tt, kept)
+steps_kept m p workers start w (e ∷ es) slide counts kept steps =
+    let one = step_kept m p start w e.worker e.event e.reply slide (counts w.known) kept steps.0.1 steps.0.2 in
+    let rest = steps_kept m p workers start (machine_after p w e) es slide counts one.1 steps.1 in
     ((one.0, rest.0), rest.1)
 
 -- once all regions are filled, the heap is the moved one
@@ -330,6 +337,6 @@ filled_heap m p start w slide kept filled a = go (cases_lt a p.top)
         rw (le-ltb a p.top le) (kept.stands a (omega arith))
 
 -- what holds for a whole history, from the opening on
-pub history_kept : (m : MoveTable) (p : Slide) (workers : ℕ) (start : ℕ → ℕ) (log : List Entry) → IsSlideOf m p → AreMachineSteps m p workers (machine_at_first start) log
+pub history_kept : (m : MoveTable) (p : Slide) (workers : ℕ) (start : ℕ → ℕ) (log : List Entry) → IsSlideOf m p → ((now : State) → CountsDown m now) → AreMachineSteps m p workers (machine_at_first start) log
     → AllFind p start (machine_at_first start) log × IsKept m p start (machine_from p (machine_at_first start) log)
-history_kept m p workers start log slide steps = steps_kept m p workers start (machine_at_first start) log slide (kept_at_first m p start) steps
+history_kept m p workers start log slide counts steps = steps_kept m p workers start (machine_at_first start) log slide counts (kept_at_first m p start) steps

@@ -5,13 +5,12 @@ use Rattle.heap_image.specs.HeapImage.{HeapImage, IsValid, word_at}
 use Rattle.summary.specs.NewAddresses.{new_top}
 use Rattle.summary.specs.WordMoves.{origin}
 use Rattle.summary.specs.Compaction.{is_deferred, written, moved_word}
-use Rattle.summary.specs.PlanLaws.{PlanLaws}
 use Rattle.history.specs.Slide.{word_from, moved_heap}
 use Rattle.history.specs.WordMachine.{image_slide, machine_of, IsAllowed, IsDrainedBeforeWritten}
-use Rattle.history.specs.ImageMoves.{image_table}
-use Rattle.history.specs.declared.entry.Entry.{Entry}
+use Rattle.scheduler.specs.ImageMoves.{image_table}
+use Rattle.scheduler.specs.declared.entry.Entry.{Entry}
 use Rattle.history.proofs.Lemmas.Drained.{history_kept, filled_heap}
-use Rattle.history.proofs.Lemmas.ImageTables.{image_slides}
+use Rattle.history.specs.MachineLaws.{MachineLaws}
 
 module _ (image : HeapImage) where
   word-written : (a : ℕ) (o : Option ℕ) → word_from (image_slide image) (word_at image) a o ≡ written image (λ b. not (is_deferred image b)) o a
@@ -22,10 +21,10 @@ module _ (image : HeapImage) where
   pub moved_heap-word : (a : ℕ) → moved_heap (image_slide image) (word_at image) a ≡ moved_word image a
   moved_heap-word a = ap (λ w. if nat_lt a (new_top image) then w else word_at image a) (word-written a (origin image a))
 
-pub drained_before : PlanLaws → (image : HeapImage) → IsValid image → (workers : ℕ) (log : List Entry) → IsAllowed image workers log → IsDrainedBeforeWritten image log
+pub drained_before : MachineLaws → (image : HeapImage) → IsValid image → (workers : ℕ) (log : List Entry) → IsAllowed image workers log → IsDrainedBeforeWritten image log
 drained_before law image valid workers log steps =
-    let slides = image_slides law image valid in
-    let all = history_kept (image_table image) (image_slide image) workers (word_at image) log slides steps in
+    let slides = law.slides image valid in
+    let all = history_kept (image_table image) (image_slide image) workers (word_at image) log slides (λ now. law.counts (image_table image) now (law.lawful image valid)) steps in
     record {
       finds = all.0;
       moved = λ filled a. filled_heap (image_table image) (image_slide image) (word_at image) (machine_of image log) slides all.1 filled a ∙ moved_heap-word image a;

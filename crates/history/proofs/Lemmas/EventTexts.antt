@@ -5,11 +5,11 @@ use Rattle.std.proofs.lemmas.Fmt.{decimal_injective}
 use Rattle.std.specs.Prelude.{MatchOption, nat_lt, ◌&&◌, ◌==◌, if◌then◌else◌, decimal}
 use Rattle.history.specs.Reading.{is_without}
 use Rattle.history.specs.Verb.{verb_text, verb_of, has_numbers, numbers_then}
-use Rattle.history.specs.ScheduleText.{event_text}
-use Rattle.history.specs.declared.schedule.verb.Verb.{Verb}
-use Rattle.history.specs.declared.schedule.verb.Verb.TheVariants as verb
-use Rattle.history.specs.declared.event.Event.{Event}
-use Rattle.history.specs.declared.event.Event.TheVariants.{Claim, Look, Drain, Complete, Settle, Poll, Copy}
+use Rattle.scheduler.specs.CallText.{event_text}
+use Rattle.scheduler.specs.declared.schedule.verb.Verb.{Verb}
+use Rattle.scheduler.specs.declared.schedule.verb.Verb.TheVariants as verb
+use Rattle.scheduler.specs.declared.event.Event.{Event}
+use Rattle.scheduler.specs.declared.event.Event.TheVariants.{Claim, Look, Drain, Complete, Settle, Poll, Copy}
 use Rattle.history.proofs.Lemmas.Texts.{split_unique, decimal_without}
 
 pub verb_without : (v : Verb) → is_without 32 (verb_text v) ≡ true

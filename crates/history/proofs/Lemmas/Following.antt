@@ -2,24 +2,24 @@
 use Rattle.std.proofs.Common.{◌≡◌, ℕ, suc, ◌+◌, ◌<◌, ◌≤◌, Bool, take_all, None, List, [], ◌∷◌, ◌++◌, length, get_or, take, drop, sym, ap, ◌∙◌, subst, arith}
 use Rattle.std.specs.Prelude.{IsTrue, ◌↔◌, unwrap_or}
 use Rattle.std.proofs.lemmas.Option.{slice_get-get_or}
-use Rattle.history.specs.declared.reply.Reply.{Reply}
+use Rattle.scheduler.specs.declared.reply.Reply.{Reply}
 use Rattle.std.proofs.Math.Seq.{take-suc, drop-cons}
 use Rattle.std.proofs.lemmas.List.{take-append-drop, length-take-le}
 use Rattle.heap_image.specs.HeapImage.{HeapImage}
-use Rattle.history.specs.MoveTable.{MoveTable}
-use Rattle.history.specs.State.{State, AllAreSettled}
-use Rattle.history.specs.Scheduler.{state_in}
-use Rattle.history.specs.ImageMoves.{image_table}
-use Rattle.history.specs.Schedule.{ScheduleView}
-use Rattle.history.specs.declared.event.Event.TheVariants.{Claim}
-use Rattle.history.specs.History.{entry}
+use Rattle.scheduler.specs.MoveTable.{MoveTable}
+use Rattle.scheduler.specs.State.{State, AllAreSettled}
+use Rattle.scheduler.specs.Scheduler.{state_in}
+use Rattle.scheduler.specs.ImageMoves.{image_table}
+use Rattle.scheduler.specs.Schedule.{ScheduleView}
+use Rattle.scheduler.specs.declared.event.Event.TheVariants.{Claim}
+use Rattle.scheduler.specs.History.{entry}
 use Rattle.history.specs.WordMachine.{machine_start, machine_of}
 use Rattle.history.specs.Replay.{IsCallOfLine, IsReplay, IsRefusedAt, IsChecked}
 use Rattle.history.specs.LineCause.{IsExplained}
 use Rattle.history.specs.Ledger.{IsLedger, Tells, Leads, RefusesLine, HasCause}
-use Rattle.history.specs.declared.entry.Entry.{Entry}
+use Rattle.scheduler.specs.declared.entry.Entry.{Entry}
 use Rattle.history.specs.declared.machine.ledger.Ledger.{Ledger}
-use Rattle.history.specs.declared.schedule.line.Line.{Line}
+use Rattle.scheduler.specs.declared.schedule.line.Line.{Line}
 use Rattle.history.specs.declared.machine.line_cause.LineCause.{LineCause}
 use Rattle.history.proofs.Lemmas.Machines.{replay_more, machine_of-push}
 

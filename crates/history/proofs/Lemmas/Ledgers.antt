@@ -6,22 +6,22 @@ use Rattle.std.proofs.lemmas.Nat.{div-add-mod', mul-le, pow_below}
 use Rattle.std.proofs.lemmas.List.{get_or-set_other}
 use Rattle.std.proofs.lemmas.Grind.{get_or-set_at}
 use Rattle.heap_image.specs.HeapImage.{HeapImage, IsValid, heap_words, region_words, region_count}
-use Rattle.history.specs.MoveTable.{MoveTable}
-use Rattle.history.specs.State.{State, Allows, IsStep, state_after}
-use Rattle.history.specs.History.{entry}
-use Rattle.history.specs.Scheduler.{state_in}
+use Rattle.scheduler.specs.MoveTable.{MoveTable}
+use Rattle.scheduler.specs.State.{State, Allows, IsStep, state_after}
+use Rattle.scheduler.specs.History.{entry}
+use Rattle.scheduler.specs.Scheduler.{state_in}
 use Rattle.history.specs.Slide.{Slide, Machine, words_of, write_words, copied, AllowsWords, IsMachineStep}
-use Rattle.history.specs.ImageMoves.{image_table}
+use Rattle.scheduler.specs.ImageMoves.{image_table}
 use Rattle.history.specs.WordMachine.{image_slide}
 use Rattle.history.specs.Replay.{IsCallOfLine}
 use Rattle.history.specs.Ledger.{IsLedger, Tells, Leads, RefusesLine, HasCause, AreWrittenBy}
-use Rattle.history.specs.declared.entry.Entry.{Entry}
-use Rattle.history.specs.declared.event.Event.{Event}
-use Rattle.history.specs.declared.event.Event.TheVariants.{Claim, Look, Drain, Complete, Settle, Poll, Copy}
+use Rattle.scheduler.specs.declared.entry.Entry.{Entry}
+use Rattle.scheduler.specs.declared.event.Event.{Event}
+use Rattle.scheduler.specs.declared.event.Event.TheVariants.{Claim, Look, Drain, Complete, Settle, Poll, Copy}
 use Rattle.history.specs.declared.machine.ledger.Ledger.{Ledger}
-use Rattle.history.specs.declared.schedule.line.Line.{Line}
+use Rattle.scheduler.specs.declared.schedule.line.Line.{Line}
 use Rattle.history.specs.declared.machine.line_cause.LineCause.TheVariants.{OtherReply}
-use Rattle.history.specs.declared.reply.Reply.{Reply}
+use Rattle.scheduler.specs.declared.reply.Reply.{Reply}
 use Rattle.history.proofs.Lemmas.Drained.{choice_cases}
 use Rattle.summary.specs.PlanLaws.{PlanLaws}
 

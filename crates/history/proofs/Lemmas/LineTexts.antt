@@ -5,14 +5,15 @@ use Rattle.std.proofs.lemmas.Bool.{and_parts, ltb-true, leb-true, false≢true}
 use Rattle.std.proofs.lemmas.Fmt.{decimal_injective}
 use Rattle.history.specs.Reading.{is_without}
 use Rattle.history.specs.Verb.{has_numbers}
-use Rattle.history.specs.Schedule.{is_event, is_reply_to, is_told_reply, is_line}
-use Rattle.history.specs.ScheduleText.{event_text, reply_text, told_text, line_text, header_text}
+use Rattle.scheduler.specs.Schedule.{is_event, is_reply_to, is_told_reply, is_line}
+use Rattle.scheduler.specs.CallText.{event_text, reply_text}
+use Rattle.history.specs.ScheduleText.{told_text, line_text, header_text}
 use Rattle.history.specs.ReadSchedule.{is_text_line}
-use Rattle.history.specs.declared.event.Event.{Event}
-use Rattle.history.specs.declared.event.Event.TheVariants.{Look}
-use Rattle.history.specs.declared.reply.Reply.{Reply}
-use Rattle.history.specs.declared.reply.Reply.TheVariants.{Yes, No, Open, Outside, Claimed, Filled, Last, NotLast, Done, All, More}
-use Rattle.history.specs.declared.schedule.line.Line.{Line}
+use Rattle.scheduler.specs.declared.event.Event.{Event}
+use Rattle.scheduler.specs.declared.event.Event.TheVariants.{Look}
+use Rattle.scheduler.specs.declared.reply.Reply.{Reply}
+use Rattle.scheduler.specs.declared.reply.Reply.TheVariants.{Yes, No, Open, Outside, Claimed, Filled, Last, NotLast, Done, All, More}
+use Rattle.scheduler.specs.declared.schedule.line.Line.{Line}
 use Rattle.history.proofs.Lemmas.Texts.{split_unique, decimal_without, without-append}
 use Rattle.history.proofs.Lemmas.EventTexts.{number_unique, event_unique}
 

@@ -1,14 +1,14 @@
 -- Calls that the word machine allows, one after the other.
 use Rattle.std.proofs.Common.{◌≡◌, ℕ, List, [], ◌∷◌, ◌++◌, refl}
 use Rattle.heap_image.specs.HeapImage.{HeapImage}
-use Rattle.history.specs.MoveTable.{MoveTable}
-use Rattle.history.specs.History.{state_from, AreSteps}
+use Rattle.scheduler.specs.MoveTable.{MoveTable}
+use Rattle.scheduler.specs.History.{state_from, AreSteps}
 use Rattle.history.specs.Slide.{Slide, Machine, machine_after, machine_from, IsMachineStep, AreMachineSteps}
-use Rattle.history.specs.ImageMoves.{image_table}
+use Rattle.scheduler.specs.ImageMoves.{image_table}
 use Rattle.history.specs.WordMachine.{image_slide, machine_start, machine_of}
 use Rattle.history.specs.Replay.{IsCallOfLine, AreCallsOf, IsReplay}
-use Rattle.history.specs.declared.entry.Entry.{Entry}
-use Rattle.history.specs.declared.schedule.line.Line.{Line}
+use Rattle.scheduler.specs.declared.entry.Entry.{Entry}
+use Rattle.scheduler.specs.declared.schedule.line.Line.{Line}
 
 pub AreMachineSteps-append : (m : MoveTable) (p : Slide) (workers : ℕ) (w : Machine) (xs ys : List Entry)
     → AreMachineSteps m p workers w xs → AreMachineSteps m p workers (machine_from p w xs) ys → AreMachineSteps m p workers w (xs ++ ys)

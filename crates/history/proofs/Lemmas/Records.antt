@@ -3,19 +3,19 @@ use Rattle.std.proofs.Common.{◌≡◌, ℕ, Option, Some, None, List, [], ◌�
 use Rattle.std.specs.Prelude.{true}
 use Rattle.std.proofs.lemmas.Option.{none-some, same_Some}
 use Rattle.heap_image.specs.HeapImage.{HeapImage}
-use Rattle.history.specs.MoveTable.{MoveTable, IsMoveTable}
-use Rattle.history.specs.State.{AllAreSettled}
-use Rattle.history.specs.History.{IsLegal, entry, state_of}
-use Rattle.history.specs.Schedule.{ScheduleView, IsHistory, line_of, entries_of, schedule_of}
-use Rattle.history.specs.ImageMoves.{image_table}
+use Rattle.scheduler.specs.MoveTable.{MoveTable, IsMoveTable}
+use Rattle.scheduler.specs.State.{AllAreSettled}
+use Rattle.scheduler.specs.History.{IsLegal, entry, state_of}
+use Rattle.scheduler.specs.Schedule.{ScheduleView, IsHistory, line_of, entries_of, schedule_of}
+use Rattle.scheduler.specs.ImageMoves.{image_table}
 use Rattle.history.specs.WordMachine.{image_slide, machine_start, machine_of}
 use Rattle.history.specs.Replay.{IsCallOfLine, AreCallsOf, IsChecked}
-use Rattle.history.specs.Whole.{HasEachOnce}
+use Rattle.scheduler.specs.Whole.{HasEachOnce}
 use Rattle.history.specs.Record.{IsRecord}
-use Rattle.history.specs.declared.event.Event.{Event}
-use Rattle.history.specs.declared.reply.Reply.{Reply}
-use Rattle.history.specs.declared.entry.Entry.{Entry}
-use Rattle.history.specs.declared.schedule.line.Line.{Line}
+use Rattle.scheduler.specs.declared.event.Event.{Event}
+use Rattle.scheduler.specs.declared.reply.Reply.{Reply}
+use Rattle.scheduler.specs.declared.entry.Entry.{Entry}
+use Rattle.scheduler.specs.declared.schedule.line.Line.{Line}
 use Rattle.history.proofs.Lemmas.Machines.{legal_steps, known-machine_from}
 
 entry_is : (w w' : ℕ) (e e' : Event) (r r' : Reply) → w ≡ w' → e ≡ e' → r ≡ r' → entry w e r ≡ entry w' e' r'

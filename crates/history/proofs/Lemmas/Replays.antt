@@ -3,18 +3,18 @@ use Rattle.std.proofs.Common.{◌≡◌, ℕ, ◌<◌, List, [], ◌∷◌, ◌+
 use Rattle.std.specs.Prelude.{map}
 use Rattle.std.proofs.lemmas.Bool.{cases_lt}
 use Rattle.heap_image.specs.HeapImage.{HeapImage}
-use Rattle.history.specs.MoveTable.{MoveTable}
-use Rattle.history.specs.State.{reply_to}
-use Rattle.history.specs.History.{state_of, IsLegal}
-use Rattle.history.specs.Schedule.{ScheduleView, line_of}
+use Rattle.scheduler.specs.MoveTable.{MoveTable}
+use Rattle.scheduler.specs.State.{reply_to}
+use Rattle.scheduler.specs.History.{state_of, IsLegal}
+use Rattle.scheduler.specs.Schedule.{ScheduleView, line_of}
 use Rattle.history.specs.Slide.{Slide, Machine, machine_after, machine_from, IsMachineStep, AreMachineSteps}
-use Rattle.history.specs.ImageMoves.{image_table}
+use Rattle.scheduler.specs.ImageMoves.{image_table}
 use Rattle.history.specs.WordMachine.{image_slide, machine_start, machine_of}
 use Rattle.history.specs.Replay.{IsCallOfLine, AreCallsOf, IsReplay, IsRefused, IsRefusedAt}
-use Rattle.history.specs.declared.entry.Entry.{Entry}
-use Rattle.history.specs.declared.event.Event.{Event}
-use Rattle.history.specs.declared.schedule.line.Line.{Line}
-use Rattle.history.specs.declared.reply.Reply.{Reply}
+use Rattle.scheduler.specs.declared.entry.Entry.{Entry}
+use Rattle.scheduler.specs.declared.event.Event.{Event}
+use Rattle.scheduler.specs.declared.schedule.line.Line.{Line}
+use Rattle.scheduler.specs.declared.reply.Reply.{Reply}
 use Rattle.history.proofs.Lemmas.Machines.{legal_steps, known-machine_from}
 
 pub replay_legal : (image : HeapImage) (workers : ℕ) (lines : List Line) (log : List Entry) → IsReplay image workers lines log → IsLegal (image_table image) workers log

@@ -5,12 +5,12 @@ use Rattle.std.proofs.lemmas.Bool.{false≢true}
 use Rattle.std.proofs.lemmas.List.{append-nil}
 use Rattle.std.proofs.lemmas.List.Elements.{All-push}
 use Rattle.std.proofs.lemmas.Grind.{flat_map-append}
-use Rattle.history.specs.Schedule.{ScheduleView, IsSchedule, is_line}
+use Rattle.scheduler.specs.Schedule.{ScheduleView, IsSchedule, is_line}
 use Rattle.history.specs.ReadSchedule.{is_text_line, IsTextSchedule}
 use Rattle.history.specs.Verb.{has_numbers}
 use Rattle.std.proofs.lemmas.Bool.{and_parts}
 use Rattle.history.specs.ScheduleText.{line_text, header_text, schedule_text}
-use Rattle.history.specs.declared.schedule.line.Line.{Line}
+use Rattle.scheduler.specs.declared.schedule.line.Line.{Line}
 
 -- the text of one line more
 pub text_more : (workers : ℕ) (lines : List Line) (l : Line) → schedule_text (record { workers = workers; lines = lines ++ l ∷ [] }) ≡ schedule_text (record { workers = workers; lines = lines }) ++ line_text l

@@ -5,14 +5,15 @@ use Rattle.std.proofs.Math.ListN.{length-append}
 use Rattle.std.proofs.lemmas.Bool.{leb-true, false≢true}
 use Rattle.std.proofs.lemmas.Fmt.{decimal_digit, decimal_injective}
 use Rattle.std.proofs.lemmas.List.Elements.{All-head, All-tail}
-use Rattle.history.specs.Schedule.{ScheduleView, is_reply_to, is_told_reply}
-use Rattle.history.specs.ScheduleText.{event_text, reply_text, told_text, line_text, header_text, schedule_text}
+use Rattle.scheduler.specs.Schedule.{ScheduleView, is_reply_to, is_told_reply}
+use Rattle.scheduler.specs.CallText.{event_text, reply_text}
+use Rattle.history.specs.ScheduleText.{told_text, line_text, header_text, schedule_text}
 use Rattle.history.specs.ReadSchedule.{is_text_line, IsTextSchedule, IsMalformedAt}
-use Rattle.history.specs.declared.event.Event.{Event}
-use Rattle.history.specs.declared.event.Event.TheVariants.{Look}
-use Rattle.history.specs.declared.reply.Reply.{Reply}
-use Rattle.history.specs.declared.reply.Reply.TheVariants.{Yes, No, Open, Outside, Claimed, Filled, Last, NotLast, Done, All as AllSettled, More}
-use Rattle.history.specs.declared.schedule.line.Line.{Line}
+use Rattle.scheduler.specs.declared.event.Event.{Event}
+use Rattle.scheduler.specs.declared.event.Event.TheVariants.{Look}
+use Rattle.scheduler.specs.declared.reply.Reply.{Reply}
+use Rattle.scheduler.specs.declared.reply.Reply.TheVariants.{Yes, No, Open, Outside, Claimed, Filled, Last, NotLast, Done, All as AllSettled, More}
+use Rattle.scheduler.specs.declared.schedule.line.Line.{Line}
 use Rattle.history.proofs.Lemmas.Texts.{split_unique, decimal_without}
 use Rattle.history.proofs.Lemmas.EventTexts.{event_unique}
 use Rattle.history.proofs.Lemmas.LineTexts.{IsTextLine, text_line, told_without, behind_worker}

@@ -10,17 +10,18 @@ use Rattle.std.proofs.lemmas.List.Prefix.{front_rest}
 use borrow.Rule.Slice.PartMut.{put_mid}
 use Rattle.history.specs.Reading.{is_without}
 use Rattle.history.specs.ReadSchedule.{is_text_line, IsTextSchedule, IsBadHeader, IsMalformedAt}
-use Rattle.history.specs.Schedule.{is_reply_to, is_told_reply}
-use Rattle.history.specs.ScheduleText.{event_text, reply_text, told_text, line_text, header_text, schedule_text}
+use Rattle.scheduler.specs.Schedule.{is_reply_to, is_told_reply}
+use Rattle.scheduler.specs.CallText.{event_text, reply_text}
+use Rattle.history.specs.ScheduleText.{told_text, line_text, header_text, schedule_text}
 use Rattle.history.specs.Verb.{has_numbers}
 use Rattle.history.specs.Window.{HoldLine}
-use Rattle.history.specs.declared.event.Event.{Event}
-use Rattle.history.specs.declared.event.Event.TheVariants.{Claim, Look, Drain, Complete, Settle, Poll, Copy}
-use Rattle.history.specs.declared.schedule.line.Line.{Line}
-use Rattle.history.specs.declared.reply.Reply.{Reply}
-use Rattle.history.specs.declared.reply.Reply.TheVariants.{Yes, No, Open, Outside, Claimed, Filled, Last, NotLast, Done, All, More}
+use Rattle.scheduler.specs.declared.event.Event.{Event}
+use Rattle.scheduler.specs.declared.event.Event.TheVariants.{Claim, Look, Drain, Complete, Settle, Poll, Copy}
+use Rattle.scheduler.specs.declared.schedule.line.Line.{Line}
+use Rattle.scheduler.specs.declared.reply.Reply.{Reply}
+use Rattle.scheduler.specs.declared.reply.Reply.TheVariants.{Yes, No, Open, Outside, Claimed, Filled, Last, NotLast, Done, All, More}
 use Rattle.history.proofs.Lemmas.KnownBytes.{consumes_held, consumes_more, take_put_back}
-use Rattle.history.proofs.Lemmas.LineTexts.{IsTextLine, text_line, open_small, outside_small}
+use Rattle.history.proofs.Lemmas.LineTexts.{text_line, open_small, outside_small}
 use Rattle.history.proofs.Lemmas.ScheduleTexts.{text_more}
 use Rattle.history.proofs.Lemmas.Texts.{split_unique, decimal_without, without-append}
 

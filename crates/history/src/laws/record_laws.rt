@@ -1,12 +1,11 @@
 //! Theorem about schedules that have all their replies.
 ghost use Rattle.std.specs.Prelude.{true};
 ghost use Rattle.heap_image.specs.HeapImage.{HeapImage, IsValid};
-ghost use Rattle.history.specs.Schedule.{ScheduleView, IsHistory};
+ghost use Rattle.scheduler.specs.Schedule.{ScheduleView, IsHistory};
 ghost use Rattle.history.specs.Replay.{IsChecked};
 ghost use Rattle.history.specs.Record.{IsRecord};
 
-use super::image_laws::moves_of_images;
-use super::whole_histories::settled_histories_have_each_once;
+use scheduler::{moves_of_images, settled_histories_have_each_once};
 
 /// If a schedule has all its replies and `check` says that all regions to be filled are settled at its end, it is the
 /// record of a whole collection.

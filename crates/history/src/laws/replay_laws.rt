@@ -2,13 +2,13 @@
 
 ghost use Rattle.std.specs.Prelude.{◌≡◌, ℕ, List, map};
 ghost use Rattle.heap_image.specs.HeapImage.{HeapImage};
-ghost use Rattle.history.specs.History.{state_of, IsLegal};
-ghost use Rattle.history.specs.ImageMoves.{image_table};
-ghost use Rattle.history.specs.Schedule.{ScheduleView, line_of};
+ghost use Rattle.scheduler.specs.History.{state_of, IsLegal};
+ghost use Rattle.scheduler.specs.ImageMoves.{image_table};
+ghost use Rattle.scheduler.specs.Schedule.{ScheduleView, line_of};
 ghost use Rattle.history.specs.WordMachine.{machine_of};
 ghost use Rattle.history.specs.Replay.{AreCallsOf, IsReplay, IsRefusedAt};
-ghost use Rattle.history.specs.declared.entry.Entry.{Entry};
-ghost use Rattle.history.specs.declared.schedule.line.Line.{Line};
+ghost use Rattle.scheduler.specs.declared.entry.Entry.{Entry};
+ghost use Rattle.scheduler.specs.declared.schedule.line.Line.{Line};
 
 /// The calls of a schedule that the word machine takes are a legal history of the image's moves that
 /// leads to the state of the machine's scheduler. The list of calls is unique, and it is the

@@ -1,7 +1,7 @@
 //! Theorems about the texts of schedules.
 
 ghost use Rattle.std.specs.Prelude.{◌≡◌, ◌≢◌, ℕ, List};
-ghost use Rattle.history.specs.Schedule.{ScheduleView};
+ghost use Rattle.scheduler.specs.Schedule.{ScheduleView};
 ghost use Rattle.history.specs.ScheduleText.{schedule_text};
 ghost use Rattle.history.specs.ReadSchedule.{IsTextSchedule, IsMalformedAt};
 

@@ -7,8 +7,8 @@ ghost use Rattle.history.specs.LineCause.{IsExplained};
 
 use super::ledger::Ledger;
 use super::refused_line::RefusedLine;
-use crate::schedule::Schedule;
 use heap_image::Fault;
+use scheduler::Schedule;
 use std::alloc::{AllocError, Global};
 use summary::Plan;
 

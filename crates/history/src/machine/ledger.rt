@@ -1,23 +1,20 @@
 //! `Ledger`: the word machine without its heap.
 
 ghost use Rattle.std.specs.Prelude.{◌≡◌, ◌+◌, ◌^◌, ◌<◌, ◌≤◌, ◌↔◌, ℕ, length, slice_index, IsTrue, IfOk, OnErr, IfErr};
-ghost use Rattle.history.specs.MoveTable.{reads};
-ghost use Rattle.history.specs.State.{AllAreSettled, Allows};
-ghost use Rattle.history.specs.Scheduler.{state_in};
-ghost use Rattle.history.specs.History.{entry};
-ghost use Rattle.history.specs.ImageMoves.{image_table};
+ghost use Rattle.scheduler.specs.MoveTable.{reads};
+ghost use Rattle.scheduler.specs.State.{AllAreSettled, Allows};
+ghost use Rattle.scheduler.specs.Scheduler.{state_in};
+ghost use Rattle.scheduler.specs.History.{entry};
+ghost use Rattle.scheduler.specs.ImageMoves.{image_table};
 ghost use Rattle.history.specs.Slide.{Machine, IsMachineStep, IsCopiedOut, AllowsWords, words_of};
 ghost use Rattle.history.specs.WordMachine.{image_slide, machine_start};
 ghost use Rattle.history.specs.Replay.{IsCallOfLine};
 ghost use Rattle.history.specs.Ledger.{IsLedger, Tells, Leads, RefusesLine, HasCause, AreWrittenBy, taken_up_to};
 ghost use Rattle.history.specs.Replayed.{places_of};
-ghost use Rattle.history.specs.declared.reply.Reply.{Reply};
+ghost use Rattle.scheduler.specs.declared.reply.Reply.{Reply};
 
 use super::line_cause::LineCause;
-use crate::event::{Event, Illegal};
-use crate::reply::Reply;
-use crate::schedule::line::Line;
-use crate::scheduler::Scheduler;
+use scheduler::{Event, Illegal, Line, Reply, Scheduler, moves_of_images};
 use std::alloc::{AllocError, Global};
 use summary::Plan;
 use summary::laws::plan_laws;
@@ -130,6 +127,7 @@ impl Ledger {
         ensures { (w : Machine) → Tells self.now w → IsTrue result ↔ IsCopiedOut (image_slide plan.now) w destination source }
     {
         plan_laws();
+        moves_of_images();
         planned_image_is_valid(plan);
         u64::from(self.written(destination)) >= taken_up_to(plan, destination, source)
     }
@@ -160,6 +158,7 @@ fn taken_up_to(plan: &Plan, destination: u32, source: u32) -> u64
     ensures { result ≡ taken_up_to plan.now destination source }
 {
     plan_laws();
+    moves_of_images();
     let size = plan.region_words();
     let region = plan.region(source);
     let end = region.destination + u64::from(region.partial) + u64::from(region.live);

@@ -1,4 +1,4 @@
-use crate::reply::Reply;
+use scheduler::Reply;
 
 /// Why the word machine refuses a line of a schedule.
 #[derive(Clone, Copy, Debug, PartialEq, Eq)]

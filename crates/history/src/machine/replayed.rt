@@ -1,5 +1,5 @@
-use crate::schedule::Schedule;
 use heap_image::Image;
+use scheduler::Schedule;
 
 /// The result of a replay.
 #[derive(Drop)]

@@ -9,12 +9,10 @@ ghost use Rattle.history.specs.Replayed.{IsReplayed, IsCarriedOut};
 use super::carrier::Carrier;
 use super::ledger::Ledger;
 use super::replayed::{End, Replayed};
-use crate::schedule::Schedule;
-use crate::schedule::line::Line;
-use crate::schedule::packed_line::PackedLine;
+use crate::laws::machine_laws;
 use heap_image::{Fault, Image};
+use scheduler::{Line, PackedLine, Schedule};
 use std::alloc::{AllocError, Global};
-use summary::laws::plan_laws;
 use summary::{Plan, Survey};
 
 /// Runs the schedule by the word machine on a copy of the image. Each word is copied from what is at
@@ -32,7 +30,7 @@ pub fn replay(
     ensures ok { IfOk result (IsReplayed image.now schedule.now) }
     ensures fault { IfErr result (λ fault. (fault ≡ Fault.Memory) ⊎ ((line : ℕ) × (fault ≡ Fault.Schedule line) × IsRefusedAt image.now schedule.now line)) }
 {
-    plan_laws();
+    machine_laws();
     let plan = survey.plan();
     let carrier = Carrier::of(alloc, image, plan, survey.marks())?;
     let mut heap = words_of(alloc, image)?;
@@ -61,7 +59,7 @@ fn carry_out(
     ensures ok { IfOk result (λ all. IsCarriedOut plan.now schedule.now all.0.items all.1 heap.new) }
     ensures fault { IfErr result (λ fault. (fault ≡ Fault.Memory) ⊎ ((line : ℕ) × (fault ≡ Fault.Schedule line) × IsRefusedAt plan.now schedule.now line)) }
 {
-    plan_laws();
+    machine_laws();
     let mut ledger = Ledger::new(alloc, plan, schedule.workers())?;
     let mut lines = Vec::new(alloc);
     for (i, line) in schedule.lines().iter().enumerate() {

@@ -1,13 +1,13 @@
 //! Parsing of events.
 
-ghost use Rattle.std.specs.Prelude.{◌≡◌, ◌≢◌, ℕ, ◌<◌, ◌^◌, ◌∷◌, ◌++◌, List, IsTrue, MatchOption, decimal};
-ghost use Rattle.history.specs.Verb.{verb_of, has_numbers, numbers_then};
-ghost use Rattle.history.specs.ScheduleText.{event_text};
-ghost use Rattle.history.specs.declared.event.Event.{Event};
+ghost use Rattle.std.specs.Prelude.{◌≡◌, ◌≢◌, ℕ, ◌<◌, ◌^◌, ◌∷◌, ◌++◌, List, IsTrue, MatchOption, IfSome, IfNone, decimal};
+ghost use Rattle.history.specs.Verb.{verb_text, verb_of, has_numbers, numbers_then};
+ghost use Rattle.scheduler.specs.CallText.{event_text};
+ghost use Rattle.scheduler.specs.declared.event.Event.{Event};
+ghost use Rattle.scheduler.specs.declared.schedule.verb.Verb.{Verb};
 
 use super::reading::{number_to, word};
-use super::verb::{Verb, parse_verb};
-use crate::event::Event;
+use scheduler::{Event, Verb};
 
 /// Parses the event at the front of `bytes`, up to a space. Returns it with the bytes after the space.
 pub(crate) fn event(bytes: &[u8]) -> Option<(Event, &[u8])>
@@ -18,6 +18,23 @@ pub(crate) fn event(bytes: &[u8]) -> Option<(Event, &[u8])>
     let (name, rest) = word(bytes, b' ')?;
     let verb = parse_verb(name)?;
     numbers(verb, rest)
+}
+
+/// Parses a verb.
+fn parse_verb(word: &[u8]) -> Option<Verb>
+    ensures found { IfSome result (λ verb. word.now ≡ verb_text verb) }
+    ensures none { IfNone result ((verb : Verb) → word.now ≢ verb_text verb) }
+{
+    match word {
+        b"claim" => Some(Verb::Claim),
+        b"look" => Some(Verb::Look),
+        b"drain" => Some(Verb::Drain),
+        b"complete" => Some(Verb::Complete),
+        b"settle" => Some(Verb::Settle),
+        b"poll" => Some(Verb::Poll),
+        b"copy" => Some(Verb::Copy),
+        _ => None,
+    }
 }
 
 /// Parses the numbers of an event with this verb, each before a space. Returns the event with the

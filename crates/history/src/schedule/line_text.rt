@@ -1,17 +1,15 @@
 //! Parsing of a schedule's lines.
 
 ghost use Rattle.std.specs.Prelude.{◌≡◌, ◌≢◌, ◌≤◌, ◌++◌, List, ℕ, IsTrue, MatchOption};
-ghost use Rattle.history.specs.Schedule.{is_event};
+ghost use Rattle.scheduler.specs.Schedule.{is_event};
 ghost use Rattle.history.specs.ScheduleText.{line_text, header_text};
 ghost use Rattle.history.specs.ReadSchedule.{is_text_line};
-ghost use Rattle.history.specs.declared.schedule.line.Line.{Line};
+ghost use Rattle.scheduler.specs.declared.schedule.line.Line.{Line};
 
-use super::MAX_WORKERS;
 use super::event_text::event;
-use super::line::Line;
 use super::reading::{number_to, word};
 use super::reply_text::parse_reply;
-use crate::event::Event;
+use scheduler::{Event, Line, MAX_WORKERS};
 
 /// Parses the line at the front of `bytes`, of a schedule with this number of workers. Returns it with
 /// the bytes after.

@@ -4,8 +4,7 @@ ghost use Rattle.std.specs.Prelude.{◌≡◌, ◌≢◌, ℕ, IsTrue, MatchOpti
 ghost use Rattle.history.specs.ReplyText.{ReadsReply, ReadsTold};
 
 use super::reading::number;
-use crate::event::Event;
-use crate::reply::Reply;
+use scheduler::{Event, Reply};
 
 /// Parses a reply to this event; `?` leaves the reply open.
 pub(crate) fn parse_reply(event: Event, word: &[u8]) -> Option<Option<Reply>>

@@ -6,14 +6,12 @@ ghost use Rattle.heap_image.specs.declared.fault.Fault.{Fault};
 ghost use Rattle.history.specs.ReadSchedule.{IsTextSchedule, IsBadHeader, IsMalformedAt, is_text_line};
 ghost use Rattle.history.specs.ScheduleText.{header_text, line_text, schedule_text};
 ghost use Rattle.history.specs.Window.{IsInRange, rest_of, unread};
-ghost use Rattle.history.specs.declared.schedule.line.Line.{Line};
+ghost use Rattle.scheduler.specs.declared.schedule.line.Line.{Line};
 
-use super::Schedule;
-use super::line::Line;
 use super::line_text::{header, line};
-use super::packed_line::PackedLine;
 use super::window::Window;
 use heap_image::{Fault, Intake};
+use scheduler::{Line, PackedLine, Schedule, calls_are_lines};
 use std::alloc::Global;
 
 /// Reads a schedule from a device, with the result that [`read_schedule`](crate::read_schedule) has for all of the
@@ -29,6 +27,7 @@ pub fn read_schedule_from<R: Intake>(alloc: Global, source: &mut R) -> Result<Sc
         ⊎ ((line : ℕ) × (fault ≡ Fault.Schedule line) × IfSome (R.left source.old) (λ bytes. IsMalformedAt bytes line))) }
     ensures failed { R.has_failed source.new ≡ (is_io result || R.has_failed source.old) }
 {
+    calls_are_lines();
     let mut window = Window::new();
     let workers = read_header(source, &mut window)?;
     let mut lines = Vec::new(alloc);

@@ -5,10 +5,9 @@ ghost use Rattle.heap_image.specs.declared.fault.Fault.{Fault};
 ghost use Rattle.history.specs.ScheduleText.{schedule_text};
 ghost use Rattle.history.specs.ReadSchedule.{IsTextSchedule, IsMalformedAt};
 
-use super::Schedule;
 use super::line_text::{header, line};
-use super::packed_line::PackedLine;
 use heap_image::Fault;
+use scheduler::{PackedLine, Schedule, calls_are_lines};
 use std::alloc::Global;
 
 /// Parses a schedule. Fault 14 names the first malformed line, counted from 1, where line 1 is the
@@ -18,6 +17,7 @@ pub fn read_schedule(alloc: Global, bytes: &[u8]) -> Result<Schedule, Fault>
     ensures formed { IfOk result IsTextSchedule }
     ensures fault { IfErr result (λ fault. (fault ≡ Fault.Memory) ⊎ ((line : ℕ) × (fault ≡ Fault.Schedule line) × IsMalformedAt bytes.now line)) }
 {
+    calls_are_lines();
     let Some((workers, behind_header)) = header(bytes) else {
         return Err(Fault::Schedule(1));
     };

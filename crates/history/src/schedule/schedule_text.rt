@@ -3,55 +3,8 @@
 ghost use Rattle.std.specs.Prelude.{◌≡◌, ◌++◌, IfOk, OnOk, flat_map, take, string_bytes};
 ghost use Rattle.history.specs.ScheduleText.{line_text, header_text, schedule_text};
 
-use super::Schedule;
-use super::line::Line;
-use super::packed_line::PackedLine;
-use crate::event::Event;
-use crate::reply::Reply;
+use scheduler::{Line, PackedLine, Schedule};
 use std::alloc::{AllocError, Global};
-use std::fmt;
-
-impl fmt::Display for Event {
-    ghost use Rattle.std.specs.Prelude.{Some};
-    ghost use Rattle.history.specs.ScheduleText.{event_text};
-
-    ghost output = { λ event. Some (event_text event) };
-
-    fn fmt<W: fmt::Write>(&self, f: &mut fmt::Formatter<W>) -> fmt::Result {
-        match *self {
-            Event::Claim(r) => write!(f, "claim {r}"),
-            Event::Look(r) => write!(f, "look {r}"),
-            Event::Drain(d, s) => write!(f, "drain {d} {s}"),
-            Event::Complete(d) => write!(f, "complete {d}"),
-            Event::Settle(d) => write!(f, "settle {d}"),
-            Event::Poll => f.write_str("poll"),
-            Event::Copy(d, n) => write!(f, "copy {d} {n}"),
-        }
-    }
-}
-
-impl fmt::Display for Reply {
-    ghost use Rattle.std.specs.Prelude.{Some};
-    ghost use Rattle.history.specs.ScheduleText.{reply_text};
-
-    ghost output = { λ reply. Some (reply_text reply) };
-
-    fn fmt<W: fmt::Write>(&self, f: &mut fmt::Formatter<W>) -> fmt::Result {
-        f.write_str(match *self {
-            Reply::Yes => "yes",
-            Reply::No => "no",
-            Reply::Open(n) => return write!(f, "open{n}"),
-            Reply::Outside(n) => return write!(f, "out{n}"),
-            Reply::Claimed => "claimed",
-            Reply::Filled => "filled",
-            Reply::Last => "last",
-            Reply::NotLast => "notlast",
-            Reply::Done => "ok",
-            Reply::All => "all",
-            Reply::More => "more",
-        })
-    }
-}
 
 /// Returns the text of a schedule. Fails only if memory runs out.
 pub fn write_schedule(alloc: Global, schedule: &Schedule) -> Result<Vec<u8>, AllocError>

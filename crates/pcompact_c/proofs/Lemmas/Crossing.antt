@@ -34,13 +34,13 @@ thieves_sync = heap.Vec-sync Thief.the_row thief.the_sync
 session_send : IsSend Session.the_row
 session_send =
     let T = Session.the_type in
-    let all : AllSend (declared.fields T) = (survey_send, (board.the_field_send, (cells.the_send, (thieves_send, (search (crosses, sendable), tt))))) in
+    let all : AllSend (declared.fields T) = (survey_send, (board.the_field_send, (cells.the_send, (thieves_send, (search (crosses, sendable), (search sendable, (search (crosses, sendable), tt))))))) in
     recorded_send (Struct (declared.shape T)) T.D T.to T.to_one (struct_send (declared.shape T) all)
 
 session_sync : IsSync Session.the_row
 session_sync =
     let T = Session.the_type in
-    let all : AllSync (declared.fields T) = (survey_sync, (board.the_field_sync, (cells.the_sync, (thieves_sync, (search (crosses, sendable), tt))))) in
+    let all : AllSync (declared.fields T) = (survey_sync, (board.the_field_sync, (cells.the_sync, (thieves_sync, (search (crosses, sendable), (search sendable, (search (crosses, sendable), tt))))))) in
     recorded_sync (Struct (declared.shape T)) T.D T.to T.to_one (struct_sync (declared.shape T) all)
 
 session_shared : IsSend (Arc.the_row Session.the_row Heap.the_row ghosts)

@@ -1,5 +1,5 @@
 -- Lists whose elements are changed in turn, and lists that end with an element.
-use Rattle.std.proofs.Common.{◌≡◌, ℕ, ◌+◌, ◌≤◌, ◌<◌, List, [], ◌∷◌, ◌++◌, length, take, drop, set, get_or, refl, sym, ap, subst, ◌∙◌, arith}
+use Rattle.std.proofs.Common.{◌≡◌, ℕ, zero, suc, ◌+◌, ◌≤◌, ◌<◌, List, [], ◌∷◌, ◌++◌, length, take, drop, set, get_or, refl, sym, ap, subst, ◌∙◌, arith}
 use Rattle.std.specs.Prelude.{All, Option, Some, is_some, true, map}
 use Rattle.std.proofs.lemmas.List.{drop-drop, drop-set-lt, get_or-drop, take_all, take_more_set}
 use Rattle.std.proofs.lemmas.List.Elements.{All-nil, All-cons, All-push, All-pop}
@@ -44,3 +44,9 @@ each_some f [] ys same = All-nil (λ x. is_some (f x) ≡ true)
 each_some f (x ∷ xs) [] same = absurd (omega (arith, ap length same))
 each_some f (x ∷ xs) (y ∷ ys) same =
     All-cons (λ z. is_some (f z) ≡ true) x xs (ap (λ zs. is_some (get_or zs 0 (f x))) same) (each_some f xs ys (ap (drop 1) same))
+
+-- a change that the function doesn't show
+pub same_at : {X Y : Type 0} (f : X → Y) (xs : List X) (i : ℕ) (x d : X) → i < length xs → f x ≡ f (get_or xs i d) → map f (set xs i x) ≡ map f xs
+same_at f [] i x d inside same = absurd (omega (arith, inside))
+same_at f (y ∷ ys) zero x d inside same = ap (λ z. z ∷ map f ys) same
+same_at f (y ∷ ys) (suc i) x d inside same = ap (λ zs. f y ∷ zs) (same_at f ys i x d (omega (arith, inside)) same)

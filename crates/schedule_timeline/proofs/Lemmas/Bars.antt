@@ -6,8 +6,8 @@ use Rattle.std.proofs.lemmas.Bool.{cases_Bool}
 use Rattle.std.proofs.lemmas.Bool.Decides.{leb_tells}
 use Rattle.std.proofs.lemmas.List.{get_or_past}
 use Rattle.std.proofs.lemmas.List.Elements.{All-head, All-tail}
-use Rattle.history.specs.History.{is_grant}
-use Rattle.history.specs.declared.entry.Entry.{Entry}
+use Rattle.scheduler.specs.History.{is_grant}
+use Rattle.scheduler.specs.declared.entry.Entry.{Entry}
 use Rattle.schedule_timeline.specs.declared.timeline.call.Call.{Call}
 use Rattle.schedule_timeline.specs.declared.timeline.deed.Deed.TheVariants.{Completion, Grant, Settling}
 use Rattle.schedule_timeline.specs.FirstCalls.{AreFirst, AreGrantedBelow}

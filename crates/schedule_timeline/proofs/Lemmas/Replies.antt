@@ -3,8 +3,8 @@ use Rattle.std.proofs.Common.{◌≡◌, ◌∙◌, ◌<◌, ◌≤◌, ℕ, Lis
 use Rattle.std.specs.Prelude.{map, slice_get, unwrap_or}
 use Rattle.std.proofs.lemmas.List.{length-map}
 use Rattle.std.proofs.lemmas.Option.{slice_get-get_or}
-use Rattle.history.specs.Schedule.{ScheduleView, entries_of, line_of, schedule_of}
-use Rattle.history.specs.declared.entry.Entry.{Entry}
+use Rattle.scheduler.specs.Schedule.{ScheduleView, entries_of, line_of, schedule_of}
+use Rattle.scheduler.specs.declared.entry.Entry.{Entry}
 use Rattle.schedule_timeline.specs.Log.{HasAllReplies, log_of}
 
 -- the entries of the lines of a history are the history

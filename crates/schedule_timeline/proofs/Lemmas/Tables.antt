@@ -2,7 +2,7 @@
 use Rattle.std.proofs.Common.{◌≡◌, ◌≢◌, ◌∙◌, ◌<◌, ◌+◌, ℕ, List, Option, Some, None, take, length, get_or, inl, inr, ap, sym, subst}
 use Rattle.std.specs.Prelude.{slice_index_or}
 use Rattle.std.proofs.lemmas.Bool.{cases_eq, eq-eqb, ne_eqb}
-use Rattle.history.specs.declared.entry.Entry.{Entry}
+use Rattle.scheduler.specs.declared.entry.Entry.{Entry}
 use Rattle.schedule_timeline.specs.declared.timeline.call.Call.{Call}
 use Rattle.schedule_timeline.specs.declared.timeline.deed.Deed.{Deed}
 use Rattle.schedule_timeline.specs.FirstCalls.{AreFirst, earlier_of}

@@ -1,9 +1,9 @@
 ghost use Rattle.std.specs.Prelude.{◌≡◌, ℕ};
-ghost use Rattle.history.specs.History.{is_settling_of};
-ghost use Rattle.history.specs.Whole.{is_completion_of};
+ghost use Rattle.scheduler.specs.History.{is_settling_of};
+ghost use Rattle.scheduler.specs.Whole.{is_completion_of};
 ghost use Rattle.schedule_timeline.specs.Timeline.{does, granted_region, is_region};
 
-use history::{Entry, Event, Reply};
+use scheduler::{Entry, Event, Reply};
 
 /// What a call does to a region.
 #[derive(Clone, Copy)]

@@ -8,7 +8,7 @@ use super::call::Call;
 use super::deed::Deed;
 use super::scale::FIRST_LINE;
 use crate::entry_at::entry_at;
-use history::{Entry, Schedule};
+use scheduler::{Entry, Schedule};
 use std::alloc::{AllocError, Global};
 
 /// For each region below `regions`, the first call that does `deed` to it. Each line of the schedule has its reply.

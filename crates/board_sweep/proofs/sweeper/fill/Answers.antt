@@ -1,9 +1,9 @@
 use Rattle.std.proofs.Common.{◌≡◌, ℕ, ◌<◌, ◌≤◌, ◌++◌, false, [], ◌∷◌, if◌then◌else◌, sym, ◌∙◌, subst}
-use Rattle.history.specs.declared.event.Event.{Event}
-use Rattle.history.specs.declared.event.Event.TheVariants.{Drain, Complete}
-use Rattle.history.specs.declared.reply.Reply.TheVariants.{Done, All, More}
-use Rattle.history.specs.History.{entry}
-use Rattle.history.specs.MoveTable.{MoveTable, IsMoveTable, reads}
+use Rattle.scheduler.specs.declared.event.Event.{Event}
+use Rattle.scheduler.specs.declared.event.Event.TheVariants.{Drain, Complete}
+use Rattle.scheduler.specs.declared.reply.Reply.TheVariants.{Done, All, More}
+use Rattle.scheduler.specs.History.{entry}
+use Rattle.scheduler.specs.MoveTable.{MoveTable, IsMoveTable, reads}
 use Rattle.claim_board.specs.Boards.{moves, mine, worker, caller}
 use Rattle.claim_board.specs.Callers.{Gains}
 use Rattle.claim_board.specs.Drains.{reply_of}

@@ -1,6 +1,6 @@
 use Rattle.std.proofs.Common.{◌≡◌, ◌≤◌, ℕ}
 use Rattle.std.specs.Prelude.{count_by}
-use Rattle.history.specs.History.{is_grant}
+use Rattle.scheduler.specs.History.{is_grant}
 use Rattle.claim_board.specs.Boards.{board_of, worker, mine}
 use Rattle.board_sweep.specs.Tallies.{AreTallies, completes}
 use Rattle.board_sweep.proofs.sweeper.sweep.Given as goal

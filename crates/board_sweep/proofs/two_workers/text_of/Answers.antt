@@ -2,7 +2,7 @@ use Rattle.std.proofs.Common.{◌≡◌, ℕ, ◌+◌, Bool, cond, List, [], sym
 use Rattle.std.specs.Prelude.{◌++◌, codes}
 use Rattle.std.proofs.lemmas.List.{append-nil}
 use Rattle.claim_board.specs.Boards.{moves, mine}
-use Rattle.history.specs.MoveTable.{region_count}
+use Rattle.scheduler.specs.MoveTable.{region_count}
 use Rattle.board_sweep.specs.declared.tally.Tally.{Tally}
 use Rattle.board_sweep.specs.Tallies.{claims_in, completions_in}
 use Rattle.board_sweep.specs.Report.{lines_of, report_of}

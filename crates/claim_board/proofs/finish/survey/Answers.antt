@@ -1,7 +1,7 @@
 use Rattle.std.proofs.Common.{arith}
 use mathlib.Core.Option.{none}
 use Rattle.atomic_table.specs.Table.{step}
-use Rattle.history.specs.MoveTable.{region_count}
+use Rattle.scheduler.specs.MoveTable.{region_count}
 use Rattle.claim_board.proofs.Lemmas.Meets.{surveys_all}
 use Rattle.claim_board.proofs.finish.survey.Goals as goal
 

@@ -1,8 +1,8 @@
 use Rattle.std.proofs.Common.{◌≡◌, ◌<◌, length, vec_len, get_or, ◌==◌, arith, ap, ◌∙◌, below_more}
 use Rattle.std.specs.Prelude.{count_by}
 use Rattle.std.proofs.lemmas.List.{get_or_default}
-use Rattle.history.specs.MoveTable.{region_count}
-use Rattle.history.specs.State.{opening, readers_left}
+use Rattle.scheduler.specs.MoveTable.{region_count}
+use Rattle.scheduler.specs.State.{opening, readers_left}
 use Rattle.claim_board.specs.Rule.{word_of}
 use Rattle.claim_board.proofs.Lemmas.Openings.{at_old, at_new, all_readers, opening_word}
 use Rattle.claim_board.proofs.make.opening_words.Goals as goal

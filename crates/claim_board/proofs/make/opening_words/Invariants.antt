@@ -1,5 +1,5 @@
 use Rattle.std.proofs.Common.{◌≡◌, ℕ, ◌<◌, vec_len, slice_index}
-use Rattle.history.specs.State.{opening}
+use Rattle.scheduler.specs.State.{opening}
 use Rattle.claim_board.specs.Rule.{word_of}
 use Rattle.claim_board.proofs.make.opening_words.Given as goal
 

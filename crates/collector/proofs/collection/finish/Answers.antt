@@ -1,6 +1,6 @@
 use Rattle.std.proofs.Common.{sym, refl, subst}
-use Rattle.history.specs.State.{AllAreSettled}
-use Rattle.history.specs.History.{state_of}
+use Rattle.scheduler.specs.State.{AllAreSettled}
+use Rattle.scheduler.specs.History.{state_of}
 use Rattle.claim_board.specs.Boards.{moves, identity}
 use Rattle.collector.proofs.Lemmas.Passes.{all_of}
 use Rattle.collector.proofs.Lemmas.Settled.{none_left}

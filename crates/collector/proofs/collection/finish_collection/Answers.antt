@@ -1,8 +1,8 @@
 use Rattle.std.proofs.Common.{sym, subst}
 use Rattle.heap_image.specs.HeapImage.{HeapImage}
-use Rattle.history.specs.ImageMoves.{image_table}
-use Rattle.history.specs.MoveTable.{IsMoveTable}
-use Rattle.history.specs.Whole.{HasEachOnce}
+use Rattle.scheduler.specs.ImageMoves.{image_table}
+use Rattle.scheduler.specs.MoveTable.{IsMoveTable}
+use Rattle.scheduler.specs.Whole.{HasEachOnce}
 use Rattle.claim_board.specs.Boards.{moves, worker_count}
 use Rattle.claim_board.specs.Finishes.{history}
 use Rattle.collector.proofs.collection.finish_collection.Goals as goal

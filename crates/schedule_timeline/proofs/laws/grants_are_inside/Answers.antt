@@ -1,14 +1,14 @@
 use Rattle.std.proofs.Common.{rules, ◌<◌, ℕ, List, [], ◌∷◌, subst, arith}
 use Rattle.std.specs.Prelude.{IsTrue, ◌&&◌}
 use Rattle.std.proofs.lemmas.List.Elements.{All-cons}
-use Rattle.history.specs.MoveTable.{MoveTable, region_count}
-use Rattle.history.specs.History.{AreSteps, is_claim_of, is_grant, is_yes}
-use Rattle.history.specs.ImageMoves.{image_table}
-use Rattle.history.specs.State.{Allows, State, opening, state_after}
-use Rattle.history.specs.declared.entry.Entry.{Entry}
-use Rattle.history.specs.declared.event.Event.{Event}
-use Rattle.history.specs.declared.event.Event.TheVariants.{Claim, Look, Drain, Complete, Settle, Poll, Copy}
-use Rattle.history.specs.declared.reply.Reply.{Reply}
+use Rattle.scheduler.specs.MoveTable.{MoveTable, region_count}
+use Rattle.scheduler.specs.History.{AreSteps, is_claim_of, is_grant, is_yes}
+use Rattle.scheduler.specs.ImageMoves.{image_table}
+use Rattle.scheduler.specs.State.{Allows, State, opening, state_after}
+use Rattle.scheduler.specs.declared.entry.Entry.{Entry}
+use Rattle.scheduler.specs.declared.event.Event.{Event}
+use Rattle.scheduler.specs.declared.event.Event.TheVariants.{Claim, Look, Drain, Complete, Settle, Poll, Copy}
+use Rattle.scheduler.specs.declared.reply.Reply.{Reply}
 use Rattle.schedule_timeline.specs.FirstCalls.{AreGrantedBelow}
 use Rattle.schedule_timeline.proofs.laws.grants_are_inside.Goals as goal
 

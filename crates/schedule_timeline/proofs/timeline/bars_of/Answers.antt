@@ -2,10 +2,10 @@ use Rattle.std.proofs.Common.{◌≡◌, ◌∙◌, ◌<◌, List, Option, Some,
 use Rattle.std.specs.Prelude.{option_map, slice_index_or}
 use Rattle.std.specs.List.{enumerate_from, filter_map}
 use Rattle.std.proofs.lemmas.Bool.{eq-eqb}
-use Rattle.history.specs.History.{is_grant}
-use Rattle.history.specs.declared.entry.Entry.{Entry}
-use Rattle.history.specs.declared.event.Event.TheVariants.{Claim}
-use Rattle.history.specs.declared.reply.Reply.TheVariants.{Yes}
+use Rattle.scheduler.specs.History.{is_grant}
+use Rattle.scheduler.specs.declared.entry.Entry.{Entry}
+use Rattle.scheduler.specs.declared.event.Event.TheVariants.{Claim}
+use Rattle.scheduler.specs.declared.reply.Reply.TheVariants.{Yes}
 use Rattle.schedule_timeline.specs.declared.timeline.call.Call.{Call}
 use Rattle.schedule_timeline.specs.Log.{log_of}
 use Rattle.schedule_timeline.specs.Timeline.{bar_if, bar_of, call_at, granted_region, is_region}

@@ -1,7 +1,7 @@
 use Rattle.std.proofs.Common.{◌≡◌, ℕ, ◌<◌, ◌≤◌, false, ◌∙◌, subst}
-use Rattle.history.specs.declared.event.Event.{Event}
-use Rattle.history.specs.declared.event.Event.TheVariants.{Drain}
-use Rattle.history.specs.MoveTable.{MoveTable, IsMoveTable, reads}
+use Rattle.scheduler.specs.declared.event.Event.{Event}
+use Rattle.scheduler.specs.declared.event.Event.TheVariants.{Drain}
+use Rattle.scheduler.specs.MoveTable.{MoveTable, IsMoveTable, reads}
 use Rattle.claim_board.specs.Boards.{moves, caller}
 use Rattle.claim_board.specs.Callers.{Gains}
 use Rattle.claim_board.specs.Drains.{reply_of}

@@ -1,7 +1,7 @@
 use Rattle.std.proofs.Common.{if◌then◌else◌}
 use Rattle.std.specs.Prelude.{is_some}
-use Rattle.history.specs.declared.event.Event.TheVariants.{Claim}
-use Rattle.history.specs.declared.reply.Reply.TheVariants.{Yes, No}
+use Rattle.scheduler.specs.declared.event.Event.TheVariants.{Claim}
+use Rattle.scheduler.specs.declared.reply.Reply.TheVariants.{Yes, No}
 use Rattle.scheduling_tests.proofs.tickets.claims.Goals as goal
 
 pub returns-clause-others : goal.returns-clause-others

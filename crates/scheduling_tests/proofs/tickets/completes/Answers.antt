@@ -1,6 +1,6 @@
 use Rattle.std.proofs.Common.{◌≢◌, ℕ, sym, subst}
-use Rattle.history.specs.declared.event.Event.TheVariants.{Complete}
-use Rattle.history.specs.declared.reply.Reply.TheVariants.{Done}
+use Rattle.scheduler.specs.declared.event.Event.TheVariants.{Complete}
+use Rattle.scheduler.specs.declared.reply.Reply.TheVariants.{Done}
 use Rattle.scheduling_tests.proofs.tickets.completes.Goals as goal
 
 pub returns-clause-others : goal.returns-clause-others

@@ -1,5 +1,5 @@
 use Rattle.std.proofs.Common.{◌≡◌, ◌≢◌, ℕ, sym, ◌∙◌, subst}
-use Rattle.history.specs.declared.event.Event.TheVariants.{Drain}
+use Rattle.scheduler.specs.declared.event.Event.TheVariants.{Drain}
 use Rattle.claim_board.specs.Drains.{reply_of}
 use Rattle.scheduling_tests.proofs.tickets.drains.Goals as goal
 

@@ -1,4 +1,4 @@
-use Rattle.history.specs.declared.event.Event.TheVariants.{Look}
+use Rattle.scheduler.specs.declared.event.Event.TheVariants.{Look}
 use Rattle.scheduling_tests.proofs.tickets.looks.Goals as goal
 
 pub returns-clause-others : goal.returns-clause-others

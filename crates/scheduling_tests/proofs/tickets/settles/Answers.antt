@@ -1,6 +1,6 @@
 use Rattle.std.proofs.Common.{if◌then◌else◌}
-use Rattle.history.specs.declared.event.Event.TheVariants.{Settle}
-use Rattle.history.specs.declared.reply.Reply.TheVariants.{All, More}
+use Rattle.scheduler.specs.declared.event.Event.TheVariants.{Settle}
+use Rattle.scheduler.specs.declared.reply.Reply.TheVariants.{All, More}
 use Rattle.scheduling_tests.proofs.tickets.settles.Goals as goal
 
 pub returns-clause-others : goal.returns-clause-others

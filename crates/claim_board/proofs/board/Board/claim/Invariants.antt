@@ -1,4 +1,4 @@
-use Rattle.history.specs.declared.event.Event.TheVariants.{Claim}
+use Rattle.scheduler.specs.declared.event.Event.TheVariants.{Claim}
 use Rattle.claim_board.specs.Rule.{claim_reply}
 use Rattle.claim_board.proofs.board.Board.claim.Given as goal
 

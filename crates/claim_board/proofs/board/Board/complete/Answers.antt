@@ -1,5 +1,5 @@
 use Rattle.std.proofs.Common.{Some, refl, sym, ap, ◌∙◌}
-use Rattle.history.specs.History.{state_of}
+use Rattle.scheduler.specs.History.{state_of}
 use Rattle.claim_board.specs.Views.{worker_of, seen_of, mine_of}
 use Rattle.claim_board.proofs.Lemmas.Spends.{completed_now}
 use Rattle.claim_board.proofs.board.Board.complete.Goals as goal

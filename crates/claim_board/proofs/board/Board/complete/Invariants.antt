@@ -1,4 +1,4 @@
-use Rattle.history.specs.declared.event.Event.TheVariants.{Complete}
+use Rattle.scheduler.specs.declared.event.Event.TheVariants.{Complete}
 use Rattle.claim_board.specs.Rule.{complete_reply}
 use Rattle.claim_board.proofs.board.Board.complete.Given as goal
 

@@ -1,9 +1,9 @@
 use Rattle.std.proofs.Common.{ℕ, Some, sym, ap, ◌∙◌, subst}
 use Rattle.std.specs.Prelude.{not}
 use Rattle.std.proofs.lemmas.Bool.{and_parts}
-use Rattle.history.specs.State.{IsFilling}
-use Rattle.history.specs.MoveTable.{reads}
-use Rattle.history.specs.History.{state_of}
+use Rattle.scheduler.specs.State.{IsFilling}
+use Rattle.scheduler.specs.MoveTable.{reads}
+use Rattle.scheduler.specs.History.{state_of}
 use Rattle.claim_board.specs.Rule.{drain_reply}
 use Rattle.claim_board.specs.Views.{worker_of, seen_of, mine_of}
 use Rattle.claim_board.proofs.Lemmas.Spends.{Fills, drained_now, some_left}

@@ -1,4 +1,4 @@
-use Rattle.history.specs.declared.event.Event.TheVariants.{Drain}
+use Rattle.scheduler.specs.declared.event.Event.TheVariants.{Drain}
 use Rattle.claim_board.specs.Rule.{drain_reply}
 use Rattle.claim_board.proofs.board.Board.drain.Given as goal
 

@@ -1,5 +1,5 @@
 use Rattle.std.proofs.Common.{◌≡◌, List, [], ◌++◌, vec_len}
-use Rattle.history.specs.declared.event.Event.TheVariants.{Poll}
+use Rattle.scheduler.specs.declared.event.Event.TheVariants.{Poll}
 use Rattle.claim_board.specs.declared.pass.Pass.{Pass}
 use Rattle.claim_board.specs.Rule.{poll_reply}
 use Rattle.claim_board.specs.Boards.{AllOf}

@@ -1,4 +1,4 @@
-use Rattle.history.specs.declared.event.Event.TheVariants.{Look}
+use Rattle.scheduler.specs.declared.event.Event.TheVariants.{Look}
 use Rattle.claim_board.specs.Rule.{look_reply}
 use Rattle.claim_board.proofs.board.Board.look.Given as goal
 

@@ -1,5 +1,5 @@
 use Rattle.std.proofs.Common.{◌≡◌, ℕ, List, [], ◌∷◌, length, suc, refl, arith, sym, subst}
-use Rattle.history.specs.MoveTable.{region_count}
+use Rattle.scheduler.specs.MoveTable.{region_count}
 use Rattle.claim_board.specs.Rule.{Kept, all_workers}
 use Rattle.claim_board.specs.declared.rule.key.Key.{Key}
 use Rattle.claim_board.proofs.Lemmas.Openings.{opens}

@@ -1,4 +1,4 @@
-use Rattle.history.specs.declared.event.Event.TheVariants.{Poll}
+use Rattle.scheduler.specs.declared.event.Event.TheVariants.{Poll}
 use Rattle.claim_board.specs.Rule.{poll_reply}
 use Rattle.claim_board.proofs.board.Board.poll.Given as goal
 

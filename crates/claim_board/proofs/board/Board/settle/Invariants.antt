@@ -1,4 +1,4 @@
-use Rattle.history.specs.declared.event.Event.TheVariants.{Settle}
+use Rattle.scheduler.specs.declared.event.Event.TheVariants.{Settle}
 use Rattle.claim_board.specs.Rule.{settle_reply}
 use Rattle.claim_board.proofs.board.Board.settle.Given as goal
 

@@ -2,8 +2,8 @@ use Rattle.std.proofs.Common.{◌<◌, ◌==◌, suc, arith}
 use mathlib.Core.Option.{none}
 use prog.Atomic.{either}
 use Rattle.atomic_table.specs.Table.{step}
-use Rattle.history.specs.declared.event.Event.TheVariants.{Claim}
-use Rattle.history.specs.MoveTable.{region_count}
+use Rattle.scheduler.specs.declared.event.Event.TheVariants.{Claim}
+use Rattle.scheduler.specs.MoveTable.{region_count}
 use Rattle.claim_board.specs.Rule.{claim_reply}
 use Rattle.claim_board.specs.Views.{worker_of, mine_of}
 use Rattle.claim_board.proofs.Lemmas.Effects.{allowed, claims}

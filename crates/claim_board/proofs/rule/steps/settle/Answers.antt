@@ -1,8 +1,8 @@
 use Rattle.std.proofs.Common.{◌+◌, ◌-◌, ◌%◌, ◌^◌, ◌<◌, suc, arith}
 use mathlib.Core.Option.{none}
 use Rattle.atomic_table.specs.Table.{step}
-use Rattle.history.specs.declared.event.Event.TheVariants.{Settle}
-use Rattle.history.specs.MoveTable.{region_count}
+use Rattle.scheduler.specs.declared.event.Event.TheVariants.{Settle}
+use Rattle.scheduler.specs.MoveTable.{region_count}
 use Rattle.claim_board.specs.Rule.{settle_reply}
 use Rattle.claim_board.specs.Views.{worker_of, mine_of}
 use Rattle.claim_board.proofs.Lemmas.Effects.{allowed, settles}

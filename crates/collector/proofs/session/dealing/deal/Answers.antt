@@ -17,9 +17,12 @@ loop-worker-preserved c =
     let IsSeated : Worker _ → Type 0 = λ w. board_of w.seat ≡ identity session.desk in
     let IsOfIt : Share → Type 0 = λ share. image_of share ≡ session.survey in
     let both = front_and_last IsSeated c.loop-worker.workers.items c.pop.new.self.items c.in-Some.worker c.in-Some.ensures.items i.seats in
-    let one : IsOfIt c.new.result = ap (λ a. (arc_value {X = Session} a).survey) c.new.ensures ∙ ap (λ (s : Session). s.survey) c.in_ok-session.ensures in
+    let one : IsOfIt c.new.result = ap (λ a. (arc_value {X = Session} a).survey) c.new.ensures ∙ ap (λ (s : Session). s.survey) c.in-Ok.ensures in
+    let left = c.in-Some.ensures.cases in
+    let more = c.push_reserved.ensures.len in
     record {
       seats = both.0;
-      count = let left = c.in-Some.ensures.cases in let more = c.in_ok-push.ensures.len in let so_far = i.count in omega arith;
-      image = subst (All IsOfIt) (sym c.in_ok-push.ensures.items) (All-push IsOfIt c.loop-worker.shares.items c.new.result i.image one);
+      count = let so_far = i.count in omega arith;
+      room = let so_far = i.room in let capacity = c.push_reserved.ensures.capacity in omega arith;
+      image = subst (All IsOfIt) (sym c.push_reserved.ensures.items) (All-push IsOfIt c.loop-worker.shares.items c.new.result i.image one);
     }

@@ -1,6 +1,6 @@
 use Rattle.std.proofs.Common.{add-one, subst, ◌∙◌}
 use Rattle.history.specs.Ledger.{RefusesLine, HasCause}
-use Rattle.history.specs.declared.schedule.line.Line.{Line}
+use Rattle.scheduler.specs.declared.schedule.line.Line.{Line}
 use Rattle.history.proofs.Lemmas.Following.{item_is, followed_first, followed_by, followed_all, explained_at}
 use Rattle.history.proofs.machine.checking.followed.Goals as goal
 

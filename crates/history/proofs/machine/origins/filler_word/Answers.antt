@@ -7,7 +7,6 @@ use Rattle.heap_image.specs.Bits.{NoneFrom, IsFirstFrom}
 use Rattle.summary.specs.Fillers.{filler_limit, gap_at, may_begin_filler}
 use Rattle.history.proofs.Lemmas.Carrying.{filler_end}
 use Rattle.heap_image.specs.HeapImage.{HeapImage, heap_words, is_live_word}
-use Rattle.summary.specs.NewAddresses.{prefix_end}
 use Rattle.history.proofs.machine.origins.filler_word.Goals as goal
 
 pub may_begin_filler-requires : goal.may_begin_filler-requires

@@ -6,8 +6,8 @@ use Rattle.summary.specs.WordMoves.{origin}
 use Rattle.history.specs.Slide.{word_for}
 use Rattle.history.specs.WordMachine.{image_slide}
 use Rattle.history.specs.Ledger.{RefusesLine}
-use Rattle.history.specs.declared.schedule.line.Line.{Line}
-use Rattle.history.proofs.Lemmas.Copies.{followed_of, first_way, line_copies, line_fits, way_on, carried_out}
+use Rattle.scheduler.specs.declared.schedule.line.Line.{Line}
+use Rattle.history.proofs.Lemmas.Copies.{followed_of, first_way, line_copies, line_fits, way_on, worker_fits, carried_out}
 use Rattle.history.proofs.Lemmas.Following.{item_is, refused_at}
 use Rattle.history.proofs.machine.replaying.carry_out.Goals as goal
 
@@ -27,14 +27,14 @@ returns-in_default-clause-fault c =
 
 pub copy-requires-clause-below : goal.copy-requires-clause-below
 copy-requires-clause-below c =
-    let copy = line_copies c.plan_laws.ensures c.args.plan.now (subst IsValid c.requires.plan c.requires.kept.valid) c.args.schedule.now c.lines-line-items.result.now c.loop-i.i c.loop-i.ledger c.follow.new.self c.loop-i.lines.items c.loop-i.heap c.line-line.result c.in-Ok.reply
+    let copy = line_copies c.machine_laws.ensures c.args.plan.now (subst IsValid c.requires.plan c.requires.kept.valid) c.args.schedule.now c.lines-line-items.result.now c.loop-i.i c.loop-i.ledger c.follow.new.self c.loop-i.lines.items c.loop-i.heap c.line-line.result c.in-Ok.reply
     c.lines-line-items.ensures.lines c.loop-i.invariant c.loop-i-test.true (c.line-line.ensures ∙ item_is c.lines-line-items.result.now c.loop-i.i c.line-item.result c.loop-i-test.true c.line-item.is) c.in-Ok.ensures.call c.in-Ok.ensures.leads in
     subst (λ (i : HeapImage). c.places-first.result.0 + c.places-first.result.1 ≤ new_top i) (sym c.requires.plan)
     (subst (λ (q : ℕ × ℕ). q.0 + q.1 ≤ new_top c.args.plan.now) (sym c.places-first.ensures) copy.below)
 
 pub copy-requires-clause-stands : goal.copy-requires-clause-stands
 copy-requires-clause-stands c =
-    let copy = line_copies c.plan_laws.ensures c.args.plan.now (subst IsValid c.requires.plan c.requires.kept.valid) c.args.schedule.now c.lines-line-items.result.now c.loop-i.i c.loop-i.ledger c.follow.new.self c.loop-i.lines.items c.loop-i.heap c.line-line.result c.in-Ok.reply
+    let copy = line_copies c.machine_laws.ensures c.args.plan.now (subst IsValid c.requires.plan c.requires.kept.valid) c.args.schedule.now c.lines-line-items.result.now c.loop-i.i c.loop-i.ledger c.follow.new.self c.loop-i.lines.items c.loop-i.heap c.line-line.result c.in-Ok.reply
     c.lines-line-items.ensures.lines c.loop-i.invariant c.loop-i-test.true (c.line-line.ensures ∙ item_is c.lines-line-items.result.now c.loop-i.i c.line-item.result c.loop-i-test.true c.line-item.is) c.in-Ok.ensures.call c.in-Ok.ensures.leads in
     subst (λ (i : HeapImage). (a x : ℕ) → c.places-first.result.0 ≤ a → a < c.places-first.result.0 + c.places-first.result.1 → origin i a ≡ Some x → slice_index c.loop-i.heap x ≡ word_at i x) (sym c.requires.plan)
     (subst (λ (q : ℕ × ℕ). (a x : ℕ) → q.0 ≤ a → a < q.0 + q.1 → origin c.args.plan.now a ≡ Some x → slice_index c.loop-i.heap x ≡ word_at c.args.plan.now x) (sym c.places-first.ensures) copy.stands)
@@ -42,7 +42,7 @@ copy-requires-clause-stands c =
 pub loop-i-preserved : goal.loop-i-preserved
 loop-i-preserved c =
     rw add-one
-    (way_on c.plan_laws.ensures c.args.plan.now (subst IsValid c.requires.plan c.requires.kept.valid) c.args.schedule.now c.lines-line-items.result.now c.loop-i.i c.loop-i.ledger c.follow.new.self c.loop-i.lines.items c.loop-i.heap c.line-line.result c.in-Ok.reply
+    (way_on c.machine_laws.ensures c.args.plan.now (subst IsValid c.requires.plan c.requires.kept.valid) c.args.schedule.now c.lines-line-items.result.now c.loop-i.i c.loop-i.ledger c.follow.new.self c.loop-i.lines.items c.loop-i.heap c.line-line.result c.in-Ok.reply
     c.lines-line-items.ensures.lines c.loop-i.invariant c.loop-i-test.true (c.line-line.ensures ∙ item_is c.lines-line-items.result.now c.loop-i.i c.line-item.result c.loop-i-test.true c.line-item.is) c.in-Ok.ensures.call c.in-Ok.ensures.leads
     c.push.new.self.items c.copy.new.heap c.in-Ok.ensures.kept (c.in_ok-push.ensures.items ∙ ap (λ (l : Line). c.loop-i.lines.items ++ l ∷ []) c.of.ensures) c.copy.auto.heap
     (subst (λ (q : ℕ × ℕ). (a : ℕ) → q.0 ≤ a → a < q.0 + q.1 → slice_index c.copy.new.heap a ≡ word_for (image_slide c.args.plan.now) (word_at c.args.plan.now) a) c.places-first.ensures
@@ -55,5 +55,10 @@ returns-clause-ok c =
 
 pub of-requires : goal.of-requires
 of-requires c =
-    line_fits c.plan_laws.ensures c.args.plan.now (subst IsValid c.requires.plan c.requires.kept.valid) c.args.schedule.now c.lines-line-items.result.now c.loop-i.i c.loop-i.ledger c.follow.new.self c.loop-i.lines.items c.loop-i.heap c.line-line.result c.in-Ok.reply
+    line_fits c.machine_laws.ensures c.args.plan.now (subst IsValid c.requires.plan c.requires.kept.valid) c.args.schedule.now c.lines-line-items.result.now c.loop-i.i c.loop-i.ledger c.follow.new.self c.loop-i.lines.items c.loop-i.heap c.line-line.result c.in-Ok.reply
     c.lines-line-items.ensures.lines c.loop-i.invariant c.loop-i-test.true (c.line-line.ensures ∙ item_is c.lines-line-items.result.now c.loop-i.i c.line-item.result c.loop-i-test.true c.line-item.is) c.in-Ok.ensures.call c.in-Ok.ensures.leads c.lines-line-items.ensures.formed.few
+
+pub follow-requires-clause-worker : goal.follow-requires-clause-worker
+follow-requires-clause-worker c =
+    worker_fits c.args.schedule.now c.lines-line-items.result.now c.loop-i.i c.loop-i.ledger c.line-line.result c.lines-line-items.ensures.formed c.lines-line-items.ensures.lines c.loop-i.invariant.kept.workers c.loop-i-test.true
+    (c.line-line.ensures ∙ item_is c.lines-line-items.result.now c.loop-i.i c.line-item.result c.loop-i-test.true c.line-item.is)

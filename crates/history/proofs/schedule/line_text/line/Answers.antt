@@ -1,8 +1,8 @@
 use Rattle.std.proofs.Common.{◌∷◌, ◌++◌, ap, ◌∙◌, arith}
 use Rattle.std.proofs.lemmas.Bool.{both_ways}
-use Rattle.history.specs.Schedule.{is_event, is_told_reply}
+use Rattle.scheduler.specs.Schedule.{is_event, is_told_reply}
 use Rattle.history.specs.ScheduleText.{told_text}
-use Rattle.history.specs.declared.event.Event.{Event}
+use Rattle.scheduler.specs.declared.event.Event.{Event}
 use Rattle.history.proofs.Lemmas.LineTexts.{text_line, behind_worker, behind_event, reply_word}
 use Rattle.history.proofs.schedule.line_text.line.Goals as goal
 use Rattle.history.proofs.schedule.line_text.line.Goals.{then-worker-workers-via-then-worker-workers, then-worker-workers-via-else-worker-workers+then-not-is_event}

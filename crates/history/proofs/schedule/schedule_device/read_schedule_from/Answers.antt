@@ -4,7 +4,7 @@ use Rattle.std.specs.Io.KnownBytes.{Consumes}
 use Rattle.history.specs.ReadSchedule.{IsMalformedAt}
 use Rattle.history.specs.ScheduleText.{schedule_text}
 use Rattle.history.specs.Window.{rest_of, unread}
-use Rattle.history.specs.declared.schedule.line.Line.{Line}
+use Rattle.scheduler.specs.declared.schedule.line.Line.{Line}
 use Rattle.history.proofs.Lemmas.Windows.{bad_line, held_more, line_kept, line_read}
 use Rattle.history.proofs.schedule.schedule_device.read_schedule_from.Goals as goal
 

@@ -1,5 +1,5 @@
 use Rattle.std.proofs.Common.{◌≡◌, ◌∷◌, [], ◌++◌, refl, sym, ap, ◌∙◌, inr, rules}
-use Rattle.history.specs.declared.schedule.line.Line.{Line}
+use Rattle.scheduler.specs.declared.schedule.line.Line.{Line}
 use Rattle.history.proofs.Lemmas.SmallLines.{text_line_small}
 use Rattle.history.proofs.Lemmas.ScheduleTexts.{read_more, not_empty}
 use Rattle.history.proofs.schedule.schedule_reading.read_schedule.Goals as goal
@@ -29,4 +29,4 @@ loop-rest-preserved c =
     record { kept = all.kept; is = all.is }
 
 pub of-requires : goal.of-requires
-of-requires c = text_line_small c.in-Some.workers c.in-Some-line.next c.loop-rest.invariant.kept.few c.in-Some-line.ensures.0
+of-requires c = text_line_small c.calls_are_lines.ensures.small c.in-Some.workers c.in-Some-line.next c.loop-rest.invariant.kept.few c.in-Some-line.ensures.0

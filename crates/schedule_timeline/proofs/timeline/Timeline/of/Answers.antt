@@ -1,7 +1,7 @@
 use Rattle.std.proofs.Common.{◌≡◌, ◌∙◌, ℕ, List, ap, sym, subst}
 use Rattle.heap_image.specs.HeapImage.{HeapImage, region_count}
 use Rattle.history.specs.Replayed.{IsEndOf}
-use Rattle.history.specs.declared.entry.Entry.{Entry}
+use Rattle.scheduler.specs.declared.entry.Entry.{Entry}
 use Rattle.history.specs.declared.machine.replayed.End.{End}
 use Rattle.history.specs.declared.machine.replayed.End.TheVariants as end
 use Rattle.schedule_timeline.specs.FirstCalls.{AreGrantedBelow}

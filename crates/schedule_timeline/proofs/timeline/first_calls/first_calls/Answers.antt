@@ -1,12 +1,12 @@
 use Rattle.std.proofs.Common.{◌∙◌, ◌<◌, List, Option, None, length, ap, sym, subst, arith}
 use Rattle.std.specs.Prelude.{slice_index_or}
 use Rattle.std.proofs.lemmas.List.{with_items_is}
-use Rattle.history.specs.declared.entry.Entry.{Entry}
+use Rattle.scheduler.specs.declared.entry.Entry.{Entry}
 use Rattle.schedule_timeline.specs.declared.timeline.call.Call.{Call}
 use Rattle.schedule_timeline.specs.Log.{log_of}
 use Rattle.schedule_timeline.specs.Timeline.{call_at, does, is_region}
-use Rattle.history.specs.declared.event.Event.TheVariants.{Claim}
-use Rattle.history.specs.declared.reply.Reply.TheVariants.{Yes}
+use Rattle.scheduler.specs.declared.event.Event.TheVariants.{Claim}
+use Rattle.scheduler.specs.declared.reply.Reply.TheVariants.{Yes}
 use Rattle.schedule_timeline.specs.FirstCalls.{AreFirst, earlier_of}
 use Rattle.schedule_timeline.proofs.Lemmas.Tables.{noted, same}
 use Rattle.schedule_timeline.proofs.Lemmas.Replies.{a_call_for_each_line, all_calls, call_there}

@@ -3,11 +3,11 @@ use Rattle.std.proofs.lemmas.Nat.{pow_below}
 use Rattle.std.proofs.lemmas.Result.{on_ok_weaker}
 use Rattle.heap_image.specs.HeapImage.{HeapImage, IsValid, region_words, region_count}
 use Rattle.summary.specs.WordMoves.{reads as image_reads}
-use Rattle.history.specs.declared.event.Event.{Event}
-use Rattle.history.specs.declared.event.Event.TheVariants.{Drain}
-use Rattle.history.specs.MoveTable.{MoveTable, IsMoveTable, reads}
-use Rattle.history.specs.MoveTable.{region_count as table_regions}
-use Rattle.history.specs.ImageMoves.{image_table}
+use Rattle.scheduler.specs.declared.event.Event.{Event}
+use Rattle.scheduler.specs.declared.event.Event.TheVariants.{Drain}
+use Rattle.scheduler.specs.MoveTable.{MoveTable, IsMoveTable, reads}
+use Rattle.scheduler.specs.MoveTable.{region_count as table_regions}
+use Rattle.scheduler.specs.ImageMoves.{image_table}
 use Rattle.claim_board.specs.Callers.{Gains}
 use Rattle.claim_board.specs.Drains.{reply_of}
 use Rattle.claim_board.specs.Tickets.{IsTicketOf}

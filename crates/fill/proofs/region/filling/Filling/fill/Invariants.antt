@@ -1,6 +1,6 @@
 use Rattle.std.proofs.Common.{◌≡◌, ◌+◌, ◌-◌, ◌≤◌, max}
 use Rattle.heap_image.specs.HeapImage.{region_count}
-use Rattle.history.specs.ImageMoves.{image_table}
+use Rattle.scheduler.specs.ImageMoves.{image_table}
 use Rattle.claim_board.specs.Tickets.{IsTicketOf, IsSwept}
 use Rattle.fill.specs.Targets.{SameTarget, IsCopied}
 use Rattle.fill.specs.SourceDrains.{HasDrained}

@@ -3,8 +3,8 @@ use Rattle.std.proofs.lemmas.Nat.{pow_below}
 use Rattle.heap_image.specs.HeapImage.{HeapImage, IsValid, region_words, region_count, start_of}
 use Rattle.summary.specs.NewAddresses.{prefix_end}
 use Rattle.summary.specs.WordMoves.{reads as image_reads}
-use Rattle.history.specs.MoveTable.{reads}
-use Rattle.history.specs.ImageMoves.{image_table}
+use Rattle.scheduler.specs.MoveTable.{reads}
+use Rattle.scheduler.specs.ImageMoves.{image_table}
 use Rattle.fill.proofs.Lemmas.Draining.{sources_skip, other_unread}
 use Rattle.fill.proofs.region.filling.Filling.fill_in_prefix.Goals as goal
 

@@ -1,7 +1,7 @@
 use Rattle.std.proofs.Common.{◌≡◌, ℕ, ◌+◌, ◌^◌, ◌<◌, List, length, sym, ap, ◌∙◌, subst, arith}
 use Rattle.std.specs.Prelude.{slice_index}
 use Rattle.std.specs.Vec.{with_items}
-use Rattle.history.specs.declared.event.Event.TheVariants.{Copy}
+use Rattle.scheduler.specs.declared.event.Event.TheVariants.{Copy}
 use Rattle.history.specs.declared.machine.ledger.Ledger.{Ledger}
 use Rattle.std.proofs.lemmas.Bool.{false≢true}
 use Rattle.std.proofs.lemmas.List.{with_items_is}

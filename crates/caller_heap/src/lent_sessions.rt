@@ -1,0 +1,65 @@
+//! The begin of a collection by several threads of a heap in words that a host lends.
+ghost use Rattle.std.specs.Prelude.{◌≡◌, ◌⊎◌, All, IfOk, OnOk, IfErr, vec_len};
+ghost use Rattle.heap_image.specs.declared.fault.Fault.TheVariants.{Workers};
+ghost use Rattle.heap_image.specs.declared.version.Version.TheVariants.{One, Three};
+ghost use Rattle.heap_image.specs.HeapImage.{HeapImage, IsValid};
+ghost use Rattle.heap_image.specs.ImageText.{text};
+ghost use Rattle.fill.specs.FillFaults.{IsOverwritten};
+ghost use Rattle.collector.specs.Sessions.{image_of};
+ghost use Rattle.caller_heap.specs.HeapWords.{heap_bytes};
+ghost use Rattle.caller_heap.specs.Lent.{AreBack, IsGone, IsWhyLentKept, heap_in};
+
+use crate::lent_session::{begin_parts, lend_parts};
+use crate::settings::HeapSettings;
+use collector::Share;
+use heap_image::{Fault, Version};
+use raw_region::HostWords;
+use std::alloc::Global;
+
+/// Begins a collection of the heap with these words, a region each from address 0 up, and these live addresses by so many
+/// workers, and returns a share for each. Its end by [`end_lent_words`](crate::end_lent_words) puts the words back; until
+/// then none is held.
+///
+/// The fault is that of [`collect_lent_words`](crate::collect_lent_words), or 12 if there aren't 1 to 64 workers. After a
+/// fault all words are held as they were; only after fault 15 nothing is promised of them.
+pub fn begin_lent_words(
+    alloc: Global,
+    settings: HeapSettings,
+    words: &mut [HostWords],
+    live: &[u64],
+    workers: u32,
+) -> Result<Vec<Box<Share, Global>>, Fault>
+    ensures begun { IfOk result (λ shares. (image : HeapImage) × IsValid image
+        × (heap_bytes One settings (heap_in words.old) live.now ≡ text image)
+        × All (λ share. image_of share.value ≡ image) shares.items) }
+    ensures count { IfOk result (λ shares. vec_len shares ≡ workers) }
+    ensures gone { OnOk result (All IsGone words.new) }
+    ensures kept { IfErr result (λ fault. AreBack words.old words.new ⊎ IsOverwritten fault) }
+    ensures fault { IfErr result (λ fault. (fault ≡ Workers)
+        ⊎ IsWhyLentKept settings.region_log words.old (heap_bytes One settings (heap_in words.old) live.now) fault) }
+{
+    let parts = lend_parts(alloc, Version::One, settings, words, live)?;
+    begin_parts(alloc, words, parts, workers)
+}
+
+/// The same for a heap with roots. The fault is that of [`collect_lent_rooted_words`](crate::collect_lent_rooted_words), or
+/// 12 as above.
+pub fn begin_lent_rooted_words(
+    alloc: Global,
+    settings: HeapSettings,
+    words: &mut [HostWords],
+    roots: &[u64],
+    workers: u32,
+) -> Result<Vec<Box<Share, Global>>, Fault>
+    ensures begun { IfOk result (λ shares. (image : HeapImage) × IsValid image
+        × (heap_bytes Three settings (heap_in words.old) roots.now ≡ text image)
+        × All (λ share. image_of share.value ≡ image) shares.items) }
+    ensures count { IfOk result (λ shares. vec_len shares ≡ workers) }
+    ensures gone { OnOk result (All IsGone words.new) }
+    ensures kept { IfErr result (λ fault. AreBack words.old words.new ⊎ IsOverwritten fault) }
+    ensures fault { IfErr result (λ fault. (fault ≡ Workers)
+        ⊎ IsWhyLentKept settings.region_log words.old (heap_bytes Three settings (heap_in words.old) roots.now) fault) }
+{
+    let parts = lend_parts(alloc, Version::Three, settings, words, roots)?;
+    begin_parts(alloc, words, parts, workers)
+}

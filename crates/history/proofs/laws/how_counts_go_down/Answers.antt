@@ -1,5 +1,0 @@
-use Rattle.history.proofs.Lemmas.Countdown.{counts_down}
-use Rattle.history.proofs.laws.how_counts_go_down.Goals as goal
-
-pub returns : goal.returns
-returns c = counts_down

@@ -1,5 +1,0 @@
-use Rattle.history.proofs.Lemmas.Reaches.{legal_reached}
-use Rattle.history.proofs.laws.what_legal_histories_keep.Goals as goal
-
-pub returns : goal.returns
-returns c = legal_reached

@@ -1,5 +1,0 @@
-use Rattle.history.proofs.Lemmas.Whole.{each_once}
-use Rattle.history.proofs.laws.whole_histories.settled_histories_have_each_once.Goals as goal
-
-pub returns : goal.returns
-returns c m workers log table legal all = each_once m workers log table legal all

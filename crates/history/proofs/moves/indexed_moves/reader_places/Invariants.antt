@@ -1,5 +1,0 @@
-use Rattle.history.proofs.Lemmas.Indexes.{ArePlacesUpTo}
-use Rattle.history.proofs.moves.indexed_moves.reader_places.Given as goal
-
-abbrev pub invariant-loop-place : goal.invariant-loop-place
-invariant-loop-place l = ArePlacesUpTo l.moves l.place l.readers.items

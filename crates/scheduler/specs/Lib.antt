@@ -1,0 +1,12 @@
+pub mod MoveTable
+pub mod MoveIndex
+pub mod State
+pub mod History
+pub mod Whole
+pub mod Progress
+pub mod Scheduler
+pub mod ImageMoves
+pub mod Schedule
+pub mod Book
+pub mod PackedLine
+pub mod CallText
