@@ -7,7 +7,7 @@ ghost use Rattle.caller_heap.specs.HeapWords.{bytes_left};
 
 use crate::settings::HeapSettings;
 use heap_image::{Body, BodySize, FRONT_BYTES, Failed, Intake, Version, regions_by_log};
-use raw_region::Region;
+use raw_region::{Region, RegionPool};
 use std::alloc::{AllocError, Global};
 
 /// A device that gives the bytes of the image of a heap in memory, and its body only at once. If memory runs out, it
@@ -114,7 +114,7 @@ fn body_of(alloc: Global, size: BodySize, words: &[u64], tail: &[u64]) -> Result
     Ok(Body { regions, tail })
 }
 
-/// Copies the words into regions.
+/// Copies the words into regions of one allocation.
 fn regions_of(alloc: Global, size: BodySize, words: &[u64]) -> Result<Vec<Region>, AllocError>
     requires log { size.region_log ≤ 20 }
     requires whole { length words.now ≡ size.regions * 2 ^ size.region_log }
@@ -123,12 +123,16 @@ fn regions_of(alloc: Global, size: BodySize, words: &[u64]) -> Result<Vec<Region
     ensures words { IfOk result (λ regions. concat regions.items ≡ words.now) }
 {
     regions_by_log();
-    let len = 1 << size.region_log;
     let mut regions = Vec::with_capacity(alloc, size.regions)?;
+    if size.regions == 0 {
+        return Ok(regions);
+    }
+    let len = 1 << size.region_log;
+    let pool = RegionPool::new(alloc, size.regions, len)?;
     let mut rest = words;
-    for _r in 0..size.regions {
+    for r in 0..size.regions {
         let (first, others) = rest.split_at(len);
-        regions.push(Region::of_words(alloc, first)?)?;
+        regions.push(pool.take_with(r, first).ok_or(AllocError)?)?;
         rest = others;
     }
     Ok(regions)

@@ -24,7 +24,7 @@ pub mod LiveOrder
 pub mod Overlaps
 pub mod References
 pub mod Raised
-pub mod Targets
+pub mod SoundReferences
 pub mod Objects
 pub mod Fields
 pub mod Refusing

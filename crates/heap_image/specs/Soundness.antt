@@ -2,7 +2,7 @@
 use Rattle.std.specs.Prelude.{◌≡◌, List, ℕ, ◌+◌, ◌*◌, ◌<◌, ◌≤◌, IsTrue, Option, None, MatchOption, length, slice_index}
 use denote.Ref.{Bor}
 use Rattle.heap_image.specs.HeapImage.{HeapImage, HasSoundHeader, heap_words, size_at, end_of, references_at, reference_at, is_null_or_live}
-use Rattle.heap_image.specs.Bits.{has, room}
+use Rattle.heap_image.specs.Bits.{MarkBegins}
 use Rattle.heap_image.specs.ImageText.{unsound_header, dangling}
 
 -- the i-th live object has a sound header, ends before the next one begins, and each of its references is null or leads
@@ -18,16 +18,11 @@ abbrev pub AreNoted : HeapImage → ℕ → List ℕ → Type 0
 AreNoted image piece sizes = (j : ℕ) → j < 64 → 64 * piece + j < length image.live → 0 < slice_index sizes j
     → IsSoundObject image (64 * piece + j) × (slice_index sizes j ≡ size_at image (slice_index image.live (64 * piece + j)))
 
--- the bits that are set are those of null and of each reference to a live object
-pub record AreTargets (image : HeapImage) (bits : List ℕ) : Type 0 where
-  pub room : heap_words image + 1 < room bits
-  pub targets : (w : ℕ) → has bits w ≡ is_null_or_live image w
-
 -- each live object has a sound header, and each of its references is null or leads to a listed object
 pub record AreWellFormed (image : HeapImage) : Type 0 where
   pub headers : unsound_header image ≡ None
   pub references : dangling image ≡ None
 
--- these are the targets, or there are none and the live objects are well-formed
-abbrev pub AreTargetsOrWellFormed : HeapImage → Option (Bor (List ℕ)) → Type 0
-AreTargetsOrWellFormed image targets = MatchOption targets (AreWellFormed image) (λ bits. AreTargets image bits.now)
+-- these bits mark the live objects, or there are none and the live objects are well-formed
+abbrev pub AreBeginsOrWellFormed : HeapImage → Option (Bor (List ℕ)) → Type 0
+AreBeginsOrWellFormed image begins = MatchOption begins (AreWellFormed image) (λ bits. MarkBegins image.live (heap_words image) bits.now)

@@ -59,16 +59,6 @@ impl Bits {
         Ok(Bits { words })
     }
 
-    /// The set of 0 and of `a + 1` for each address `a` of this set. It has room for 64 more addresses.
-    pub(crate) fn shift_up(&self, alloc: Global) -> Result<Bits, AllocError>
-        ensures room { IfOk result (λ bits. length bits ≡ length self.now + 1) }
-        ensures zero { IfOk result (λ bits. IsTrue (has bits 0)) }
-        ensures above { IfOk result (λ bits. (k : ℕ) → has bits (k + 1) ≡ has self.now k) }
-    {
-        let words = shift_words_up(alloc, self.words.as_slice())?;
-        Ok(Bits { words })
-    }
-
     /// Whether address `i` is in the set. An address outside its room is not.
     #[inline]
     pub fn contains(&self, i: u64) -> bool
@@ -204,22 +194,6 @@ impl Bits {
         let below = (1 << (i % 64)) - 1;
         ones(self.words[(i / 64) as usize] & below)
     }
-}
-
-/// These words shifted up by one bit, with the lowest bit set.
-fn shift_words_up(alloc: Global, words: &[u64]) -> Result<Vec<u64>, AllocError>
-    ensures room { IfOk result (λ new. length new.items ≡ length words.now + 1) }
-    ensures zero { IfOk result (λ new. IsTrue (has new.items 0)) }
-    ensures above { IfOk result (λ new. (k : ℕ) → has new.items (k + 1) ≡ has words.now k) }
-{
-    let mut new = Vec::with_capacity(alloc, words.len() + 1)?;
-    let mut carried = 1;
-    for word in words {
-        new.push(*word << 1 | carried)?;
-        carried = *word >> 63;
-    }
-    new.push(carried)?;
-    Ok(new)
 }
 
 /// The least address from `from` on that is in the set of these words.

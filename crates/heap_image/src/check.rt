@@ -122,7 +122,7 @@ fn check_overlaps(heap: &Heap<'_>, live: &[u64]) -> Result<(), Fault>
 
 /// Whether a reference is null or to a live object. `bits` marks the live addresses.
 #[inline]
-fn is_null_or_live(heap: &Heap<'_>, reference: u64, bits: &Bits) -> bool
+pub(crate) fn is_null_or_live(heap: &Heap<'_>, reference: u64, bits: &Bits) -> bool
     requires { heap_words heap.now / 64 < length bits.now }
     ensures { (live : List ℕ) → All (λ b. b < heap_words heap.now) live → MarkBegins live (heap_words heap.now) bits.now
         → result ≡ is_null_or_live (with_live heap.now live) reference }

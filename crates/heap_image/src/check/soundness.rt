@@ -1,17 +1,17 @@
 //! Checks a live list in one thread or several, and notes the sizes of its objects.
 //!
-//! The objects are taken in pieces of 64, and their references are read a row of words at a time and looked up in a bit
-//! set with a bit for null and for each reference to a live object. If the objects are known to be well-formed,
+//! The objects are taken in pieces of 64. Their references are read a row of words at a time, and looked up in the bits of
+//! the live addresses. If the objects are known to be well-formed,
 //! only their headers are read. The result only says whether all objects are sound: `check` finds the first fault.
 //! No object waits for another one, so that the processor reads some headers and references ahead by itself.
-ghost use Rattle.std.specs.Prelude.{◌≡◌, ◌<◌, ◌≤◌, ◌+◌, ◌*◌, ◌/◌, ◌%◌, ℕ, All, IfSome, IsTrue, OnOk, IfOk, length, [], min, slice_index, slice_index_or};
-ghost use Rattle.heap_image.specs.HeapImage.{HasLiveList, heap_words, size_at, with_live, word_at};
-ghost use Rattle.heap_image.specs.Bits.{has, room};
+ghost use Rattle.std.specs.Prelude.{◌≡◌, ◌<◌, ◌≤◌, ◌+◌, ◌*◌, ◌/◌, ◌%◌, ℕ, All, IfSome, IsTrue, OnOk, IfOk, length, [], List, slice_index, slice_index_or};
+ghost use Rattle.heap_image.specs.HeapImage.{HasLiveList, heap_words, is_null_or_live, size_at, with_live, word_at};
+ghost use Rattle.heap_image.specs.Bits.{MarkBegins};
 ghost use Rattle.heap_image.specs.Sizes.{AreSizes};
-ghost use Rattle.heap_image.specs.Soundness.{AreNoted, AreTargetsOrWellFormed, IsSoundObject};
+ghost use Rattle.heap_image.specs.Soundness.{AreNoted, AreBeginsOrWellFormed, IsSoundObject};
 
 use super::crowd::Crowd;
-use super::is_unsound;
+use super::{is_null_or_live, is_unsound};
 use crate::bits::Bits;
 use crate::header;
 use crate::heap::Heap;
@@ -29,22 +29,22 @@ const LEAST_PIECES: usize = 16;
 /// The sizes in words of the live objects, if all of them are sound. The marker's threads visit each object once. Returns
 /// `None` also if memory runs out.
 ///
-/// `targets` has the bits of null and of the references to live objects. It is `None` for objects that are known to be
-/// well-formed: then only overlaps are possible, and no reference is looked up.
+/// `begins` marks the live addresses. It is `None` for objects that are known to be well-formed: then only overlaps are
+/// possible, and no reference is looked up.
 pub(crate) fn sizes_if_sound<M: Marker>(
     alloc: Global,
     heap: &Heap<'_>,
     live: &[u64],
-    targets: Option<&Bits>,
+    begins: Option<&Bits>,
     marker: &M,
 ) -> Option<Vec<[u32; PIECE]>>
     requires marker { M.may_start }
     requires inside { All (λ a. a < heap_words heap.now) live.now }
-    requires targets { AreTargetsOrWellFormed (with_live heap.now live.now) targets }
+    requires begins { AreBeginsOrWellFormed (with_live heap.now live.now) begins }
     ensures sound { IfSome result (λ _. HasLiveList (with_live heap.now live.now)) }
     ensures sizes { IfSome result (λ sizes. AreSizes (with_live heap.now live.now) sizes.items) }
 {
-    let Ok(sizes) = marker.note_sizes(alloc, heap, live, targets) else {
+    let Ok(sizes) = marker.note_sizes(alloc, heap, live, begins) else {
         return None;
     };
     if are_all_noted(sizes.as_slice(), live.len()) {
@@ -59,30 +59,30 @@ pub(crate) fn note_all_alone(
     alloc: Global,
     heap: &Heap<'_>,
     live: &[u64],
-    targets: Option<&Bits>,
+    begins: Option<&Bits>,
 ) -> Result<Vec<[u32; PIECE]>, AllocError>
     requires inside { All (λ a. a < heap_words heap.now) live.now }
-    requires targets { AreTargetsOrWellFormed (with_live heap.now live.now) targets }
+    requires begins { AreBeginsOrWellFormed (with_live heap.now live.now) begins }
     ensures room { IfOk result (λ sizes. length live.now ≤ 64 * length sizes.items) }
     ensures noted { IfOk result (λ sizes. (p : ℕ) → p < length sizes.items
         → AreNoted (with_live heap.now live.now) p (slice_index_or sizes.items p [])) }
 {
     let mut sizes = vec![in alloc; [0u32; PIECE]; live.len().div_ceil(PIECE)]?;
-    note_pieces(heap, live, targets, sizes.as_mut_slice());
+    note_pieces(heap, live, begins, sizes.as_mut_slice());
     Ok(sizes)
 }
 
 /// Notes the sizes of the sound live objects of all pieces.
-fn note_pieces(heap: &Heap<'_>, live: &[u64], targets: Option<&Bits>, sizes: &mut [[u32; PIECE]])
+fn note_pieces(heap: &Heap<'_>, live: &[u64], begins: Option<&Bits>, sizes: &mut [[u32; PIECE]])
     requires inside { All (λ a. a < heap_words heap.now) live.now }
-    requires targets { AreTargetsOrWellFormed (with_live heap.now live.now) targets }
+    requires begins { AreBeginsOrWellFormed (with_live heap.now live.now) begins }
     requires pieces { (p : ℕ) → p < length sizes.old → 64 * p < length live.now }
     ensures count { length sizes.new ≡ length sizes.old }
     ensures noted { (p : ℕ) → p < length sizes.new
         → AreNoted (with_live heap.now live.now) p (slice_index_or sizes.new p []) }
 {
     for piece in 0..sizes.len() {
-        note_sizes(heap, live, targets, piece, &mut sizes[piece]);
+        note_sizes(heap, live, begins, piece, &mut sizes[piece]);
     }
 }
 
@@ -91,11 +91,11 @@ pub(crate) fn note_all_by_crowd<T: Threads + Sync>(
     alloc: Global,
     heap: &Heap<'_>,
     live: &[u64],
-    targets: Option<&Bits>,
+    begins: Option<&Bits>,
     crowd: &Crowd<'_, T>,
 ) -> Result<Vec<[u32; PIECE]>, AllocError>
     requires inside { All (λ a. a < heap_words heap.now) live.now }
-    requires targets { AreTargetsOrWellFormed (with_live heap.now live.now) targets }
+    requires begins { AreBeginsOrWellFormed (with_live heap.now live.now) begins }
     ensures room { IfOk result (λ sizes. length live.now ≤ 64 * length sizes.items) }
     ensures noted { IfOk result (λ sizes. (p : ℕ) → p < length sizes.items
         → AreNoted (with_live heap.now live.now) p (slice_index_or sizes.items p [])) }
@@ -104,9 +104,9 @@ pub(crate) fn note_all_by_crowd<T: Threads + Sync>(
     let count = crowd.most.min(sizes.len() / LEAST_PIECES).max(1);
     let note = |piece: usize, sizes: &mut [u32; PIECE]|
         requires { All (λ a. a < heap_words heap.now) live.now
-            × AreTargetsOrWellFormed (with_live heap.now live.now) targets × (64 * piece < length live.now) }
+            × AreBeginsOrWellFormed (with_live heap.now live.now) begins × (64 * piece < length live.now) }
         ensures { AreNoted (with_live heap.entry.now live.entry.now) piece sizes.new }
-    { note_sizes(heap, live, targets, piece, sizes) };
+    { note_sizes(heap, live, begins, piece, sizes) };
     for_each_mut(crowd.threads, sizes.as_mut_slice(), count, &note);
     Ok(sizes)
 }
@@ -115,19 +115,19 @@ pub(crate) fn note_all_by_crowd<T: Threads + Sync>(
 fn note_sizes(
     heap: &Heap<'_>,
     live: &[u64],
-    targets: Option<&Bits>,
+    begins: Option<&Bits>,
     piece: usize,
     sizes: &mut [u32; PIECE],
 )
     requires inside { All (λ a. a < heap_words heap.now) live.now }
-    requires targets { AreTargetsOrWellFormed (with_live heap.now live.now) targets }
+    requires begins { AreBeginsOrWellFormed (with_live heap.now live.now) begins }
     requires piece { 64 * piece < length live.now }
     ensures { AreNoted (with_live heap.now live.now) piece sizes.new }
 {
     let from = piece * PIECE;
     let to = live.len().min(from + PIECE);
     for i in from..to {
-        sizes[i - from] = size_if_sound(heap, live, targets, i);
+        sizes[i - from] = size_if_sound(heap, live, begins, i);
     }
 }
 
@@ -159,15 +159,15 @@ fn are_noted(sizes: &[u32]) -> bool
 
 /// The size of the live object with this index, or 0 if it isn't sound.
 #[inline]
-fn size_if_sound(heap: &Heap<'_>, live: &[u64], targets: Option<&Bits>, i: usize) -> u32
+fn size_if_sound(heap: &Heap<'_>, live: &[u64], begins: Option<&Bits>, i: usize) -> u32
     requires inside { All (λ a. a < heap_words heap.now) live.now }
-    requires targets { AreTargetsOrWellFormed (with_live heap.now live.now) targets }
+    requires begins { AreBeginsOrWellFormed (with_live heap.now live.now) begins }
     requires index { i < length live.now }
     ensures sound { 0 < result → IsSoundObject (with_live heap.now live.now) i }
     ensures size { 0 < result → result ≡ size_at (with_live heap.now live.now) (slice_index live.now i) }
 {
     let header = heap.word(live[i]);
-    if is_sound(heap, live, targets, i, header) {
+    if is_sound(heap, live, begins, i, header) {
         header::size(header)
     } else {
         0
@@ -177,9 +177,9 @@ fn size_if_sound(heap: &Heap<'_>, live: &[u64], targets: Option<&Bits>, i: usize
 /// Whether the live object with this index and this header fits in the heap, ends before the next one begins, and has
 /// only references that are null or lead to live objects.
 #[inline]
-fn is_sound(heap: &Heap<'_>, live: &[u64], targets: Option<&Bits>, i: usize, header: u64) -> bool
+fn is_sound(heap: &Heap<'_>, live: &[u64], begins: Option<&Bits>, i: usize, header: u64) -> bool
     requires inside { All (λ a. a < heap_words heap.now) live.now }
-    requires targets { AreTargetsOrWellFormed (with_live heap.now live.now) targets }
+    requires begins { AreBeginsOrWellFormed (with_live heap.now live.now) begins }
     requires index { i < length live.now }
     requires header { header ≡ word_at heap.now (slice_index live.now i) }
     ensures { IsTrue result → IsSoundObject (with_live heap.now live.now) i }
@@ -194,41 +194,40 @@ fn is_sound(heap: &Heap<'_>, live: &[u64], targets: Option<&Bits>, i: usize, hea
     }
     are_sound_references(
         heap,
-        targets,
+        begins,
         a + 1,
         a + 1 + u64::from(header::references(header)),
     )
 }
 
-/// Whether each word from `from` up to `to` is one of these references, or nothing is known of it because there are
-/// none to compare it with.
+/// Whether each word from `from` up to `to` is null or leads to a live object, or nothing is looked up.
 #[inline]
-fn are_sound_references(heap: &Heap<'_>, targets: Option<&Bits>, from: u64, to: u64) -> bool
+fn are_sound_references(heap: &Heap<'_>, begins: Option<&Bits>, from: u64, to: u64) -> bool
     requires inside { to ≤ heap_words heap.now }
-    requires room { IfSome targets (λ bits. heap_words heap.now + 1 < room bits.now) }
-    ensures { IsTrue result → IfSome targets.entry (λ bits. (p : ℕ) → from ≤ p → p < to
-        → IsTrue (has bits.now (min (word_at heap.now p) (heap_words heap.now + 1)))) }
+    requires room { IfSome begins (λ bits. heap_words heap.now / 64 < length bits.now) }
+    ensures { IsTrue result → IfSome begins.entry (λ bits. (live : List ℕ) → All (λ a. a < heap_words heap.now) live
+        → MarkBegins live (heap_words heap.now) bits.now → (p : ℕ) → from ≤ p → p < to
+        → IsTrue (is_null_or_live (with_live heap.now live) (word_at heap.now p))) }
 {
-    match targets {
-        Some(targets) => lead_to_targets(heap, targets, from, to),
+    match begins {
+        Some(begins) => lead_to_live(heap, begins, from, to),
         None => true,
     }
 }
 
-/// Whether each word from `from` up to `to` is one of these references. A reference that leads out of the heap is
-/// looked up as the least such reference.
+/// Whether each word from `from` up to `to` is null or leads to a live object. `begins` marks the live addresses.
 #[inline]
-fn lead_to_targets(heap: &Heap<'_>, targets: &Bits, from: u64, to: u64) -> bool
+fn lead_to_live(heap: &Heap<'_>, begins: &Bits, from: u64, to: u64) -> bool
     requires inside { to ≤ heap_words heap.now }
-    requires room { heap_words heap.now + 1 < room targets.now }
-    ensures { IsTrue result → (p : ℕ) → from ≤ p → p < to
-        → IsTrue (has targets.now (min (word_at heap.now p) (heap_words heap.now + 1))) }
+    requires room { heap_words heap.now / 64 < length begins.now }
+    ensures { IsTrue result → (live : List ℕ) → All (λ a. a < heap_words heap.now) live
+        → MarkBegins live (heap_words heap.now) begins.now → (p : ℕ) → from ≤ p → p < to
+        → IsTrue (is_null_or_live (with_live heap.now live) (word_at heap.now p)) }
 {
-    let beyond = heap.len() + 1;
     let mut next = from;
     while next < to {
         let row = heap.row(next, to);
-        if !has_all(targets, row, beyond) {
+        if !all_lead_to_live(heap, begins, row) {
             return false;
         }
         next += row.len() as u64;
@@ -236,17 +235,18 @@ fn lead_to_targets(heap: &Heap<'_>, targets: &Bits, from: u64, to: u64) -> bool
     true
 }
 
-/// Whether each of these references, reduced to at most `highest`, is in a set.
+/// Whether each of these references is null or leads to a live object. `begins` marks the live addresses.
 ///
-/// It ends at the first that isn't: without that exit the loop is unrolled, and rows of a few references take longer.
+/// It ends at the first that doesn't: without that exit the loop is unrolled, and rows of a few references take longer.
 #[inline]
-fn has_all(targets: &Bits, references: &[u64], highest: u64) -> bool
-    requires { highest < room targets.now }
-    ensures { IsTrue result → (k : ℕ) → k < length references.now
-        → IsTrue (has targets.now (min (slice_index references.now k) highest)) }
+fn all_lead_to_live(heap: &Heap<'_>, begins: &Bits, references: &[u64]) -> bool
+    requires { heap_words heap.now / 64 < length begins.now }
+    ensures { IsTrue result → (live : List ℕ) → All (λ a. a < heap_words heap.now) live
+        → MarkBegins live (heap_words heap.now) begins.now → (k : ℕ) → k < length references.now
+        → IsTrue (is_null_or_live (with_live heap.now live) (slice_index references.now k)) }
 {
     for reference in references {
-        if !targets.has((*reference).min(highest)) {
+        if !is_null_or_live(heap, *reference, begins) {
             return false;
         }
     }

@@ -119,9 +119,6 @@ impl Found {
         if self.well_formed {
             return sizes_if_sound(alloc, heap, live, None, marker);
         }
-        match self.begins.shift_up(alloc) {
-            Ok(targets) => sizes_if_sound(alloc, heap, live, Some(&targets), marker),
-            Err(_) => None,
-        }
+        sizes_if_sound(alloc, heap, live, Some(&self.begins), marker)
     }
 }

@@ -3,7 +3,7 @@ ghost use Rattle.std.specs.Prelude.{◌≡◌, ◌<◌, ◌≤◌, ◌*◌, ◌^
 ghost use Rattle.heap_image.specs.HeapImage.{heap_words, with_live};
 ghost use Rattle.heap_image.specs.Bits.{addresses_of};
 ghost use Rattle.heap_image.specs.Marking.{AreReached, AreReachedWell};
-ghost use Rattle.heap_image.specs.Soundness.{AreNoted, AreTargetsOrWellFormed};
+ghost use Rattle.heap_image.specs.Soundness.{AreNoted, AreBeginsOrWellFormed};
 
 use super::{Marked, mark, mark_by_crowd};
 use crate::bits::Bits;
@@ -32,18 +32,18 @@ pub(crate) trait Marker {
         requires few { length bits.now < 2 ^ 58 }
         ensures { IfOk result (λ live. live.items ≡ addresses_of bits.now) };
 
-    /// The size of each sound live object, in pieces of 64, and 0 for each unsound one. `targets` has the bits of
-    /// null and of the references to live objects, or is `None` if the objects are known to be well-formed.
+    /// The size of each sound live object, in pieces of 64, and 0 for each unsound one. `begins` marks the
+    /// live addresses, or is `None` if the objects are known to be well-formed.
     fn note_sizes(
         &self,
         alloc: Global,
         heap: &Heap<'_>,
         live: &[u64],
-        targets: Option<&Bits>,
+        begins: Option<&Bits>,
     ) -> Result<Vec<[u32; PIECE]>, AllocError>
         requires start { may_start }
         requires inside { All (λ a. a < heap_words heap.now) live.now }
-        requires targets { AreTargetsOrWellFormed (with_live heap.now live.now) targets }
+        requires begins { AreBeginsOrWellFormed (with_live heap.now live.now) begins }
         ensures room { IfOk result (λ sizes. length live.now ≤ 64 * length sizes.items) }
         ensures noted { IfOk result (λ sizes. (p : ℕ) → p < length sizes.items
             → AreNoted (with_live heap.now live.now) p (slice_index_or sizes.items p [])) };
@@ -72,9 +72,9 @@ impl Marker for Alone {
         alloc: Global,
         heap: &Heap<'_>,
         live: &[u64],
-        targets: Option<&Bits>,
+        begins: Option<&Bits>,
     ) -> Result<Vec<[u32; PIECE]>, AllocError> {
-        note_all_alone(alloc, heap, live, targets)
+        note_all_alone(alloc, heap, live, begins)
     }
 
     fn are_several(&self) -> bool {
@@ -100,9 +100,9 @@ impl<T: Threads + Sync> Marker for Crowd<'_, T> {
         alloc: Global,
         heap: &Heap<'_>,
         live: &[u64],
-        targets: Option<&Bits>,
+        begins: Option<&Bits>,
     ) -> Result<Vec<[u32; PIECE]>, AllocError> {
-        note_all_by_crowd(alloc, heap, live, targets, self)
+        note_all_by_crowd(alloc, heap, live, begins, self)
     }
 
     fn are_several(&self) -> bool {

@@ -3,12 +3,12 @@ use Rattle.heap_image.specs.Header.{size_of, references_of}
 use Rattle.heap_image.specs.HeapImage.{with_live, references_at, size_at}
 use Rattle.heap_image.proofs.Lemmas.LiveListFaults.{sound_header}
 use Rattle.heap_image.proofs.Lemmas.Objects.{unsound_tested}
-use Rattle.heap_image.proofs.Lemmas.Targets.{targets_room, references_sound}
+use Rattle.heap_image.proofs.Lemmas.SoundReferences.{begins_room, references_sound}
 use Rattle.heap_image.proofs.check.soundness.is_sound.Goals as goal
 use Rattle.heap_image.proofs.check.soundness.is_sound.Goals.{else-i-live-via-then-i-live+else-end-live, else-i-live-via-else-i-live}
 
 pub are_sound_references-requires-clause-room : goal.are_sound_references-requires-clause-room
-are_sound_references-requires-clause-room c = targets_room c.args.heap.now c.args.live.now c.args.targets c.requires.targets
+are_sound_references-requires-clause-room c = begins_room c.args.heap.now c.args.live.now c.args.begins c.requires.begins
 
 pub returns : goal.returns
 returns c = λ said.
@@ -27,5 +27,5 @@ returns c = λ said.
             omega arith
         | else-i-live-via-else-i-live w ↦ let last = w.if-i-live.false in let no : ⊥ = omega arith in absurd no
       ];
-      references = references_sound heap live c.args.targets i (a + 1 + c.from-2.result) c.requires.index c.requires.inside c.requires.targets (ap (λ n. a + 1 + n) count) (c.are_sound_references.ensures said);
+      references = references_sound heap live c.args.begins i (a + 1 + c.from-2.result) c.requires.index c.requires.inside c.requires.begins (ap (λ n. a + 1 + n) count) (c.are_sound_references.ensures said);
     }

@@ -1,10 +1,8 @@
-use Rattle.std.proofs.Common.{Option, Some, None, ◌≡◌, sym, subst, List, ℕ}
+use Rattle.std.proofs.Common.{Option, Some, None, ◌≡◌, subst, List, ℕ}
 use Rattle.std.specs.Prelude.{IfSome}
-use Rattle.heap_image.specs.HeapImage.{HeapImage, HasLiveList, heap_words, with_live}
+use Rattle.heap_image.specs.HeapImage.{HeapImage, HasLiveList, with_live}
 use Rattle.heap_image.specs.ImageText.{first_object_fault}
-use Rattle.heap_image.specs.Bits.{MarkBegins}
 use Rattle.heap_image.proofs.Lemmas.Faultless.{first_object_fault-None}
-use Rattle.heap_image.proofs.Lemmas.Targets.{targets_of}
 use Rattle.heap_image.proofs.check.unchecked.Found.sizes_if_sound.Goals as goal
 
 -- an answer for this live list shows that no object is at fault
@@ -15,12 +13,5 @@ faultless heap live listed None e sound = sound
 pub returns-then-self-clause-ok : goal.returns-then-self-clause-ok
 returns-then-self-clause-ok g c = faultless c.args.heap.now c.args.self.now.live.items c.as_slice-live.result.now c.sizes_if_sound.result c.as_slice-live.ensures.value c.sizes_if_sound.ensures.sound
 
-pub sizes_if_sound-requires-in-Ok-clause-targets : goal.sizes_if_sound-requires-in-Ok-clause-targets
-sizes_if_sound-requires-in-Ok-clause-targets g c =
-    let heap = c.args.heap.now in
-    let begins = c.args.self.now.begins in
-    let marks = subst (λ xs. MarkBegins xs (heap_words heap) begins) (sym c.as_slice-live.ensures.value) c.requires.begins in
-    targets_of heap c.as_slice-live.result.now begins c.in-Ok.targets marks c.in-Ok.ensures.room c.in-Ok.ensures.zero c.in-Ok.ensures.above
-
-pub returns-in-Ok-clause-ok : goal.returns-in-Ok-clause-ok
-returns-in-Ok-clause-ok g c = faultless c.args.heap.now c.args.self.now.live.items c.as_slice-live.result.now c.sizes_if_sound-in-Ok.result c.as_slice-live.ensures.value c.sizes_if_sound-in-Ok.ensures.sound
+pub returns-clause-ok : goal.returns-clause-ok
+returns-clause-ok g c = faultless c.args.heap.now c.args.self.now.live.items c.as_slice-live.result.now c.sizes_if_sound-2.result c.as_slice-live.ensures.value c.sizes_if_sound-2.ensures.sound
