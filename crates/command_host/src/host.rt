@@ -4,8 +4,10 @@ use command_support::{FileId, FileLock, Gauge, Meter, Phase, SystemFile};
 use std::alloc::Allocator;
 use std::fs::{FileTimes, Metadata, OpenFile, OpenOptions, Permissions};
 use std::io;
-use std::io::{Read, Seek, SeekFrom, Stderr, Write};
+use std::io::{PipeReader, PipeWriter, Read, Seek, SeekFrom, Stderr, Write};
+use std::os::fd::BorrowedFd;
 use std::os::unix::fs::FileExt;
+use std::os::unix::net::SocketAddr;
 use std::path::PathBuf;
 use std::rt::Files;
 use std::sync::Wait;
@@ -21,8 +23,6 @@ const STANDARD_ERROR: &str = "/proc/self/fd/2";
 /// The system that commands run on. A file that is opened for writing and is standard output is written through
 /// standard output itself: a second opening would have a file position of its own, and each would overwrite what the
 /// other wrote. What is read and written is shown on a meter, unless standard error is itself a file that is written.
-///
-/// The methods of `Files` that no command calls are left out.
 #[derive(Drop)]
 pub struct Host<'s, R> {
     rt: R,
@@ -148,6 +148,42 @@ impl<'s, R: Files> Files for Host<'s, R> {
 
     fn canonicalize<B: Allocator>(&self, alloc: B, path: &str) -> io::Result<PathBuf<B>> {
         self.rt.canonicalize(alloc, path)
+    }
+
+    fn read_link<B: Allocator>(&self, alloc: B, path: &str) -> io::Result<PathBuf<B>> {
+        self.rt.read_link(alloc, path)
+    }
+
+    fn hard_link(&self, original: &str, link: &str) -> io::Result<()> {
+        self.rt.hard_link(original, link)
+    }
+
+    fn set_permissions(&self, path: &str, perm: Permissions) -> io::Result<()> {
+        self.rt.set_permissions(path, perm)
+    }
+
+    fn symlink(&self, original: &str, link: &str) -> io::Result<()> {
+        self.rt.symlink(original, link)
+    }
+
+    fn pipe(&self) -> io::Result<(PipeReader, PipeWriter)> {
+        self.rt.pipe()
+    }
+
+    fn chown(&self, path: &str, owner: Option<u32>, group: Option<u32>) -> io::Result<()> {
+        self.rt.chown(path, owner, group)
+    }
+
+    fn lchown(&self, path: &str, owner: Option<u32>, group: Option<u32>) -> io::Result<()> {
+        self.rt.lchown(path, owner, group)
+    }
+
+    fn create_dir_with_mode(&self, path: &str, mode: u32) -> io::Result<()> {
+        self.rt.create_dir_with_mode(path, mode)
+    }
+
+    fn bind_unix(&self, socket: BorrowedFd<'_>, address: &SocketAddr) -> io::Result<()> {
+        self.rt.bind_unix(socket, address)
     }
 }
 
