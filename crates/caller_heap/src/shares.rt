@@ -1,5 +1,5 @@
 //! The workers' shares in a collection, each in a box of its own.
-ghost use Rattle.std.specs.Prelude.{◌≡◌, ◌⊎◌, All, IfOk, IfErr, IfSome, vec_len};
+ghost use Rattle.std.specs.Prelude.{◌≡◌, ◌⊎◌, All, Some, IfOk, IfErr, IfSome, vec_len};
 ghost use Rattle.heap_image.specs.HeapImage.{HeapImage};
 ghost use Rattle.heap_image.specs.declared.fault.Fault.TheVariants.{Memory, Workers};
 ghost use Rattle.fill.specs.FillFaults.{IsOverwritten};
@@ -29,8 +29,18 @@ pub fn boxed_shares(
     let shares = Session::prepare(alloc, image, workers)?;
     match boxed(alloc, shares) {
         Ok(boxes) => Ok(boxes),
-        Err(Some(image)) => Err(Refusal::Kept(image, Fault::Memory)),
-        Err(None) => Err(Refusal::Lost(Fault::Overwritten(0))),
+        Err(back) => Err(refusal_of(back)),
+    }
+}
+
+/// The refusal for want of memory, with the image that came back, if one did.
+fn refusal_of(back: Option<Image>) -> Refusal
+    ensures kept { IfKept result (λ image fault. (fault ≡ Memory) × (back ≡ Some image)) }
+    ensures lost { IfLost result IsOverwritten }
+{
+    match back {
+        Some(image) => Refusal::Kept(image, Fault::Memory),
+        None => Refusal::Lost(Fault::Overwritten(0)),
     }
 }
 

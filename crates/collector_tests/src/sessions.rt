@@ -9,7 +9,10 @@ use std::test::Fail;
 
 /// The shares of a session over the image with this text.
 fn shares_of(alloc: Global, text: &[u8], workers: u32) -> Result<Vec<Share>, Fault> {
-    Session::prepare(alloc, decode(alloc, text)?, workers)
+    match Session::prepare(alloc, decode(alloc, text)?, workers) {
+        Ok(shares) => Ok(shares),
+        Err(refusal) => Err(refusal.fault()),
+    }
 }
 
 /// Ends a session. Returns the figures, and whether the image then has the text `after`.
@@ -137,5 +140,49 @@ fn a_session_has_1_to_64_workers(rt: HostRuntime) -> Result<(), Fail> {
     }
     let most = shares_of(rt.alloc(), &before, 64)?;
     equal(&rt, most.len(), 64);
+    Ok(())
+}
+
+/// Whether the last share of a session gives the image back, after so many turns and without the others.
+fn is_given_back(alloc: Global, text: &[u8], turns: u64) -> Result<bool, Fault> {
+    let mut shares = shares_of(alloc, text, 2)?;
+    let Some(mut share) = shares.pop() else {
+        return Err(Fault::Workers);
+    };
+    let _worked = share.work(turns);
+    drop(shares);
+    match share.give_back() {
+        Some(image) => Ok(encode(alloc, &image)?.as_slice() == text),
+        None => Ok(false),
+    }
+}
+
+#[test]
+fn an_image_comes_back_while_no_region_is_written(rt: HostRuntime) -> Result<(), Fail> {
+    let before = Base::WithLiveList.text(rt.alloc(), 2)?;
+    equal(&rt, is_given_back(rt.alloc(), &before, 0)?, true);
+    equal(&rt, is_given_back(rt.alloc(), &before, 9)?, false);
+    Ok(())
+}
+
+/// Whether both shares of a session are all of it, counted one after the other, and then one counted out.
+fn counts(alloc: Global, text: &[u8]) -> Result<[bool; 3], Fault> {
+    let shares = shares_of(alloc, text, 2)?;
+    let [first, second] = shares.as_slice() else {
+        return Err(Fault::Workers);
+    };
+    first.count_in();
+    let one = first.are_all_counted(1) || first.are_all_counted(2);
+    second.count_in();
+    let both = first.are_all_counted(2);
+    second.count_out();
+    Ok([one, both, first.are_all_counted(2)])
+}
+
+#[test]
+fn shares_are_counted(rt: HostRuntime) -> Result<(), Fail> {
+    let before = Base::WithLiveList.text(rt.alloc(), 2)?;
+    let found = counts(rt.alloc(), &before)?;
+    equal(&rt, found, [false, true, false]);
     Ok(())
 }

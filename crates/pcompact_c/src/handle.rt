@@ -159,9 +159,9 @@ impl PcompactHandle {
         let Some(share) = self.leave(alloc) else {
             return false;
         };
-        let suits = suits(&share, regions, numbers);
+        let it_suits = suits(share.as_ref(), regions, numbers);
         self.enter(share);
-        suits
+        it_suits
     }
 
     /// Lets the worker fill regions that are ready, at most `turns`. Returns `None` if the handle isn't held.

@@ -3,8 +3,9 @@ use Rattle.std.proofs.lemmas.List.{length-map}
 use Rattle.std.proofs.lemmas.Result.{IfErr-weaker, IfOk-weaker}
 use Rattle.heap_image.specs.ImageText.{listed_text}
 use Rattle.heap_image.specs.Unchecked.{numbers_in}
-use Rattle.caller_heap.specs.Lent.{words_in}
+use Rattle.caller_heap.specs.Lent.{words_in, image_in}
 use Rattle.caller_heap.proofs.Lemmas.LentHeap.{all_held_again, why_not_begun}
+use Rattle.caller_heap.proofs.Lemmas.Shares.{all_ok}
 use Rattle.caller_heap.proofs.lent_sessions.begin_lent_words.Goals as goal
 
 pub begin_parts-requires-clause-count : goal.begin_parts-requires-clause-count
@@ -27,3 +28,11 @@ returns-clause-fault c =
     IfErr-weaker c.begin_parts.result _ _
     (λ fault why. why_not_begun c.args.settings.region_log c.args.words.now _ (listed_text parts.version (numbers_in parts)) fault c.in_ok-parts.ensures.bytes why)
     c.begin_parts.ensures.fault
+
+pub returns-clause-begun : goal.returns-clause-begun
+returns-clause-begun c =
+    let parts = c.in_ok-parts.parts in
+    let began = c.begin_parts.ensures in
+    IfOk-weaker c.begin_parts.result _ _
+    (λ shares all. (image_in parts, all.0, c.in_ok-parts.ensures.bytes ∙ sym all.1, all.2))
+    (all_ok c.begin_parts.result _ _ _ began.valid began.text began.image)

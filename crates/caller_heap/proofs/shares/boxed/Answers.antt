@@ -27,4 +27,4 @@ returns-in-Err-clause-kept c = λ image all.
     let so_far = c.loop-share.invariant.image image all in
     let IsOfIt : Share → Type 0 = λ share. image_of share ≡ image in
     let both = front_and_last IsOfIt c.loop-share.shares.items c.pop.new.self.items c.in-Some.share c.in-Some.ensures.items so_far.0 in
-    given_back c.give_back.result (image_of c.in-Err.refused.value) image (ap image_of c.in-Err.ensures ∙ both.1) c.give_back.ensures
+    given_back c.give_back.result (image_of c.in-Err.refused.value) image (ap image_of c.in-Err.ensures.value_returned ∙ both.1) c.give_back.ensures
