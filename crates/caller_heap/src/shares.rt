@@ -46,10 +46,7 @@ fn refusal_of(back: Option<Image>) -> Refusal
 
 /// Moves each share into a box of its own. Without memory it returns the image of a session whose shares these all are,
 /// if no region has been written.
-fn boxed(
-    alloc: Global,
-    mut shares: Vec<Share>,
-) -> Result<Vec<Box<Share, Global>>, Option<Image>>
+fn boxed(alloc: Global, mut shares: Vec<Share>) -> Result<Vec<Box<Share, Global>>, Option<Image>>
     ensures count { IfOk result (λ boxes. vec_len boxes ≡ vec_len shares) }
     ensures image { (image : HeapImage) → All (λ share. image_of share ≡ image) shares.items
         → IfOk result (λ boxes. All (λ share. image_of share.value ≡ image) boxes.items) }

@@ -7,7 +7,7 @@ use Rattle.std.specs.List.{concat}
 use Rattle.heap_image.specs.HeapImage.{HeapImage, image_of, block_of, region_count}
 use Rattle.heap_image.specs.ImageText.{from_tail, first_fault, listed_text, with_tail, numbers, front}
 use Rattle.heap_image.specs.declared.fault.Fault.{Fault}
-use Rattle.heap_image.specs.declared.fault.Fault.TheVariants.{Memory, Workers}
+use Rattle.heap_image.specs.declared.fault.Fault.TheVariants.{Length, Memory, Workers}
 use Rattle.heap_image.specs.declared.version.Version.{Version}
 use Rattle.heap_image.specs.declared.version.Version.TheVariants.{One, Two, Three}
 use Rattle.summary.specs.Compaction.{compact}
@@ -18,7 +18,7 @@ use Rattle.caller_heap.specs.declared.lent_collection.Failure.TheVariants.{Kept}
 use Rattle.caller_heap.specs.Collected.{IsWhyKept}
 use Rattle.caller_heap.specs.HeapWords.{heap_bytes}
 use Rattle.fill.specs.FillFaults.{IsOverwritten}
-use Rattle.caller_heap.specs.Lent.{Lent, IfKept, IsHeld, IsWhyLentKept, blocks_of, heap_in, told, held, words_in}
+use Rattle.caller_heap.specs.Lent.{Lent, IfKept, AreRegions, IsHeld, IsWhyLentKept, blocks_of, heap_in, told, held, words_in}
 use Rattle.caller_heap.proofs.Lemmas.Compacted.{compact-words}
 use Rattle.caller_heap.proofs.Lemmas.Lending.{held_told}
 
@@ -74,3 +74,9 @@ why_not_begun log words bytes listed fault e (inl workers) = inl workers
 why_not_begun log words bytes listed fault e (inr (inl memory)) = inr (inl (inl memory))
 why_not_begun log words bytes listed fault e (inr (inr (inl first))) = inr (inl (inr (inl (ap first_fault e ∙ first))))
 why_not_begun log words bytes listed fault e (inr (inr (inr over))) = inr (inl (inr (inr over)))
+
+pub why_not_lent : (log : ℕ) (words : List Lent) (bytes : List ℕ) (fault : Fault)
+    → (fault ≡ Memory) ⊎ (((fault ≡ Length) × (AreRegions log words → ⊥)) ⊎ IsOverwritten fault) → (fault ≡ Workers) ⊎ IsWhyLentKept log words bytes fault
+why_not_lent log words bytes fault (inl memory) = inr (inl (inl memory))
+why_not_lent log words bytes fault (inr (inl parts)) = inr (inr parts)
+why_not_lent log words bytes fault (inr (inr over)) = inr (inl (inr (inr over)))

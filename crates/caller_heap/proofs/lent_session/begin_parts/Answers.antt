@@ -22,14 +22,14 @@ wider parts fault (inl workers) = inl workers
 wider parts fault (inr (inl memory)) = inr (inl memory)
 wider parts fault (inr (inr first)) = inr (inr (inl first))
 
-pub returns-in_ok-keep_all-clause-back : goal.returns-in_ok-keep_all-clause-back
-returns-in_ok-keep_all-clause-back c =
+pub returns-in_ok-keep_all-in-Err-Kept-clause-back : goal.returns-in_ok-keep_all-in-Err-Kept-clause-back
+returns-in_ok-keep_all-in-Err-Kept-clause-back c =
     let kept = kept_of c.share_parts.result c.in-Err-Kept.field-0 c.in-Err-Kept.refused (IsKept c.args.parts) c.in-Err-Kept.is c.in-Err-Kept.field-0-is c.share_parts.ensures.kept in
     let many : length c.in-Err-Kept.refused.regions.items ≡ length c.args.words.now = ap length kept.0 ∙ c.requires.count in
     let ok : length c.in-Err-Kept.refused.regions.items ≡ vec_len c.in-Err-Kept.refused.regions = sym c.in-Err-Kept.refused.regions.ok.0 in
-    inl (all_told c.keep_all.new.words c.args.words.now c.in-Err-Kept.refused.regions.items (vec_len c.in-Err-Kept.refused.regions) (omega arith) c.in_ok-keep_all.ensures.kept ∙ ap (map held) kept.0)
+    inl (all_told c.keep_all.new.words c.args.words.now c.in-Err-Kept.refused.regions.items (vec_len c.in-Err-Kept.refused.regions) (omega arith) c.in_ok-keep_all-in-Err-Kept.ensures.kept ∙ ap (map held) kept.0)
 
-pub returns-in_ok-keep_all-clause-fault : goal.returns-in_ok-keep_all-clause-fault
-returns-in_ok-keep_all-clause-fault c =
+pub returns-in_ok-keep_all-in-Err-Kept-clause-fault : goal.returns-in_ok-keep_all-in-Err-Kept-clause-fault
+returns-in_ok-keep_all-in-Err-Kept-clause-fault c =
     let kept = kept_of c.share_parts.result c.in-Err-Kept.field-0 c.in-Err-Kept.refused (IsKept c.args.parts) c.in-Err-Kept.is c.in-Err-Kept.field-0-is c.share_parts.ensures.kept in
     wider c.args.parts c.in-Err-Kept.refused.fault kept.1

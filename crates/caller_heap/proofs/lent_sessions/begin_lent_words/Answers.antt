@@ -4,7 +4,7 @@ use Rattle.std.proofs.lemmas.Result.{IfErr-weaker, IfOk-weaker}
 use Rattle.heap_image.specs.ImageText.{listed_text}
 use Rattle.heap_image.specs.Unchecked.{numbers_in}
 use Rattle.caller_heap.specs.Lent.{words_in, image_in}
-use Rattle.caller_heap.proofs.Lemmas.LentHeap.{all_held_again, why_not_begun}
+use Rattle.caller_heap.proofs.Lemmas.LentHeap.{all_held_again, why_not_begun, why_not_lent}
 use Rattle.caller_heap.proofs.Lemmas.Shares.{all_ok}
 use Rattle.caller_heap.proofs.lent_sessions.begin_lent_words.Goals as goal
 
@@ -36,3 +36,6 @@ returns-clause-begun c =
     IfOk-weaker c.begin_parts.result _ _
     (λ shares all. (image_in parts, all.0, c.in_ok-parts.ensures.bytes ∙ sym all.1, all.2))
     (all_ok c.begin_parts.result _ _ _ began.valid began.text began.image)
+
+pub returns-in_err-parts-clause-fault : goal.returns-in_err-parts-clause-fault
+returns-in_err-parts-clause-fault c = why_not_lent c.args.settings.region_log c.args.words.now _ _ c.in_err-parts.ensures.fault
