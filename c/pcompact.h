@@ -172,8 +172,9 @@ uint32_t pcompact_end(pcompact_handle *handles, size_t worker_count, uint64_t *w
                       size_t list_count, pcompact_answer *answer);
 
 /* The same for a collection that pcompact_begin_lent or pcompact_begin_lent_rooted began, whose words these are: afterwards each
- * holds its region's words of the compaction, at the same place. After faults 4, 11 and 12 all is as it was, handles too, and the
- * collection goes on. After fault 15 no handle is held, nothing is promised of words and list, and some words aren't held. */
+ * holds its region's words of the compaction, at the same place. Fault 4 comes also if some of the words are held. After faults
+ * 4, 11 and 12 all is as it was, handles too, and the collection goes on. After fault 15 no handle is held, nothing is promised
+ * of words and list, and some words aren't held. */
 uint32_t pcompact_end_lent(pcompact_handle *handles, size_t worker_count, pcompact_words *words, size_t region_count,
                            uint64_t *list, size_t list_count, pcompact_answer *answer);
 

@@ -245,6 +245,11 @@ static void refuse_ends(void) {
     found.list_count++;
     refuse_end("an end with a longer list", &found, handles, 3, 4);
     found.list_count--;
+    uint64_t spare[8] = {0};
+    pcompact_words lent = found.parts[1];
+    found.parts[1] = (pcompact_words){true, spare, 8};
+    refuse_end("an end with words that are held", &found, handles, 3, 4);
+    found.parts[1] = lent;
     check(pcompact_work_all(&handles[1]) == PCOMPACT_SETTLED, "work after ends that are refused", 1);
     end_well(0, &found, handles, 3);
     end_well(1, &second, others, 2);

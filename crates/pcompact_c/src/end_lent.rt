@@ -4,7 +4,7 @@ ghost use Rattle.heap_image.specs.declared.fault.Fault.{Fault};
 ghost use Rattle.heap_image.specs.HeapImage.{HeapImage};
 ghost use Rattle.heap_image.specs.ImageText.{with_tail};
 ghost use Rattle.summary.specs.Compaction.{compact};
-ghost use Rattle.caller_heap.specs.Lent.{HoldImage, IsGone};
+ghost use Rattle.caller_heap.specs.Lent.{HoldImage};
 ghost use Rattle.pcompact_c.specs.Answers.{IsSummaryOf};
 ghost use Rattle.pcompact_c.specs.Faults.{IsOf};
 ghost use Rattle.pcompact_c.specs.Handles.{IsLastIn, IsWhyNotEnded};
@@ -18,10 +18,10 @@ use std::alloc::Global;
 
 /// Ends a collection by several threads over lent words: fills what is left to fill, puts each region of the compaction
 /// back into its words, and writes the new live addresses or roots in the same order. `handles` are all those of one begin,
-/// and `words` those that it lent, none of which is held. Returns the number of the fault in `answer`.
+/// and `words` those that it lent. Returns the number of the fault in `answer`.
 ///
-/// The fault is 12 if these aren't the handles of one begin, 4 if the words or the list are not as many
-/// as there, or 11 if memory runs out: then handles, words and list are as they were, and the collection goes on. It is
+/// The fault is 12 if these aren't the handles of one begin, 4 if the words or the list are not as many as there or some
+/// words are held, or 11 if memory runs out: then handles, words and list are as they were, and the collection goes on. It is
 /// 15 if a cell or a queue contradicts the order of work or the words were not lent: then the collection is over, and nothing
 /// is promised of words and list. After 0 and 15 no handle is held.
 #[unsafe(no_mangle)]
@@ -32,7 +32,6 @@ pub extern "C" fn pcompact_end_lent(
     list: &mut [u64],
     answer: &mut PcompactAnswer,
 ) -> u32
-    requires gone { All IsGone words.old }
     ensures number { result ≡ answer.new.fault.number }
     ensures held { result ≡ 0 → All (λ h. is_some h.2 ≡ true) handles.old }
     ensures free { result ≡ 0 → All (λ h. h.2 ≡ None) handles.new }

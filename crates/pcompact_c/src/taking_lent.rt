@@ -27,7 +27,6 @@ pub(crate) fn end_lent(
     words: &mut [HostWords],
     list: &mut [u64],
 ) -> Result<Figures, Fault>
-    requires gone { All IsGone words.old }
     ensures held { OnOk result (All (λ h. is_some h.2 ≡ true) handles.old) }
     ensures free { OnOk result (All (λ h. h.2 ≡ None) handles.new) }
     ensures collected { IfOk result (λ figures. (image : HeapImage) × IsLastIn image handles.old
@@ -38,6 +37,9 @@ pub(crate) fn end_lent(
     ensures fault { IfErr result IsWhyNotEnded }
 {
     check(alloc, handles, words.len(), list.len())?;
+    if !are_gone(words) {
+        return Err(Fault::Length);
+    }
     let room = room_for(alloc, handles.len())?;
     match take_into(alloc, Ok(room), handles) {
         Ok(shares) => end_shares(shares, words, list),
@@ -64,6 +66,19 @@ fn check(
     } else {
         Err(Fault::Length)
     }
+}
+
+/// Whether no words are held.
+fn are_gone(words: &mut [HostWords]) -> bool
+    ensures gone { IsTrue result → All IsGone words.old }
+    ensures same { words.new ≡ words.old }
+{
+    for place in words.iter_mut() {
+        if place.is_held() {
+            return false;
+        }
+    }
+    true
 }
 
 /// Whether these are all handles of one session.
