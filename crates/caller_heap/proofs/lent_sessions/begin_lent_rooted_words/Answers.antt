@@ -1,9 +1,11 @@
 use Rattle.std.proofs.Common.{◌≡◌, ◌⊎◌, length, sym, ◌∙◌, ap, inl, inr}
 use Rattle.std.proofs.lemmas.List.{length-map}
-use Rattle.std.proofs.lemmas.Result.{IfErr-weaker, IfOk-weaker}
+use Rattle.std.proofs.lemmas.Result.{IfErr-weaker, IfOk-weaker, err_from_is_err_and}
 use Rattle.heap_image.specs.ImageText.{listed_text}
 use Rattle.heap_image.specs.Unchecked.{numbers_in}
-use Rattle.caller_heap.specs.Lent.{words_in, image_in}
+use Rattle.heap_image.specs.declared.version.Version.TheVariants.{Three}
+use Rattle.caller_heap.specs.HeapWords.{heap_bytes}
+use Rattle.caller_heap.specs.Lent.{words_in, heap_in, image_in}
 use Rattle.caller_heap.proofs.Lemmas.LentHeap.{all_held_again, why_not_begun, why_not_lent}
 use Rattle.caller_heap.proofs.Lemmas.Shares.{all_ok}
 use Rattle.caller_heap.proofs.lent_sessions.begin_lent_rooted_words.Goals as goal
@@ -38,4 +40,6 @@ returns-clause-begun c =
     (all_ok c.begin_parts.result _ _ _ began.valid began.text began.image)
 
 pub returns-in_err-parts-clause-fault : goal.returns-in_err-parts-clause-fault
-returns-in_err-parts-clause-fault c = why_not_lent c.args.settings.region_log c.args.words.now _ _ c.in_err-parts.ensures.fault
+returns-in_err-parts-clause-fault c =
+    let p = err_from_is_err_and c.from_residual.result c.from_residual.ensures.1 in
+    rw (p.1, p.2) (why_not_lent c.args.settings.region_log c.args.words.now (heap_bytes Three c.args.settings (heap_in c.args.words.now) c.args.roots.now) c.in_err-parts.field-0.0 c.in_err-parts.ensures.fault)
