@@ -77,6 +77,14 @@ impl HostWords {
         } = self;
     }
 
+    /// Whether there are words.
+    pub fn is_held(&mut self) -> bool
+        ensures held { result ≡ self.old.0 }
+        ensures same { self.new ≡ self.old }
+    {
+        self.is_held
+    }
+
     /// Whether there are as many words as a region may have.
     fn is_region(&mut self) -> bool
         ensures held { IsTrue result → self.old.0 ≡ true }
