@@ -4,27 +4,21 @@ use Rattle.std.proofs.lemmas.List.{append-nil}
 use Rattle.std.proofs.lemmas.List.Elements.{All-push}
 use Rattle.std.proofs.lemmas.List.Folds.{concat-append}
 use Rattle.std.specs.List.{concat}
-use Rattle.std.specs.Prelude.{All}
+use Rattle.std.specs.Prelude.{All, IfSome}
 use Rattle.caller_heap.proofs.heap_words.regions_of.Goals as goal
-
-pub of_words-requires-clause-at_most : goal.of_words-requires-clause-at_most
-of_words-requires-clause-at_most c =
-    let few = c.regions_by_log.ensures.few c.args.size.region_log c.requires.log in
-    let long = c.split_at.ensures.front_len in
-    omega arith
 
 pub loop-r-preserved : goal.loop-r-preserved
 loop-r-preserved c =
     let size : ℕ = 2 ^ c.args.size.region_log in
     let before : List (List ℕ) = c.loop-r.regions.items in
-    let region : List ℕ = c.in_ok-of_words.field-0 in
+    let region : List ℕ = c.in_ok-ok_or.field-0 in
     let first : List ℕ = c.split_at.result.0.now in
     let rest : List ℕ = c.split_at.result.1.now in
     let so_far = c.loop-r.invariant in
     let few : size ≤ 2 ^ 20 = pow-le-pow_right {n = 2} (omega arith) c.requires.log in
     let long : length first ≡ size = omega (arith, few, c.split_at.ensures.front_len) in
     let left : length rest + size ≡ length c.loop-r.rest.now = omega (arith, few, c.split_at.ensures.back_len) in
-    let same : region ≡ first = c.in_ok-of_words.ensures in
+    let same : region ≡ first = subst (λ o. IfSome o (λ x. x ≡ first)) c.in_ok-ok_or.ensures.ok_part c.take_with.ensures in
     let are : c.push.new.self.items ≡ before ++ (region ∷ []) = c.in_ok-push.ensures.items in
     let more : concat c.push.new.self.items ≡ concat before ++ first =
     ap concat are ∙ concat-append before (region ∷ []) ∙ ap (λ xs. concat before ++ xs) (append-nil region ∙ same) in
