@@ -1,4 +1,4 @@
-use Rattle.std.proofs.Common.{◌∙◌, ap, arith}
+use Rattle.std.proofs.Common.{◌∙◌, arith}
 use Rattle.std.proofs.lemmas.List.{length-set}
 use Rattle.pcompact_c.proofs.Lemmas.Shares.{same_at}
 use Rattle.pcompact_c.proofs.taking_lent.count_out.Goals as goal
@@ -10,5 +10,5 @@ loop-handle-preserved c =
     let item = c.handle-item.result in
     record {
       long = length-set l.handles i c.count_out.new.self ∙ l.invariant.long;
-      same = same_at (λ h. h.2) l.handles i c.count_out.new.self item (let inside = c.loop-handle-test.true in let long = l.invariant.long in omega arith) (c.count_out.ensures ∙ ap (λ h. h.2) c.handle-item.is) ∙ l.invariant.same;
+      same = same_at (λ h. h.2) l.handles i c.count_out.new.self item (let inside = c.loop-handle-test.true in let long = l.invariant.long in omega arith) c.count_out.ensures ∙ l.invariant.same;
     }
