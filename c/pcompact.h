@@ -186,6 +186,12 @@ uint32_t pcompact_end_lent(pcompact_handle *handles, size_t worker_count, pcompa
 pcompact_fault pcompact_new_addresses(const uint64_t *words, size_t word_count, const uint64_t *live, size_t live_count,
                                       pcompact_settings settings, uint64_t *references, size_t reference_count);
 
+/* The same before pcompact_collect_rooted, of references that are 0 or 1 plus the address of an object that the roots reach.
+ * Returns the fault: 0, 3, 4, 7 to 9, 11, or 17 with the index of the first root above the number of words, or else of the
+ * first other reference. */
+pcompact_fault pcompact_new_addresses_rooted(const uint64_t *words, size_t word_count, const uint64_t *roots, size_t root_count,
+                                             pcompact_settings settings, uint64_t *references, size_t reference_count);
+
 /* How an image compares with the compaction of another. */
 typedef struct pcompact_verdict {
     pcompact_fault fault; /* if there is one, the difference is 0 */

@@ -6,7 +6,7 @@
 #include <stdio.h>
 #include <stdlib.h>
 
-enum { NEW_ADDRESSES, VERIFY, ENCODE, ENCODE_ROOTED, DECODE, DECODE_ROOTED };
+enum { NEW_ADDRESSES, NEW_ADDRESSES_ROOTED, VERIFY, ENCODE, ENCODE_ROOTED, DECODE, DECODE_ROOTED };
 
 /* The lists of a request, in the order in which they follow it. */
 enum { WORDS, TAIL, REFERENCES, BEFORE, AFTER, LISTS };
@@ -56,14 +56,19 @@ static uint64_t decode_by(decoding *decode, const uint64_t *n, reply *it) {
     return fault;
 }
 
+typedef pcompact_fault redirecting(const uint64_t *, size_t, const uint64_t *, size_t, pcompact_settings, uint64_t *, size_t);
+
+static void redirect_by(redirecting *redirect, const uint64_t *n, pcompact_settings settings, reply *it) {
+    it->fault = redirect(lists[WORDS], n[WORDS], lists[TAIL], n[TAIL], settings, lists[REFERENCES], n[REFERENCES]);
+    it->returned = it->fault.number;
+}
+
 static void make_call(const request *asked, reply *it) {
     const uint64_t *n = asked->counts;
     pcompact_settings settings = {asked->region_log, asked->allowance};
     switch (asked->call) {
-    case NEW_ADDRESSES:
-        it->fault = pcompact_new_addresses(lists[WORDS], n[WORDS], lists[TAIL], n[TAIL], settings, lists[REFERENCES], n[REFERENCES]);
-        it->returned = it->fault.number;
-        return;
+    case NEW_ADDRESSES: redirect_by(pcompact_new_addresses, n, settings, it); return;
+    case NEW_ADDRESSES_ROOTED: redirect_by(pcompact_new_addresses_rooted, n, settings, it); return;
     case VERIFY:
         it->returned = pcompact_verify(lists[BEFORE], n[BEFORE], lists[AFTER], n[AFTER], &it->verdict);
         it->fault = it->verdict.fault;

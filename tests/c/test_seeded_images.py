@@ -25,7 +25,7 @@ from tests.models.image import Collection, Fault, Image, allows, decode, encode,
 HEAPS = 300
 # How many heaps valgrind sees.
 WATCHED = 20
-NEW_ADDRESSES, VERIFY, ENCODE, ENCODE_ROOTED, DECODE, DECODE_ROOTED = range(6)
+NEW_ADDRESSES, NEW_ADDRESSES_ROOTED, VERIFY, ENCODE, ENCODE_ROOTED, DECODE, DECODE_ROOTED = range(7)
 DIFFERENCES = {"shape": 1, "word": 2, "live": 3, "root": 4}
 # What stands in a list or in bytes before a call writes there.
 JUNK, JUNK_BYTE = 0x5555_5555_5555_5555, b"\x55"
@@ -102,11 +102,12 @@ class ImageCaller(Caller):
         self.check(what, {**none, "text": fault, "fault": particulars(fault), "left": left, **wanted}, reply)
 
     def try_addresses(self, what: str, image: Image, references: list[int]) -> None:
-        """A heap of version 1, valid or not, with references of its host."""
+        """A heap, valid or not, with references of its host."""
         given = Given(image.words, image.tail, references)
-        reply = self.ask(NEW_ADDRESSES, given, image.region_log, image.allowance)
-        valid, fault = decoded(encode(image))
-        good = {0, *(1 + a for a in valid.tail)} if valid else set()
+        call, version = (NEW_ADDRESSES, 1) if image.version == 1 else (NEW_ADDRESSES_ROOTED, 3)
+        reply = self.ask(call, given, image.region_log, image.allowance)
+        valid, fault = decoded(encode(dataclasses.replace(image, version=version)))
+        good = {0, *(1 + a for a in valid.live())} if valid else set()
         strays = [i for i, reference in enumerate(references) if reference not in good]
         if valid and strays:
             fault = f"17 root at index {strays[0]}"
@@ -162,10 +163,9 @@ class ImageCaller(Caller):
         """A valid heap by all calls."""
         text = encode(image)
         compaction = Collection(image).compaction()
-        if image.version == 1:
-            references = chance.choices([0, *(1 + a for a in image.tail)], k=chance.randrange(9))
-            self.try_addresses(what, image, references)
-            self.try_addresses(f"{what}, a stray", image, [*references, chance.choice(strays_of(image))])
+        references = chance.choices([0, *(1 + a for a in image.live())], k=chance.randrange(9))
+        self.try_addresses(what, image, references)
+        self.try_addresses(f"{what}, a stray", image, [*references, chance.choice(strays_of(image))])
         self.try_comparison(what, text, encode(compaction))
         self.try_comparison(f"{what}, another", text, ImageSpoiler(chance, compaction).changed())
         self.try_encoding(what, image, chance.choice([0, 1, 9]))
@@ -175,8 +175,7 @@ class ImageCaller(Caller):
     def try_wrong_heap(self, what: str, image: Image, chance: random.Random) -> None:
         """The heap and its bytes, slightly wrong, mostly."""
         wrong = spoiled(chance, image)
-        if image.version == 1:
-            self.try_addresses(what, wrong, [1 + a for a in image.tail[:3]])
+        self.try_addresses(what, wrong, [1 + a for a in image.live()[:3]])
         self.try_encoding(what, wrong, 0)
         text, good = ImageSpoiler(chance, image).spoiled(), encode(image)
         self.try_decoding(what, text, chance)
@@ -190,7 +189,7 @@ def put(numbers: list[int], room: list[int]) -> list[int]:
 
 def strays_of(image: Image) -> list[int]:
     """Numbers that are no reference to a live object."""
-    words, live = len(image.words), set(image.tail)
+    words, live = len(image.words), set(image.live())
     return [words + 1, LARGEST, *(1 + a for a in range(min(words, 64)) if a not in live)]
 
 

@@ -32,6 +32,7 @@ mod heap;
 mod heap_bytes;
 mod host_lists;
 mod new_addresses;
+mod new_addresses_rooted;
 mod raw_box;
 mod summary_of_heap;
 mod summary_of_image;

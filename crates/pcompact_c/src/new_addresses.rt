@@ -1,7 +1,7 @@
 //! The new addresses of objects that a host knows outside of its heap.
-ghost use Rattle.std.specs.Prelude.{◌≡◌, ◌<◌, ◌⊎◌, Some, All, IsTrue, IfOk, IfErr, MatchOption, map};
+ghost use Rattle.std.specs.Prelude.{◌≡◌, ◌<◌, ◌⊎◌, ℕ, Some, All, IsTrue, IfOk, IfErr, MatchOption, map};
 ghost use Rattle.heap_image.specs.declared.fault.Fault.{Fault};
-ghost use Rattle.heap_image.specs.declared.fault.Fault.TheVariants.{Memory};
+ghost use Rattle.heap_image.specs.declared.fault.Fault.TheVariants.{Memory, Root};
 ghost use Rattle.heap_image.specs.declared.version.Version.TheVariants.{One};
 ghost use Rattle.heap_image.specs.HeapImage.{HeapImage, IsValid, is_null_or_live};
 ghost use Rattle.heap_image.specs.ImageText.{text, first_fault};
@@ -38,30 +38,41 @@ pub extern "C" fn pcompact_new_addresses(
     ensures fault { 0 < result.number → (fault : Fault) × IsOf fault result
         × IsWhyNotRedirected (heap_bytes One settings words.now live.now) references.old fault }
 {
-    let survey = match survey_of_heap(alloc, words, live, settings) {
-        Ok(survey) => survey,
-        Err(fault) => return PcompactFault::of(fault),
-    };
-    if let Some(index) = first_stray(&survey, references) {
+    match survey_of_heap(alloc, Version::One, settings, words, live) {
+        Ok(survey) => redirect(&survey, references),
+        Err(fault) => PcompactFault::of(fault),
+    }
+}
+
+/// What is known before its collection about a heap with these words and, in version 1, live addresses, otherwise roots.
+pub(crate) fn survey_of_heap(
+    alloc: Global,
+    version: Version,
+    settings: HeapSettings,
+    words: &[u64],
+    tail: &[u64],
+) -> Result<Survey, Fault>
+    ensures valid { IfOk result (λ survey. IsValid survey) }
+    ensures text { IfOk result (λ survey. heap_bytes version settings words.now tail.now ≡ text survey) }
+    ensures fault { IfErr result (λ fault. (fault ≡ Memory) ⊎ (first_fault (heap_bytes version settings words.now tail.now) ≡ Some fault)) }
+{
+    let image = image_of_heap(alloc, version, settings, words, tail)?;
+    Survey::alone(alloc, &image)
+}
+
+/// Redirects all references of a list, or none if one is neither null nor to a live object. Returns the fault.
+pub(crate) fn redirect(survey: &Survey, references: &mut [u64]) -> PcompactFault
+    ensures redirected { result.number ≡ 0 → All (λ w. IsTrue (is_null_or_live survey.now w)) references.old
+        × (references.new ≡ map (redirected survey.now) references.old) }
+    ensures kept { 0 < result.number → references.new ≡ references.old }
+    ensures fault { 0 < result.number → (fault : Fault) × IsOf fault result
+        × ((index : ℕ) × IsFirstStray survey.now references.old index × (fault ≡ Root index)) }
+{
+    if let Some(index) = first_stray(survey, references) {
         return PcompactFault::of_reference(index);
     }
     redirect_all(survey.plan(), references);
     PcompactFault::NONE
-}
-
-/// What is known about a heap before it is collected.
-fn survey_of_heap(
-    alloc: Global,
-    words: &[u64],
-    live: &[u64],
-    settings: HeapSettings,
-) -> Result<Survey, Fault>
-    ensures valid { IfOk result (λ survey. IsValid survey) }
-    ensures text { IfOk result (λ survey. heap_bytes One settings words.now live.now ≡ text survey) }
-    ensures fault { IfErr result (λ fault. (fault ≡ Memory) ⊎ (first_fault (heap_bytes One settings words.now live.now) ≡ Some fault)) }
-{
-    let image = image_of_heap(alloc, Version::One, settings, words, live)?;
-    Survey::alone(alloc, &image)
 }
 
 /// The least index of a reference that is neither null nor to a live object.
