@@ -133,6 +133,17 @@ pcompact_fault pcompact_begin(const uint64_t *words, size_t word_count, const ui
 pcompact_fault pcompact_begin_rooted(const uint64_t *words, size_t word_count, const uint64_t *roots, size_t root_count,
                                      pcompact_settings settings, pcompact_handle *handles, size_t worker_count);
 
+/* Like pcompact_begin, for a heap whose regions the host lends, as pcompact_collect_lent has them: the workers compact them where
+ * they lie, without a copy. From the begin to the end the words are the library's, none is held, and nobody else uses them or
+ * writes their fields. Only pcompact_end_lent ends such a collection. Faults: those of pcompact_begin, 4 if some words aren't
+ * held or are more or fewer than a region has, or 15 as of pcompact_collect. After any fault but 15 all is as it was. */
+pcompact_fault pcompact_begin_lent(pcompact_words *words, size_t region_count, const uint64_t *live, size_t live_count,
+                                   pcompact_settings settings, pcompact_handle *handles, size_t worker_count);
+
+/* The same for a heap with roots, with the faults of pcompact_begin_rooted. */
+pcompact_fault pcompact_begin_lent_rooted(pcompact_words *words, size_t region_count, const uint64_t *roots, size_t root_count,
+                                          pcompact_settings settings, pcompact_handle *handles, size_t worker_count);
+
 /* What pcompact_work returns. */
 enum {
     PCOMPACT_SETTLED = 0,    /* all regions are filled */
@@ -160,6 +171,13 @@ uint32_t pcompact_work_all(pcompact_handle *handle);
 uint32_t pcompact_end(pcompact_handle *handles, size_t worker_count, uint64_t *words, size_t word_count, uint64_t *list,
                       size_t list_count, pcompact_answer *answer);
 
+/* The same for a collection that pcompact_begin_lent or pcompact_begin_lent_rooted began, whose words these are: afterwards each
+ * holds its region's words of the compaction, at the same place. Fault 4 comes also if some of the words are held. After faults
+ * 4, 11 and 12 all is as it was, handles too, and the collection goes on. After fault 15 no handle is held, nothing is promised
+ * of words and list, and some words aren't held. */
+uint32_t pcompact_end_lent(pcompact_handle *handles, size_t worker_count, pcompact_words *words, size_t region_count,
+                           uint64_t *list, size_t list_count, pcompact_answer *answer);
+
 /* Redirects references that are kept outside of the heap with these words and live addresses to where pcompact_collect will
  * take their objects; to be called before it. Each is 0, which stays, or 1 plus a live address. Returns the fault: 0, 3, 4,
  * 6 to 9, 11 if memory runs out, or 17 with the index of the first reference that is neither. After a fault the references
@@ -167,6 +185,12 @@ uint32_t pcompact_end(pcompact_handle *handles, size_t worker_count, uint64_t *w
  * references, nobody reads or writes them meanwhile, and nobody writes the rest. Nothing else is written. */
 pcompact_fault pcompact_new_addresses(const uint64_t *words, size_t word_count, const uint64_t *live, size_t live_count,
                                       pcompact_settings settings, uint64_t *references, size_t reference_count);
+
+/* The same before pcompact_collect_rooted, of references that are 0 or 1 plus the address of an object that the roots reach.
+ * Returns the fault: 0, 3, 4, 7 to 9, 11, or 17 with the index of the first root above the number of words, or else of the
+ * first other reference. */
+pcompact_fault pcompact_new_addresses_rooted(const uint64_t *words, size_t word_count, const uint64_t *roots, size_t root_count,
+                                             pcompact_settings settings, uint64_t *references, size_t reference_count);
 
 /* How an image compares with the compaction of another. */
 typedef struct pcompact_verdict {
