@@ -9,7 +9,7 @@ use Rattle.verification.specs.Verdict.{IsVerdict}
 use Rattle.verification.specs.declared.verdict.Verdict.{Verdict}
 use Rattle.verification.specs.declared.verdict.Verdict.TheVariants.{Same, Shape, Word, Live, Root}
 use Rattle.caller_heap.specs.Collected.{IsWhyKept}
-use Rattle.pcompact_c.specs.declared.verdict.PcompactVerdict.{PcompactVerdict}
+use Rattle.pcompact_c.specs.declared.answers.verdict.PcompactVerdict.{PcompactVerdict}
 
 -- the number of what differs
 abbrev pub difference_of : Verdict → ℕ

@@ -7,46 +7,16 @@
 //! and how far workers come.
 #![tactic(auto)]
 
-mod answer;
-mod begin;
-mod begin_lent;
-mod begin_lent_rooted;
-mod begin_rooted;
-mod check;
-mod collect;
-mod collect_lent;
-mod collect_lent_rooted;
-mod collect_rooted;
-mod comparison;
-mod dealing;
-mod decode;
-mod decode_rooted;
-mod encode;
-mod encode_rooted;
-mod end;
-mod end_lent;
-mod fault;
-mod fault_text;
-mod handle;
-mod heap;
-mod heap_bytes;
-mod host_lists;
-mod new_addresses;
-mod new_addresses_rooted;
-mod raw_box;
-mod summary_of_heap;
-mod summary_of_image;
-mod taking;
-mod taking_lent;
-mod verdict;
-mod verify;
-mod version;
-mod work;
+mod answers;
+mod collections;
+mod images;
+mod plans;
+mod sessions;
 
-pub use answer::PcompactAnswer;
+pub use answers::answer::PcompactAnswer;
+pub use answers::fault::PcompactFault;
+pub use answers::heap::PcompactHeap;
+pub use answers::verdict::PcompactVerdict;
 pub use caller_heap::HeapSettings as PcompactSettings;
-pub use fault::PcompactFault;
-pub use handle::PcompactHandle;
-pub use heap::PcompactHeap;
 pub use raw_region::HostWords as PcompactWords;
-pub use verdict::PcompactVerdict;
+pub use sessions::handle::PcompactHandle;

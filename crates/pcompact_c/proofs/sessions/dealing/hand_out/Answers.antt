@@ -1,0 +1,36 @@
+use Rattle.std.proofs.Common.{◌≡◌, ◌∙◌, ap, arith, Box, Global}
+use Rattle.std.specs.Prelude.{Some, option_map}
+use Rattle.std.proofs.lemmas.List.{length-set}
+use Rattle.collector.specs.declared.session.share.Share.{Share}
+use Rattle.collector.specs.Sessions.{image_of}
+use Rattle.pcompact_c.specs.Handles.{image_in}
+use Rattle.pcompact_c.proofs.Lemmas.Shares.{behind, next, one_more, all_of, front_and_last}
+use Rattle.pcompact_c.proofs.sessions.dealing.hand_out.Goals as goal
+
+pub enter-requires : goal.enter-requires
+enter-requires c =
+    let i = c.loop-handle.handle-index in
+    ap (λ h. h.0) (next c.loop-handle.handles c.args.handles.now i c.handle-item.result c.loop-handle.invariant.rest)
+    ∙ c.requires.free i c.handle-item.result c.loop-handle-test.true
+
+pub loop-handle-preserved : goal.loop-handle-preserved
+loop-handle-preserved c =
+    let l = c.loop-handle in
+    let i = l.handle-index in
+    let h = c.enter.new.self in
+    record {
+      long = length-set l.handles i h ∙ l.invariant.long;
+      left = let one = c.in-Some.ensures.cases in let so_far = l.invariant.left in omega arith;
+      rest = behind l.handles c.args.handles.now i h l.invariant.rest;
+      image = λ image all.
+          let so_far = l.invariant.image image all in
+          let both = front_and_last (λ (b : Box Share Global). image_of b.value ≡ image) l.shares.items c.pop.new.self.items c.in-Some.share c.in-Some.ensures.items so_far.0 in
+          let here : image_in h ≡ Some image = ap (option_map image_of) c.enter.ensures ∙ ap Some both.1 in
+          (both.0, one_more (λ g. image_in g ≡ Some image) l.handles i h (let inside = c.loop-handle-test.true in let long = l.invariant.long in omega arith) so_far.1 here);
+    }
+
+pub returns : goal.returns
+returns c = record {
+  image = λ image all. all_of (λ g. image_in g ≡ Some image) c.loop-handle.handles c.loop-handle.handle-index
+      (let end = c.loop-handle-test.false in let long = c.loop-handle.invariant.long in omega arith) (c.loop-handle.invariant.image image all).1;
+}

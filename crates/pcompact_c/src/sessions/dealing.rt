@@ -1,0 +1,82 @@
+//! How the workers' parts in a collection are given to a host.
+ghost use Rattle.std.specs.Prelude.{◌≡◌, ◌⊎◌, ◌<◌, ◌≤◌, Some, false, IsTrue, All, length, vec_len};
+ghost use Rattle.heap_image.specs.HeapImage.{HeapImage};
+ghost use Rattle.heap_image.specs.declared.fault.Fault.TheVariants.{Memory, Workers};
+ghost use Rattle.collector.specs.Sessions.{image_of};
+ghost use Rattle.pcompact_c.specs.Faults.{IsOf};
+ghost use Rattle.pcompact_c.specs.Handles.{image_in};
+
+use crate::answers::fault::PcompactFault;
+use crate::sessions::handle::PcompactHandle;
+use caller_heap::boxed_shares;
+use collector::{Refusal, Share};
+use heap_image::{Fault, Image};
+use std::alloc::Global;
+
+/// The most workers of a collection.
+const MOST_WORKERS: usize = 64;
+
+/// Whether a collection can begin with these handles: they are 1 to 64, and none is held.
+pub(crate) fn are_ready(handles: &mut [PcompactHandle]) -> bool
+    ensures count { IsTrue result → (1 ≤ length handles.old) × (length handles.old ≤ 64) }
+    ensures free { IsTrue result → All (λ h. h.0 ≡ false) handles.old }
+    ensures same { handles.new ≡ handles.old }
+{
+    1 <= handles.len() && handles.len() <= MOST_WORKERS && are_free(handles)
+}
+
+/// Whether no handle is held.
+fn are_free(handles: &mut [PcompactHandle]) -> bool
+    ensures free { IsTrue result → All (λ h. h.0 ≡ false) handles.old }
+    ensures same { handles.new ≡ handles.old }
+{
+    for handle in handles.iter_mut() {
+        if handle.is_held() {
+            return false;
+        }
+    }
+    true
+}
+
+/// Gives each handle a worker's part in the compaction of an image. Returns fault 11 if memory runs out, and then the
+/// handles are as they were.
+pub(crate) fn deal(alloc: Global, image: Image, handles: &mut [PcompactHandle]) -> PcompactFault
+    requires few { length handles.old ≤ 64 }
+    requires free { All (λ h. h.0 ≡ false) handles.old }
+    ensures image { result.number ≡ 0 → All (λ h. image_in h ≡ Some image) handles.new }
+    ensures kept { 0 < result.number → handles.new ≡ handles.old }
+    ensures fault { 0 < result.number → IsOf Workers result ⊎ IsOf Memory result }
+{
+    match boxed_shares(alloc, image, handles.len() as u32) {
+        Ok(shares) => {
+            hand_out(shares, handles);
+            PcompactFault::NONE
+        }
+        Err(refusal) => PcompactFault::of(fault_of(refusal)),
+    }
+}
+
+/// The fault of a begin over a copy of the words, which may be lost: 12 if there aren't 1 to 64 workers, otherwise 11.
+fn fault_of(refusal: Refusal) -> Fault
+    ensures { (result ≡ Memory) ⊎ (result ≡ Workers) }
+{
+    match refusal.fault() {
+        Fault::Workers => Fault::Workers,
+        _ => Fault::Memory,
+    }
+}
+
+/// Gives each handle one of as many shares.
+pub(crate) fn hand_out(mut shares: Vec<Box<Share, Global>>, handles: &mut [PcompactHandle])
+    requires free { All (λ h. h.0 ≡ false) handles.old }
+    requires count { vec_len shares ≡ length handles.old }
+    ensures image { (image : HeapImage) → All (λ share. image_of share.value ≡ image) shares.items
+        → All (λ h. image_in h ≡ Some image) handles.new }
+{
+    for handle in handles.iter_mut() {
+        match shares.pop() {
+            Some(share) => handle.enter(share),
+            None => unreachable!(),
+        }
+    }
+}

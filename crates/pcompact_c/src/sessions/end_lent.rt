@@ -1,0 +1,57 @@
+//! The end of a collection by several threads, in words that a host lends.
+ghost use Rattle.std.specs.Prelude.{◌≡◌, ◌<◌, ◌⊎◌, true, None, is_some, All, map};
+ghost use Rattle.heap_image.specs.declared.fault.Fault.{Fault};
+ghost use Rattle.heap_image.specs.HeapImage.{HeapImage};
+ghost use Rattle.heap_image.specs.ImageText.{with_tail};
+ghost use Rattle.summary.specs.Compaction.{compact};
+ghost use Rattle.caller_heap.specs.Lent.{HoldImage};
+ghost use Rattle.pcompact_c.specs.Answers.{IsSummaryOf};
+ghost use Rattle.pcompact_c.specs.Faults.{IsOf};
+ghost use Rattle.pcompact_c.specs.Handles.{IsLastIn, IsWhyNotEnded};
+
+use crate::answers::answer::PcompactAnswer;
+use crate::answers::fault::PcompactFault;
+use crate::sessions::handle::PcompactHandle;
+use crate::sessions::taking_lent::end_lent;
+use raw_region::HostWords;
+use std::alloc::Global;
+
+/// Ends a collection by several threads over lent words: fills what is left to fill, puts each region of the compaction
+/// back into its words, and writes the new live addresses or roots in the same order. `handles` are all those of one begin,
+/// and `words` those that it lent. Returns the number of the fault in `answer`.
+///
+/// The fault is 12 if these aren't the handles of one begin, 4 if the words or the list are not as many as there or some
+/// words are held, or 11 if memory runs out: then handles, words and list are as they were, and the collection goes on. It is
+/// 15 if a cell or a queue contradicts the order of work or the words were not lent: then the collection is over, and nothing
+/// is promised of words and list. After 0 and 15 no handle is held.
+#[unsafe(no_mangle)]
+pub extern "C" fn pcompact_end_lent(
+    alloc: Global,
+    handles: &mut [PcompactHandle],
+    words: &mut [HostWords],
+    list: &mut [u64],
+    answer: &mut PcompactAnswer,
+) -> u32
+    ensures number { result ≡ answer.new.fault.number }
+    ensures held { result ≡ 0 → All (λ h. is_some h.2 ≡ true) handles.old }
+    ensures free { result ≡ 0 → All (λ h. h.2 ≡ None) handles.new }
+    ensures collected { result ≡ 0 → (image : HeapImage) × IsLastIn image handles.old
+        × HoldImage (compact image) words.new × (list.new ≡ (with_tail (compact image)).live)
+        × IsSummaryOf image answer.new }
+    ensures kept { 0 < result → ((words.new ≡ words.old) × (list.new ≡ list.old)
+        × (map (λ h. h.2) handles.new ≡ map (λ h. h.2) handles.old))
+        ⊎ ((result ≡ 15) × All (λ h. h.2 ≡ None) handles.new) }
+    ensures fault { 0 < result → (fault : Fault) × IsOf fault answer.new.fault × IsWhyNotEnded fault }
+{
+    match end_lent(alloc, handles, words, list) {
+        Ok(figures) => {
+            *answer = PcompactAnswer::of_figures(figures);
+            0
+        }
+        Err(fault) => {
+            let refused = PcompactAnswer::refused(PcompactFault::of(fault));
+            *answer = refused;
+            refused.fault.number
+        }
+    }
+}
