@@ -1,5 +1,6 @@
 /* Each call with each of its allocations refused in turn, by functions of memory that stand in the place of the
- * library's: the fault must be 11, all must be as it was, and no block may be left.
+ * library's: the fault must be 11, and all must be as it was, but for one block at most that a call can do without. No
+ * block may be left.
  *
  * usage: refusals */
 #include "pcompact.h"
@@ -104,32 +105,53 @@ static uint32_t call_check(heap *it, pcompact_answer *answer) {
     return answer->fault.number;
 }
 
-/* Makes a call with this allocation refused, 0 for none. Whether it is asked for. */
-static bool refuse(const char *name, uint32_t (*call)(heap *, pcompact_answer *), bool is_rooted, size_t number) {
-    static heap it, same;
-    make_heap(&it, is_rooted);
+/* What a call leaves and answers if no memory is refused, and how many blocks it has done without. */
+static heap wanted;
+static pcompact_answer wanted_answer;
+static size_t spared;
+
+static bool is_wanted(const heap *it, const pcompact_answer *answer) {
+    return memcmp(it, &wanted, sizeof wanted) == 0 && answer->fault.number == 0 && answer->prefix_end == wanted_answer.prefix_end &&
+           answer->new_top == wanted_answer.new_top && answer->filled_regions == wanted_answer.filled_regions;
+}
+
+static void check_refused(const heap *it, const pcompact_answer *answer, bool is_rooted, const char *name, size_t number) {
+    static heap same;
     make_heap(&same, is_rooted);
+    check(answer->fault.number == 11, name, number, "the fault");
+    check(answer->fault.field == 0 && answer->fault.place == 0, name, number, "its particulars");
+    check(answer->prefix_end == 0 && answer->new_top == 0 && answer->filled_regions == 0, name, number, "its figures");
+    check(memcmp(it, &same, sizeof same) == 0, name, number, "the memory isn't as it was");
+}
+
+/* Makes a call with this allocation refused. Whether it is asked for. */
+static bool refuse(const char *name, uint32_t (*call)(heap *, pcompact_answer *), bool is_rooted, size_t number) {
+    static heap it;
+    make_heap(&it, is_rooted);
     asked = blocks = 0;
     refused = number;
     pcompact_answer answer;
     uint32_t fault = call(&it, &answer);
-    bool is_asked = number != 0 && asked >= number;
+    bool is_asked = asked >= number;
     check(blocks == 0, name, number, "a block is left");
-    check(fault == (is_asked ? 11 : 0) && answer.fault.number == fault, name, number, "the fault");
-    if (is_asked) {
-        check(answer.fault.field == 0 && answer.fault.place == 0, name, number, "its particulars");
-        check(answer.prefix_end == 0 && answer.new_top == 0 && answer.filled_regions == 0, name, number, "its figures");
-        check(memcmp(&it, &same, sizeof it) == 0, name, number, "the memory isn't as it was");
+    check(answer.fault.number == fault, name, number, "the number of the fault");
+    if (fault == 0) {
+        spared += is_asked;
+        check(is_wanted(&it, &answer), name, number, "what is wanted");
+    } else {
+        check_refused(&it, &answer, is_rooted, name, number);
     }
     return is_asked;
 }
 
 static void each(const char *name, uint32_t (*call)(heap *, pcompact_answer *), bool is_rooted) {
+    make_heap(&wanted, is_rooted);
+    refused = spared = 0;
+    check(call(&wanted, &wanted_answer) == 0, name, 0, "the call");
     size_t number = 1;
-    refuse(name, call, is_rooted, 0);
     while (refuse(name, call, is_rooted, number)) number++;
-    printf("%s: %zu allocations, each refused in turn\n", name, number - 1);
-    check(number > 1, name, 0, "it takes no memory from here");
+    printf("%s: %zu allocations, each refused in turn, %zu of them spared\n", name, number - 1, spared);
+    check(number > 1 && spared <= 1, name, 0, "the memory that it takes");
 }
 
 int main(void) {
