@@ -31,5 +31,6 @@ pub mod SourceRows
 pub mod OutOfRange
 pub mod Crossings
 pub mod Ranks
+pub mod BitRanks
 pub mod BitWords
 pub mod Compacted

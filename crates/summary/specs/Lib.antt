@@ -10,6 +10,7 @@ pub mod Placement
 pub mod Layout
 pub mod Sources
 pub mod Report
+pub mod Ranks
 pub mod Redirections
 pub mod Plan
 pub mod Reads

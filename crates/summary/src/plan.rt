@@ -14,6 +14,7 @@ ghost use Rattle.summary.specs.Report.{report};
 mod counting;
 mod deferred;
 pub(crate) mod layout;
+mod ranks;
 mod redirections;
 pub(crate) mod region_counts;
 pub(crate) mod sources;

@@ -7,6 +7,7 @@ ghost use Rattle.summary.specs.NewAddresses.{prefix_end, new_address};
 ghost use Rattle.summary.specs.Compaction.{redirected};
 ghost use Rattle.summary.specs.Redirections.{AreBits, is_counted, counted_below};
 
+use crate::plan::ranks::Ranks;
 use heap_image::Image;
 use mark_bitmap::Marks;
 use std::alloc::{AllocError, Global};
@@ -25,7 +26,7 @@ pub(crate) struct Redirections {
     image: Snapshot<Image>,
     bits: Vec<u64>,
     /// For each word of `bits`, the number of bits set in all words before it.
-    ranks: Vec<u64>,
+    ranks: Ranks,
 }
 
 impl Model for Redirections {
@@ -36,13 +37,13 @@ impl Model for Redirections {
 
     ghost view = { λ r. r.image.value };
 
-    ghost invariant = { λ r. AreRedirections r.image.value r.bits.items r.ranks.items };
+    ghost invariant = { λ r. AreRedirections r.image.value r.bits.items r.ranks };
 }
 
 impl Redirections {
     /// Makes the redirections of an image with these marks, whose dense prefix ends at `prefix`.
     ///
-    /// Allocates 16 bytes for each 64 words of the heap.
+    /// Allocates 10 bytes for each 64 words of the heap.
     pub(crate) fn of(
         alloc: Global,
         image: &Image,
@@ -55,17 +56,14 @@ impl Redirections {
     {
         let words = image.len() / 64 + 1;
         let mut bits = Vec::with_capacity(alloc, words as usize)?;
-        let mut ranks = Vec::with_capacity(alloc, words as usize)?;
         let mut carried = 1;
-        let mut rank = 0;
         for i in 0..words {
             let shifted = bits_after(marks, prefix, i);
             let word = with_first(shifted, carried);
             carried = shifted >> 63;
             bits.push(word)?;
-            ranks.push(rank)?;
-            rank += u64::from(word.count_ones());
         }
+        let ranks = Ranks::of(alloc, bits.as_slice())?;
         Ok(Redirections {
             image: Snapshot::of(image),
             bits,
@@ -112,7 +110,7 @@ impl Redirections {
     {
         let i = (x / 64) as usize;
         let below = self.bits[i] & ((1 << (x % 64)) - 1);
-        self.ranks[i] + u64::from(below.count_ones())
+        self.ranks.get(i) + u64::from(below.count_ones())
     }
 }
 
