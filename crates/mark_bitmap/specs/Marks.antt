@@ -1,7 +1,7 @@
 -- The marks of an image.
 use Rattle.std.specs.Prelude.{◌≡◌, ℕ, ◌+◌, ◌*◌, ◌/◌, ◌<◌, ◌≤◌, ◌==◌, ◌&&◌, nat_lt, min, Bool, List, All, length, slice_index}
 use Rattle.std.specs.List.{list_any}
-use Rattle.heap_image.specs.HeapImage.{HeapImage, IsValid, heap_words, region_words, region_of, start_of, end_of, is_word_of, is_live_word, live_words}
+use Rattle.heap_image.specs.HeapImage.{HeapImage, IsValid, heap_words, region_words, region_of, start_of, end_of, is_word_of, live_words}
 use Rattle.heap_image.specs.Bits.{has, room}
 
 -- words of bits, of which the first has the bits of the addresses from 64 * start on
@@ -33,19 +33,17 @@ module _ (image : HeapImage) where
   bit_words = heap_words image / 64 + 1
 
   -- these bits are those of the objects at these addresses
-  pub record HaveMarks (objects begins ends live : List ℕ) : Type 0 where
+  pub record HaveMarks (objects begins live : List ℕ) : Type 0 where
     pub begins_room : length begins ≡ bit_words
-    pub ends_room : length ends ≡ bit_words
     pub live_room : length live ≡ bit_words
     pub begin_bits : (a : ℕ) → has begins a ≡ list_any (λ b. b == a) objects
-    pub end_bits : (a : ℕ) → has ends a ≡ list_any (λ b. end_of image b == a + 1) objects
     pub live_bits : (a : ℕ) → has live a ≡ list_any (λ b. is_word_of image b a) objects
 
   -- what the marks of this image keep
-  pub record AreMarks (region_log : ℕ) (begins ends live : List ℕ) : Type 0 where
+  pub record AreMarks (region_log : ℕ) (begins live : List ℕ) : Type 0 where
     pub valid : IsValid image
     pub log : region_log ≡ image.region_log
-    pub bits : HaveMarks image.live begins ends live
+    pub bits : HaveMarks image.live begins live
 
   -- the words at k - 1 and at k belong to the same object
   abbrev pub continues_at : ℕ → Bool
@@ -62,13 +60,7 @@ module _ (image : HeapImage) where
     pub room : length begins ≡ bit_words
     pub bits : (a : ℕ) → has begins a ≡ is_begin a
 
-  -- room for the end bits and the live bits of the addresses from 64 * start on, of which no end bit is set yet
-  pub record IsBlankPart (start : ℕ) (ends live : List ℕ) : Type 0 where
-    pub inside : start + length ends ≤ bit_words
-    pub no_ends : All (λ word. word ≡ 0) ends
-    pub alike : length live ≡ length ends
-
-  -- the end bits and the live bits of the addresses from 64 * start on
-  pub record IsMarkedPart (start : ℕ) (ends live : List ℕ) : Type 0 where
-    pub end_bits : AreBitsFrom is_end start ends
-    pub live_bits : AreBitsFrom (is_live_word image) start live
+  -- room for the bits of the addresses from 64 * start on, of which none is set yet
+  pub record IsBlankPart (start : ℕ) (words : List ℕ) : Type 0 where
+    pub inside : start + length words ≤ bit_words
+    pub none : All (λ word. word ≡ 0) words

@@ -1,8 +1,9 @@
 //! Mark bitmaps of a heap image: where its live objects begin and end, and which words they occupy.
 //!
-//! [`Marks::of`] builds three bitmaps with a bit for each word of the heap from the live list: the begin bits of the
-//! first words of live objects, the end bits of their last words, and the live bits of all their words, which make
-//! counts fast. [`Marks::by_workers`] builds the same in several threads. No other call allocates memory.
+//! [`Marks::of`] builds two bitmaps with a bit for each word of the heap from the live list: the begin bits of the first
+//! words of live objects, and the live bits of all their words, which make counts fast. A live object ends before each
+//! word that isn't live or begins the next. [`Marks::by_workers`] builds the same in several threads. No other call
+//! allocates memory.
 //!
 //! A contract sees [`Marks`] as the image that they were made of, as it was then: `marks.now ≡ image.now` says that
 //! these are the marks of this image. The result of each query is stated by the definitions of `heap_image` for that

@@ -1,10 +1,11 @@
 //! The mark bitmaps of an image, and the queries on them.
-ghost use Rattle.std.specs.Prelude.{◌≡◌, ℕ, ◌+◌, ◌*◌, ◌<◌, ◌≤◌, ◌==◌, IsTrue, IfOk, MatchOption, length};
+ghost use Rattle.std.specs.Prelude.{◌≡◌, ℕ, ◌+◌, ◌-◌, ◌*◌, ◌<◌, ◌≤◌, ◌==◌, IsTrue, IfOk, MatchOption, length};
 ghost use Rattle.std.specs.Int.{bit_at};
 ghost use Rattle.heap_image.specs.HeapImage.{IsValid, heap_words, is_live_word, is_dead_word, live_words, size_at};
 ghost use Rattle.heap_image.specs.Bits.{NoneFrom, IsFirstFrom, NoneBetween, IsFirstBetween};
-ghost use Rattle.mark_bitmap.specs.Marks.{AreBegins, IsMarkedPart, bit_words, is_begin, is_end, block_words, block_count, block_live};
+ghost use Rattle.mark_bitmap.specs.Marks.{AreBegins, AreBitsFrom, bit_words, continues_at, is_begin, is_end, block_words, block_count, block_live};
 
+use crate::laws::marked_image_is_valid;
 use crate::mark_builder::MarkBuilder;
 use crate::objects::{begin_bits, mark_part, no_bits};
 use heap_image::{Bits, Image};
@@ -24,7 +25,6 @@ pub struct Marks {
     image: Snapshot<Image>,
     region_log: u32,
     begins: Bits,
-    ends: Bits,
     live: Bits,
 }
 
@@ -36,21 +36,20 @@ impl Model for Marks {
 
     ghost view = { λ m. m.image.value };
 
-    ghost invariant = { λ m. AreMarks m.image.value m.region_log m.begins m.ends m.live };
+    ghost invariant = { λ m. AreMarks m.image.value m.region_log m.begins m.live };
 }
 
 impl Marks {
     /// Builds the marks of an image from its live list and the headers of its objects.
     ///
-    /// Allocates about 3 bits for each word of the heap.
+    /// Allocates about 2 bits for each word of the heap.
     pub fn of(alloc: Global, image: &Image) -> Result<Marks, AllocError>
         ensures { IfOk result (λ marks. marks ≡ image.now) }
     {
         let begins = begin_bits(alloc, image)?;
-        let mut ends = no_bits(alloc, image)?;
         let mut live = no_bits(alloc, image)?;
-        mark_part(image, &begins, 0, ends.as_mut_slice(), live.as_mut_slice());
-        Ok(Marks::with_bits(image, begins, ends, live))
+        mark_part(image, &begins, 0, live.as_mut_slice());
+        Ok(Marks::with_bits(image, begins, live))
     }
 
     /// Like [`of`](Marks::of), but in at most `workers` threads, the caller's included; 0 counts as 1.
@@ -78,7 +77,6 @@ impl Marks {
         ensures { IfOk result (λ marks. marks ≡ image.now) }
     {
         let begins = begin_bits(alloc, image)?;
-        let mut ends = no_bits(alloc, image)?;
         let mut live = no_bits(alloc, image)?;
         let builder = MarkBuilder {
             image,
@@ -86,23 +84,21 @@ impl Marks {
             threads,
             share,
         };
-        builder.mark(0, ends.as_mut_slice(), live.as_mut_slice());
-        Ok(Marks::with_bits(image, begins, ends, live))
+        builder.mark(0, live.as_mut_slice());
+        Ok(Marks::with_bits(image, begins, live))
     }
 
     /// The marks of an image with these bits.
-    fn with_bits(image: &Image, begins: Bits, ends: Vec<u64>, live: Vec<u64>) -> Marks
+    fn with_bits(image: &Image, begins: Bits, live: Vec<u64>) -> Marks
         requires begins { AreBegins image.now begins }
-        requires ends_room { length ends.items ≡ bit_words image.now }
-        requires live_room { length live.items ≡ bit_words image.now }
-        requires marked { IsMarkedPart image.now 0 ends.items live.items }
+        requires room { length live.items ≡ bit_words image.now }
+        requires live { AreBitsFrom (is_live_word image.now) 0 live.items }
         ensures { result ≡ image.now }
     {
         Marks {
             image: Snapshot::of(image),
             region_log: image.region_log(),
             begins,
-            ends: Bits::from_words(ends),
             live: Bits::from_words(live),
         }
     }
@@ -120,7 +116,7 @@ impl Marks {
     pub fn is_end(&self, a: u64) -> bool
         ensures { result ≡ is_end self.now a }
     {
-        self.ends.contains(a)
+        self.live.contains(a) && !self.continues_at(a + 1)
     }
 
     /// The first address from `from` on at which a live object begins.
@@ -134,7 +130,9 @@ impl Marks {
     pub fn next_end(&self, from: u64) -> Option<u64>
         ensures { MatchOption result (NoneFrom (is_end self.now) from) (IsFirstFrom (is_end self.now) from) }
     {
-        self.ends.next(from)
+        marked_image_is_valid(self);
+        let first = self.next_live(from)?;
+        Some(self.behind(first) - 1)
     }
 
     /// The first address from `from` on whose word belongs to a live object.
@@ -191,10 +189,27 @@ impl Marks {
         requires { IsTrue (is_begin self.now begin) }
         ensures { result ≡ size_at self.now begin }
     {
-        match self.ends.next(begin) {
-            Some(end) => end - begin + 1,
-            None => unreachable!(),
-        }
+        marked_image_is_valid(self);
+        self.behind(begin) - begin
+    }
+
+    /// The address behind the live object that has the word at `a`.
+    fn behind(&self, a: u64) -> u64
+        requires { IsTrue (is_live_word self.now a) }
+        ensures after { a < result }
+        ensures last { IsFirstFrom (is_end self.now) a (result - 1) }
+    {
+        marked_image_is_valid(self);
+        let next = self.next_begin(a + 1).unwrap_or(u64::MAX);
+        self.next_dead_before(a + 1, next).unwrap_or(next)
+    }
+
+    /// Whether the words at `a - 1` and at `a` belong to the same live object.
+    #[inline]
+    fn continues_at(&self, a: u64) -> bool
+        ensures { result ≡ continues_at self.now a }
+    {
+        self.live.contains(a) && !self.is_begin(a)
     }
 
     /// The number of words of a block: 128, or those of a region if a region is smaller.

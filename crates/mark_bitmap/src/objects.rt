@@ -4,7 +4,7 @@ ghost use Rattle.std.specs.List.{list_any};
 ghost use Rattle.heap_image.specs.HeapImage.{IsValid, HasSoundHeader, end_of, size_at, is_live_word};
 ghost use Rattle.heap_image.specs.Bits.{has, room};
 ghost use Rattle.heap_image.specs.Sizes.{AreSizesOf};
-ghost use Rattle.mark_bitmap.specs.Marks.{AreBegins, AreBitsFrom, IsBlankPart, IsFirstObject, IsMarkedPart, bit_words, continues_at, is_end};
+ghost use Rattle.mark_bitmap.specs.Marks.{AreBegins, AreBitsFrom, IsBlankPart, IsFirstObject, bit_words, continues_at, is_end};
 
 use crate::part_bits::insert_within;
 use heap_image::{Bits, Image, PIECE, image_is_valid};
@@ -28,24 +28,18 @@ pub(crate) fn no_bits(alloc: Global, image: &Image) -> Result<Vec<u64>, AllocErr
     vec![in alloc; 0; (image.len() / 64 + 1) as usize]
 }
 
-/// Sets the end bits and the live bits of a part of the heap. Word `i` of `ends` and of `live` has the bits of the 64
-/// addresses from `64 * (start + i)` on.
-pub(crate) fn mark_part(
-    image: &Image,
-    begins: &Bits,
-    start: usize,
-    ends: &mut [u64],
-    live: &mut [u64],
-)
+/// Sets the live bits of a part of the heap. Word `i` has the bits of the 64 addresses from `64 * (start + i)` on.
+///
+/// The words first get the end bits, which are set for the last words of live objects.
+pub(crate) fn mark_part(image: &Image, begins: &Bits, start: usize, words: &mut [u64])
     requires begins { AreBegins image.now begins.now }
-    requires blank { IsBlankPart image.now start ends.old live.old }
-    ensures ends_room { length ends.new ≡ length ends.old }
-    ensures live_room { length live.new ≡ length live.old }
-    ensures marked { IsMarkedPart image.now start ends.new live.new }
+    requires blank { IsBlankPart image.now start words.old }
+    ensures room { length words.new ≡ length words.old }
+    ensures bits { AreBitsFrom (is_live_word image.now) start words.new }
 {
     image_is_valid(image);
-    mark_ends(image, start, ends);
-    mark_words(image, begins, start, ends, live);
+    mark_ends(image, start, words);
+    turn_ends(image, begins, start, words);
 }
 
 /// Sets the bit of the last word of each live object that ends in a part of the heap. Of the objects that begin before
@@ -151,21 +145,21 @@ fn last_words_by_sizes(image: &Image, objects: &[u64], sizes: &[u32; PIECE]) -> 
     lasts
 }
 
-/// Sets the live bits of a part of the heap by the begin bits and the end bits.
-fn mark_words(image: &Image, begins: &Bits, start: usize, ends: &[u64], live: &mut [u64])
+/// Turns the end bits of a part of the heap into its live bits, by the begin bits.
+fn turn_ends(image: &Image, begins: &Bits, start: usize, words: &mut [u64])
     requires valid { IsValid image.now }
     requires begins { AreBegins image.now begins.now }
-    requires inside { start + length ends.now ≤ bit_words image.now }
-    requires ends { AreBitsFrom (is_end image.now) start ends.now }
-    requires alike { length live.old ≡ length ends.now }
-    ensures room { length live.new ≡ length live.old }
-    ensures bits { AreBitsFrom (is_live_word image.now) start live.new }
+    requires inside { start + length words.old ≤ bit_words image.now }
+    requires ends { AreBitsFrom (is_end image.now) start words.old }
+    ensures room { length words.new ≡ length words.old }
+    ensures bits { AreBitsFrom (is_live_word image.now) start words.new }
 {
     let mut carried = u64::from(continues_at(image, 64 * start as u64));
-    for i in 0..ends.len() {
-        let word = live_word(begins.word(start + i), ends[i], carried);
-        live[i] = word;
-        carried = (word >> 63) - (ends[i] >> 63);
+    for i in 0..words.len() {
+        let ends = words[i];
+        let live = live_word(begins.word(start + i), ends, carried);
+        words[i] = live;
+        carried = (live >> 63) - (ends >> 63);
     }
 }
 

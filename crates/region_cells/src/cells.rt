@@ -47,8 +47,7 @@ impl Model for Cells {
 impl Cells {
     /// Moves each region of the image into a cell, in its original state.
     ///
-    /// Allocates the cells and the list that [`into_regions`](Cells::into_regions) returns. If memory runs out, the
-    /// image comes back unchanged.
+    /// Allocates the cells. If memory runs out, the image comes back unchanged.
     pub fn of(alloc: Global, image: Image, plan: &Plan) -> Result<Cells, Image>
         requires same { plan.now ≡ image }
         ensures cells { IfOk result (λ cells. cells ≡ image) }
@@ -58,19 +57,13 @@ impl Cells {
         let Ok(mut slots) = Vec::with_capacity(alloc, count) else {
             return Err(image);
         };
-        let Ok(room) = Vec::with_capacity(alloc, count) else {
-            return Err(image);
-        };
         let first = Place::first(&image);
-        let parts = image.into_parts();
-        put_all(&mut slots, parts.regions, first);
+        let mut parts = image.into_parts();
+        put_all(&mut slots, &mut parts.regions, first);
         Ok(Cells {
             slots,
             fill_regions: plan.fill_regions(),
-            parts: ImageParts {
-                regions: room,
-                ..parts
-            },
+            parts,
         })
     }
 
@@ -188,17 +181,19 @@ impl Cells {
     }
 }
 
-/// Appends a slot for each region.
-fn put_all(slots: &mut Vec<Counted<Kept>>, regions: Vec<Region>, first: Place)
+/// Moves each region into a slot, and keeps the list for them to come back to.
+fn put_all(slots: &mut Vec<Counted<Kept>>, regions: &mut Vec<Region>, first: Place)
     requires valid { IsValid first.image }
     requires first { first.region ≡ 0 }
-    requires regions { regions.items ≡ map (block_of first.image) (range_with_len 0 (region_count first.image)) }
+    requires regions { regions.old.items ≡ map (block_of first.image) (range_with_len 0 (region_count first.image)) }
     requires empty { slots.old.items ≡ [] }
-    requires room { vec_len regions ≤ vec_capacity slots.old }
-    ensures { slots.new.items ≡ places first.image }
+    requires room { vec_len regions.old ≤ vec_capacity slots.old }
+    ensures slots { slots.new.items ≡ places first.image }
+    ensures emptied { regions.new.items ≡ [] }
+    ensures capacity { vec_capacity regions.new ≡ vec_capacity regions.old }
 {
     let mut place = first;
-    for region in regions {
+    for region in regions.drain(..) {
         add(slots, Counted::new(Kept::Spoiled, &place));
         put_original(&slots[slots.len() - 1], region);
         place.step();

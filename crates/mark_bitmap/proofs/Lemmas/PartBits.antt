@@ -1,5 +1,5 @@
 -- The bits of parts, and the objects that end in a part.
-use Rattle.std.proofs.Common.{◌≡◌, ℕ, ◌+◌, ◌-◌, ◌*◌, ◌/◌, ◌%◌, ◌≤◌, ◌<◌, inl, inr, min, Bool, true, false, ◌||◌, ◌&&◌, eqb, ltb, List, ◌++◌, All, length, get_or, take, drop, sym, ◌∙◌, ap, subst, arith}
+use Rattle.std.proofs.Common.{◌≡◌, ℕ, ◌+◌, ◌-◌, ◌*◌, ◌/◌, ◌%◌, ◌≤◌, ◌<◌, inl, inr, min, Bool, true, false, ◌||◌, ◌&&◌, eqb, ltb, List, ◌++◌, All, length, get_or, take, drop, sym, ◌∙◌, ap, arith}
 use Rattle.std.specs.Int.{bit_at}
 use Rattle.std.specs.List.{list_any}
 use Rattle.std.proofs.Math.Bool.{or-false}
@@ -10,10 +10,10 @@ use Rattle.std.proofs.lemmas.List.{get_or-take, get_or-drop, take-append-drop, l
 use Rattle.std.proofs.lemmas.List.Folds.{list_any-append, list_any_at, list_any_none}
 use Rattle.std.proofs.lemmas.Grind.{get_or_default_zero}
 use Rattle.std.proofs.lemmas.Nat.Bits.{bit_at-zero}
-use Rattle.heap_image.specs.HeapImage.{HeapImage, IsValid, size_at, end_of, is_live_word}
+use Rattle.heap_image.specs.HeapImage.{HeapImage, IsValid, size_at, end_of}
 use Rattle.heap_image.specs.Bits.{has}
 use Rattle.mark_bitmap.proofs.Lemmas.Tests.{same_tests}
-use Rattle.mark_bitmap.specs.Marks.{AreBitsFrom, IsFirstObject, IsMarkedPart, continues_at, is_end}
+use Rattle.mark_bitmap.specs.Marks.{AreBitsFrom, IsFirstObject, continues_at}
 use Rattle.mark_bitmap.proofs.Lemmas.Apart.{apart, sound_at, place_of}
 
 -- the bits of two parts, one after the other
@@ -128,12 +128,3 @@ module _ (image : HeapImage) (valid : IsValid image) where
             let past : place ≤ a = first.behind j (omega arith) here.1 in
             let no : ⊥ = omega arith in absurd no
       ])
-
--- the marks of two parts, one after the other
-pub join_parts : (image : HeapImage) (start middle : ℕ) (ends0 live0 ends live ends1 live1 : List ℕ)
-    → length ends ≡ length ends0 → length ends0 ≡ middle → length live ≡ length live0 → length live0 ≡ middle
-    → IsMarkedPart image start ends live → IsMarkedPart image (start + middle) ends1 live1 → IsMarkedPart image start (ends ++ ends1) (live ++ live1)
-join_parts image start middle ends0 live0 ends live ends1 live1 e e0 l l0 low high = record {
-  end_bits = join_bits (is_end image) start ends ends1 low.end_bits (subst (λ n. AreBitsFrom (is_end image) (start + n) ends1) (sym (e ∙ e0)) high.end_bits);
-  live_bits = join_bits (is_live_word image) start live live1 low.live_bits (subst (λ n. AreBitsFrom (is_live_word image) (start + n) live1) (sym (l ∙ l0)) high.live_bits);
-}

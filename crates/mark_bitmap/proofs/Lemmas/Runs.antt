@@ -1,6 +1,7 @@
 -- The bits between the first and the last words of the objects, word by word.
 use Rattle.std.proofs.Common.{◌≡◌, ℕ, zero, suc, ◌+◌, ◌-◌, ◌*◌, ◌/◌, ◌%◌, ◌^◌, ◌≤◌, ◌<◌, inl, inr, Bool, true, false, ◌||◌, ◌&&◌, eqb, leb, ltb, List, [], ◌∷◌, length, get_or, map, refl, sym, ◌∙◌, ap, arith}
 use mir.Val.{bool_byte}
+use Rattle.std.specs.Prelude.{not}
 use Rattle.std.specs.Int.{bit_at}
 use Rattle.std.specs.List.{list_any}
 use Rattle.std.proofs.lemmas.Bool.{cases_lt, cases_order, eq-eqb, eqb-true, le-leb, leb-true, lt-ltb, ltb-true, and_parts, and_from, or_cases, or_left, or_right}
@@ -169,9 +170,21 @@ one-or t true false h k = ap one h
 one-or t false true h k = ap one h
 one-or t false false h k = ap one h
 
+-- what is left of a sum of two tests without one of them
+pub rest : (sum a b : Bool) → one sum ≡ one a + one b → b ≡ (sum && not a)
+unfolding one
+rest true true true h = let no : ⊥ = omega arith in absurd no
+rest true true false h = refl
+rest true false true h = refl
+rest true false false h = let no : ⊥ = omega arith in absurd no
+rest false true true h = let no : ⊥ = omega arith in absurd no
+rest false true false h = let no : ⊥ = omega arith in absurd no
+rest false false true h = let no : ⊥ = omega arith in absurd no
+rest false false false h = refl
+
 module _ (image : HeapImage) (valid : IsValid image) where
   -- a word of an object is its first, or one after another of its words
-  first-or : (k : ℕ) → is_live_word image k ≡ (is_begin image k || continues_at image k)
+  pub first-or : (k : ℕ) → is_live_word image k ≡ (is_begin image k || continues_at image k)
   first-or k = same_tests (is_live_word image k) (is_begin image k || continues_at image k)
       (λ h. let here = place_of image valid (λ b. is_word_of image b k) h in
       let i : ℕ = here.0 in
@@ -301,14 +314,5 @@ module _ (image : HeapImage) (valid : IsValid image) where
       let a : ℕ = get_or image.live here.0 0 in
       let p = and_parts (leb a k) (ltb k (end_of image a)) here.2 in
       let high : k < end_of image a = ltb-true k (end_of image a) p.1 in
-      let inside : end_of image a ≤ heap_words image = (sound_at image valid here.0 here.1).inside in
-      omega arith
-
-  -- and so is the last word of every object
-  pub end-inside : (k : ℕ) → is_end image k ≡ true → k < heap_words image
-  end-inside k h =
-      let here = place_of image valid (λ b. eqb (end_of image b) (k + 1)) h in
-      let a : ℕ = get_or image.live here.0 0 in
-      let is : end_of image a ≡ k + 1 = eqb-true (end_of image a) (k + 1) here.2 in
       let inside : end_of image a ≤ heap_words image = (sound_at image valid here.0 here.1).inside in
       omega arith

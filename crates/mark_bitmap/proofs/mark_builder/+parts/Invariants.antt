@@ -3,10 +3,10 @@ use Rattle.mark_bitmap.proofs.mark_builder.+parts.Given as goal
 
 -- the words become fewer with each call of `mark`; a closure stands between two of these
 abbrev pub decreases-MarkBuilder::mark : goal.decreases-MarkBuilder::mark
-decreases-MarkBuilder::mark g l = 4 * length l.ends.now
+decreases-MarkBuilder::mark g l = 4 * length l.words.now
 
 abbrev pub decreases-high : goal.decreases-high
-decreases-high g l = 4 * length l.high_ends.now + 1
+decreases-high g l = 4 * length l.high_words.now + 1
 
 abbrev pub decreases-low : goal.decreases-low
-decreases-low g l = 4 * length l.low_ends.now + 1
+decreases-low g l = 4 * length l.low_words.now + 1

@@ -1,24 +1,22 @@
 use Rattle.std.proofs.Common.{arith}
 use Rattle.heap_image.specs.HeapImage.{HeapImage, IsValid, is_live_word}
-use Rattle.mark_bitmap.specs.Marks.{AreMarks, is_end}
+use Rattle.mark_bitmap.specs.Marks.{AreMarks}
 use Rattle.mark_bitmap.proofs.Lemmas.PartBits.{all_bits}
-use Rattle.mark_bitmap.proofs.Lemmas.Runs.{live-inside, end-inside}
+use Rattle.mark_bitmap.proofs.Lemmas.Runs.{live-inside}
 use Rattle.mark_bitmap.proofs.marks.Marks.with_bits.Goals as goal
 
 pub invariant_of-result : goal.invariant_of-result
 invariant_of-result c =
     let image : HeapImage = c.args.image.now in
     let valid : IsValid image = c.region_log.ensures.valid in
-    let marks : AreMarks image c.region_log.result c.args.begins c.args.ends.items c.args.live.items = record {
+    let marks : AreMarks image c.region_log.result c.args.begins c.args.live.items = record {
       valid = valid;
       log = c.region_log.ensures.value;
       bits = record {
         begins_room = c.requires.begins.room;
-        ends_room = c.requires.ends_room;
-        live_room = c.requires.live_room;
+        live_room = c.requires.room;
         begin_bits = c.requires.begins.bits;
-        end_bits = all_bits (is_end image) c.args.ends.items c.requires.marked.end_bits (λ k h. let low = end-inside image valid k h in omega (arith, c.requires.ends_room));
-        live_bits = all_bits (is_live_word image) c.args.live.items c.requires.marked.live_bits (λ k h. let low = live-inside image valid k h in omega (arith, c.requires.live_room));
+        live_bits = all_bits (is_live_word image) c.args.live.items c.requires.live (λ k h. let low = live-inside image valid k h in omega (arith, c.requires.room));
       };
     } in
-    rw (c.of.ensures, c.from_words.ensures, c.from_words-2.ensures) marks
+    rw (c.of.ensures, c.from_words.ensures) marks

@@ -16,7 +16,7 @@ invariant_of-result c =
     let image = c.args.image in
     let valid = c.regions-count.ensures.valid in
     let whole = c.into_parts-parts.ensures.whole in
-    let slots_are : c.put_all.new.slots.items ≡ places image = c.put_all.ensures ∙ ap (λ p. places p.image) c.first-first.ensures in
+    let slots_are : c.put_all.new.slots.items ≡ places image = c.put_all.ensures.slots ∙ ap (λ p. places p.image) c.first-first.ensures in
     let image_is : image_in c.put_all.new.slots.items ≡ image = ap image_in slots_are ∙ image_in-places image valid in
     rw image_is (record {
       valid = valid;
@@ -28,12 +28,12 @@ invariant_of-result c =
         allowance = ap (λ i. i.allowance) (sym whole);
         live = ap (λ i. i.live) (sym whole);
         roots = ap (λ i. i.roots) (sym whole);
-        empty = c.in-Ok-with_capacity.ensures.items;
-        room = omega (arith, c.regions-count.ensures.value, c.in-Ok-with_capacity.ensures.capacity);
+        empty = c.put_all.ensures.emptied;
+        room = omega (arith, c.put_all.ensures.capacity, c.into_parts-parts.result.regions.ok, ap length c.into_parts-parts.ensures.blocks, length-map-range_with_len (block_of image) 0 (region_count image));
       };
     })
 
 pub returns-clause-cells : goal.returns-clause-cells
 returns-clause-cells c =
     let image = c.args.image in
-    ap image_in (c.put_all.ensures ∙ ap (λ p. places p.image) c.first-first.ensures) ∙ image_in-places image c.regions-count.ensures.valid
+    ap image_in (c.put_all.ensures.slots ∙ ap (λ p. places p.image) c.first-first.ensures) ∙ image_in-places image c.regions-count.ensures.valid
