@@ -1,8 +1,8 @@
 /* The C interface of pcompact, a sliding full collection whose program is proved.
  *
  * Link libpcompact.a. It takes memory by malloc, unless the program defines the three functions of heap.c: any allocator
- * that aligns to 16 bytes and that several threads may call can stand in its place. Each call is proved, but those whose
- * names have in_place: these are a few lines of C (in_place.c) around calls that are, and tested.
+ * that aligns to 16 bytes and that several threads may call can stand in its place. Each call is proved but pcompact_cut and
+ * those in place: these are a few lines of C, here and in in_place.c, around calls that are proved, and are only tested.
  *
  * No call starts a thread or waits, and none keeps state but behind the handles of a collection by several threads, so
  * several threads may be in calls at once, each with memory and handles of its own. No call may be made from a signal
