@@ -6,21 +6,20 @@
 /* The limits and faults of docs/FORMATS.md. */
 enum { MOST_REGION_LOG = 20, MOST_REGIONS = 1 << 20, MEMORY = 11, WORKERS = 12, OVERWRITTEN = 15 };
 
-/* How many regions a heap has: none where they don't divide its words or are more than any heap has. A lent call refuses no
- * regions by the fault of such words, 3 or 4. */
-static size_t count_regions(size_t word_count, uint32_t region_log) {
-    if (region_log > MOST_REGION_LOG) return 0;
+/* How many regions a heap has: none where they don't divide its words or are more than any heap has, or where its live addresses
+ * or roots are more than its words. To no regions and no list a lent call answers the fault of such sizes, 3 or 4. */
+static size_t count_regions(size_t word_count, size_t list_count, uint32_t region_log) {
+    if (region_log > MOST_REGION_LOG || list_count > word_count) return 0;
     size_t size = (size_t)1 << region_log, count = word_count / size;
     return word_count % size == 0 && count <= MOST_REGIONS ? count : 0;
 }
 
-/* Lists the regions of a heap, for free_list to free. Returns whether there is memory for the list. */
-static bool make_list(uint64_t *words, size_t word_count, uint32_t region_log, pcompact_regions *regions) {
-    size_t count = count_regions(word_count, region_log), room = count > 0 ? count : 1;
-    struct tried list = rattle_alloc(room * sizeof(pcompact_words), _Alignof(pcompact_words));
+/* Lists so many regions, for free_list to free. Returns whether there is memory for the list. */
+static bool make_list(uint64_t *words, size_t count, uint32_t region_log, pcompact_regions *regions) {
+    struct tried list = rattle_alloc(count * sizeof(pcompact_words), _Alignof(pcompact_words));
     if (!list.is_ok) return false;
-    regions->at = list.at;
-    regions->count = count > 0 ? pcompact_cut(words, word_count, region_log, regions->at) : 0;
+    *regions = (pcompact_regions){list.at, count};
+    if (count > 0) pcompact_cut(words, count << region_log, region_log, regions->at);
     return true;
 }
 
@@ -38,9 +37,10 @@ typedef uint32_t lent_call(pcompact_words *, size_t, uint64_t *, size_t, pcompac
 
 static uint32_t collect_by(lent_call *collect_lent, uint64_t *words, size_t word_count, uint64_t *list, size_t list_count,
                            pcompact_settings settings, pcompact_answer *answer) {
+    size_t count = count_regions(word_count, list_count, settings.region_log);
     pcompact_regions regions;
-    if (!make_list(words, word_count, settings.region_log, &regions)) return refuse(MEMORY, answer);
-    uint32_t fault = collect_lent(regions.at, regions.count, list, list_count, settings, answer);
+    if (!make_list(words, count, settings.region_log, &regions)) return refuse(MEMORY, answer);
+    uint32_t fault = collect_lent(regions.at, count, list, count > 0 ? list_count : 0, settings, answer);
     free_list(&regions);
     return fault;
 }
@@ -61,9 +61,10 @@ static pcompact_fault begin_by(lent_begin *begin_lent, uint64_t *words, size_t w
                                pcompact_settings settings, pcompact_handle *handles, size_t worker_count,
                                pcompact_regions *regions) {
     if (regions->at) return (pcompact_fault){.number = WORKERS};
+    size_t count = count_regions(word_count, list_count, settings.region_log);
     pcompact_regions found;
-    if (!make_list(words, word_count, settings.region_log, &found)) return (pcompact_fault){.number = MEMORY};
-    pcompact_fault fault = begin_lent(found.at, found.count, list, list_count, settings, handles, worker_count);
+    if (!make_list(words, count, settings.region_log, &found)) return (pcompact_fault){.number = MEMORY};
+    pcompact_fault fault = begin_lent(found.at, count, list, count > 0 ? list_count : 0, settings, handles, worker_count);
     if (fault.number == 0) {
         *regions = found;
     } else {

@@ -214,6 +214,9 @@ static void refuse_begins(int kind) {
     found.word_count = SIZE_MAX / SIZE * SIZE;
     refuse_begin("more words than there are", &found, &s, 2, 4);
     found = before[kind];
+    found.list_count = SIZE_MAX / 8;
+    refuse_begin("a list that is longer than the words", &found, &s, 2, 4);
+    found = before[kind];
     found.list[kind == 0] = kind == 0 ? found.list[0] : UINT64_MAX;
     refuse_begin("a wrong number", &found, &s, 2, kind == 0 ? 6 : 17);
     found = before[kind];
