@@ -267,18 +267,36 @@ static void end_copies(void) {
     check(is_same(&found, &wanted[0]) && parts[0].at == found.words && held_handles(&s) == 0, "what it leaves", 0);
 }
 
-/* A heap has at most 1048576 regions, and as many with roots. One more is refused as by the call that copies. */
+/* With roots a heap has at most 1048576 regions, and a region at most 1048576 words. More are refused as by the call that copies. */
 static void refuse_regions(void) {
     const size_t most = 8 * (size_t)MOST_REGIONS;
     uint64_t *words = calloc(most + 8, sizeof *words), none;
-    const pcompact_settings least = {3, 0};
+    const pcompact_settings least = {3, 0}, large = {21, 0};
     pcompact_answer answer;
     if (!words) exit(2);
     check(pcompact_collect_in_place_rooted(words, most, &none, 0, least, &answer) == 0, "as many regions as there may be", 0);
     check(pcompact_collect_rooted(words, most + 8, &none, 0, least, &answer) == 4, "one region too many, by copy", 4);
     check(pcompact_collect_in_place_rooted(words, most + 8, &none, 0, least, &answer) == 4, "one region too many", 4);
     check(pcompact_collect_in_place(words, most + 8, &none, 0, least, &answer) == 4, "one region too many, with a live list", 4);
+    check(pcompact_collect_rooted(words, most, &none, 0, large, &answer) == 3, "regions that are too large, by copy", 3);
+    check(pcompact_collect_in_place_rooted(words, most, &none, 0, large, &answer) == 3, "regions that are too large", 3);
     free(words);
+}
+
+/* Each word is an object that lives, so the list is as long as the words. */
+static void collect_full(bool is_rooted) {
+    found = before[is_rooted];
+    found.word_count = found.list_count = SIZE;
+    for (size_t a = 0; a < SIZE; a++) {
+        found.words[a] = UINT64_C(1) << 56 | 1;
+        found.list[a] = a + is_rooted;
+    }
+    same = found;
+    pcompact_answer answer;
+    session s = no_session;
+    check(collect_in_place(&found, &answer) == 0 && answer.new_top == SIZE, "a full heap", is_rooted);
+    check(begin(&found, &s, 2) == 0 && end(&found, &s, 2, &answer) == 0 && is_over(&s), "a full heap by threads", is_rooted);
+    check(is_same(&found, &same), "what is left of a full heap", is_rooted);
 }
 
 /* A begin of which this many allocations succeed. Whether one was refused. */
@@ -343,6 +361,8 @@ int main(void) {
     refuse_ends();
     end_copies();
     refuse_regions();
+    collect_full(false);
+    collect_full(true);
     check(blocks_held == 0, "a block is left in all", (size_t)blocks_held);
     refuse_memory("begin", begin_with);
     refuse_memory("end", end_with);
