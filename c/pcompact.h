@@ -81,7 +81,7 @@ uint32_t pcompact_collect_rooted(uint64_t *words, size_t word_count, uint64_t *r
                                  pcompact_settings settings, pcompact_answer *answer);
 
 /* Like pcompact_collect, but collects the words where they lie, without a copy of them, which takes less time and memory. The
- * answer is the same, and so are faults; only after fault 15 nothing is promised of the words and live addresses. Takes the
+ * answer is the same, and so are faults, but after fault 15 nothing is promised of the words and live addresses. Takes the
  * memory that a collection by one worker takes, and 24 bytes for each region. */
 uint32_t pcompact_collect_in_place(uint64_t *words, size_t word_count, uint64_t *live, size_t live_count,
                                    pcompact_settings settings, pcompact_answer *answer);
