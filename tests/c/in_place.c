@@ -77,8 +77,9 @@ static uint32_t end(heap *it, session *s, size_t workers, pcompact_answer *answe
     return pcompact_end_in_place(s->handles, workers, &s->regions, it->list, it->list_count, answer);
 }
 
+/* What lies between the fields of a struct doesn't count. */
 static bool is_same(const heap *one, const heap *other) {
-    return memcmp(one, other, sizeof *one) == 0;
+    return memcmp(one, other, offsetof(heap, is_rooted)) == 0;
 }
 
 static size_t held_handles(const session *s) {
