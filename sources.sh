@@ -9,7 +9,7 @@
 # dist/ and out/pcompact_c/ each hold the library for C, its header, and a stamp that has of these sources and kit, too:
 #   library CHECKSUM    of libpcompact.a beside the stamp
 #   header CHECKSUM     of pcompact.h beside the stamp, which is that of c/
-#   memory CHECKSUM     of c/heap.c, which the library has
+#   around CHECKSUM     of what is C in the library
 
 # Runs a command, in the folder of the repository, on the folders of code and specs.
 over_sources() (
@@ -34,6 +34,11 @@ sources_sum() {
         cat "$top/HANDLES"
         over_sources sum_files
     } | sha256sum | cut -d ' ' -f 1
+}
+
+# Prints the checksum of the files of C in the library, and of what they include but pcompact.h.
+around_sum() {
+    { cd -- "$top/c" && sha256sum heap.[ch] in_place.c freestanding/*.h; } 2>/dev/null | sha256sum | cut -d ' ' -f 1
 }
 
 # Prints what the stamp of a folder has behind a word.
@@ -79,7 +84,7 @@ program_path() {
 # Else `why` is the reason.
 fits_library() {
     why="$1/libpcompact.a wasn't built from these sources"
-    [ "$2" = "$(stamped "$1" sources)" ] && [ "$(file_sum c/heap.c)" = "$(stamped "$1" memory)" ] || return 1
+    [ "$2" = "$(stamped "$1" sources)" ] && [ "$(around_sum)" = "$(stamped "$1" around)" ] || return 1
     why="$1/libpcompact.a isn't the library of its stamp"
     [ -f "$top/$1/libpcompact.a" ] && [ "$(file_sum "$1/libpcompact.a")" = "$(stamped "$1" library)" ] || return 1
     why="$1/pcompact.h isn't c/pcompact.h"

@@ -1,7 +1,8 @@
 /* The C interface of pcompact, a sliding full collection whose program is proved.
  *
  * Link libpcompact.a. It takes memory by malloc, unless the program defines the three functions of heap.c: any allocator
- * that aligns to 16 bytes and that several threads may call can stand in its place.
+ * that aligns to 16 bytes and that several threads may call can stand in its place. Each call is proved but pcompact_cut and
+ * those in place: these are a few lines of C, here and in in_place.c, around calls that are proved, and are only tested.
  *
  * No call starts a thread or waits, and none keeps state but behind the handles of a collection by several threads, so
  * several threads may be in calls at once, each with memory and handles of its own. No call may be made from a signal
@@ -52,7 +53,7 @@ typedef struct pcompact_answer {
  * and `answer` aren't null, and nobody writes there meanwhile. `answer` need not be filled before. */
 uint32_t pcompact_summary_of_image(const uint8_t *bytes, size_t len, pcompact_answer *answer);
 
-/* What the words of a heap don't say. */
+/* What the words of a heap don't say. Its regions divide the words: they are at most 16384, with roots 1048576. */
 typedef struct pcompact_settings {
     uint32_t region_log; /* the logarithm, to base 2, of the number of words of a region: 3 to 16, with roots to 20 */
     uint64_t allowance;  /* the largest number of dead words that the dense prefix may keep */
@@ -79,6 +80,16 @@ uint32_t pcompact_collect(uint64_t *words, size_t word_count, uint64_t *live, si
 uint32_t pcompact_collect_rooted(uint64_t *words, size_t word_count, uint64_t *roots, size_t root_count,
                                  pcompact_settings settings, pcompact_answer *answer);
 
+/* Like pcompact_collect, but collects the words where they lie, without a copy of them, which takes less time and memory. The
+ * answer is the same, and so are faults, but after fault 15 nothing is promised of the words and live addresses. Takes the
+ * memory that a collection by one worker takes, and 24 bytes for each region. */
+uint32_t pcompact_collect_in_place(uint64_t *words, size_t word_count, uint64_t *live, size_t live_count,
+                                   pcompact_settings settings, pcompact_answer *answer);
+
+/* The same for a heap with roots, with the faults of pcompact_collect_rooted. */
+uint32_t pcompact_collect_in_place_rooted(uint64_t *words, size_t word_count, uint64_t *roots, size_t root_count,
+                                          pcompact_settings settings, pcompact_answer *answer);
+
 /* Words of the host that it lends to a call, a region of a heap. The host fills one with true and its words; a zero one
  * has none. While it is held, `len` words lie behind `at`, 1 to 1048576 of them, aligned to 8 bytes, in nothing else that the
  * host lends. From the begin of a call until its end only the library uses them, and it alone writes the fields. */
@@ -101,8 +112,8 @@ static inline size_t pcompact_cut(uint64_t *words, size_t word_count, uint32_t r
     return count;
 }
 
-/* Like pcompact_collect, for a heap whose regions the host lends, from address 0 up, wherever each lies. They are collected
- * there, without a copy of their words: afterwards each holds its region's words of the compaction, at the same place.
+/* Like pcompact_collect_in_place, for a heap whose regions the host lends, from address 0 up, wherever each lies. Afterwards
+ * each holds its region's words of the compaction, at the same place.
  * Faults: those of pcompact_collect, and 4 if some words aren't held or are more or fewer than a region has. After any
  * fault but 15 all is as it was. After fault 15 nothing is promised of the words and live addresses, and some aren't held.
  * Takes the memory that a collection by one worker takes. */
@@ -144,6 +155,26 @@ pcompact_fault pcompact_begin_lent(pcompact_words *words, size_t region_count, c
 pcompact_fault pcompact_begin_lent_rooted(pcompact_words *words, size_t region_count, const uint64_t *roots, size_t root_count,
                                           pcompact_settings settings, pcompact_handle *handles, size_t worker_count);
 
+/* The regions of a heap that is collected in place, from the begin to the end. They begin as all zeros; afterwards only the
+ * library writes the fields, and nobody copies them. */
+typedef struct pcompact_regions {
+    pcompact_words *at; /* null where there are none */
+    size_t count;
+} pcompact_regions;
+
+/* Like pcompact_begin, but the workers compact the words where they lie, without a copy of them. From the begin to the end only
+ * the library uses the words. Only pcompact_end_in_place, which is handed the same regions, ends such a collection. Faults: those
+ * of pcompact_begin, 12 also if there are regions already, or 15 as of pcompact_collect_in_place. After any fault but 15 all is
+ * as it was. */
+pcompact_fault pcompact_begin_in_place(uint64_t *words, size_t word_count, const uint64_t *live, size_t live_count,
+                                       pcompact_settings settings, pcompact_handle *handles, size_t worker_count,
+                                       pcompact_regions *regions);
+
+/* The same for a heap with roots, with the faults of pcompact_begin_rooted. */
+pcompact_fault pcompact_begin_in_place_rooted(uint64_t *words, size_t word_count, const uint64_t *roots, size_t root_count,
+                                              pcompact_settings settings, pcompact_handle *handles, size_t worker_count,
+                                              pcompact_regions *regions);
+
 /* What pcompact_work returns. */
 enum {
     PCOMPACT_SETTLED = 0,    /* all regions are filled */
@@ -177,6 +208,13 @@ uint32_t pcompact_end(pcompact_handle *handles, size_t worker_count, uint64_t *w
  * of words and list, and some words aren't held. */
 uint32_t pcompact_end_lent(pcompact_handle *handles, size_t worker_count, pcompact_words *words, size_t region_count,
                            uint64_t *list, size_t list_count, pcompact_answer *answer);
+
+/* The same for a collection that pcompact_begin_in_place or pcompact_begin_in_place_rooted began with these regions: afterwards
+ * its words are those of the compaction, and there are no regions. Fault 12 comes also if there are none before. After faults 4,
+ * 11 and 12 all is as it was, handles and regions too, and the collection goes on. After fault 15 no handle is held, there are no
+ * regions, and nothing is promised of words and list. */
+uint32_t pcompact_end_in_place(pcompact_handle *handles, size_t worker_count, pcompact_regions *regions, uint64_t *list,
+                               size_t list_count, pcompact_answer *answer);
 
 /* Redirects references that are kept outside of the heap with these words and live addresses to where pcompact_collect will
  * take their objects; to be called before it. Each is 0, which stays, or 1 plus a live address. Returns the fault: 0, 3, 4,

@@ -22,7 +22,7 @@ int main(void) {
     uint64_t roots[ROOTS] = {reference(6)};
     pcompact_settings settings = {.region_log = REGION_LOG, .allowance = 0};
     pcompact_answer answer;
-    if (pcompact_collect_rooted(words, WORDS, roots, ROOTS, settings, &answer) != 0) {
+    if (pcompact_collect_in_place_rooted(words, WORDS, roots, ROOTS, settings, &answer) != 0) {
         uint8_t text[64];
         pcompact_fault_text(answer.fault, text, sizeof text);
         fprintf(stderr, "fault %s\n", (char *)text);

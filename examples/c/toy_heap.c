@@ -26,27 +26,28 @@ void toy_heap_free(toy_heap *heap) {
     free(heap->roots);
 }
 
-/* One thread's part. Whatever goes wrong, pcompact_end tells. */
+/* One thread's part. Whatever goes wrong, the end tells. */
 static void *work(void *handle) {
     pcompact_work_all(handle);
     return NULL;
 }
 
-/* The words stay as they are until the end, which also fills what a thread that couldn't be started would have filled. */
+/* The end also fills what a thread that couldn't be started would have filled. */
 static uint32_t collect_by_threads(toy_heap *heap, pcompact_settings settings, pcompact_answer *answer) {
     pcompact_handle handles[TOY_MAX_THREADS] = {{false, NULL}};
+    pcompact_regions regions = {NULL, 0};
     pthread_t threads[TOY_MAX_THREADS];
     size_t started = 0;
-    answer->fault = pcompact_begin_rooted(heap->words, heap->word_count, heap->roots, heap->root_count, settings, handles,
-                                          heap->threads);
+    answer->fault = pcompact_begin_in_place_rooted(heap->words, heap->word_count, heap->roots, heap->root_count, settings, handles,
+                                                   heap->threads, &regions);
     if (answer->fault.number != 0) return answer->fault.number;
     while (started < heap->threads && pthread_create(&threads[started], NULL, work, &handles[started]) == 0) started++;
     for (size_t i = 0; i < started; i++) pthread_join(threads[i], NULL);
-    return pcompact_end(handles, heap->threads, heap->words, heap->word_count, heap->roots, heap->root_count, answer);
+    return pcompact_end_in_place(handles, heap->threads, &regions, heap->roots, heap->root_count, answer);
 }
 
 static uint32_t collect_at_once(toy_heap *heap, pcompact_settings settings, pcompact_answer *answer) {
-    return pcompact_collect_rooted(heap->words, heap->word_count, heap->roots, heap->root_count, settings, answer);
+    return pcompact_collect_in_place_rooted(heap->words, heap->word_count, heap->roots, heap->root_count, settings, answer);
 }
 
 /* All that the roots don't reach goes. A sixteenth of the heap may stay dead where that saves moving what lies low. */

@@ -16,7 +16,7 @@ std::string text_of(pcompact_fault fault) {
     return reinterpret_cast<const char *>(text);
 }
 
-// Why there is no collection. Words and roots are as they were.
+// Why there is no collection. Words and roots are as they were, but after fault 15.
 struct Fault : std::runtime_error {
     explicit Fault(pcompact_fault fault) : std::runtime_error("fault " + text_of(fault)), fault(fault) {}
     pcompact_fault fault;
@@ -30,7 +30,7 @@ std::uint64_t *start_of(std::vector<std::uint64_t> &vector) {
 
 pcompact_answer collect(std::vector<std::uint64_t> &words, std::vector<std::uint64_t> &roots, pcompact_settings settings) {
     pcompact_answer answer;
-    if (pcompact_collect_rooted(start_of(words), words.size(), start_of(roots), roots.size(), settings, &answer) != 0) {
+    if (pcompact_collect_in_place_rooted(start_of(words), words.size(), start_of(roots), roots.size(), settings, &answer) != 0) {
         throw Fault(answer.fault);
     }
     return answer;

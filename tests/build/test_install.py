@@ -115,9 +115,10 @@ class Installer:
         dist, c = copy / "dist", copy / "c"
         shutil.copy(c / "pcompact.h", dist)
         sources = manual_rows.printed(["sh", "-c", "top=$PWD; . ./sources.sh; sources_sum"], cwd=copy).strip()
-        sums = {"program": dist / "pcompact", "library": dist / "libpcompact.a", "header": dist / "pcompact.h", "memory": c / "heap.c"}
+        around = manual_rows.printed(["sh", "-c", "top=$PWD; . ./sources.sh; around_sum"], cwd=copy).strip()
+        sums = {"program": dist / "pcompact", "library": dist / "libpcompact.a", "header": dist / "pcompact.h"}
         lines = [f"{word} {sum_of(file)}\n" for word, file in sums.items()]
-        (dist / "stamp").write_text("".join([f"sources {sources}\n", *lines, "kit none\nneeds nothing\n"]))
+        (dist / "stamp").write_text("".join([f"sources {sources}\naround {around}\n", *lines, "kit none\nneeds nothing\n"]))
 
     def call(self, words: list, status: int, what: str, **how) -> str:
         """Runs a command, which must end with this status. What it wrote."""
@@ -331,7 +332,8 @@ def try_words(to: Installer) -> None:
 def try_unfit(to: Installer) -> None:
     """No program or no library that fits the sources."""
     of_program = ("dist/pcompact", "crates/pcompact/src/main.rt", "dist/stamp")
-    of_library = ("dist/libpcompact.a", "dist/pcompact.h", "c/pcompact.h", "c/heap.c")
+    of_c = ("heap.c", "heap.h", "in_place.c", "freestanding/stdint.h")
+    of_library = ("dist/libpcompact.a", "dist/pcompact.h", "c/pcompact.h", *(f"c/{it}" for it in of_c))
     for change in (*of_program, *of_library):
         copy = to.repository(f"changed/{change}", SHOWS)
         (copy / change).write_text("#!/bin/sh\n")

@@ -372,7 +372,7 @@ def try_library(it: Launcher, copy: pathlib.Path) -> None:
     clone = shipped(it, copy, "library")
     library, stamp = clone / "dist/libpcompact.a", clone / "dist/stamp"
     members = subprocess.run(["ar", "t", library], capture_output=True, text=True).stdout.split()
-    it.check(sorted(members) == ["heap.o", "part.o"], f"the library has {members}")
+    it.check(sorted(members) == ["heap.o", "in_place.o", "part.o"], f"the library has {members}")
     finds(it, clone, "dist", "a fresh clone")
     said, calls = it.call([clone / "prove", "pcompact_c"], 0, "prove pcompact_c in a clone")
     it.check("is dist/libpcompact.a, byte for byte" in said and "dist/pcompact" not in said, f"prove pcompact_c: {said!r}")
@@ -385,10 +385,11 @@ def try_library(it: Launcher, copy: pathlib.Path) -> None:
     it.runs(clone / "pcompact", "beside a library with a bit flipped", NOTE, kit=False)
     library.write_bytes(whole)
     text = stamp.read_text()
-    stamp.write_text("".join(line for line in text.splitlines(True) if line.split()[0] not in ("library", "header", "memory")))
+    stamp.write_text("".join(line for line in text.splitlines(True) if line.split()[0] not in ("library", "header", "around")))
     finds(it, clone, "dist/libpcompact.a wasn't built from these sources", "a stamp of the program alone")
     stamp.write_text(text)
-    for name, why in (("pcompact.h", "dist/pcompact.h isn't c/pcompact.h"), ("heap.c", "wasn't built from these sources")):
+    unbuilt = "wasn't built from these sources"
+    for name, why in (("pcompact.h", "dist/pcompact.h isn't c/pcompact.h"), ("heap.c", unbuilt), ("in_place.c", unbuilt)):
         with (clone / "c" / name).open("a") as file:
             file.write("/* More. */\n")
         finds(it, clone, why, f"c/{name} changed")

@@ -38,7 +38,12 @@ static const row rows[] = {
     {"a region log of 21", ROOTED, {{0, 0}}, 16, 2, 21, 3, 0, 0},
     {"the largest region log", LIVE, {{0, 0}}, 16, 2, UINT32_MAX, 3, 0, 0},
     {"the largest region log, with roots", ROOTED, {{0, 0}}, 16, 2, UINT32_MAX, 3, 0, 0},
+    {"more words than a heap has", LIVE, {{0, 0}}, (size_t)1 << 40, 2, 16, 4, 0, 0},
+    {"more words than there are, with roots", ROOTED, {{0, 0}}, SIZE_MAX - 7, 2, 3, 4, 0, 0},
     {"more live objects than words", LIVE, {{0, 0}}, 16, 17, 3, 4, 0, 0},
+    {"the most live objects", LIVE, {{0, 0}}, 16, SIZE_MAX / 8, 3, 4, 0, 0},
+    {"the most roots", ROOTED, {{0, 0}}, 16, SIZE_MAX / 8, 3, 4, 0, 0},
+    {"the most roots, and regions of 4 words", ROOTED, {{0, 0}}, 16, SIZE_MAX / 8, 2, 3, 0, 0},
     {"more roots than words", ROOTED, {{0, 0}}, 16, 17, 3, 4, 0, 0},
     {"an address twice", LIVE, {{LIST + 1, 3}}, 16, 2, 3, 6, 0, 1},
     {"addresses that descend", LIVE, {{LIST, 9}}, 16, 2, 3, 6, 0, 1},
@@ -132,16 +137,28 @@ static void collect_all(const char *name, int kind, call *collect) {
     check(memcmp(block, wanted, sizeof block) == 0, name, "what a collection leaves");
 }
 
+/* The calls that collect, and the one that only tells. */
+static const struct {
+    const char *name;
+    int kind;
+    call *make;
+} calls[] = {
+    {"summary", LIVE, summarize},
+    {"collect", LIVE, pcompact_collect},
+    {"collect_in_place", LIVE, pcompact_collect_in_place},
+    {"collect_rooted", ROOTED, pcompact_collect_rooted},
+    {"collect_in_place_rooted", ROOTED, pcompact_collect_in_place_rooted},
+};
+
 int main(void) {
-    for (size_t i = 0; i < sizeof rows / sizeof *rows; i++) {
-        refuse(&rows[i], rows[i].kind == LIVE ? "collect" : "collect_rooted",
-               rows[i].kind == LIVE ? pcompact_collect : pcompact_collect_rooted);
-        if (rows[i].kind == LIVE) refuse(&rows[i], "summary", summarize);
+    for (size_t c = 0; c < sizeof calls / sizeof *calls; c++) {
+        for (size_t i = 0; i < sizeof rows / sizeof *rows; i++) {
+            if (rows[i].kind == calls[c].kind) refuse(&rows[i], calls[c].name, calls[c].make);
+        }
+        if (calls[c].make == summarize) continue;
+        collect_nothing(calls[c].name, calls[c].kind, calls[c].make);
+        collect_all(calls[c].name, calls[c].kind, calls[c].make);
     }
-    collect_nothing("collect", LIVE, pcompact_collect);
-    collect_nothing("collect_rooted", ROOTED, pcompact_collect_rooted);
-    collect_all("collect", LIVE, pcompact_collect);
-    collect_all("collect_rooted", ROOTED, pcompact_collect_rooted);
     printf("%d passed, %d failed\n", passed, failed);
     return failed != 0;
 }

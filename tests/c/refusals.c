@@ -87,6 +87,14 @@ static uint32_t call_collect_rooted(heap *it, pcompact_answer *answer) {
     return pcompact_collect_rooted(it->words, WORDS, it->tail, it->tail_count, settings, answer);
 }
 
+static uint32_t call_collect_in_place(heap *it, pcompact_answer *answer) {
+    return pcompact_collect_in_place(it->words, WORDS, it->tail, it->tail_count, settings, answer);
+}
+
+static uint32_t call_collect_in_place_rooted(heap *it, pcompact_answer *answer) {
+    return pcompact_collect_in_place_rooted(it->words, WORDS, it->tail, it->tail_count, settings, answer);
+}
+
 static uint32_t call_summary(heap *it, pcompact_answer *answer) {
     return pcompact_summary(it->words, WORDS, it->tail, it->tail_count, settings, answer);
 }
@@ -157,6 +165,8 @@ static void each(const char *name, uint32_t (*call)(heap *, pcompact_answer *), 
 int main(void) {
     each("pcompact_collect", call_collect, false);
     each("pcompact_collect_rooted", call_collect_rooted, true);
+    each("pcompact_collect_in_place", call_collect_in_place, false);
+    each("pcompact_collect_in_place_rooted", call_collect_in_place_rooted, true);
     each("pcompact_summary", call_summary, false);
     each("pcompact_summary_of_image", call_summary_of_image, false);
     each("pcompact_summary_of_image, with roots", call_summary_of_image, true);

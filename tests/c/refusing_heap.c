@@ -4,8 +4,8 @@
 #include <stddef.h>
 #include <stdlib.h>
 
-long requests_left = -1;
-long blocks_held;
+_Atomic long requests_left = -1;
+_Atomic long blocks_held;
 
 struct tried {
     bool is_ok;

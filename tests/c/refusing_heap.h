@@ -3,9 +3,9 @@
 #define REFUSING_HEAP_H
 
 /* How many requests for memory succeed before each is refused; refuses none if it is negative. */
-extern long requests_left;
+extern _Atomic long requests_left;
 
 /* How many blocks are held. */
-extern long blocks_held;
+extern _Atomic long blocks_held;
 
 #endif

@@ -8,11 +8,11 @@
 #include <stdlib.h>
 #include <string.h>
 
-enum { SUMMARY, COLLECT, COLLECT_ROOTED, COLLECT_BY_THREADS, COLLECT_ROOTED_BY_THREADS, MOST_THREADS = 16 };
+enum { SUMMARY, COLLECT, COLLECT_IN_PLACE, COLLECT_BY_THREADS, COLLECT_IN_PLACE_BY_THREADS, MOST_THREADS = 16 };
 
 /* `threads` counts where the call is by threads. */
 typedef struct request {
-    uint32_t call, region_log;
+    uint32_t call, is_rooted, region_log, gap;
     uint64_t allowance, word_count, tail_count, threads;
 } request;
 
@@ -45,26 +45,42 @@ static void run_workers(pcompact_handle *handles, size_t count) {
     }
 }
 
-static uint32_t collect_by_threads(const request *asked, uint64_t *words, uint64_t *tail, pcompact_answer *answer) {
+static uint32_t collect_copy_by(const request *asked, uint64_t *words, uint64_t *tail, pcompact_answer *answer) {
     pcompact_settings settings = {asked->region_log, asked->allowance};
     pcompact_handle handles[MOST_THREADS] = {{false, NULL}};
-    size_t count = asked->threads;
-    if (count > MOST_THREADS) exit(2);
-    memset(answer, 0, sizeof *answer);
-    answer->fault = (asked->call == COLLECT_BY_THREADS ? pcompact_begin : pcompact_begin_rooted)(
-        words, asked->word_count, tail, asked->tail_count, settings, handles, count);
+    answer->fault = (asked->is_rooted ? pcompact_begin_rooted : pcompact_begin)(
+        words, asked->word_count, tail, asked->tail_count, settings, handles, asked->threads);
     if (answer->fault.number != 0) return answer->fault.number;
-    run_workers(handles, count);
-    return pcompact_end(handles, count, words, asked->word_count, tail, asked->tail_count, answer);
+    run_workers(handles, asked->threads);
+    return pcompact_end(handles, asked->threads, words, asked->word_count, tail, asked->tail_count, answer);
 }
 
-static uint32_t call(const request *asked, uint64_t *words, uint64_t *tail, pcompact_answer *answer) {
+static uint32_t collect_in_place_by(const request *asked, uint64_t *words, uint64_t *tail, pcompact_answer *answer) {
     pcompact_settings settings = {asked->region_log, asked->allowance};
+    pcompact_handle handles[MOST_THREADS] = {{false, NULL}};
+    pcompact_regions regions = {NULL, 0};
+    answer->fault = (asked->is_rooted ? pcompact_begin_in_place_rooted : pcompact_begin_in_place)(
+        words, asked->word_count, tail, asked->tail_count, settings, handles, asked->threads, &regions);
+    if (answer->fault.number != 0) return answer->fault.number;
+    run_workers(handles, asked->threads);
+    return pcompact_end_in_place(handles, asked->threads, &regions, tail, asked->tail_count, answer);
+}
+
+typedef uint32_t collecting(uint64_t *, size_t, uint64_t *, size_t, pcompact_settings, pcompact_answer *);
+
+static uint32_t call(const request *asked, uint64_t *words, uint64_t *tail, pcompact_answer *answer) {
+    static collecting *const by_copy[] = {pcompact_collect, pcompact_collect_rooted};
+    static collecting *const in_place[] = {pcompact_collect_in_place, pcompact_collect_in_place_rooted};
+    pcompact_settings settings = {asked->region_log, asked->allowance};
+    size_t word_count = asked->word_count, tail_count = asked->tail_count;
+    memset(answer, 0, sizeof *answer);
+    if (asked->threads > MOST_THREADS) exit(2);
     switch (asked->call) {
-    case SUMMARY: return pcompact_summary(words, asked->word_count, tail, asked->tail_count, settings, answer);
-    case COLLECT: return pcompact_collect(words, asked->word_count, tail, asked->tail_count, settings, answer);
-    case COLLECT_ROOTED: return pcompact_collect_rooted(words, asked->word_count, tail, asked->tail_count, settings, answer);
-    default: return collect_by_threads(asked, words, tail, answer);
+    case SUMMARY: return pcompact_summary(words, word_count, tail, tail_count, settings, answer);
+    case COLLECT: return by_copy[asked->is_rooted](words, word_count, tail, tail_count, settings, answer);
+    case COLLECT_IN_PLACE: return in_place[asked->is_rooted](words, word_count, tail, tail_count, settings, answer);
+    case COLLECT_BY_THREADS: return collect_copy_by(asked, words, tail, answer);
+    default: return collect_in_place_by(asked, words, tail, answer);
     }
 }
 

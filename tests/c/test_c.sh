@@ -48,10 +48,10 @@ done
 build calls -Itests/c tests/c/{calls,checks}.c
 build image_calls -Itests/c tests/c/{image_calls,checks,refusing_heap}.c
 build lent -Itests/c tests/c/{lent,refusing_heap}.c
-build threads -pthread -Itests/c tests/c/threads.c tests/c/refusing_heap.c
-build lent_threads -pthread -Itests/c tests/c/lent_threads.c tests/c/refusing_heap.c
-build_c lent_threads-raced -g -fsanitize=thread -pthread -Itests/c tests/c/lent_threads.c tests/c/refusing_heap.c
-build_c threads-raced -g -fsanitize=thread -pthread -Itests/c tests/c/threads.c tests/c/refusing_heap.c
+for caller in threads lent_threads in_place; do
+    build "$caller" -pthread -Itests/c tests/c/{"$caller",refusing_heap}.c
+    build_c "$caller-raced" -g -fsanitize=thread -pthread -Itests/c tests/c/{"$caller",refusing_heap}.c
+done
 for example in base rooted; do
     compact "$example"
     run calls "examples/$example.pcheap" "$room/$example" 0 19 3
@@ -61,9 +61,8 @@ run hostile
 run refusals
 try "$room/lent" 1000
 run lent 100
-run threads
-run lent_threads
-for caller in threads lent_threads; do
+for caller in threads lent_threads in_place; do
+    run "$caller"
     try env TSAN_OPTIONS=suppressions=tests/c/threads.supp "$room/$caller-raced"
 done
 try refuses_half

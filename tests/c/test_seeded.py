@@ -2,9 +2,10 @@
 """Collects seeded heaps in memory by the C library, each with a live list and with roots, beside the model of
 tests/models, and such heaps with words, lists and sizes that are slightly wrong.
 
-Half of them are collected by 1, 2, 4 or 16 threads too. After a collection the memory must be the model's compaction, and
-after a fault, which must be the model's, as it was. The caller, serve.c, runs under the sanitizers for addresses and undefined behaviour; for a few heaps it runs under valgrind,
-which sees the accesses of the library too, where that is there.
+Each is collected by copy and in place, and half of them by 1, 2, 4 or 16 threads too. After a collection the memory must be
+the model's compaction, and after a fault, which must be the model's, as it was. The caller, serve.c, runs under the sanitizers
+for addresses and undefined behaviour; for a few heaps it runs under valgrind, which sees the accesses of the library too, where
+that is there.
 
 usage: tests/c/test_seeded.py [SEED [COUNT]]      (needs a C compiler)
 """
@@ -34,8 +35,9 @@ MANY_WORDS = 1 << 18
 WATCHED = 40
 # By how many threads each second heap is collected too, in turn.
 THREADS = (1, 2, 4, 16)
-SUMMARY, COLLECT, COLLECT_ROOTED, COLLECT_BY_THREADS, COLLECT_ROOTED_BY_THREADS = range(5)
-REQUEST = struct.Struct("<IIQQQQ")
+SUMMARY, COLLECT, COLLECT_IN_PLACE, COLLECT_BY_THREADS, COLLECT_IN_PLACE_BY_THREADS = range(5)
+# The call, whether the heap has roots, its region log, a gap, its allowance, and how many words, numbers and threads.
+REQUEST = struct.Struct("<IIIIQQQQ")
 REPLY = struct.Struct("<IIIIQQQ64s")
 SANITIZED = ["-g", "-fsanitize=address,undefined", "-fno-sanitize-recover"]
 VALGRIND = ["valgrind", "-q", "--leak-check=full", "--error-exitcode=3"]
@@ -70,7 +72,7 @@ class Caller:
 
     def call(self, kind: int, image: Image, threads: int) -> Reply:
         words, tail = len(image.words), len(image.tail)
-        asked = REQUEST.pack(kind, image.region_log, image.allowance, words, tail, threads)
+        asked = REQUEST.pack(kind, image.version != 1, image.region_log, 0, image.allowance, words, tail, threads)
         self.process.stdin.write(asked + struct.pack(f"<{words + tail}Q", *image.words, *image.tail))
         self.process.stdin.flush()
         returned, number, field, filled, place, prefix, top, text = REPLY.unpack(self.read(REPLY.size))
@@ -88,9 +90,11 @@ class Caller:
 
     def try_heap(self, what: str, image: Image, threads: int) -> None:
         """A heap, valid or not, by each call for its kind, and by so many threads if they are any."""
-        kinds = (SUMMARY, COLLECT) if image.version == 1 else (COLLECT_ROOTED,)
+        kinds = [COLLECT, COLLECT_IN_PLACE]
+        if image.version == 1:
+            kinds.append(SUMMARY)
         if threads:
-            kinds += (COLLECT_BY_THREADS if image.version == 1 else COLLECT_ROOTED_BY_THREADS,)
+            kinds += [COLLECT_BY_THREADS, COLLECT_IN_PLACE_BY_THREADS]
         same = {"words": image.words, "tail": image.tail}
         try:
             collection = Collection(decode(encode(image)))

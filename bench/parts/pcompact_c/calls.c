@@ -1,11 +1,10 @@
 /* Times collections by the library for C. Prints the nanoseconds of each, one round a line.
  *
- *     calls heap IMAGE OUT THREADS ROUNDS    each round collects a fresh copy of the heap, by one call or, if THREADS isn't 0,
- *                                            by so many threads; the last one's image is written
+ *     calls copy IMAGE OUT THREADS ROUNDS    each round collects a fresh heap by a call that copies it or, if THREADS isn't 0, by
+ *                                            so many threads over a copy; the last one's image is written
+ *     calls place IMAGE OUT THREADS ROUNDS   the same in place
  *     calls lent IMAGE OUT THREADS ROUNDS    the same over lent regions
- *     calls small ROUNDS                     each round collects a heap of 64 words with a live list, and one with roots
- *
- * BY_THREADS is defined where the library has pcompact_begin_lent. */
+ *     calls small WAY ROUNDS                 each round collects a heap of 64 words with a live list, and one with roots */
 #define _POSIX_C_SOURCE 199309L
 #include <inttypes.h>
 #include <pcompact.h>
@@ -100,34 +99,40 @@ static void write_heap(const heap *it, const char *name) {
     free(bytes);
 }
 
-static void collect(heap *it) {
+/* How a heap is collected by one call, and by so many threads. `parts` has room for its regions, which lending needs. */
+typedef uint32_t one_call(heap *, pcompact_words *parts, pcompact_answer *);
+typedef uint32_t by_threads(heap *, pcompact_words *parts, size_t thread_count, pcompact_answer *);
+
+static uint32_t collect_copy(heap *it, pcompact_words *parts, pcompact_answer *answer) {
     const pcompact_heap *of = &it->shape;
-    pcompact_answer answer;
-    uint32_t fault = of->version == 1
-        ? pcompact_collect(it->words, of->word_count, it->list, of->count, of->settings, &answer)
-        : pcompact_collect_rooted(it->words, of->word_count, it->list, of->count, of->settings, &answer);
-    if (fault != 0) fail_by(answer.fault);
+    (void)parts;
+    return (of->version == 1 ? pcompact_collect : pcompact_collect_rooted)(it->words, of->word_count, it->list, of->count,
+                                                                           of->settings, answer);
 }
 
-/* Collects the regions where they lie. `parts` has room for all of them. */
-static void collect_lent(heap *it, pcompact_words *parts) {
+static uint32_t collect_in_place(heap *it, pcompact_words *parts, pcompact_answer *answer) {
     const pcompact_heap *of = &it->shape;
-    pcompact_answer answer;
+    (void)parts;
+    return (of->version == 1 ? pcompact_collect_in_place : pcompact_collect_in_place_rooted)(
+        it->words, of->word_count, it->list, of->count, of->settings, answer);
+}
+
+static uint32_t collect_lent(heap *it, pcompact_words *parts, pcompact_answer *answer) {
+    const pcompact_heap *of = &it->shape;
     size_t count = pcompact_cut(it->words, of->word_count, of->settings.region_log, parts);
-    uint32_t fault = (of->version == 1 ? pcompact_collect_lent : pcompact_collect_lent_rooted)(
-        parts, count, it->list, of->count, of->settings, &answer);
-    if (fault != 0) fail_by(answer.fault);
+    return (of->version == 1 ? pcompact_collect_lent : pcompact_collect_lent_rooted)(parts, count, it->list, of->count, of->settings,
+                                                                                     answer);
 }
 
-#ifdef BY_THREADS
 static void *work(void *handle) {
     if (pcompact_work_all(handle) != PCOMPACT_SETTLED) fail("a worker has not settled");
     return NULL;
 }
 
-/* Lets all workers work. The calling thread is one of them. */
-static void work_by(pcompact_handle *handles, size_t thread_count) {
+/* Lets all workers work once a begin had this fault. The calling thread is one of them. */
+static void work_by(pcompact_fault begun, pcompact_handle *handles, size_t thread_count) {
     pthread_t threads[MAX_THREADS];
+    if (begun.number != 0) fail_by(begun);
     for (size_t i = 1; i < thread_count; i++) {
         if (pthread_create(&threads[i], NULL, work, &handles[i]) != 0) fail("a thread can't be started");
     }
@@ -135,76 +140,73 @@ static void work_by(pcompact_handle *handles, size_t thread_count) {
     for (size_t i = 1; i < thread_count; i++) pthread_join(threads[i], NULL);
 }
 
-static void collect_by(heap *it, size_t thread_count) {
+static uint32_t collect_copy_by(heap *it, pcompact_words *parts, size_t thread_count, pcompact_answer *answer) {
     const pcompact_heap *of = &it->shape;
     pcompact_handle handles[MAX_THREADS] = {{false, NULL}};
-    pcompact_answer answer;
-    pcompact_fault fault = (of->version == 1 ? pcompact_begin : pcompact_begin_rooted)(
-        it->words, of->word_count, it->list, of->count, of->settings, handles, thread_count);
-    if (fault.number != 0) fail_by(fault);
-    work_by(handles, thread_count);
-    if (pcompact_end(handles, thread_count, it->words, of->word_count, it->list, of->count, &answer) != 0) fail_by(answer.fault);
-}
-
-static void collect_lent_by(heap *it, pcompact_words *parts, size_t thread_count) {
-    const pcompact_heap *of = &it->shape;
-    pcompact_handle handles[MAX_THREADS] = {{false, NULL}};
-    pcompact_answer answer;
-    size_t count = pcompact_cut(it->words, of->word_count, of->settings.region_log, parts);
-    pcompact_fault fault = (of->version == 1 ? pcompact_begin_lent : pcompact_begin_lent_rooted)(
-        parts, count, it->list, of->count, of->settings, handles, thread_count);
-    if (fault.number != 0) fail_by(fault);
-    work_by(handles, thread_count);
-    if (pcompact_end_lent(handles, thread_count, parts, count, it->list, of->count, &answer) != 0) fail_by(answer.fault);
-}
-#else
-static void collect_by(heap *it, size_t thread_count) {
-    (void)it;
-    (void)thread_count;
-    fail("the library has no calls for several threads");
-}
-
-static void collect_lent_by(heap *it, pcompact_words *parts, size_t thread_count) {
     (void)parts;
-    collect_by(it, thread_count);
+    work_by((of->version == 1 ? pcompact_begin : pcompact_begin_rooted)(it->words, of->word_count, it->list, of->count, of->settings,
+                                                                        handles, thread_count),
+            handles, thread_count);
+    return pcompact_end(handles, thread_count, it->words, of->word_count, it->list, of->count, answer);
 }
-#endif
 
-static uint64_t time_one(heap *it, size_t thread_count) {
+static uint32_t collect_in_place_by(heap *it, pcompact_words *parts, size_t thread_count, pcompact_answer *answer) {
+    const pcompact_heap *of = &it->shape;
+    pcompact_handle handles[MAX_THREADS] = {{false, NULL}};
+    pcompact_regions regions = {NULL, 0};
+    (void)parts;
+    work_by((of->version == 1 ? pcompact_begin_in_place : pcompact_begin_in_place_rooted)(
+                it->words, of->word_count, it->list, of->count, of->settings, handles, thread_count, &regions),
+            handles, thread_count);
+    return pcompact_end_in_place(handles, thread_count, &regions, it->list, of->count, answer);
+}
+
+static uint32_t collect_lent_by(heap *it, pcompact_words *parts, size_t thread_count, pcompact_answer *answer) {
+    const pcompact_heap *of = &it->shape;
+    pcompact_handle handles[MAX_THREADS] = {{false, NULL}};
+    size_t count = pcompact_cut(it->words, of->word_count, of->settings.region_log, parts);
+    work_by((of->version == 1 ? pcompact_begin_lent : pcompact_begin_lent_rooted)(parts, count, it->list, of->count, of->settings,
+                                                                                  handles, thread_count),
+            handles, thread_count);
+    return pcompact_end_lent(handles, thread_count, parts, count, it->list, of->count, answer);
+}
+
+/* The ways of the command line. */
+static const struct way {
+    const char *name;
+    one_call *collect;
+    by_threads *collect_by;
+} ways[] = {
+    {"copy", collect_copy, collect_copy_by},
+    {"place", collect_in_place, collect_in_place_by},
+    {"lent", collect_lent, collect_lent_by},
+};
+
+static const struct way *way_of(const char *name) {
+    for (size_t i = 0; i < sizeof ways / sizeof *ways; i++) {
+        if (strcmp(ways[i].name, name) == 0) return &ways[i];
+    }
+    return NULL;
+}
+
+static uint64_t time_one(const struct way *by, heap *it, pcompact_words *parts, size_t thread_count) {
+    pcompact_answer answer;
     uint64_t begun = now();
-    if (thread_count == 0) {
-        collect(it);
-    } else {
-        collect_by(it, thread_count);
-    }
-    return now() - begun;
+    uint32_t fault = thread_count == 0 ? by->collect(it, parts, &answer) : by->collect_by(it, parts, thread_count, &answer);
+    uint64_t ended = now();
+    if (fault != 0) fail_by(answer.fault);
+    return ended - begun;
 }
 
-static void time_heap(const char *image, const char *out, size_t thread_count, size_t rounds) {
-    heap first = read_heap(image), it = new_heap(first.shape);
-    for (size_t round = 0; round < rounds; round++) {
-        copy_heap(&it, &first);
-        printf("%" PRIu64 "\n", time_one(&it, thread_count));
-    }
-    write_heap(&it, out);
-    free_heap(&first);
-    free_heap(&it);
-}
-
-static void time_lent(const char *image, const char *out, size_t thread_count, size_t rounds) {
-    heap first = read_heap(image), it = new_heap(first.shape);
+static void time_heap(const struct way *by, char **words) {
+    size_t thread_count = strtoul(words[2], NULL, 10), rounds = strtoul(words[3], NULL, 10);
+    heap first = read_heap(words[0]), it = new_heap(first.shape);
     pcompact_words *parts = room_for(sizeof *parts * (first.shape.word_count >> first.shape.settings.region_log));
     for (size_t round = 0; round < rounds; round++) {
         copy_heap(&it, &first);
-        uint64_t begun = now();
-        if (thread_count == 0) {
-            collect_lent(&it, parts);
-        } else {
-            collect_lent_by(&it, parts, thread_count);
-        }
-        printf("%" PRIu64 "\n", now() - begun);
+        printf("%" PRIu64 "\n", time_one(by, &it, parts, thread_count));
     }
-    write_heap(&it, out);
+    write_heap(&it, words[1]);
     free(parts);
     free_heap(&first);
     free_heap(&it);
@@ -223,13 +225,14 @@ static heap small_heap(uint32_t version) {
     return it;
 }
 
-static void time_small(size_t rounds) {
+static void time_small(const struct way *by, size_t rounds) {
     heap live = small_heap(1), rooted = small_heap(2), one = new_heap(live.shape), other = new_heap(rooted.shape);
+    pcompact_words parts[SMALL_WORDS / 8];
     for (size_t round = 0; round < rounds; round++) {
         copy_heap(&one, &live);
         copy_heap(&other, &rooted);
-        uint64_t with_list = time_one(&one, 0);
-        printf("%" PRIu64 " %" PRIu64 "\n", with_list, time_one(&other, 0));
+        uint64_t with_list = time_one(by, &one, parts, 0);
+        printf("%" PRIu64 " %" PRIu64 "\n", with_list, time_one(by, &other, parts, 0));
     }
     free_heap(&live);
     free_heap(&rooted);
@@ -238,14 +241,13 @@ static void time_small(size_t rounds) {
 }
 
 int main(int count, char **words) {
-    if (count == 6 && strcmp(words[1], "heap") == 0) {
-        time_heap(words[2], words[3], strtoul(words[4], NULL, 10), strtoul(words[5], NULL, 10));
-    } else if (count == 6 && strcmp(words[1], "lent") == 0) {
-        time_lent(words[2], words[3], strtoul(words[4], NULL, 10), strtoul(words[5], NULL, 10));
-    } else if (count == 3 && strcmp(words[1], "small") == 0) {
-        time_small(strtoul(words[2], NULL, 10));
+    bool is_small = count == 4 && strcmp(words[1], "small") == 0;
+    const struct way *by = is_small ? way_of(words[2]) : count == 6 ? way_of(words[1]) : NULL;
+    if (!by) fail("usage: calls copy|place|lent IMAGE OUT THREADS ROUNDS | calls small copy|place|lent ROUNDS");
+    if (is_small) {
+        time_small(by, strtoul(words[3], NULL, 10));
     } else {
-        fail("usage: calls heap IMAGE OUT THREADS ROUNDS | calls lent IMAGE OUT THREADS ROUNDS | calls small ROUNDS");
+        time_heap(by, words + 2);
     }
     return fflush(stdout) != 0;
 }

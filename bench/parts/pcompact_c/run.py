@@ -6,17 +6,16 @@ below it) and the plain Rust program of `bench/end_to_end/plain` (by `rustc`) in
 MiB, half live, with region logs 9 and 16, with a live list and with roots. Then all programs run in turn, each round in
 processes of their own. For each heap it prints the least times of
 
-- one call, `pcompact_collect` or `pcompact_collect_rooted`, which copies the words in, checks and collects them, and copies them
-  back;
-- one call that is lent the regions, `pcompact_collect_lent` or `_rooted`, which checks and collects them where they lie;
+- one call in place, `pcompact_collect_in_place` or `_rooted`, which checks the words and collects them where they lie;
+- one call that is lent their regions, `pcompact_collect_lent` or `_rooted`, which the call in place makes;
+- one call that copies the words in, checks and collects them, and copies them back, `pcompact_collect` or `_rooted`;
 - decoding the heap's bytes in memory, which copies and checks them too, and its collection, by one worker inside `pcompact`;
   and the collection alone;
 - the phases of the plain program, all but reading and writing files.
 
-Then the same by four threads of a C program, each with a handle, over words that are copied and over lent ones, and by four
-workers inside `pcompact`; a call on a heap of
-64 words; and the size of the library without symbols. The lines say which goals are kept. Ends with status 1 where one is
-missed, or where two programs left different images. A second run with the same scratch folder builds only what has changed.
+Then the same by four threads of a C program, each with a handle, and by four workers inside `pcompact`; the calls on a heap
+of 64 words; and the size of the library without symbols. The lines say which goals are kept. Ends with status 1 where one
+is missed, or where two programs left different images. A second run with the same scratch folder builds only what has changed.
 
 All processes get huge pages from the C library as the script `pcompact` asks for them, unless the environment sets
 GLIBC_TUNABLES: empty, it shows what a host feels that asks for none.
@@ -45,6 +44,8 @@ SMALL_TIME, SMALL_CALLS = 10, 20_000
 # The most bytes of the library.
 LIBRARY_SIZE = 1_000_000
 KINDS = {1: "live list", 2: "roots"}
+# The ways of `calls.c`, and what they are called here.
+WAYS = {"place": "in place", "lent": "lent", "copy": "by copy"}
 THREADS = 4
 # How often a process collects a fresh copy of the heap.
 COPIES = 3
@@ -70,13 +71,12 @@ class Programs:
         self.library, why = built_library()
         if not self.library or not compiler():
             sys.exit(why or "there is no C compiler")
-        self.has_threads = "pcompact_begin_lent(" in (self.library / "pcompact.h").read_text()
-        self.why_skipped = why_skipped(self.has_threads)
+        self.has_processors = len(os.sched_getaffinity(0)) >= THREADS
         self.calls = self.compiled()
 
     def compiled(self) -> pathlib.Path:
         program = self.scratch / "calls"
-        options = ["-std=c11", "-O2", "-pthread", f"-I{self.library}", *(["-DBY_THREADS"] if self.has_threads else [])]
+        options = ["-std=c11", "-O2", "-pthread", f"-I{self.library}"]
         subprocess.run([compiler(), *options, here / "calls.c", self.library / "libpcompact.a", "-o", program], check=True)
         return program
 
@@ -95,11 +95,8 @@ class Programs:
         done = subprocess.run([str(word) for word in command], cwd=self.folder, check=True, capture_output=True, text=True)
         return [line.split() for line in done.stdout.splitlines()]
 
-    def by_c(self, threads: int) -> dict[str, float]:
-        return {"whole": min(int(time) for [time] in self.lines(self.calls, "heap", "image", "by-c", threads, COPIES))}
-
-    def by_lending(self, threads: int) -> dict[str, float]:
-        return {"whole": min(int(time) for [time] in self.lines(self.calls, "lent", "image", "by-lending", threads, COPIES))}
+    def by_c(self, way: str, threads: int) -> dict[str, float]:
+        return {"whole": min(int(time) for [time] in self.lines(self.calls, way, "image", f"by-{way}", threads, COPIES))}
 
     def by_pcompact(self, workers: int) -> dict[str, float]:
         times = [tuple(map(int, words)) for words in self.lines(self.inside, workers, COPIES)]
@@ -111,24 +108,19 @@ class Programs:
         return {"whole": sum(time for lap, time in laps.items() if lap not in ("read", "write"))}
 
     def jobs(self) -> dict:
-        jobs = {"call": lambda: self.by_c(0), "lent": lambda: self.by_lending(0), "inside": lambda: self.by_pcompact(1), "plain": self.by_plain}
-        if not self.why_skipped:
-            jobs |= {"threads": lambda: self.by_c(THREADS), "lent threads": lambda: self.by_lending(THREADS),
-                     "workers": lambda: self.by_pcompact(THREADS)}
+        ways = {way: lambda way=way: self.by_c(way, 0) for way in WAYS}
+        jobs = {**ways, "inside": lambda: self.by_pcompact(1), "plain": self.by_plain}
+        if self.has_processors:
+            jobs |= {f"{way} threads": lambda way=way: self.by_c(way, THREADS) for way in WAYS}
+            jobs["workers"] = lambda: self.by_pcompact(THREADS)
         return jobs
 
     def compare(self) -> None:
         """Ends the process where two programs left different images of one heap."""
-        for other in ("by-lending", "by-plain", "compacted"):
-            if not filecmp.cmp(self.folder / "by-c", self.folder / other, shallow=False):
-                sys.exit(f"by-c and {other} differ; the files are in {self.folder}")
-
-
-def why_skipped(has_threads: bool) -> str:
-    """Why threads of a C program aren't measured here, if they aren't."""
-    if not has_threads:
-        return "the library has no pcompact_begin_lent"
-    return "" if len(os.sched_getaffinity(0)) >= THREADS else f"there are fewer than {THREADS} processors"
+        first, *others = (*(f"by-{way}" for way in WAYS), "by-plain", "compacted")
+        for other in others:
+            if not filecmp.cmp(self.folder / first, self.folder / other, shallow=False):
+                sys.exit(f"{first} and {other} differ; the files are in {self.folder}")
 
 
 def least_times(programs: Programs, heap: Heap, count: int) -> dict[str, dict[str, float]]:
@@ -163,24 +155,26 @@ def tell_heap(heap: Heap, least: dict[str, dict[str, float]], goals: Goals) -> N
     alone = least["inside"]["collection"]
     print(f"{heap}: inside pcompact {milliseconds(inside)}, of that its collection {milliseconds(alone)}; the plain program's phases "
           f"{milliseconds(plain)}")
-    for job, words in (("call", "one call"), ("lent", "one call, lent")):
-        call = least[job]["whole"]
-        print(f"  {words}, {milliseconds(call)}: to inside {goals.verdict(call / inside, TO_INSIDE)}; to the plain phases "
+    for way, words in WAYS.items():
+        call = least[way]["whole"]
+        print(f"  one call {words}, {milliseconds(call)}: to inside {goals.verdict(call / inside, TO_INSIDE)}; to the plain phases "
               f"{goals.verdict(call / plain, TO_PLAIN)}; to the collection {call / alone:.2f}", flush=True)
 
 
 def tell_threads(least: dict[str, dict[str, float]], goals: Goals) -> None:
     workers = least["workers"]["whole"]
-    for job, words in (("threads", "threads"), ("lent threads", "threads over lent words")):
-        threads = least[job]["whole"]
-        print(f"  by {THREADS} {words} {milliseconds(threads)}, to {THREADS} workers inside pcompact, {milliseconds(workers)}: "
+    for way, words in WAYS.items():
+        threads = least[f"{way} threads"]["whole"]
+        print(f"  {THREADS} threads {words}, {milliseconds(threads)}, to {THREADS} workers inside pcompact, {milliseconds(workers)}: "
               f"{goals.verdict(threads / workers, BY_FOUR)}", flush=True)
 
 
 def tell_small(programs: Programs, goals: Goals) -> None:
-    rounds = [[int(word) / 1e3 for word in words] for words in programs.lines(programs.calls, "small", SMALL_CALLS)]
-    for kind, times in zip(KINDS.values(), zip(*rounds)):
-        print(f"64 words, {kind}: microseconds, median {goals.verdict(statistics.median(times), SMALL_TIME)}; least {min(times):.2f}")
+    for way, words in WAYS.items():
+        rounds = [[int(word) / 1e3 for word in line] for line in programs.lines(programs.calls, "small", way, SMALL_CALLS)]
+        for kind, times in zip(KINDS.values(), zip(*rounds)):
+            print(f"64 words {words}, {kind}: microseconds, median {goals.verdict(statistics.median(times), SMALL_TIME)}; "
+                  f"least {min(times):.2f}")
 
 
 def tell_size(programs: Programs, goals: Goals) -> None:
@@ -203,10 +197,10 @@ def main() -> int:
     for heap in (Heap(log, version) for version in KINDS for log in (9, 16)):
         least = least_times(programs, heap, asked.rounds)
         tell_heap(heap, least, goals)
-        if not programs.why_skipped:
+        if programs.has_processors:
             tell_threads(least, goals)
-    if programs.why_skipped:
-        print(f"{THREADS} threads of a C program: skipped, as {programs.why_skipped}")
+    if not programs.has_processors:
+        print(f"{THREADS} threads of a C program: skipped, as there are fewer than {THREADS} processors")
     tell_small(programs, goals)
     tell_size(programs, goals)
     return 0 if goals.are_kept else 1

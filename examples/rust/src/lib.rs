@@ -25,6 +25,7 @@ mod fault;
 mod heap;
 mod image;
 mod raw;
+mod unended;
 mod workers;
 
 pub use fault::Fault;
@@ -33,6 +34,7 @@ pub use image::{
     check, decode, decode_rooted, encode, encode_rooted, summary_of_image, verify, Difference,
     Heap, Uncompared,
 };
+pub use unended::Unended;
 pub use workers::{Collection, Progress, Worker};
 
 /// The version of the library: `1_000_000 * major + 1_000 * minor + patch`.
@@ -63,17 +65,18 @@ pub fn summary(words: &[u64], live: &[u64], settings: Settings) -> Result<Figure
     })
 }
 
-/// Compacts the heap with these words and live addresses, ascending. Afterwards `live` has the new ones in the same order.
+/// Compacts the heap with these words and live addresses, ascending, in place. Afterwards `live` has the new ones in the same
+/// order.
 ///
 /// # Errors
 ///
-/// Those of [`summary`], and 15 if a check in the collection fails, which no test has seen. After each of them words and
-/// live addresses are as they were.
+/// Those of [`summary`], after each of which words and live addresses are as they were; and 15 if a check in the collection
+/// fails, which no test has seen, after which nothing is promised of them.
 pub fn collect(words: &mut [u64], live: &mut [u64], settings: Settings) -> Result<Figures, Fault> {
     raw::answered(|answer| {
         // SAFETY: two mutable slices don't overlap, and nobody else reads or writes there meanwhile.
         unsafe {
-            raw::pcompact_collect(
+            raw::pcompact_collect_in_place(
                 words.as_mut_ptr(),
                 words.len(),
                 live.as_mut_ptr(),
@@ -85,12 +88,11 @@ pub fn collect(words: &mut [u64], live: &mut [u64], settings: Settings) -> Resul
     })
 }
 
-/// Compacts the heap with these words. Alive is what the roots reach, and afterwards they lead there again.
+/// Compacts the heap with these words in place. Alive is what the roots reach, and afterwards they lead there again.
 ///
 /// # Errors
 ///
-/// Those of [`collect`], with 17 for a root that leads out of the heap in place of 6. After each of them words and roots
-/// are as they were.
+/// Those of [`collect`], with 17 for a root that leads out of the heap in place of 6.
 pub fn collect_rooted(
     words: &mut [u64],
     roots: &mut [u64],
@@ -99,7 +101,7 @@ pub fn collect_rooted(
     raw::answered(|answer| {
         // SAFETY: as in `collect`.
         unsafe {
-            raw::pcompact_collect_rooted(
+            raw::pcompact_collect_in_place_rooted(
                 words.as_mut_ptr(),
                 words.len(),
                 roots.as_mut_ptr(),

@@ -89,15 +89,36 @@ impl Default for Handle {
 // SAFETY: a handle may move to another thread, as the header says, and each call takes it by `&mut`.
 unsafe impl Send for Handle {}
 
-/// Words, live addresses or roots, settings, handles.
+/// The regions of words that are collected in place, zero until it begins and once it has ended.
+#[repr(C)]
+#[derive(Debug)]
+pub struct Regions {
+    at: *mut c_void,
+    count: usize,
+}
+
+impl Default for Regions {
+    fn default() -> Regions {
+        Regions {
+            at: ptr::null_mut(),
+            count: 0,
+        }
+    }
+}
+
+// SAFETY: one value has the list, and each call takes it by `&mut`.
+unsafe impl Send for Regions {}
+
+/// Words, live addresses or roots, settings, handles, regions.
 pub type Begin = unsafe extern "C" fn(
-    *const u64,
+    *mut u64,
     usize,
     *const u64,
     usize,
     Settings,
     *mut Handle,
     usize,
+    *mut Regions,
 ) -> Fault;
 
 extern "C" {
@@ -113,7 +134,7 @@ extern "C" {
         settings: Settings,
         answer: *mut Answer,
     ) -> u32;
-    pub fn pcompact_collect(
+    pub fn pcompact_collect_in_place(
         words: *mut u64,
         word_count: usize,
         live: *mut u64,
@@ -121,7 +142,7 @@ extern "C" {
         settings: Settings,
         answer: *mut Answer,
     ) -> u32;
-    pub fn pcompact_collect_rooted(
+    pub fn pcompact_collect_in_place_rooted(
         words: *mut u64,
         word_count: usize,
         roots: *mut u64,
@@ -181,31 +202,32 @@ extern "C" {
         root_room: usize,
         heap: *mut Decoded,
     ) -> u32;
-    pub fn pcompact_begin(
-        words: *const u64,
+    pub fn pcompact_begin_in_place(
+        words: *mut u64,
         word_count: usize,
         live: *const u64,
         live_count: usize,
         settings: Settings,
         handles: *mut Handle,
         worker_count: usize,
+        regions: *mut Regions,
     ) -> Fault;
-    pub fn pcompact_begin_rooted(
-        words: *const u64,
+    pub fn pcompact_begin_in_place_rooted(
+        words: *mut u64,
         word_count: usize,
         roots: *const u64,
         root_count: usize,
         settings: Settings,
         handles: *mut Handle,
         worker_count: usize,
+        regions: *mut Regions,
     ) -> Fault;
     pub fn pcompact_work(handle: *mut Handle, turns: u64) -> u32;
     pub fn pcompact_work_all(handle: *mut Handle) -> u32;
-    pub fn pcompact_end(
+    pub fn pcompact_end_in_place(
         handles: *mut Handle,
         worker_count: usize,
-        words: *mut u64,
-        word_count: usize,
+        regions: *mut Regions,
         list: *mut u64,
         list_count: usize,
         answer: *mut Answer,

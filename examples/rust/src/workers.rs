@@ -1,8 +1,8 @@
 //! Collections by threads of the host.
 
-use crate::raw::{self, Handle};
-use crate::{Fault, Figures, Settings};
-use std::ptr::NonNull;
+use crate::raw::{self, Handle, Regions};
+use crate::{Fault, Figures, Settings, Unended};
+use std::marker::PhantomData;
 
 /// What a worker's call came to.
 #[derive(Clone, Copy, Debug, PartialEq, Eq)]
@@ -31,8 +31,8 @@ impl Progress {
     }
 }
 
-/// A collection that has begun, by 1 to 64 workers. The words and the live addresses or roots stay as they are until
-/// [`end`](Collection::end), and also if it is dropped before.
+/// A collection in place that has begun, by 1 to 64 workers. The live addresses or roots are redirected by its
+/// [`end`](Collection::end), and also if it is dropped before, which ends it.
 ///
 /// ```
 /// use pcompact::{header, reference, Collection, Settings};
@@ -53,7 +53,8 @@ impl Progress {
 #[derive(Debug)]
 #[must_use]
 pub struct Collection<'heap> {
-    words: &'heap mut [u64],
+    words: PhantomData<&'heap mut [u64]>,
+    regions: Regions,
     /// The live addresses or the roots.
     list: &'heap mut [u64],
     handles: Vec<Handle>,
@@ -64,14 +65,14 @@ impl<'heap> Collection<'heap> {
     ///
     /// # Errors
     ///
-    /// Those of [`summary`](crate::summary), and 12 if there are no workers or more than 64.
+    /// Those of [`collect`](crate::collect), and 12 if there are no workers or more than 64.
     pub fn begin(
         words: &'heap mut [u64],
         live: &'heap mut [u64],
         settings: Settings,
         workers: usize,
     ) -> Result<Collection<'heap>, Fault> {
-        Collection::begin_by(raw::pcompact_begin, words, live, settings, workers)
+        Collection::begin_by(raw::pcompact_begin_in_place, words, live, settings, workers)
     }
 
     /// The same for a heap with roots.
@@ -85,7 +86,13 @@ impl<'heap> Collection<'heap> {
         settings: Settings,
         workers: usize,
     ) -> Result<Collection<'heap>, Fault> {
-        Collection::begin_by(raw::pcompact_begin_rooted, words, roots, settings, workers)
+        Collection::begin_by(
+            raw::pcompact_begin_in_place_rooted,
+            words,
+            roots,
+            settings,
+            workers,
+        )
     }
 
     fn begin_by(
@@ -97,21 +104,25 @@ impl<'heap> Collection<'heap> {
     ) -> Result<Collection<'heap>, Fault> {
         // As many handles too many are refused as one.
         let mut handles: Vec<Handle> = (0..workers.min(65)).map(|_| Handle::default()).collect();
-        // SAFETY: the handles are zero, nothing overlaps, and nobody writes there meanwhile.
+        let mut regions = Regions::default();
+        // SAFETY: handles and regions are zero, nothing overlaps, and nobody else reads or writes the words until the end,
+        // for which the collection borrows them.
         let fault = unsafe {
             begin(
-                words.as_ptr(),
+                words.as_mut_ptr(),
                 words.len(),
                 list.as_ptr(),
                 list.len(),
                 settings,
                 handles.as_mut_ptr(),
                 handles.len(),
+                &mut regions,
             )
         };
         fault.into_result()?;
         Ok(Collection {
-            words,
+            words: PhantomData,
+            regions,
             list,
             handles,
         })
@@ -126,17 +137,24 @@ impl<'heap> Collection<'heap> {
     ///
     /// # Errors
     ///
-    /// 15 if a check in the collection failed, or 11 if memory runs out. Words and list are as they were then.
-    pub fn end(mut self) -> Result<Figures, Fault> {
-        let handles = &mut self.handles;
+    /// 11 if memory runs out, or 15 if a check in the collection failed, after which nothing is promised of words and list.
+    pub fn end(mut self) -> Result<Figures, Unended<'heap>> {
+        let ended = self.end_once();
+        ended.map_err(|fault| Unended {
+            fault,
+            collection: self,
+        })
+    }
+
+    /// Once it is over it does nothing, and fails with 12.
+    fn end_once(&mut self) -> Result<Figures, Fault> {
         raw::answered(|answer| {
             // SAFETY: no worker is left that could use its handle, nothing overlaps, and nobody else reads or writes there.
             unsafe {
-                raw::pcompact_end(
-                    handles.as_mut_ptr(),
-                    handles.len(),
-                    self.words.as_mut_ptr(),
-                    self.words.len(),
+                raw::pcompact_end_in_place(
+                    self.handles.as_mut_ptr(),
+                    self.handles.len(),
+                    &mut self.regions,
                     self.list.as_mut_ptr(),
                     self.list.len(),
                     answer,
@@ -146,25 +164,9 @@ impl<'heap> Collection<'heap> {
     }
 }
 
-/// Gives its memory back. Without words an end only does that.
 impl Drop for Collection<'_> {
     fn drop(&mut self) {
-        let handles = &mut self.handles;
-        let nothing = NonNull::dangling().as_ptr();
-        let _ = raw::answered(|answer| {
-            // SAFETY: as in `end`; after an end the handles are zero, and this one does nothing.
-            unsafe {
-                raw::pcompact_end(
-                    handles.as_mut_ptr(),
-                    handles.len(),
-                    nothing,
-                    0,
-                    nothing,
-                    0,
-                    answer,
-                )
-            }
-        });
+        let _ = self.end_once();
     }
 }
 

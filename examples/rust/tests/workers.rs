@@ -54,7 +54,7 @@ fn threads_leave_what_one_call_leaves() {
             Collection::begin(&mut other.words, &mut other.live, SETTINGS, workers).unwrap();
         assert_eq!(collection.workers().len(), workers);
         work_all(&mut collection);
-        assert_eq!(collection.end(), figures);
+        assert_eq!(collection.end().map_err(Fault::from), figures);
         assert_eq!((one.words, one.live), (other.words, other.live));
     }
 }
@@ -68,7 +68,7 @@ fn threads_move_roots() {
             Collection::begin_rooted(&mut other.words, &mut other.roots, SETTINGS, workers)
                 .unwrap();
         work_all(&mut collection);
-        assert_eq!(collection.end(), figures);
+        assert_eq!(collection.end().map_err(Fault::from), figures);
         assert_eq!((one.words, one.roots), (other.words, other.roots));
     }
 }
@@ -85,7 +85,7 @@ fn workers_take_turns() {
         most -= 1;
         assert!(most > 0, "the workers don't come to an end");
     }
-    assert_eq!(collection.end(), figures);
+    assert_eq!(collection.end().map_err(Fault::from), figures);
     assert_eq!((one.words, one.live), (other.words, other.live));
 }
 
@@ -96,21 +96,22 @@ fn an_end_fills_what_is_left() {
     let mut collection = Collection::begin(&mut other.words, &mut other.live, SETTINGS, 2).unwrap();
     let first = collection.workers().next().map(|mut it| it.work(1));
     assert_eq!(first, Some(Progress::TurnsUsed));
-    assert_eq!(collection.end(), figures);
+    assert_eq!(collection.end().map_err(Fault::from), figures);
     assert_eq!((one.words, one.live), (other.words, other.live));
 }
 
 #[test]
-fn a_collection_without_an_end_leaves_the_heap() {
-    let (same, mut it) = (heap(200), heap(200));
-    let mut collection = Collection::begin(&mut it.words, &mut it.live, SETTINGS, 2).unwrap();
+fn a_collection_that_is_dropped_ends() {
+    let (mut one, mut other) = (heap(200), heap(200));
+    collect_rooted(&mut one.words, &mut one.roots, SETTINGS).unwrap();
+    let begin = Collection::begin_rooted(&mut other.words, &mut other.roots, SETTINGS, 2);
+    drop(begin.unwrap());
+    assert_eq!((&one.words, &one.roots), (&other.words, &other.roots));
+    let mut collection =
+        Collection::begin_rooted(&mut other.words, &mut other.roots, SETTINGS, 2).unwrap();
     work_all(&mut collection);
     drop(collection);
-    drop(Collection::begin_rooted(&mut it.words, &mut it.roots, SETTINGS, 2).unwrap());
-    assert_eq!(
-        (it.words, it.live, it.roots),
-        (same.words, same.live, same.roots)
-    );
+    assert_eq!((one.words, one.roots), (other.words, other.roots));
 }
 
 #[test]
@@ -141,6 +142,6 @@ fn nothing_is_alive() {
         new_top: 0,
         filled_regions: 0,
     };
-    assert_eq!(collection.end(), Ok(nothing));
+    assert_eq!(collection.end().unwrap(), nothing);
     assert_eq!(words, [0; 8]);
 }
