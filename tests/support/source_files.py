@@ -5,7 +5,7 @@ import re
 from tests.support.spec_files import TOP, TYPE, Definition, Key, Names, Uses, tell_unknown, without_comments
 
 IMPL = re.compile(r"(?m)^impl(?:<[^{]*?>)? (?:(\w+)(?:<[^{]*?>)? for )?(\w+)[^\n]*\{$")
-CLAUSE = re.compile(r"\s*(?:requires|ensures)\*?(?: \w+)? (?=\{)")
+CLAUSE = re.compile(r"\s*(?:requires|ensures)\*?(?: (\w+))? (?=\{)")
 FIELD_LINE = re.compile(r"(?m)^    (?:pub(?:\(\w+\))? )?(ghost )?(\w+): ")
 WORD = re.compile(r"(?<![\w.:'])[A-Z]\w*")
 
@@ -46,22 +46,46 @@ def find_call(call: str) -> tuple[str, int, str]:
     raise ValueError(f"there is no public call {call}")
 
 
+def clauses_of(text: str, place: int, asked: list[str]) -> list[str]:
+    """The clauses behind a signature that ends at this place, or, where some are asked for, what those of its `ensures` say."""
+    found, missing = [], set(asked)
+    while clause := CLAUSE.match(text, place):
+        inside = in_braces(text, clause.end())
+        if not asked or clause[1] in asked and "ensures" in clause[0]:
+            found.append(inside)
+            missing.discard(clause[1])
+        place = clause.end() + len(inside) + 2
+    if missing:
+        raise ValueError(f"there is no clause {', '.join(sorted(missing))}")
+    return found
+
+
+def parts_named(signature: str, clauses: list[str]) -> str:
+    """Those of a signature's parameters that the clauses name, and what it returns if they name that."""
+    named = set(re.findall(r"\w+", " ".join(clauses)))
+    handed, _, returned = signature.partition(" -> ")
+    parts = re.split(r"(?<![<(])\b(?=\w+: )", handed)
+    return " ".join([it for it in parts if it.split(":")[0].split("<")[0] in named] + [returned] * ("result" in named))
+
+
 def read_call(call: str) -> Definition:
-    """What the clauses of a call use, and the types of what it is handed and returns."""
-    file, begin, owner = find_call(call)
+    """What the clauses of a call use, and the types of what it is handed and returns. Of CALL#CLAUSE, what this clause of its
+    `ensures` uses, and the types of what it names."""
+    name, *asked = call.split("#")
+    file, begin, owner = find_call(name)
     text, names = read_source(file)
     signature = re.compile(r"\s(?=requires\b|ensures\b|\{)").split(text[begin:], maxsplit=1)[0]
     bound = set(re.findall(r"(\w+): ", signature)) | set(re.findall(r"[<,] ?(\w+)(?=[:,>])", signature)) | {"self", "result"}
+    clauses = clauses_of(text, begin + len(signature), asked)
     uses = Uses(names, bound)
-    place, lines = begin + len(signature), 0
-    while clause := CLAUSE.match(text, place):
-        inside = in_braces(text, clause.end())
-        uses.add(inside)
-        place = clause.end() + len(inside) + 2
-        lines += 1 + inside.count("\n")
+    for clause in clauses:
+        uses.add(clause)
     key = Key(file, call)
     tell_unknown(key, uses.unknown)
-    types = types_in(signature + (f" {owner}" if "self" in signature or "Self" in signature else ""), names)
+    seen = parts_named(signature, clauses) if asked else signature
+    is_method = "Self" in seen or re.search(r"\bself\b", " ".join(clauses) if asked else signature)
+    types = types_in(seen + (f" {owner}" if is_method else ""), names)
+    lines = sum(1 + clause.count("\n") for clause in clauses)
     return Definition(key, text.count("\n", 0, begin) + 1, lines, uses.found | types, {}, uses.fields)
 
 
