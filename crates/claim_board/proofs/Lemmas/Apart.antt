@@ -2,7 +2,7 @@
 use Rattle.std.proofs.Common.{◌≡◌, ◌≢◌, ℕ, false, List, Some, sym, ◌∙◌, subst, true≢false}
 use Rattle.scheduler.specs.declared.entry.Entry.{Entry}
 use Rattle.scheduler.specs.MoveTable.{MoveTable}
-use Rattle.scheduler.specs.State.{State, is_pending, IsFilling}
+use Rattle.scheduler.specs.State.{is_pending, IsFilling}
 use Rattle.scheduler.specs.History.{IsLegal, AgreeOn, calls_by, state_of}
 use Rattle.claim_board.specs.declared.tokens.ticket.Ticket.{Ticket}
 use Rattle.claim_board.specs.declared.tokens.opening.Opening.{Opening}

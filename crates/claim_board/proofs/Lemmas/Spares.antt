@@ -1,12 +1,12 @@
 -- What calls leave of a right and of an opening.
 use Rattle.std.proofs.Common.{◌≡◌, ◌≢◌, ◌⊎◌, ℕ, Bool, true, false, cond, Some, refl, sym, ap, ◌∙◌, subst, inl, inr}
-use Rattle.std.specs.Prelude.{◌&&◌, ◌||◌, ◌==◌, not, IsTrue}
+use Rattle.std.specs.Prelude.{◌&&◌, ◌||◌, ◌==◌, not}
 use Rattle.scheduler.specs.declared.event.Event.{Event}
 use Rattle.scheduler.specs.declared.event.Event.TheVariants.{Claim, Look, Drain, Complete, Settle, Poll, Copy}
 use Rattle.scheduler.specs.declared.reply.Reply.{Reply}
 use Rattle.scheduler.specs.declared.reply.Reply.TheVariants.{Yes}
 use Rattle.scheduler.specs.MoveTable.{MoveTable, reads}
-use Rattle.scheduler.specs.State.{State, state_after, is_pending, IsFilling}
+use Rattle.scheduler.specs.State.{State, state_after, IsFilling}
 use Rattle.claim_board.specs.declared.tokens.opening.Opening.{Opening}
 use Rattle.claim_board.specs.declared.tokens.right.Right.{Right}
 use Rattle.claim_board.specs.Callers.{Caller, own, Gains}
