@@ -10,7 +10,7 @@ pub mod Meets
 pub mod Gathers
 pub mod Spends
 pub mod Sweeps
-pub mod Spares
 pub mod Grants
 pub mod Others
+pub mod Spares
 pub mod Apart

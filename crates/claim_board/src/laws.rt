@@ -36,11 +36,13 @@ pub fn other_calls_leave_completions()
     ensures { (old new : Caller) (d : Done) (event : Event) (reply : Reply) → IsDoneOf old d → Gains old new event reply → Spares d.region event → IsDoneOf new d }
 {}
 
-/// Until its region is completed, a right stays its caller's, and so does an opening whose pair isn't drained.
+/// A right stays its caller's by each call of its pass but the completion of the region. So does an opening, by each call
+/// but that completion and the drain of the pair.
 pub fn other_calls_leave_openings()
-    ensures rights { (old new : Caller) (x : Right) (event : Event) (reply : Reply) → IsRightOf old x → Gains old new event reply → event ≢ Complete x.region → IsRightOf new x }
-    ensures openings { (m : MoveTable) (old new : Caller) (x : Opening) (event : Event) (reply : Reply) → IsOpeningOf m old x → Gains old new event reply
-        → event ≢ Complete x.destination → event ≢ Drain x.destination x.source → IsOpeningOf m new x }
+    ensures rights { (board : Board) (old new : Pass) (x : Right) (event : Event) (reply : Reply) → IsRightOf (caller old) x → Appends board old new event reply
+        → event ≢ Complete x.region → IsRightOf (caller new) x }
+    ensures openings { (board : Board) (old new : Pass) (x : Opening) (event : Event) (reply : Reply) → IsOpeningOf (moves board) (caller old) x → Appends board old new event reply
+        → event ≢ Complete x.destination → event ≢ Drain x.destination x.source → IsOpeningOf (moves board) (caller new) x }
 {}
 
 /// A call that is appended to a pass leaves the tickets and completions for all regions but one valid, if it spares each

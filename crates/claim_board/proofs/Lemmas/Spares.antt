@@ -5,14 +5,18 @@ use Rattle.scheduler.specs.declared.event.Event.{Event}
 use Rattle.scheduler.specs.declared.event.Event.TheVariants.{Claim, Look, Drain, Complete, Settle, Poll, Copy}
 use Rattle.scheduler.specs.declared.reply.Reply.{Reply}
 use Rattle.scheduler.specs.declared.reply.Reply.TheVariants.{Yes}
-use Rattle.scheduler.specs.MoveTable.{MoveTable, reads}
+use Rattle.scheduler.specs.MoveTable.{reads}
 use Rattle.scheduler.specs.State.{State, state_after, IsFilling}
+use Rattle.claim_board.specs.declared.board.Board.{Board}
+use Rattle.claim_board.specs.declared.pass.Pass.{Pass}
 use Rattle.claim_board.specs.declared.tokens.opening.Opening.{Opening}
 use Rattle.claim_board.specs.declared.tokens.right.Right.{Right}
+use Rattle.claim_board.specs.Boards.{moves, caller, Appends}
 use Rattle.claim_board.specs.Callers.{Caller, own, Gains}
 use Rattle.claim_board.specs.Tickets.{IsRightOf, IsOpeningOf}
 use Rattle.claim_board.proofs.Lemmas.Logs.{tested}
 use Rattle.claim_board.proofs.Lemmas.Sweeps.{gained}
+use Rattle.claim_board.proofs.Lemmas.Others.{gains_call}
 
 -- a worker's call other than its completion leaves a region filling
 fills_on : (w d : ℕ) (st : State) (event : Event) (reply : Reply) → IsFilling st w d → event ≢ Complete d → IsFilling (state_after st w event reply) w d
@@ -55,13 +59,16 @@ fills_after old new d event reply is g apart =
     subst (λ (w : ℕ). IsFilling (own new) w d) (sym g.worker)
     (subst (λ (st : State). IsFilling st old.worker d) (sym (gained old new event reply g)) (fills_on old.worker d (own old) event reply is apart))
 
-pub leaves_rights : (old new : Caller) (x : Right) (event : Event) (reply : Reply) → IsRightOf old x → Gains old new event reply → event ≢ Complete x.region → IsRightOf new x
-leaves_rights old new x event reply is g apart = fills_after old new x.region event reply is g apart
+pub leaves_rights : (board : Board) (old new : Pass) (x : Right) (event : Event) (reply : Reply) → IsRightOf (caller old) x → Appends board old new event reply → event ≢ Complete x.region → IsRightOf (caller new) x
+leaves_rights board old new x event reply is a apart = fills_after (caller old) (caller new) x.region event reply is (gains_call board old new event reply a) apart
 
-pub leaves_openings : (m : MoveTable) (old new : Caller) (x : Opening) (event : Event) (reply : Reply) → IsOpeningOf m old x → Gains old new event reply
-    → event ≢ Complete x.destination → event ≢ Drain x.destination x.source → IsOpeningOf m new x
-leaves_openings m old new x event reply is g apart pair =
+pub leaves_openings : (board : Board) (old new : Pass) (x : Opening) (event : Event) (reply : Reply) → IsOpeningOf (moves board) (caller old) x → Appends board old new event reply
+    → event ≢ Complete x.destination → event ≢ Drain x.destination x.source → IsOpeningOf (moves board) (caller new) x
+leaves_openings board old new x event reply is a apart pair =
     let d = x.destination in
     let s = x.source in
-    let stays : (own new).drained d s ≡ (own old).drained d s = ap (λ (st : State). st.drained d s) (gained old new event reply g) ∙ pair_stays old.worker d s (own old) event reply pair in
-    (fills_after old new d event reply is.0 g apart, ap (λ (b : Bool). reads m d s && not b) stays ∙ is.1)
+    let one = caller old in
+    let other = caller new in
+    let g = gains_call board old new event reply a in
+    let stays : (own other).drained d s ≡ (own one).drained d s = ap (λ (st : State). st.drained d s) (gained one other event reply g) ∙ pair_stays one.worker d s (own one) event reply pair in
+    (fills_after one other d event reply is.0 g apart, ap (λ (b : Bool). reads (moves board) d s && not b) stays ∙ is.1)
