@@ -32,8 +32,7 @@ HEADLINE = {
                f"{BOARD}meet", f"{BOARD}finish"],
     "regions": ["claim_board::no_region_is_read_and_written", "claim_board::other_calls_leave_openings",
                 f"{BOARD}claim#ticket", f"{BOARD}drain#ticket", "claim_board::Ticket::open#owner",
-                "claim_board::Ticket::right#owner",
-                "region_cells::Cells::read#opening", "region_cells::Cells::write#right"],
+                "claim_board::Ticket::right#owner", "region_cells::Cells::read#opening", "region_cells::Cells::write#right"],
     "result": ["collector::collect#image", "collector::collect#legal"],
 }
 
