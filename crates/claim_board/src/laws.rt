@@ -1,5 +1,5 @@
-//! Theorems about tickets and what is made of them, over several calls and of two workers. The functions do nothing; call one
-//! where a proof needs its contract.
+//! Theorems about tickets and what is made of them, over several calls and of two workers. The functions do nothing;
+//! call one where a proof needs its contract.
 ghost use Rattle.std.specs.Prelude.{◌≡◌, ◌≢◌, ℕ, ◌+◌, ◌<◌, ◌≤◌, List, false};
 ghost use Rattle.scheduler.specs.declared.event.Event.{Event};
 ghost use Rattle.scheduler.specs.declared.event.Event.TheVariants.{Drain, Complete};
