@@ -6,9 +6,12 @@ their definitions in crates/*/specs and crates/*/src, and follows what those use
 value and view, of any other each field that some definition or clause asks for. Facts that a type keeps (`ghost invariant`,
 ghost fields) aren't followed, as nothing that a call promises says them. The kit's own names are counted and not followed.
 
-usage: tests/build/definitions.py [--list] [CRATE::CALL ..]     counts those of these calls, or of the headline's
-       tests/build/definitions.py --check                       looks whether docs/DEFINITIONS.md has those of the headline
-       tests/build/definitions.py --write                       puts their counts into the page, and checks it
+CRATE::CALL#CLAUSE is one clause of a call's `ensures`, without what the call requires: the prover checks that at each call.
+
+usage: tests/build/definitions.py [--list] [CRATE::CALL[#CLAUSE] ..]   counts those of these calls, or of the headline's
+       tests/build/definitions.py --promises [--list]                  counts those of all calls that docs/PROMISES.md names
+       tests/build/definitions.py --check                              looks whether docs/DEFINITIONS.md has those of the headline
+       tests/build/definitions.py --write                              puts their counts into the page, and checks it
 """
 import argparse
 import pathlib
@@ -17,18 +20,20 @@ import sys
 
 sys.dont_write_bytecode = True
 sys.path.insert(0, str(pathlib.Path(__file__).resolve().parents[2]))
+from tests.support.promise_rows import promised_calls
 from tests.support.source_files import read_call, read_type
 from tests.support.spec_files import TOP, Definition, Key, read_specs
 
 PAGE = "docs/DEFINITIONS.md"
-PASS_CALLS = ("new", "claim", "look", "drain", "complete", "settle", "poll", "meet", "finish")
-# The calls of the three parts of the headline.
+BOARD = "claim_board::Board::"
+# The clauses that carry the three parts of the headline, and the calls that carry one with all that they say.
 HEADLINE = {
-    "claims": [f"claim_board::Board::{name}" for name in PASS_CALLS],
-    "regions": ["claim_board::Board::claim", "claim_board::Ticket::open", "claim_board::Ticket::right",
-                "claim_board::nothing_is_read_from_a_ticket", "region_cells::Cells::read", "region_cells::Cells::write",
-                "region_cells::Source::close", "region_cells::Target::put"],
-    "result": ["collector::collect"],
+    "claims": [f"{BOARD}new", *(f"{BOARD}{name}#entry" for name in ("claim", "look", "drain", "complete", "settle", "poll")),
+               f"{BOARD}meet", f"{BOARD}finish"],
+    "regions": ["claim_board::no_region_is_read_and_written", "claim_board::other_calls_leave_openings",
+                f"{BOARD}claim#ticket", f"{BOARD}drain#ticket", "claim_board::Ticket::open#owner",
+                "claim_board::Ticket::right#owner", "region_cells::Cells::read#opening", "region_cells::Cells::write#right"],
+    "result": ["collector::collect#image", "collector::collect#legal"],
 }
 
 
@@ -112,15 +117,17 @@ class Closure:
         inside = {key: self.used(it) for key, it in self.found.items() if key.file == file}
         return [self.found[key] for key in order(inside, lambda key: self.found[key].line)]
 
-    def counts(self) -> tuple[int, int, int, int]:
-        """How many definitions, lines and files these are, and how many names of the kit."""
-        return len(self.definitions), sum(it.lines for it in self.definitions), len(self.files), len(self.kit)
+    def counts(self) -> tuple[int, int, int, int, int]:
+        """How many definitions and lines these are, how many of the lines in specs/, how many files, and how many names of
+        the kit."""
+        in_specs = sum(it.lines for it in self.definitions if it.key.file.endswith(".antt"))
+        return len(self.definitions), sum(it.lines for it in self.definitions), in_specs, len(self.files), len(self.kit)
 
 
 def print_closure(closure: Closure, listed: bool) -> None:
     """Prints the counts and, where asked, the list."""
     types = sum(it.key.file.endswith(".rt") for it in closure.definitions)
-    print("{} definitions, {} lines, {} files; {} names of the kit".format(*closure.counts()))
+    print("{} definitions, {} lines, {} of them in specs, {} files; {} names of the kit".format(*closure.counts()))
     print(f"{types} of the definitions are types of the program")
     for file in closure.files if listed else ():
         print(f"\n{file}")
@@ -138,10 +145,10 @@ class Page:
         file = ""
         for row in re.findall(r"(?m)^\|(.*)\|$", text):
             cells = row.split("|")
-            numbers = [int(cell) for cell in cells[-4:] if cell.strip().isdigit()]
-            if len(numbers) == 4:
+            numbers = [int(cell) for cell in cells[-5:] if cell.strip().isdigit()]
+            if len(numbers) == 5:
                 self.counts[cells[0]] = tuple(numbers)
-                self.calls[cells[0]] = set(re.findall(r"(\w+)`", cells[2]))
+                self.calls[cells[0]] = set(re.findall(r"([\w#]+)`", cells[2]))
             elif heading := re.fullmatch(r"\[[\w.]+\]\(\.\./(.*)\)", cells[0].strip()):
                 file = heading[1]
             else:
@@ -176,13 +183,14 @@ def write_counts(closures: dict[str, Closure]) -> None:
     text = (TOP / PAGE).read_text()
     for name, closure in closures.items():
         counts = "".join(f"{count}|" for count in closure.counts())
-        text = re.sub(rf"(?m)^(\|{name}\|.*\|)(?:\d+\|){{4}}$", rf"\g<1>{counts}", text)
+        text = re.sub(rf"(?m)^(\|{name}\|.*\|)(?:\d+\|){{5}}$", rf"\g<1>{counts}", text)
     (TOP / PAGE).write_text(text)
 
 
 def check_page(write: bool) -> int:
     """Compares the page with the headline's definitions, after putting in their counts where asked. 1 where they differ."""
-    closures = {name: Closure(calls) for name, calls in HEADLINE.items()} | {"all": Closure(all_calls())}
+    closures = {name: Closure(calls) for name, calls in HEADLINE.items()}
+    closures |= {"all": Closure(all_calls()), "whole contracts": Closure(whole_calls()), "promises": Closure(promised_calls())}
     if write:
         write_counts(closures)
     page = Page((TOP / PAGE).read_text())
@@ -195,20 +203,26 @@ def check_page(write: bool) -> int:
 
 
 def all_calls() -> list[str]:
-    """The calls of all parts of the headline."""
+    """The calls and clauses of all parts of the headline."""
     return [call for calls in HEADLINE.values() for call in calls]
+
+
+def whole_calls() -> list[str]:
+    """The same calls with all that they require and promise."""
+    return list(dict.fromkeys(call.split("#")[0] for call in all_calls()))
 
 
 def main() -> int:
     words = argparse.ArgumentParser()
-    words.add_argument("calls", nargs="*", metavar="CRATE::CALL")
+    words.add_argument("calls", nargs="*", metavar="CRATE::CALL[#CLAUSE]")
+    words.add_argument("--promises", action="store_true")
     words.add_argument("--check", action="store_true")
     words.add_argument("--write", action="store_true")
     words.add_argument("--list", action="store_true")
     asked = words.parse_args()
     if asked.check or asked.write:
         return check_page(asked.write)
-    print_closure(Closure(asked.calls or all_calls()), asked.list)
+    print_closure(Closure(promised_calls() if asked.promises else asked.calls or all_calls()), asked.list)
     return 0
 
 

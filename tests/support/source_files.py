@@ -5,7 +5,10 @@ import re
 from tests.support.spec_files import TOP, TYPE, Definition, Key, Names, Uses, tell_unknown, without_comments
 
 IMPL = re.compile(r"(?m)^impl(?:<[^{]*?>)? (?:(\w+)(?:<[^{]*?>)? for )?(\w+)[^\n]*\{$")
-CLAUSE = re.compile(r"\s*(?:requires|ensures)\*?(?: \w+)? (?=\{)")
+CLAUSE = re.compile(r"\s*(?:requires|ensures)\*?(?: (\w+))? (?=\{)")
+# The head of a trait, or of a type's calls and those of a trait for it; the head of a call.
+HEAD = re.compile(r"(?m)^(?:pub(?:\(\w+\))? )?(?:trait (\w+)|impl(?:<[^{]*?>)? (?:(\w+)(?:<[^{]*?>)? for )?(\w+))")
+CALL = re.compile(r"(?m)^( *)(pub )?fn (\w+)\b")
 FIELD_LINE = re.compile(r"(?m)^    (?:pub(?:\(\w+\))? )?(ghost )?(\w+): ")
 WORD = re.compile(r"(?<![\w.:'])[A-Z]\w*")
 
@@ -33,35 +36,80 @@ def types_in(text: str, names: Names) -> set[Key]:
     return {it for it in found if isinstance(it, Key)}
 
 
-def find_call(call: str) -> tuple[str, int, str]:
-    """Where a public call of the form CRATE::NAME or CRATE::TYPE::NAME stands: its file, its place there and its type."""
-    crate, *owner, name = call.split("::")
+@functools.cache
+def calls_in(crate: str) -> list[tuple[str, str, str, int]]:
+    """The public calls of a crate: of each its type or trait, its name, its file and its place there."""
+    found = []
     for path in sorted((TOP / "crates" / crate / "src").rglob("*.rt")):
         file = str(path.relative_to(TOP))
         text, _ = read_source(file)
-        for found in re.finditer(rf"(?m)^( *)pub fn {name}\b", text):
-            impls = [it for it in IMPL.finditer(text, 0, found.start()) if found[1]]
-            if not owner and not impls or impls and owner == [impls[-1][2]] and not impls[-1][1]:
-                return file, found.end(), "".join(owner)
+        heads = [*HEAD.finditer(text)]
+        for call in CALL.finditer(text):
+            head = next((it for it in reversed(heads) if it.start() < call.start()), None) if call[1] else None
+            is_public = bool(call[2]) or head is not None and head[1] is not None
+            if is_public and not (head and head[2]):
+                found.append((head and (head[1] or head[3]) or "", call[3], file, call.end()))
+    return found
+
+
+def calls_of(crate: str, owner: str | None, name: str | None) -> list[str]:
+    """The public calls of a crate, in the form of `find_call`: of this type, or of none in particular; of this name, or all."""
+    return ["::".join(filter(None, (crate, of, call))) for of, call, _, _ in calls_in(crate)
+            if owner in (None, of) and name in (None, call)]
+
+
+def find_call(call: str) -> tuple[str, int, str]:
+    """Where a public call of the form CRATE::NAME or CRATE::TYPE::NAME stands: its file, its place there and its type."""
+    crate, *owner, name = call.split("::")
+    for of, other, file, place in calls_in(crate):
+        if (of, other) == ("".join(owner), name):
+            return file, place, of
     raise ValueError(f"there is no public call {call}")
 
 
-def read_call(call: str) -> Definition:
-    """What the clauses of a call use, and the types of what it is handed and returns."""
-    file, begin, owner = find_call(call)
-    text, names = read_source(file)
-    signature = re.compile(r"\s(?=requires\b|ensures\b|\{)").split(text[begin:], maxsplit=1)[0]
-    bound = set(re.findall(r"(\w+): ", signature)) | set(re.findall(r"[<,] ?(\w+)(?=[:,>])", signature)) | {"self", "result"}
-    uses = Uses(names, bound)
-    place, lines = begin + len(signature), 0
+def clauses_of(text: str, place: int, asked: list[str]) -> list[str]:
+    """The clauses behind a signature that ends at this place, or, where some are asked for, what those of its `ensures` say."""
+    found, missing = [], set(asked)
     while clause := CLAUSE.match(text, place):
         inside = in_braces(text, clause.end())
-        uses.add(inside)
+        if not asked or clause[1] in asked and "ensures" in clause[0]:
+            found.append(inside)
+            missing.discard(clause[1])
         place = clause.end() + len(inside) + 2
-        lines += 1 + inside.count("\n")
+    if missing:
+        raise ValueError(f"there is no clause {', '.join(sorted(missing))}")
+    return found
+
+
+def parts_named(signature: str, clauses: list[str]) -> str:
+    """Those of a signature's parameters that the clauses name, and what it returns, or returns at Ok, if they name that."""
+    named = set(re.findall(r"\w+", " ".join(clauses)))
+    handed, _, returned = signature.partition(" -> ")
+    if len(re.findall(r"\bIfOk result\b", " ".join(clauses))) == len(re.findall(r"\bresult\b", " ".join(clauses))):
+        returned = returned.rpartition(",")[0] or returned
+    parts = [it for it in re.split(r"\b(?=\w+: )", handed) if it.split(":")[0] in named]
+    return " ".join([*parts, *[returned] * ("result" in named)])
+
+
+def read_call(call: str) -> Definition:
+    """What the clauses of a call use, and the types of what it is handed and returns. Of CALL#CLAUSE, what this clause of its
+    `ensures` uses, and the types of what it names."""
+    name, *asked = call.split("#")
+    file, begin, owner = find_call(name)
+    text, names = read_source(file)
+    signature = re.compile(r"\s(?=requires\b|ensures\b|\{)|;").split(text[begin:], maxsplit=1)[0]
+    bound = set(re.findall(r"(\w+): ", signature)) | set(re.findall(r"[<,] ?(\w+)(?=[:,>])", signature)) | {"self", "result"}
+    bound |= set(re.findall(r"(?m)^    ghost (\w+): ", text))
+    clauses = clauses_of(text, begin + len(signature), asked)
+    uses = Uses(names, bound)
+    for clause in clauses:
+        uses.add(clause)
     key = Key(file, call)
     tell_unknown(key, uses.unknown)
-    types = types_in(signature + (f" {owner}" if "self" in signature or "Self" in signature else ""), names)
+    seen = parts_named(signature, clauses) if asked else signature
+    is_method = "Self" in seen or re.search(r"\bself\b", " ".join(clauses) if asked else signature)
+    types = types_in(seen + (f" {owner}" if is_method else ""), names)
+    lines = sum(1 + clause.count("\n") for clause in clauses)
     return Definition(key, text.count("\n", 0, begin) + 1, lines, uses.found | types, {}, uses.fields)
 
 

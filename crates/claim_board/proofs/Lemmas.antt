@@ -12,4 +12,5 @@ pub mod Spends
 pub mod Sweeps
 pub mod Grants
 pub mod Others
+pub mod Spares
 pub mod Apart

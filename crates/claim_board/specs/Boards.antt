@@ -46,12 +46,15 @@ abbrev pub caller : Pass → Caller
 caller p = record { board = board_of p; worker = worker p; seen = seen p; mine = mine p }
 
 -- The pass is of the same worker of the same board. This call was added to a legal history that begins with what the
--- pass had seen and has exactly the worker's own calls. The pass has made one step, of the kind of this call.
+-- pass had seen and has exactly the worker's own calls.
 pub record Appends (b : Board) (old new : Pass) (event : Event) (reply : Reply) : Type 0 where
   pub board : board_of new ≡ board_of old
   pub worker : Rattle.claim_board.specs.Boards.worker new ≡ Rattle.claim_board.specs.Boards.worker old
   pub history : Extends (moves b) (worker_count b) (Rattle.claim_board.specs.Boards.worker old) (seen old) (mine old) event reply (seen new) (mine new)
-  pub step : steps new ≡ steps old ++ step_of (moves b) event ∷ []
+
+-- the pass has made one atomic step, of the kind of this call
+abbrev pub TakesStep : Board → Event → Pass → Pass → Type 0
+TakesStep b event old new = steps new ≡ steps old ++ step_of (moves b) event ∷ []
 
 -- the same worker of the same board, with the same calls of its own
 abbrev pub Stays : Pass → Pass → Type 0

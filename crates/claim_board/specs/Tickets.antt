@@ -7,7 +7,9 @@ use Rattle.scheduler.specs.MoveTable.{MoveTable, region_count, reads}
 use Rattle.scheduler.specs.State.{is_pending, IsFilling}
 use Rattle.scheduler.specs.Scheduler.{sources_left}
 use Rattle.claim_board.specs.declared.tokens.ticket.Ticket.{Ticket}
+use Rattle.claim_board.specs.declared.tokens.opening.Opening.{Opening}
 use Rattle.claim_board.specs.declared.tokens.closed.Closed.{Closed}
+use Rattle.claim_board.specs.declared.tokens.right.Right.{Right}
 use Rattle.claim_board.specs.declared.tokens.written.Written.{Written}
 use Rattle.claim_board.specs.declared.tokens.done.Done.{Done}
 use Rattle.claim_board.specs.Views.{worker_of}
@@ -34,6 +36,14 @@ pub record IsTicketOf (m : MoveTable) (c : Caller) (t : Ticket) : Type 0 where
   pub unsettled : (own c).settled t.region ≡ false
   pub ahead : (s : ℕ) → t.next ≤ s → (own c).drained t.region s ≡ false
   pub left : t.left ≡ sources_left m (own c) t.region
+
+-- the right is to a region that the caller claimed and hasn't completed
+abbrev pub IsRightOf : Caller → Right → Type 0
+IsRightOf c x = IsFilling (own c) c.worker x.region
+
+-- the opening is of a pair of such a region that the caller hasn't drained
+abbrev pub IsOpeningOf : MoveTable → Caller → Opening → Type 0
+IsOpeningOf m c x = IsFilling (own c) c.worker x.destination × IsTrue (is_pending m (own c) x.destination x.source)
 
 -- The opening came from the ticket, which counts its pair as undrained.
 pub record IsClosedOf (m : MoveTable) (c : Caller) (t : Ticket) (x : Closed) : Type 0 where

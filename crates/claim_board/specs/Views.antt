@@ -1,5 +1,5 @@
 -- What the seats of the table know.
-use Rattle.std.specs.Prelude.{◌≡◌, ℕ, zero, suc, ◌+◌, ◌<◌, cond, ◌==◌, List, [], ◌∷◌}
+use Rattle.std.specs.Prelude.{◌≡◌, ℕ, zero, suc, ◌+◌, ◌<◌, cond, ◌==◌, List, [], ◌∷◌, map, slice_index_or}
 use Rattle.scheduler.specs.declared.entry.Entry.{Entry}
 use Rattle.scheduler.specs.History.{calls_by, BeginsWith}
 use Rattle.claim_board.specs.declared.rule.view.Hold.{Hold}
@@ -50,34 +50,18 @@ AllFit n log (h ∷ hs) = HoldFits n log h × AllFit n log hs
 abbrev pub ViewFits : ℕ → List Entry → View → Type 0
 ViewFits n log v = BeginsWith log v.told × AllFit n log v.holds
 
--- the first worker of the seat
-abbrev pub worker_in : List Hold → ℕ
-worker_in [] = 0
-worker_in (h ∷ hs) = h.worker
-
-abbrev pub seen_in : List Hold → List Entry
-seen_in [] = []
-seen_in (h ∷ hs) = h.seen
-
-abbrev pub mine_in : List Hold → List Entry
-mine_in [] = []
-mine_in (h ∷ hs) = h.mine
-
-abbrev pub steps_in : List Hold → List Touch
-steps_in [] = []
-steps_in (h ∷ hs) = h.steps
-
+-- of the first worker of the seat
 abbrev pub worker_of : View → ℕ
-worker_of v = worker_in v.holds
+worker_of v = slice_index_or (map (λ h. h.worker) v.holds) 0 0
 
 abbrev pub seen_of : View → List Entry
-seen_of v = seen_in v.holds
+seen_of v = slice_index_or (map (λ h. h.seen) v.holds) 0 []
 
 abbrev pub mine_of : View → List Entry
-mine_of v = mine_in v.holds
+mine_of v = slice_index_or (map (λ h. h.mine) v.holds) 0 []
 
 abbrev pub steps_of : View → List Touch
-steps_of v = steps_in v.holds
+steps_of v = slice_index_or (map (λ h. h.steps) v.holds) 0 []
 
 -- the seat has one worker
 abbrev pub IsPassView : View → Type 0

@@ -4,7 +4,7 @@ ghost use Rattle.scheduler.specs.declared.event.Event.TheVariants.{Claim, Look, 
 ghost use Rattle.scheduler.specs.declared.reply.Reply.TheVariants.{Yes, No, All, More, Done as Completed};
 ghost use Rattle.scheduler.specs.MoveTable.{region_count};
 ghost use Rattle.claim_board.specs.Rule.{look_reply, drain_reply};
-ghost use Rattle.claim_board.specs.Boards.{moves, worker_count, identity, board_of, caller, seen, Appends};
+ghost use Rattle.claim_board.specs.Boards.{moves, worker_count, identity, board_of, caller, seen, Appends, TakesStep};
 ghost use Rattle.claim_board.specs.Drains.{reply_of};
 ghost use Rattle.claim_board.specs.Grants.{IsGranted};
 ghost use Rattle.claim_board.specs.Tickets.{IsUnused, IsTicketOf, IsClosedOf, IsWrittenOf, IsDoneOf};
@@ -61,6 +61,7 @@ impl Board {
         requires board { board_of pass.old ≡ identity self.now }
         requires region { region < region_count (moves self.now) }
         ensures entry { Appends self.now pass.old pass.new (Claim region) (if is_some result then Yes else No) }
+        ensures step { TakesStep self.now (Claim region) pass.old pass.new }
         ensures ticket { IfSome result (λ t. (t.region ≡ region) × IsUnused t × IsTicketOf (moves self.now) (caller pass.new) t) }
         ensures left { IfSome result (λ t. t.left ≡ count_by (λ pair. region == pair.0) (moves self.now).pairs) }
         ensures granted { IfSome result (λ _. IsGranted (moves self.now) (worker_count self.now) region (seen pass.new)) }
@@ -85,7 +86,8 @@ impl Board {
     pub fn look(&self, pass: &mut Pass, region: u32) -> Reply
         requires board { board_of pass.old ≡ identity self.now }
         requires region { region < region_count (moves self.now) }
-        ensures { Appends self.now pass.old pass.new (Look region) result }
+        ensures entry { Appends self.now pass.old pass.new (Look region) result }
+        ensures step { TakesStep self.now (Look region) pass.old pass.new }
     {
         status_of_word(steps::look::<Brand>(&self.table.shared, &mut pass.place, region as usize))
     }
@@ -97,6 +99,7 @@ impl Board {
         requires ticket { IsTicketOf (moves self.now) (caller pass.old) ticket.old }
         requires closed { IsClosedOf (moves self.now) (caller pass.old) ticket.old closed }
         ensures entry { Appends self.now pass.old pass.new (Drain closed.destination closed.source) (reply_of result) }
+        ensures step { TakesStep self.now (Drain closed.destination closed.source) pass.old pass.new }
         ensures ticket { IsTicketOf (moves self.now) (caller pass.new) ticket.new }
         ensures left { ticket.new.left ≡ ticket.old.left - 1 }
         ensures same { (ticket.new.region ≡ ticket.old.region) × (ticket.new.next ≡ ticket.old.next) × (ticket.new.right_is_out ≡ ticket.old.right_is_out) × (ticket.new.from ≡ ticket.old.from) }
@@ -124,6 +127,7 @@ impl Board {
         requires none_left { ticket.left ≡ 0 }
         requires written { IsWrittenOf ticket written }
         ensures entry { Appends self.now pass.old pass.new (Complete ticket.region) Completed }
+        ensures step { TakesStep self.now (Complete ticket.region) pass.old pass.new }
         ensures done { (result.region ≡ ticket.region) × IsDoneOf (caller pass.new) result }
     {
         how_counts_go_down();
@@ -147,7 +151,8 @@ impl Board {
     pub fn settle(&self, pass: &mut Pass, done: Done) -> bool
         requires board { board_of pass.old ≡ identity self.now }
         requires done { IsDoneOf (caller pass.old) done }
-        ensures { Appends self.now pass.old pass.new (Settle done.region) (if result then All else More) }
+        ensures entry { Appends self.now pass.old pass.new (Settle done.region) (if result then All else More) }
+        ensures step { TakesStep self.now (Settle done.region) pass.old pass.new }
     {
         let Done { region, from: _ } = done;
         steps::settle::<Brand>(
@@ -161,7 +166,8 @@ impl Board {
     /// Whether all regions to be filled are settled.
     pub fn poll(&self, pass: &mut Pass) -> bool
         requires { board_of pass.old ≡ identity self.now }
-        ensures { Appends self.now pass.old pass.new Poll (if result then All else More) }
+        ensures entry { Appends self.now pass.old pass.new Poll (if result then All else More) }
+        ensures step { TakesStep self.now Poll pass.old pass.new }
     {
         steps::poll::<Brand>(&self.table.shared, &mut pass.place, self.sources.len()) == 0
     }

@@ -1,8 +1,8 @@
-//! Theorems about tickets and completions over several calls, and about two tickets. The functions do nothing; call one
-//! where a proof needs its contract.
+//! Theorems about tickets and what is made of them, over several calls and of two workers. The functions do nothing;
+//! call one where a proof needs its contract.
 ghost use Rattle.std.specs.Prelude.{◌≡◌, ◌≢◌, ℕ, ◌+◌, ◌<◌, ◌≤◌, List, false};
 ghost use Rattle.scheduler.specs.declared.event.Event.{Event};
-ghost use Rattle.scheduler.specs.declared.event.Event.TheVariants.{Drain};
+ghost use Rattle.scheduler.specs.declared.event.Event.TheVariants.{Drain, Complete};
 ghost use Rattle.scheduler.specs.declared.entry.Entry.{Entry};
 ghost use Rattle.scheduler.specs.declared.reply.Reply.{Reply};
 ghost use Rattle.scheduler.specs.MoveTable.{MoveTable, IsMoveTable, reads};
@@ -10,11 +10,13 @@ ghost use Rattle.scheduler.specs.State.{is_pending};
 ghost use Rattle.scheduler.specs.History.{IsLegal, calls_by};
 ghost use Rattle.claim_board.specs.declared.board.Board.{Board};
 ghost use Rattle.claim_board.specs.declared.tokens.done.Done.{Done};
+ghost use Rattle.claim_board.specs.declared.tokens.opening.Opening.{Opening};
+ghost use Rattle.claim_board.specs.declared.tokens.right.Right.{Right};
 ghost use Rattle.claim_board.specs.declared.pass.Pass.{Pass};
 ghost use Rattle.claim_board.specs.declared.tokens.ticket.Ticket.{Ticket};
 ghost use Rattle.claim_board.specs.Boards.{Appends, moves, caller};
 ghost use Rattle.claim_board.specs.Callers.{Caller, Gains, own};
-ghost use Rattle.claim_board.specs.Tickets.{IsTicketOf, IsDoneOf, IsSwept, Spares};
+ghost use Rattle.claim_board.specs.Tickets.{IsTicketOf, IsRightOf, IsOpeningOf, IsDoneOf, IsSwept, Spares};
 ghost use Rattle.claim_board.specs.Others.{LeavesOthers};
 
 use scheduler::{how_counts_go_down, what_legal_histories_keep, what_own_calls_tell};
@@ -34,6 +36,15 @@ pub fn other_calls_leave_completions()
     ensures { (old new : Caller) (d : Done) (event : Event) (reply : Reply) → IsDoneOf old d → Gains old new event reply → Spares d.region event → IsDoneOf new d }
 {}
 
+/// A right stays its caller's by each call of its pass but the completion of the region. So does an opening, by each call
+/// but that completion and the drain of the pair.
+pub fn other_calls_leave_openings()
+    ensures rights { (board : Board) (old new : Pass) (x : Right) (event : Event) (reply : Reply) → IsRightOf (caller old) x → Appends board old new event reply
+        → event ≢ Complete x.region → IsRightOf (caller new) x }
+    ensures openings { (board : Board) (old new : Pass) (x : Opening) (event : Event) (reply : Reply) → IsOpeningOf (moves board) (caller old) x → Appends board old new event reply
+        → event ≢ Complete x.destination → event ≢ Drain x.destination x.source → IsOpeningOf (moves board) (caller new) x }
+{}
+
 /// A call that is appended to a pass leaves the tickets and completions for all regions but one valid, if it spares each
 /// region but that one.
 pub fn appended_calls_leave_others()
@@ -46,6 +57,16 @@ pub fn appended_calls_leave_others()
 pub fn nothing_is_read_from_a_ticket()
     ensures { (m : MoveTable) (workers : ℕ) (log : List Entry) (one other : Caller) (t u : Ticket) → IsLegal m workers log → calls_by one.worker log ≡ one.mine → calls_by other.worker log ≡ other.mine
         → IsTicketOf m one t → IsTicketOf m other u → is_pending m (own other) u.region t.region ≡ false }
+{
+    what_legal_histories_keep();
+    what_own_calls_tell();
+}
+
+/// No region is written while another fill may still read it: if the calls of two workers are in one legal history, no
+/// opening of the one has the region of the other's right as its source.
+pub fn no_region_is_read_and_written()
+    ensures { (m : MoveTable) (workers : ℕ) (log : List Entry) (one other : Caller) (right : Right) (opening : Opening) → IsLegal m workers log → calls_by one.worker log ≡ one.mine → calls_by other.worker log ≡ other.mine
+        → IsRightOf one right → IsOpeningOf m other opening → opening.source ≢ right.region }
 {
     what_legal_histories_keep();
     what_own_calls_tell();

@@ -18,7 +18,9 @@
 //! - The laws have no body; their contracts are theorems for proofs of callers.
 //!   `other_calls_leave_tickets`, `other_calls_leave_completions`, `one_more_source_is_drained` and
 //!   `swept_tickets_have_none_left` are for a caller that keeps a ticket or a `Done` over several calls,
-//!   `nothing_is_read_from_a_ticket` is about two tickets of passes that have met,
+//!   `other_calls_leave_openings` for one that keeps an opening or a right,
+//!   `no_region_is_read_and_written` is about a right and an opening of passes that have met, and
+//!   `nothing_is_read_from_a_ticket` about two tickets;
 //!   `appended_calls_are_gained` leads from a pass to these laws, and `appended_calls_leave_others`
 //!   says for one call of a pass what the first two say.
 //!
@@ -45,9 +47,9 @@ pub use desk::recorder::Recorder;
 pub use desk::{Desk, Seating};
 pub use finished::Finished;
 pub use laws::{
-    appended_calls_are_gained, appended_calls_leave_others, nothing_is_read_from_a_ticket,
-    one_more_source_is_drained, other_calls_leave_completions, other_calls_leave_tickets,
-    swept_tickets_have_none_left,
+    appended_calls_are_gained, appended_calls_leave_others, no_region_is_read_and_written,
+    nothing_is_read_from_a_ticket, one_more_source_is_drained, other_calls_leave_completions,
+    other_calls_leave_openings, other_calls_leave_tickets, swept_tickets_have_none_left,
 };
 pub use pass::Pass;
 pub use tokens::closed::Closed;

@@ -3,7 +3,7 @@
 ghost use Rattle.std.specs.Prelude.{◌≡◌, ℕ, ◌+◌, ◌<◌, ◌≤◌, ◌↔◌, true, false, IfSome, IfNone, IsSome, IsTrue};
 ghost use Rattle.scheduler.specs.MoveTable.{MoveTable, region_count, reads};
 ghost use Rattle.claim_board.specs.Callers.{Caller};
-ghost use Rattle.claim_board.specs.Tickets.{IsTicketOf};
+ghost use Rattle.claim_board.specs.Tickets.{IsTicketOf, IsRightOf, IsOpeningOf};
 
 pub(crate) mod closed;
 pub(crate) mod done;
@@ -31,6 +31,7 @@ impl Ticket {
         ensures least { IfSome result (λ o. (s : ℕ) → self.old.next ≤ s → s < o.source → reads (M.table moves.now) self.old.region s ≡ false) }
         ensures inside { IfSome result (λ o. o.source < region_count (M.table moves.now)) }
         ensures from { IfSome result (λ o. o.ticket.value ≡ self.new) }
+        ensures owner { (c : Caller) → IsTicketOf (M.table moves.now) c self.old → IfSome result (λ o. IsOpeningOf (M.table moves.now) c o) }
         ensures last { IfNone result ((s : ℕ) → self.old.next ≤ s → reads (M.table moves.now) self.old.region s ≡ false) }
         ensures ended { IfNone result (self.new.next ≡ self.old.next) }
     {
@@ -52,6 +53,7 @@ impl Ticket {
         ensures same { (self.new.region ≡ self.old.region) × (self.new.next ≡ self.old.next) × (self.new.left ≡ self.old.left) × (self.new.from ≡ self.old.from) }
         ensures stays { (m : MoveTable) (c : Caller) → IsTicketOf m c self.old → IsTicketOf m c self.new }
         ensures right { IfSome result (λ r. (r.region ≡ self.old.region) × (r.ticket.value ≡ self.new)) }
+        ensures owner { (m : MoveTable) (c : Caller) → IsTicketOf m c self.old → IfSome result (λ r. IsRightOf c r) }
     {
         if self.right_is_out {
             return None;

@@ -11,14 +11,14 @@ use Rattle.claim_board.proofs.Lemmas.Logs.{calls-append, begins_refl}
 use Rattle.claim_board.specs.declared.rule.key.Key.{Key}
 use Rattle.claim_board.specs.declared.rule.view.Hold.{Hold}
 use Rattle.claim_board.specs.declared.rule.view.View.{View}
-use Rattle.claim_board.specs.Views.{hold, pass_view, times_held, total, HoldFits, AllFit, ViewFits, IsPassView, worker_of, seen_of, mine_of, seen_in, steps_of}
+use Rattle.claim_board.specs.Views.{hold, pass_view, times_held, total, HoldFits, AllFit, ViewFits, IsPassView, worker_of, seen_of, mine_of, steps_of}
 use Rattle.claim_board.specs.declared.rule.view.Touch.{Touch}
 use Rattle.claim_board.specs.Steps.{touch_of}
 use Rattle.claim_board.specs.Rule.{kept, Kept, nobody, note_of, informed, gathered, sees, takes_told, surveys}
 use Rattle.claim_board.specs.Told.{IsToldView}
 use Rattle.claim_board.proofs.Lemmas.Totals.{total_set, total_same, total_snoc}
 
-begins_seen : (n : ℕ) (log : List Entry) (hs : List Hold) → AllFit n log hs → BeginsWith log (seen_in hs)
+begins_seen : (n : ℕ) (log : List Entry) (hs : List Hold) → AllFit n log hs → BeginsWith log (seen_of (record { told = []; holds = hs }))
 begins_seen n log [] fits = (log, refl)
 begins_seen n log (h ∷ hs) fits = fits.0.begins
 

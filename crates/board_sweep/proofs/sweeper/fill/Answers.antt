@@ -58,4 +58,4 @@ returns-clause-tally g c =
     let sweeps = subst (λ (r : ℕ). Adds r none old before) i.3 i.6 in
     adds-both region (tally 0 1) none old after (mine c.settle.new.pass)
     (adds-both region none (tally 0 1) old before after sweeps (adds-completion region (worker c.loop-opening.pass) Done before after is))
-    (adds-settling region (worker c.complete-done.new.pass) c.complete-done.result.region (if c.settle.result then All else More) after (mine c.settle.new.pass) c.settle.ensures.history.mine_is)
+    (adds-settling region (worker c.complete-done.new.pass) c.complete-done.result.region (if c.settle.result then All else More) after (mine c.settle.new.pass) c.settle.ensures.entry.history.mine_is)

@@ -5,4 +5,4 @@ use Rattle.scheduling_tests.proofs.tickets.settles.Goals as goal
 
 pub returns-clause-others : goal.returns-clause-others
 returns-clause-others c =
-    c.appended_calls_leave_others.ensures c.args.board.now c.args.done.region c.args.pass.now c.settle.new.pass (Settle c.args.done.region) (if c.settle.result then All else More) c.settle.ensures (λ q apart. apart)
+    c.appended_calls_leave_others.ensures c.args.board.now c.args.done.region c.args.pass.now c.settle.new.pass (Settle c.args.done.region) (if c.settle.result then All else More) c.settle.ensures.entry (λ q apart. apart)
