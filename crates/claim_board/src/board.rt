@@ -11,7 +11,6 @@ use std::alloc::Global;
 
 /// An atomic word for each region, by which workers claim it, and one that counts the regions to be
 /// filled that aren't settled. Threads share the board by `&Board`; each calls it with its own pass.
-#[derive(Drop)]
 pub struct Board {
     pub(crate) table: Table<u8, View, Key, Law, Global>,
     pub(crate) moves: GivenMoves,
@@ -23,4 +22,15 @@ pub struct Board {
     ghost lawful: { IsMoveTable table.shared.key.moves },
     ghost sized: { table.shared.table_id.words ≡ suc (region_count table.shared.key.moves) },
     ghost counted: { ArePairCounts table.shared.key.moves (λ pair. pair.0) table.shared.key.moves.pairs sources.items },
+}
+
+impl Drop for Board {
+    fn drop(self) {
+        let Self {
+            table,
+            moves,
+            sources,
+            workers,
+        } = self;
+    }
 }

@@ -39,12 +39,6 @@ impl Board {
             × (IsSome result ↔ ((vec_len passes ≡ worker_count self) × (unsettled (moves self) (state_of h) ≡ 0)))
             × IfSome result (λ f. history f ≡ h) }
     {
-        let Board {
-            table,
-            moves: _,
-            sources,
-            workers,
-        } = self;
         let count = passes.len();
         let Some(first) = passes.pop() else {
             return None;
@@ -52,10 +46,10 @@ impl Board {
         let Pass { mut place } = first;
         while let Some(pass) = passes.pop() {
             let Pass { place: other } = pass;
-            table.shared.join_seat::<Gather>(&mut place, other);
+            self.table.shared.join_seat::<Gather>(&mut place, other);
         }
-        let unsettled = survey::<Brand>(&table.shared, &mut place, sources.len());
-        if count == workers as usize && unsettled == 0 {
+        let unsettled = survey::<Brand>(&self.table.shared, &mut place, self.sources.len());
+        if count == self.workers as usize && unsettled == 0 {
             Some(Finished {
                 last: Snapshot::of(&place),
             })

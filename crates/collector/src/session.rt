@@ -35,7 +35,6 @@ use std::sync::atomic::{AtomicBool, AtomicUsize, Ordering};
 use summary::Survey;
 
 /// What the workers of a collection in steps have in common. Each of them has a [`Share`].
-#[derive(Drop)]
 pub struct Session {
     pub(crate) survey: Survey,
     desk: Board,
@@ -51,6 +50,20 @@ pub struct Session {
     ghost moves: { moves_of desk ≡ image_table survey },
     ghost same_cells: { cells ≡ survey },
     ghost listed: { numbers ≡ length (with_tail survey).live },
+}
+
+impl Drop for Session {
+    fn drop(self) {
+        let Self {
+            survey,
+            desk,
+            cells,
+            thieves,
+            stop,
+            numbers,
+            at_hand,
+        } = self;
+    }
 }
 
 impl Session {
@@ -97,7 +110,9 @@ impl Session {
             desk: _,
             cells,
             thieves: _,
-            ..
+            stop: _,
+            numbers: _,
+            at_hand: _,
         } = self;
         cells.into_image()
     }
@@ -148,7 +163,9 @@ impl Session {
             desk: _,
             cells,
             thieves: _,
-            ..
+            stop: _,
+            numbers: _,
+            at_hand: _,
         } = self;
         let image = clean_up(cells, &survey, &Alone)?;
         let figures = Figures::of(survey.plan());

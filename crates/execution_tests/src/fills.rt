@@ -41,11 +41,20 @@ const FILLER: u64 = 0x0200_0000_0000_0001;
 
 /// The sources that the fills of a heap reported as last drained, and the words of its regions once they are filled and
 /// once the heap is compacted.
-#[derive(Drop)]
 struct Outcome {
     sources: Vec<u32>,
     moved: Vec<u64>,
     compacted: Vec<u64>,
+}
+
+impl Drop for Outcome {
+    fn drop(self) {
+        let Self {
+            sources,
+            moved,
+            compacted,
+        } = self;
+    }
 }
 
 /// The outcome of fills of this heap in this order.

@@ -18,13 +18,35 @@ use summary::Survey;
 use summary::laws::region_data::regions_to_fill;
 
 /// A heap to fill, with a board of its moves.
-#[derive(Drop)]
 pub struct Heap {
     pub survey: Survey,
     pub cells: Cells,
     pub board: Board,
     ghost cells_are: { cells ≡ survey },
     ghost moves_are: { moves_of board ≡ image_table survey },
+}
+
+impl Drop for Heap {
+    fn drop(self) {
+        let Self {
+            survey,
+            cells,
+            board,
+        } = self;
+    }
+}
+
+impl Heap {
+    pub fn into_survey_and_cells(self) -> (Survey, Cells)
+        ensures { result.1 ≡ result.0 }
+    {
+        let Heap {
+            survey,
+            cells,
+            board: _,
+        } = self;
+        (survey, cells)
+    }
 }
 
 /// The heap of an image, and the pass of its only worker.
@@ -142,7 +164,7 @@ pub fn fill_below<W: Wait>(
 
 /// The words of a heap whose regions are filled, and its words once it is compacted.
 pub fn moved_and_compacted(alloc: Global, heap: Heap) -> Result<(Vec<u64>, Vec<u64>), Fault> {
-    let Heap { survey, cells, .. } = heap;
+    let (survey, cells) = heap.into_survey_and_cells();
     moved_and_compacted_cells(alloc, cells, &survey)
 }
 
@@ -171,6 +193,6 @@ pub fn joined(alloc: Global, regions: &[Region]) -> Result<Vec<u64>, AllocError>
 
 /// The fault of `into_regions` on the cells of a heap, if it fails.
 pub fn end_fault_of(heap: Heap) -> Option<Fault> {
-    let Heap { cells, .. } = heap;
+    let (_survey, cells) = heap.into_survey_and_cells();
     end_fault(cells)
 }

@@ -90,7 +90,7 @@ fn updated_by<R: Threads + Sync>(
     heap: Heap,
     workers: usize,
 ) -> Result<Vec<u64>, Fault> {
-    let Heap { survey, cells, .. } = heap;
+    let (survey, cells) = heap.into_survey_and_cells();
     updated_cells(rt, alloc, cells, &survey, workers)
 }
 

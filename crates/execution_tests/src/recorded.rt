@@ -66,7 +66,6 @@ const AFTER_PREFIX: &str = "schedule 1 1
 ";
 
 /// A heap and a recorder of its fills by one worker.
-#[derive(Drop)]
 struct RecordedHeap {
     survey: Survey,
     cells: Cells,
@@ -74,6 +73,28 @@ struct RecordedHeap {
     ghost cells_are: { cells ≡ survey },
     ghost moves_are: { moves_of recorder ≡ image_table survey },
     ghost alone: { worker_count recorder ≡ 1 },
+}
+
+impl Drop for RecordedHeap {
+    fn drop(self) {
+        let Self {
+            survey,
+            cells,
+            recorder,
+        } = self;
+    }
+}
+
+impl RecordedHeap {
+    /// The schedule that the recorder has kept.
+    fn into_schedule(self) -> Schedule {
+        let RecordedHeap {
+            survey: _,
+            cells: _,
+            recorder,
+        } = self;
+        recorder.into_schedule()
+    }
 }
 
 /// The base heap with this allowance and an empty recorder.
@@ -146,7 +167,7 @@ fn base_schedule<R: Threads + Wait + Sync>(
 ) -> Result<Vec<u8>, Fail> {
     let heap = base_heap(alloc, allowance, rt)?;
     fill_four(&heap, rt)?;
-    Ok(write_schedule(alloc, &schedule_of(heap))?)
+    Ok(write_schedule(alloc, &heap.into_schedule())?)
 }
 
 /// Tries to fill the four regions in ascending order.
@@ -155,12 +176,6 @@ fn fill_four<W: Wait>(heap: &RecordedHeap, wait: &W) -> Result<(), Fault> {
         let _filled = fill_recorded(heap, region, wait)?;
     }
     Ok(())
-}
-
-/// The schedule that the heap's recorder has kept.
-fn schedule_of(heap: RecordedHeap) -> Schedule {
-    let RecordedHeap { recorder, .. } = heap;
-    recorder.into_schedule()
 }
 
 /// A ticket from another recorder, of four regions that are all to be filled.
@@ -204,7 +219,7 @@ fn fault_at_region_3<R: Threads + Wait + Sync>(
 ) -> Result<(Option<Fault>, bool), Fail> {
     let heap = base_heap(alloc, 0, rt)?;
     let fault = foreign_fault(&heap, alloc, 3, rt)?;
-    Ok((fault, schedule_of(heap).is_empty()))
+    Ok((fault, heap.into_schedule().is_empty()))
 }
 
 #[test]

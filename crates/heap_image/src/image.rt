@@ -18,7 +18,6 @@ use std::marker::Model;
 ///
 /// The heap has [`len`](Image::len) words, at addresses from 0. Each `2 ^ region_log` consecutive words are a region,
 /// in a block of their own.
-#[derive(Drop)]
 pub struct Image {
     version: Version,
     region_log: u32,
@@ -28,6 +27,22 @@ pub struct Image {
     roots: Option<Vec<u64>>,
     begins: Option<Bits>,
     sizes: Option<Vec<[u32; PIECE]>>,
+}
+
+// Not derived: a derived drop is taken apart at each exit of each function that owns an image, and its proof grows.
+impl Drop for Image {
+    fn drop(self) {
+        let Self {
+            version,
+            region_log,
+            allowance,
+            regions,
+            live,
+            roots,
+            begins,
+            sizes,
+        } = self;
+    }
 }
 
 /// The parts of an [`Image`].
@@ -116,7 +131,8 @@ impl Image {
             regions,
             live,
             roots,
-            ..
+            begins: _,
+            sizes: _,
         } = self;
         ImageParts {
             version,

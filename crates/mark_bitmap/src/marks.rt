@@ -20,12 +20,23 @@ const LEAST_BIT_WORDS: usize = 16_384;
 /// Where the live objects of an image begin and end, and which words they occupy.
 ///
 /// A contract sees the image that the marks were made of, as it was then. The image itself is not kept.
-#[derive(Drop)]
 pub struct Marks {
     image: Snapshot<Image>,
     region_log: u32,
     begins: Bits,
     live: Bits,
+}
+
+impl Drop for Marks {
+    fn drop(self) {
+        let Self {
+            image,
+            region_log,
+            begins,
+            ends,
+            live,
+        } = self;
+    }
 }
 
 impl Model for Marks {

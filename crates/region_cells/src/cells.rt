@@ -25,12 +25,21 @@ use summary::laws::region_data::regions_to_fill;
 /// The regions of an image, each in a cell that many may read or one may write.
 ///
 /// Contracts view cells as the image that they were made from.
-#[derive(Drop)]
 pub struct Cells {
     slots: Vec<Counted<Kept>>,
     fill_regions: u32,
     // `regions` is empty, with room for all of them.
     parts: ImageParts,
+}
+
+impl Drop for Cells {
+    fn drop(self) {
+        let Self {
+            slots,
+            fill_regions,
+            parts,
+        } = self;
+    }
 }
 
 impl Model for Cells {

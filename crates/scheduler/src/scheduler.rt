@@ -21,7 +21,6 @@ use std::marker::Model;
 
 /// The one-thread scheduler, which defines what every other scheduler may do. Contracts see its moves,
 /// the number of workers and its state.
-#[derive(Drop)]
 pub struct Scheduler {
     workers: u32,
     moves: IndexedMoves,
@@ -35,6 +34,20 @@ pub struct Scheduler {
     sources_left: Vec<usize>,
     /// The number of regions to be filled that aren't settled.
     unsettled: usize,
+}
+
+impl Drop for Scheduler {
+    fn drop(self) {
+        let Self {
+            workers,
+            moves,
+            drained,
+            progress,
+            readers_left,
+            sources_left,
+            unsettled,
+        } = self;
+    }
 }
 
 impl Model for Scheduler {

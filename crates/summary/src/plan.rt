@@ -38,11 +38,20 @@ use std::thread::Threads;
 /// What a collection will do to an image: what each region holds and reads, and where each live object goes.
 ///
 /// A contract sees a plan as the image that it was made of, as it was then. The image itself is not kept.
-#[derive(Drop)]
 pub struct Plan {
     table: RegionTable,
     redirections: Redirections,
     deferred: Vec<Option<u64>>,
+}
+
+impl Drop for Plan {
+    fn drop(self) {
+        let Self {
+            table,
+            redirections,
+            deferred,
+        } = self;
+    }
 }
 
 impl Model for Plan {

@@ -18,13 +18,24 @@ use std::snapshot::Snapshot;
 /// The data of all regions of an image, where its dense prefix ends, and its new top.
 ///
 /// A contract sees the table as the image that it was made of, as it was then.
-#[derive(Drop)]
 pub(crate) struct RegionTable {
     image: Snapshot<Image>,
     region_log: u32,
     prefix_end: u64,
     new_top: u64,
     regions: Vec<RegionData>,
+}
+
+impl Drop for RegionTable {
+    fn drop(self) {
+        let Self {
+            image,
+            region_log,
+            prefix_end,
+            new_top,
+            regions,
+        } = self;
+    }
 }
 
 impl Model for RegionTable {

@@ -13,10 +13,15 @@ use std::thread::Threads;
 /// What is known about an image before anything moves: its marks, and the plan of its collection.
 ///
 /// A contract sees them as the image that they were made of, as it was then.
-#[derive(Drop)]
 pub struct Survey {
     marks: Marks,
     plan: Plan,
+}
+
+impl Drop for Survey {
+    fn drop(self) {
+        let Self { marks, plan } = self;
+    }
 }
 
 impl Model for Survey {

@@ -8,7 +8,6 @@ use std::snapshot::Snapshot;
 
 /// A board under a lock that keeps each call with its reply, for a schedule. Threads share it by
 /// `&Recorder`; each calls it with the number of a worker.
-#[derive(Drop)]
 pub struct Recorder {
     pub(crate) board: LockedBoard,
     /// For each region, the number of other regions that it reads.
@@ -16,6 +15,16 @@ pub struct Recorder {
     /// The moves and the number of workers, for proofs only.
     pub(crate) key: Snapshot<Key>,
     ghost counted: { ArePairCounts key.value.moves (λ pair. pair.0) key.value.moves.pairs sources.items },
+}
+
+impl Drop for Recorder {
+    fn drop(self) {
+        let Self {
+            board,
+            sources,
+            key,
+        } = self;
+    }
 }
 
 impl Recorder {

@@ -14,7 +14,6 @@ use region_cells::Cells;
 use summary::Survey;
 
 /// A collection over any desk whose workers have ended, none with a fault.
-#[derive(Drop)]
 pub(crate) struct Ended<D: CollectionDesk + Drop>
 where
     D::Seat: Drop,
@@ -28,6 +27,21 @@ where
     ghost same_cells: { cells ≡ survey },
     ghost no_seats: { seats.items ≡ [] },
     ghost room: { vec_len workers ≤ vec_capacity seats },
+}
+
+impl<D: CollectionDesk + Drop> Drop for Ended<D>
+where
+    D::Seat: Drop,
+{
+    fn drop(self) {
+        let Self {
+            survey,
+            desk,
+            cells,
+            workers,
+            seats,
+        } = self;
+    }
 }
 
 impl<D: CollectionDesk + Drop> Ended<D>

@@ -21,7 +21,6 @@ use std::sync::Arc;
 use std::sync::atomic::Ordering;
 
 /// One worker's part in a session, which one thread at a time may use.
-#[derive(Drop)]
 pub struct Share {
     pub(crate) session: Arc<Session, Global>,
     worker: Worker<Pass>,
@@ -29,6 +28,16 @@ pub struct Share {
     ghost seat: { board_of worker.seat ≡ identity (arc_value session).desk },
     ghost numbered: { number < vec_len (arc_value session).thieves },
     ghost end: { may_end worker.end ≡ true },
+}
+
+impl Drop for Share {
+    fn drop(self) {
+        let Self {
+            session,
+            worker,
+            number,
+        } = self;
+    }
 }
 
 impl Share {

@@ -14,9 +14,14 @@ use std::marker::Model;
 /// steal through a [`Thief`].
 ///
 /// Contracts view it as the room and all numbers pushed so far, taken or not.
-#[derive(Drop)]
 pub struct Ready {
     queue: AnyQueue,
+}
+
+impl Drop for Ready {
+    fn drop(self) {
+        let Self { queue } = self;
+    }
 }
 
 /// A queue that others take from, or not.
@@ -108,10 +113,15 @@ impl Ready {
 }
 
 /// Takes numbers from another worker's queue, on any thread.
-#[derive(Drop)]
 pub struct Thief {
     /// None of a queue that is not shared.
     taker: Option<Taker>,
+}
+
+impl Drop for Thief {
+    fn drop(self) {
+        let Self { taker } = self;
+    }
 }
 
 impl Thief {

@@ -6,13 +6,18 @@ use super::ready::Ready;
 use heap_image::Fault;
 
 /// One worker of a collection, which fills regions and calls its desk from a seat of its own.
-#[derive(Drop)]
 pub(crate) struct Worker<S> {
     pub(crate) seat: S,
     /// The regions that it has found ready.
     pub(crate) ready: Ready,
     /// How it ended, or its last call if it works by calls: Ok if it met no fault, and nobody stopped it.
     pub(crate) end: Result<(), Halt>,
+}
+
+impl<S: Drop> Drop for Worker<S> {
+    fn drop(self) {
+        let Self { seat, ready, end } = self;
+    }
 }
 
 impl<S> Worker<S> {

@@ -21,7 +21,6 @@ use summary::laws::plan_laws;
 use summary::laws::plans::planned_image_is_valid;
 
 /// For each new address, the word that goes there, and when it is redirected.
-#[derive(Drop)]
 pub(crate) struct Carrier<'a> {
     plan: &'a Plan,
     marks: &'a Marks,
@@ -31,6 +30,18 @@ pub(crate) struct Carrier<'a> {
     early: Vec<bool>,
     /// For each new address, whether its word is redirected at the end.
     late: Vec<bool>,
+}
+
+impl Drop for Carrier<'_> {
+    fn drop(self) {
+        let Self {
+            plan,
+            marks,
+            origins,
+            early,
+            late,
+        } = self;
+    }
 }
 
 impl<'a> Carrier<'a> {

@@ -21,11 +21,16 @@ use summary::laws::plan_laws;
 use summary::laws::plans::planned_image_is_valid;
 
 /// The scheduler and the number of words written in each region: the word machine without its heap.
-#[derive(Drop)]
 pub(crate) struct Ledger {
     scheduler: Scheduler,
     /// For each region, the number of its words below the new top that are written.
     written: Vec<u32>,
+}
+
+impl Drop for Ledger {
+    fn drop(self) {
+        let Self { scheduler, written } = self;
+    }
 }
 
 impl Ledger {

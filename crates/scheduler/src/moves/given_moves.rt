@@ -12,10 +12,15 @@ const MAX_REGIONS: usize = limits::MAX_REGIONS as usize;
 
 /// A table of moves as plain lists, checked when it is made. It has no index: a count goes over all
 /// pairs, and a source is found by binary search. `IndexedMoves` does both in constant time.
-#[derive(Drop)]
 pub struct GivenMoves {
     fill: Vec<bool>,
     pairs: Vec<(u32, u32)>,
+}
+
+impl Drop for GivenMoves {
+    fn drop(self) {
+        let Self { fill, pairs } = self;
+    }
 }
 
 impl Model for GivenMoves {

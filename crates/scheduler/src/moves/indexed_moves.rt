@@ -13,13 +13,22 @@ use std::marker::Model;
 /// A table of moves with an index. Each look-up takes constant time, except the next source from a
 /// number that is neither at most one above the destination nor one above one of its sources: that
 /// takes a binary search.
-#[derive(Drop)]
 pub struct IndexedMoves {
     moves: GivenMoves,
     /// For each region, the index of the first pair whose destination isn't below it.
     first: Vec<usize>,
     /// For each region, the pairs of which it is the source.
     readers: Vec<Readers>,
+}
+
+impl Drop for IndexedMoves {
+    fn drop(self) {
+        let Self {
+            moves,
+            first,
+            readers,
+        } = self;
+    }
 }
 
 impl Model for IndexedMoves {

@@ -17,11 +17,16 @@ use std::marker::Model;
 
 /// A scheduler that records its calls. Contracts see its moves, the number of workers and the list
 /// of calls, which is a legal history that leads to the scheduler's state.
-#[derive(Drop)]
 pub struct Book {
     scheduler: Scheduler,
     /// The calls, each with its reply.
     lines: Vec<PackedLine>,
+}
+
+impl Drop for Book {
+    fn drop(self) {
+        let Self { scheduler, lines } = self;
+    }
 }
 
 impl Model for Book {

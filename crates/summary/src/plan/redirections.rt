@@ -21,12 +21,17 @@ use std::snapshot::Snapshot;
 /// own; null, an object of the prefix and an object that slides need no separate cases.
 ///
 /// A contract sees the image that the redirections were made of, as it was then.
-#[derive(Drop)]
 pub(crate) struct Redirections {
     image: Snapshot<Image>,
     bits: Vec<u64>,
     /// For each word of `bits`, the number of bits set in all words before it.
     ranks: Ranks,
+}
+
+impl Drop for Redirections {
+    fn drop(self) {
+        let Self { image, bits, ranks } = self;
+    }
 }
 
 impl Model for Redirections {

@@ -3,7 +3,7 @@ use Rattle.claim_board.specs.Boards.{AllOf}
 use Rattle.claim_board.proofs.Lemmas.Meets.{gathers}
 use Rattle.claim_board.proofs.Lemmas.Gathers.{all_of_front, covers_one, covers_more, all_stand}
 use Rattle.claim_board.proofs.board.Board.finish.Goals as goal
-use Rattle.claim_board.proofs.board.Board.finish.Goals.{else-count-workers-via-then-count-workers+else-unsettled-eq0, else-count-workers-via-else-count-workers}
+use Rattle.claim_board.proofs.board.Board.finish.Goals.{else-count-self-via-then-count-self+else-unsettled-eq0, else-count-self-via-else-count-self}
 
 pub loop-pass-init : goal.loop-pass-init
 loop-pass-init c =
@@ -45,7 +45,7 @@ returns-then-unsettled-eq0 c =
     let told = c.survey-unsettled.new.seat.me.0.told in
     let none : length c.loop-pass.passes.items ≡ 0 = (let x = c.in_default-pop.ensures.cases in let o = c.loop-pass.passes.ok in omega arith) in
     let n = c.args.self.table.shared.key.workers in
-    let full : vec_len c.args.passes ≡ n = (let a = c.if-count-workers.true in let b = c.args.self.manned in let d = c.len-count.ensures in omega arith) in (
+    let full : vec_len c.args.passes ≡ n = (let a = c.if-count-self.true in let b = c.args.self.manned in let d = c.len-count.ensures in omega arith) in (
       told,
       y.0,
       all_stand n told c.loop-pass.place.me.0.holds c.args.passes.items c.loop-pass.passes.items i.0 none i.1 i.2 y.1,
@@ -65,9 +65,9 @@ returns c =
       all_stand n told c.loop-pass.place.me.0.holds c.args.passes.items c.loop-pass.passes.items i.0 none i.1 i.2 y.1,
       (
         (λ e. absurd (true≢false (sym e))),
-        (λ h. elim c.else-count-workers.branch [
-          | else-count-workers-via-then-count-workers+else-unsettled-eq0 w ↦ absurd (w.if-unsettled-eq0.false (y.2 ∙ h.1))
-          | else-count-workers-via-else-count-workers w ↦ absurd (w.if-count-workers.false (c.len-count.ensures ∙ (h.0 ∙ sym c.args.self.manned.1)))
+        (λ h. elim c.else-count-self.branch [
+          | else-count-self-via-then-count-self+else-unsettled-eq0 w ↦ absurd (w.if-unsettled-eq0.false (y.2 ∙ h.1))
+          | else-count-self-via-else-count-self w ↦ absurd (w.if-count-self.false (c.len-count.ensures ∙ (h.0 ∙ sym c.args.self.manned.1)))
         ]),
       ),
       tt,

@@ -8,10 +8,10 @@ use Rattle.claim_board.proofs.board.Board.finish.Given as goal
 
 abbrev pub invariant-loop-pass : goal.invariant-loop-pass
 invariant-loop-pass l =
-    (l.place.table_id ≡ l.table.shared.table_id)
+    (l.place.table_id ≡ l.self.table.shared.table_id)
     × (l.place.me.1 ≡ [])
-    × AllOf l.table.shared.table_id l.passes.items
-    × ((popped : List Pass) × (l.fn.passes.items ≡ l.passes.items ++ popped) × Covers l.table.shared.key.workers l.place.me.0.holds popped)
+    × AllOf l.self.table.shared.table_id l.passes.items
+    × ((popped : List Pass) × (l.fn.passes.items ≡ l.passes.items ++ popped) × Covers l.self.table.shared.key.workers l.place.me.0.holds popped)
 
 abbrev pub decreases-loop-pass : goal.decreases-loop-pass
 decreases-loop-pass l = vec_len l.passes
