@@ -1,5 +1,5 @@
 -- Redirection as one count.
-use Rattle.std.specs.Prelude.{◌≡◌, ℕ, ◌+◌, ◌-◌, ◌*◌, ◌<◌, Bool, ◌||◌, nat_lt, ◌==◌, List, length, map, count_by, slice_index}
+use Rattle.std.specs.Prelude.{◌≡◌, ℕ, ◌+◌, ◌-◌, ◌*◌, ◌/◌, ◌<◌, Bool, ◌||◌, nat_lt, ◌==◌, List, length, map, count_by, slice_index}
 use Rattle.std.specs.List.{range_with_len}
 use Rattle.std.specs.Int.{bit_at}
 use Rattle.heap_image.specs.HeapImage.{HeapImage, IsValid, is_live_word}
@@ -19,9 +19,13 @@ module _ (image : HeapImage) where
   abbrev pub counted_below : ℕ → ℕ
   counted_below x = count_by is_counted (range_with_len 0 x)
 
-  -- what the redirections of this image keep: a bit for each number, and for each word of bits the count before it
+  -- the count before every second word of bits
+  abbrev pub AreRanks : ℕ → List ℕ → Type 0
+  AreRanks words ranks = ranks ≡ map (λ k. counted_below (128 * k)) (range_with_len 0 ((words + 1) / 2))
+
+  -- what the redirections of this image keep: a bit for each number, and for every second word of bits the count before it
   pub record AreRedirections (bits ranks : List ℕ) : Type 0 where
     pub valid : IsValid image
     pub room : length bits ≡ bit_words image
     pub set : (i : ℕ) → i < length bits → AreBits is_counted (64 * i) (slice_index bits i)
-    pub ranks_are : ranks ≡ map (λ i. counted_below (64 * i)) (range_with_len 0 (bit_words image))
+    pub ranks_are : AreRanks (bit_words image) ranks

@@ -1,8 +1,9 @@
 //! `Redirections`: the new value of each reference, by one count of bits.
 
-ghost use Rattle.std.specs.Prelude.{◌≡◌, ℕ, ◌+◌, ◌*◌, ◌<◌, ◌≤◌, ◌==◌, nat_lt, map, All, IfOk, IsTrue, Contains};
+ghost use Rattle.std.specs.Prelude.{◌≡◌, ℕ, ◌+◌, ◌*◌, ◌%◌, ◌<◌, ◌≤◌, ◌==◌, nat_lt, map, [], ◌∷◌, ◌++◌, All, IfOk, OnOk, IsTrue, Contains};
 ghost use Rattle.std.specs.Int.{bit_at};
 ghost use Rattle.heap_image.specs.HeapImage.{heap_words, is_null_or_live};
+ghost use Rattle.mark_bitmap.specs.Marks.{bit_words};
 ghost use Rattle.summary.specs.NewAddresses.{prefix_end, new_address};
 ghost use Rattle.summary.specs.Compaction.{redirected};
 ghost use Rattle.summary.specs.Redirections.{AreBits, is_counted, counted_below};
@@ -24,7 +25,7 @@ use std::snapshot::Snapshot;
 pub(crate) struct Redirections {
     image: Snapshot<Image>,
     bits: Vec<u64>,
-    /// For each word of `bits`, the number of bits set in all words before it.
+    /// For every second word of `bits`, from the first on, the number of bits set in all words before it.
     ranks: Vec<u64>,
 }
 
@@ -42,7 +43,7 @@ impl Model for Redirections {
 impl Redirections {
     /// Makes the redirections of an image with these marks, whose dense prefix ends at `prefix`.
     ///
-    /// Allocates 16 bytes for each 64 words of the heap.
+    /// Allocates 12 bytes for each 64 words of the heap.
     pub(crate) fn of(
         alloc: Global,
         image: &Image,
@@ -55,7 +56,7 @@ impl Redirections {
     {
         let words = image.len() / 64 + 1;
         let mut bits = Vec::with_capacity(alloc, words as usize)?;
-        let mut ranks = Vec::with_capacity(alloc, words as usize)?;
+        let mut ranks = Vec::with_capacity(alloc, words.div_ceil(2) as usize)?;
         let mut carried = 1;
         let mut rank = 0;
         for i in 0..words {
@@ -63,7 +64,7 @@ impl Redirections {
             let word = with_first(shifted, carried);
             carried = shifted >> 63;
             bits.push(word)?;
-            ranks.push(rank)?;
+            keep_rank(&mut ranks, i, rank)?;
             rank += u64::from(word.count_ones());
         }
         Ok(Redirections {
@@ -112,8 +113,30 @@ impl Redirections {
     {
         let i = (x / 64) as usize;
         let below = self.bits[i] & ((1 << (x % 64)) - 1);
-        self.ranks[i] + u64::from(below.count_ones())
+        self.rank_of_word(i) + u64::from(below.count_ones())
     }
+
+    /// The number of bits set in all words before word `i`.
+    #[inline]
+    fn rank_of_word(&self, i: usize) -> u64
+        requires { i < bit_words self.now }
+        ensures { result ≡ counted_below self.now (64 * i) }
+    {
+        let odd = i % 2;
+        let between = self.bits[i - odd].count_ones();
+        self.ranks[i / 2] + u64::from(between) * odd as u64
+    }
+}
+
+/// Appends the rank of word `i` if `i` is even.
+fn keep_rank(ranks: &mut Vec<u64>, i: u64, rank: u64) -> Result<(), AllocError>
+    ensures even { i % 2 ≡ 0 → OnOk result (ranks.new.items ≡ ranks.old.items ++ rank ∷ []) }
+    ensures odd { i % 2 ≡ 1 → ranks.new.items ≡ ranks.old.items }
+{
+    if i % 2 == 0 {
+        ranks.push(rank)?;
+    }
+    Ok(())
 }
 
 /// The 64 bits after the first one of word `i`: those of the addresses from `64 * i` on.

@@ -1,9 +1,7 @@
-use Rattle.std.proofs.Common.{◌≡◌, ℕ, ◌+◌, ◌*◌, ◌/◌, ◌%◌, ◌≤◌, ◌<◌, List, length, get_or, sym, ◌∙◌, ap, subst, arith}
+use Rattle.std.proofs.Common.{◌≡◌, ℕ, ◌+◌, ◌*◌, ◌/◌, ◌%◌, ◌≤◌, get_or, sym, ◌∙◌, ap, subst, arith}
 use Rattle.std.proofs.lemmas.Grind.{get_or_default_zero}
-use Rattle.std.proofs.lemmas.List.FromFn.{length-map-range_with_len, get_or-map-range_with_len}
 use Rattle.heap_image.specs.HeapImage.{HeapImage, heap_words}
-use Rattle.mark_bitmap.specs.Marks.{bit_words}
-use Rattle.summary.specs.Redirections.{AreBits, AreRedirections, is_counted, counted_below}
+use Rattle.summary.specs.Redirections.{AreBits, is_counted, counted_below}
 use Rattle.summary.proofs.Lemmas.Ranks.{counted-le, counted-within}
 use Rattle.summary.proofs.plan.redirections.Redirections.rank.Goals as goal
 
@@ -14,17 +12,10 @@ index-requires c =
     let long = c.self.invariant.room in
     omega arith
 
-pub index-requires-2 : goal.index-requires-2
-index-requires-2 c =
-    let image : HeapImage = c.self.inside.image.value in
-    let inside : c.args.x ≤ heap_words image = subst (λ m. c.args.x ≤ heap_words m) (sym c.self.view_is) c.requires in
-    let long = ap length c.self.invariant.ranks_are ∙ length-map-range_with_len (λ k. counted_below image (64 * k)) 0 (bit_words image) in
+pub rank_of_word-requires : goal.rank_of_word-requires
+rank_of_word-requires c =
+    let inside : c.args.x ≤ heap_words c.args.self.now = c.requires in
     omega arith
-
--- the rank of a word of bits
-rank_at : (image : HeapImage) (bits ranks : List ℕ) (i found : ℕ) → AreRedirections image bits ranks → i < bit_words image → found ≡ get_or ranks i found → found ≡ counted_below image (64 * i)
-rank_at image bits ranks i found are inside is =
-    is ∙ ap (λ l. get_or l i found) are.ranks_are ∙ get_or-map-range_with_len (λ k. counted_below image (64 * k)) 0 (bit_words image) i i found inside (omega arith)
 
 pub overflow_add-result : goal.overflow_add-result
 overflow_add-result c =
@@ -35,7 +26,7 @@ overflow_add-result c =
     let long = c.self.invariant.room in
     let word : c.index.result.now ≡ get_or c.self.inside.bits.items i 0 = c.index.ensures ∙ get_or_default_zero c.self.inside.bits.items i c.index.result.now (omega arith) in
     let are : AreBits (is_counted image) (64 * i) c.index.result.now = subst (AreBits (is_counted image) (64 * i)) (sym word) (c.self.invariant.set i (omega arith)) in
-    let rank = rank_at image c.self.inside.bits.items c.self.inside.ranks.items i c.index-2.result.now c.self.invariant (omega arith) c.index-2.ensures in
+    let rank : c.rank_of_word.result ≡ counted_below image (64 * i) = c.rank_of_word.ensures ∙ ap (λ m. counted_below m (64 * i)) (sym c.self.view_is) in
     let within = counted-within image i (x % 64) c.index.result.now are (omega arith) in
     let at : 64 * i + x % 64 ≡ x = omega arith in
     let ones = c.from.ensures in
@@ -53,7 +44,7 @@ returns c =
     let long = c.self.invariant.room in
     let word : c.index.result.now ≡ get_or c.self.inside.bits.items i 0 = c.index.ensures ∙ get_or_default_zero c.self.inside.bits.items i c.index.result.now (omega arith) in
     let are : AreBits (is_counted image) (64 * i) c.index.result.now = subst (AreBits (is_counted image) (64 * i)) (sym word) (c.self.invariant.set i (omega arith)) in
-    let rank = rank_at image c.self.inside.bits.items c.self.inside.ranks.items i c.index-2.result.now c.self.invariant (omega arith) c.index-2.ensures in
+    let rank : c.rank_of_word.result ≡ counted_below image (64 * i) = c.rank_of_word.ensures ∙ ap (λ m. counted_below m (64 * i)) (sym c.self.view_is) in
     let within = counted-within image i (x % 64) c.index.result.now are (omega arith) in
     let at : 64 * i + x % 64 ≡ x = omega arith in
     let ones = c.from.ensures in
