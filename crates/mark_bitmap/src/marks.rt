@@ -33,7 +33,6 @@ impl Drop for Marks {
             image,
             region_log,
             begins,
-            ends,
             live,
         } = self;
     }

@@ -2,7 +2,7 @@
 //! holds and reads.
 //!
 //! [`Plan::of`] makes the plan of an image from its marks. Several threads count the regions. A plan takes memory for
-//! each region and 16 bytes for each 64 words of the heap. Its queries allocate nothing and are look-ups, except
+//! each region and 10 bytes for each 64 words of the heap. Its queries allocate nothing and are look-ups, except
 //! [`Plan::reads`], which steps from region to region. One count of bits redirects a reference, whether it is null,
 //! leads into the dense prefix or leads to an object that slides.
 //!
