@@ -16,7 +16,7 @@ use summary::Survey;
 /// Tells what a collection will do to the image with these bytes. Returns the number of the fault in `answer`.
 ///
 /// The fault is the first fault of the bytes, 1 to 10 or 17, or 11 if memory runs out. Takes the memory of the image, and
-/// about 5 bits for each of its words.
+/// about 4 bits for each of its words.
 #[unsafe(no_mangle)]
 pub extern "C" fn pcompact_summary_of_image(
     alloc: Global,

@@ -21,7 +21,7 @@ use summary::{Plan, Survey};
 ///
 /// The fault is the first fault of the bytes of the heap's image, 3, 4 or 6 to 9, or 11 if memory runs out, or 17 with the
 /// least index of a reference that is neither 0 nor 1 plus a live address. After a fault the references are as they were.
-/// Takes the memory of a copy of the words, and about 5 bits for each of them.
+/// Takes the memory of a copy of the words, and about 4 bits for each of them.
 #[unsafe(no_mangle)]
 pub extern "C" fn pcompact_new_addresses(
     alloc: Global,

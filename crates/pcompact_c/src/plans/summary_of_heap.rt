@@ -20,7 +20,7 @@ use summary::Survey;
 /// `answer`.
 ///
 /// The fault is the first fault of the bytes of its image, 3, 4 or 6 to 9, or 11 if memory runs out. Takes the memory of a
-/// copy of the words, and about 5 bits for each of them.
+/// copy of the words, and about 4 bits for each of them.
 #[unsafe(no_mangle)]
 pub extern "C" fn pcompact_summary(
     alloc: Global,
