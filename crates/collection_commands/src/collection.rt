@@ -10,11 +10,10 @@ use crate::record::record_into;
 use crate::timed_gate::TimedGate;
 use crate::workers::Workers;
 use collector::Gate;
+use command_files::{Output, SystemFile, WorkDone, both_ended, ended, failed};
 use command_host::ImageFile;
-use command_support::{
-    Output, Stopwatch, SystemFile, TimedIntake, TimedOutlet, Trouble, Watched, WorkDone,
-    both_ended, ended, failed,
-};
+use command_support::{Trouble, Watched};
+use command_times::{Stopwatch, TimedIntake, TimedOutlet};
 use heap_image::{Fault, Intake, Outlet, ToWrite};
 use std::fs::OpenFile;
 use std::io::{Seek, Write};

@@ -1,7 +1,8 @@
 use crate::collection::Run;
 use crate::timed_gate::TimedGate;
 use collector::Figures;
-use command_support::{Laps, Moved, Phase, Stats, TimedIntake, TimedOutlet, Trouble};
+use command_support::Trouble;
+use command_times::{Laps, Moved, Phase, Stats, TimedIntake, TimedOutlet};
 use heap_image::{Fault, Intake, Outlet};
 use std::time::{Clock, Duration};
 

@@ -1,7 +1,7 @@
 //! The commands that collect, or look at what a collection left: `collect`, `record` and `verify`.
 //!
 //! Each is a module. Its `answer` takes a parsed request, works on files, and returns what the command prints and the files
-//! that are still to be renamed into place ([`command_support::WorkDone`]), or why it failed
+//! that are still to be renamed into place ([`command_files::WorkDone`]), or why it failed
 //! ([`command_support::Trouble`]). The work itself is a function over any devices, so that its contract can speak of
 //! their bytes. `command_line` parses the requests, and `pcompact` prints the results.
 //!

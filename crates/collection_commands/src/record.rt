@@ -9,11 +9,11 @@ use crate::collection::{Run, collect_files};
 use crate::figures::{FiguresLine, LINE_ROOM, with_line};
 use crate::workers::Workers;
 use collector::{Gate, record_stream};
-use command_line::Record;
-use command_support::{
-    FileId, FileTarget, FileWord, Output, Role, SystemFile, Trouble, Watched, WorkDone, failed,
-    must_differ, output_must_differ, same_file,
+use command_files::{
+    FileTarget, Output, SystemFile, WorkDone, failed, must_differ, output_must_differ, same_file,
 };
+use command_line::Record;
+use command_support::{FileId, FileWord, Role, Trouble, Watched};
 use heap_image::{Fault, Intake, Outlet};
 use std::alloc::Global;
 use std::os::unix::fs::FileExt;

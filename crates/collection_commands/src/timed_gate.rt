@@ -1,5 +1,5 @@
 use collector::Gate;
-use command_support::Stopwatch;
+use command_times::Stopwatch;
 use std::sync::atomic::{AtomicU64, Ordering};
 use std::time::{Clock, Duration};
 

@@ -5,12 +5,11 @@ ghost use Rattle.collection_commands.specs.Verify.{IsVerdictOf, IsVerdictOn, IsU
 
 use crate::explanation::{explanation_of_file, explanation_of_images};
 use collector::{Verdict, verify, verify_below_top};
+use command_files::{WorkDone, two_inputs};
 use command_host::ImageFile;
 use command_line::Verify;
-use command_support::{
-    Difference, Failure, FileWord, Laps, Phase, Role, Screen, Stats, Stopwatch, TimedIntake,
-    Trouble, Watched, WorkDone, two_inputs,
-};
+use command_support::{Difference, Failure, FileWord, Role, Screen, Trouble, Watched};
+use command_times::{Laps, Phase, Stats, Stopwatch, TimedIntake};
 use heap_image::{Fault, Image, Intake, read_image_by_threads};
 use rayon::current_num_threads;
 use std::alloc::Global;

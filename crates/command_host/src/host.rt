@@ -1,6 +1,8 @@
 //! The system that commands run on, with standard output among its files.
 use crate::standard_output::StandardOutput;
-use command_support::{FileId, FileLock, Gauge, Meter, Phase, SystemFile};
+use command_files::{FileLock, SystemFile};
+use command_support::FileId;
+use command_times::{Gauge, Meter, Phase};
 use std::alloc::Allocator;
 use std::fs::{FileTimes, Metadata, OpenFile, OpenOptions, Permissions};
 use std::io;

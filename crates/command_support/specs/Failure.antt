@@ -1,5 +1,5 @@
 use Rattle.std.specs.Prelude.{ℕ}
-use Rattle.heap_dump.specs.declared.error.ImportError.{ImportError}
+use Rattle.dump_records.specs.declared.error.ImportError.{ImportError}
 use Rattle.heap_maker.specs.declared.error.GenerationError.{GenerationError}
 use Rattle.heap_text.specs.declared.error.TextError.{TextError}
 use Rattle.heap_image.specs.declared.fault.Fault.TheVariants.{Memory, Io}

@@ -5,7 +5,7 @@ use Rattle.command_support.specs.declared.files.content.Content.{Content}
 use Rattle.command_support.specs.declared.files.content.Content.TheVariants.{Image, Dump, Schedule, Text, Packed}
 use Rattle.command_support.specs.declared.trouble.hint.Hint.{Hint}
 use Rattle.command_support.specs.declared.trouble.hint.Hint.TheVariants.{Empty, Has, LiveOnly, TooLarge}
-use Rattle.heap_dump.specs.declared.error.ImportError.{ImportError}
+use Rattle.dump_records.specs.declared.error.ImportError.{ImportError}
 
 -- the file begins with this text
 abbrev pub begins : List ℕ → List ℕ → Bool

@@ -3,5 +3,4 @@ pub mod Failure
 pub mod Heads
 pub mod Hints
 pub mod Json
-pub mod Transfer
 pub mod Watching

@@ -5,7 +5,7 @@ ghost use Rattle.command_support.specs.declared.failure.Failure.TheVariants.{Fau
 
 use crate::difference::Difference;
 use command_line::Unread;
-use heap_dump::ImportError;
+use dump_records::ImportError;
 use heap_image::{Fault, Version};
 use heap_maker::GenerationError;
 use heap_text::TextError;

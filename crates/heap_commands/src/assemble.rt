@@ -4,11 +4,9 @@ ghost use Rattle.heap_text.specs.Text.{text_of};
 ghost use Rattle.heap_commands.specs.Assemble.{IsAssembly, IsCountLine, count_line};
 ghost use Rattle.command_support.specs.Failure.{failed_device};
 
+use command_files::{FileTarget, Late, SystemFile, WorkDone, output_must_differ, target_beside};
 use command_line::Assemble;
-use command_support::{
-    Failure, FileTarget, FileWord, Late, Role, SystemFile, Trouble, Watched, WorkDone,
-    output_must_differ, target_beside,
-};
+use command_support::{Failure, FileWord, Role, Trouble, Watched};
 use heap_image::{Fault, FromRead, Image, Intake, Outlet, ToWrite, write_image_buffered};
 use heap_text::{AssembleError, assemble_from};
 use std::alloc::{AllocError, Global};

@@ -3,7 +3,8 @@ ghost use Rattle.board_sweep.specs.Report.{IsBoardText};
 ghost use Rattle.command_support.specs.Failure.{out_of_memory};
 
 use board_sweep::sweep_with_two_workers;
-use command_support::{Trouble, WorkDone};
+use command_files::WorkDone;
+use command_support::Trouble;
 use std::thread::Threads;
 
 /// Returns what `board` prints.

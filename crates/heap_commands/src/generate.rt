@@ -4,10 +4,9 @@ ghost use Rattle.heap_commands.specs.Generate.{IsGeneration, IsGenerationLine, I
 ghost use Rattle.command_support.specs.Failure.{failed_device};
 
 use crate::shared::versions::requested_version;
+use command_files::{FileTarget, Late, SystemFile, WorkDone};
 use command_line::Generate;
-use command_support::{
-    Failure, FileTarget, FileWord, Late, Role, SystemFile, Trouble, WorkDone, Writing,
-};
+use command_support::{Failure, FileWord, Role, Trouble, Writing};
 use heap_image::{Outlet, ToWrite, Version, write_image_buffered};
 use heap_maker::{Generated, GenerationFigures, Wanted, generate};
 use std::alloc::{AllocError, Global};

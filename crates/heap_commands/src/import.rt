@@ -15,11 +15,10 @@ pub mod object_list;
 
 use crate::shared::live_share::live_share;
 use crate::shared::versions::requested_version;
+use command_files::{Late, SystemFile, WorkDone};
 use command_line::Import;
-use command_support::{
-    Failure, Laps, Late, LiveShare, Phase, Stats, Stopwatch, SystemFile, TimedIntake, TimedOutlet,
-    Trouble, Watched, WorkDone,
-};
+use command_support::{Failure, Trouble, Watched};
+use command_times::{Laps, LiveShare, Phase, Stats, Stopwatch, TimedIntake, TimedOutlet};
 use heap_dump::{ImportFigures, Imported, ListedImport, Options, import, import_listed};
 use heap_image::{FromRead, Intake, Outlet, ToWrite, write_image_buffered};
 use histogram::push_histogram;

@@ -1,7 +1,7 @@
 //! The commands that don't run a collection. This crate doesn't depend on the collector, and is proved beside it.
 //!
 //! Each command is a module. Its `answer` takes a parsed request, works on files, and returns what the command prints
-//! and the files that are still to be renamed into place ([`command_support::WorkDone`]), or why it failed
+//! and the files that are still to be renamed into place ([`command_files::WorkDone`]), or why it failed
 //! ([`command_support::Trouble`]). The work itself is a function over any devices, so that its contract can speak of
 //! their bytes. `command_line` parses the requests, and `pcompact` prints the results.
 //!

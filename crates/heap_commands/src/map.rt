@@ -5,12 +5,9 @@ ghost use Rattle.heap_map.specs.Cells.{cells_before};
 ghost use Rattle.heap_map.specs.MapFigures.{AreFiguresOf, figures_text};
 ghost use Rattle.heap_commands.specs.Map.{IsDrawing, IsMap, IsMapLine, IsPicture, IsPrinted, after_shown, cells_shown, shape_of};
 
-use crate::shared::inputs::open_image;
+use command_files::{FileTarget, Late, SystemFile, WorkDone, different_target, open_image};
 use command_line::{Look, Map};
-use command_support::{
-    FileTarget, FileWord, Late, Role, Screen, SystemFile, Trouble, USUAL_WIDTH, Watched, WorkDone,
-    other_target, output_must_differ,
-};
+use command_support::{FileWord, Role, Screen, Trouble, USUAL_WIDTH, Watched};
 use heap_image::{
     Fault, FromRead, Image, Intake, Outlet, ToWrite, give_all, read_image_by_threads,
 };
@@ -159,7 +156,7 @@ where
     R::File: SystemFile,
     ensures { IfOk result (λ done. IsMap done.text.items) }
 {
-    let target = drawing_target(rt, &image, svg, atomic)?;
+    let target = different_target(rt, &image, svg, atomic)?;
     draw_to(rt, image, cut, target)
 }
 
@@ -186,17 +183,6 @@ where
         Ok(MapDrawing { line, .. }) => late.ended(line),
         Err(fault) => Err(late.failed(Trouble::from(fault).if_image(&image))),
     }
-}
-
-/// The file for a drawing. It must not be the file of the image.
-pub(crate) fn drawing_target<'a, H: Files + AllocGlobal>(
-    host: &H,
-    image: &Watched<'a, H::File>,
-    file: FileWord<'a>,
-    atomic: bool,
-) -> Result<FileTarget<'a, H::File>, Trouble<'a>> {
-    output_must_differ(host.alloc(), image.word(), file)?;
-    other_target(host, image, file, atomic)
 }
 
 /// Reads an image and returns its picture as text.

@@ -5,9 +5,9 @@ ghost use Rattle.work_order.specs.Chains.{IsLongestChain};
 ghost use Rattle.work_order.specs.WorkOrder.{order_text};
 ghost use Rattle.heap_commands.specs.Order.{IsOrder, IsOrderLine, IsOrderOf};
 
-use crate::shared::inputs::open_image;
+use command_files::{WorkDone, open_image};
 use command_line::Order;
-use command_support::{Trouble, WorkDone};
+use command_support::Trouble;
 use heap_image::{Fault, FromRead, Image, Intake, read_image_by_threads};
 use std::alloc::{AllocError, Global};
 use std::rt::Files;

@@ -5,9 +5,9 @@ ghost use Rattle.history.specs.Replayed.{IsReplayed};
 ghost use Rattle.heap_commands.specs.Replay.{IsReplayText, IsReplayOf, end_line};
 ghost use Rattle.heap_commands.specs.Unreplayed.{IsReplayRefused, IsScheduleUnread, IsUnreplayed};
 
-use crate::shared::inputs::{Inputs, Opened, replay_trouble};
+use command_files::{ImageAndSchedule, Opened, WorkDone};
 use command_line::Replay;
-use command_support::{LineReason, Trouble, WorkDone};
+use command_support::{LineReason, Trouble, Watched};
 use heap_image::{Fault, FromRead, Image, Intake, read_image_by_threads};
 use history::{End, Replayed, explain, read_schedule_from, replay, write_schedule};
 use scheduler::Schedule;
@@ -23,7 +23,7 @@ pub fn answer<'a, R: Files + AllocGlobal + Threads + Sync>(
 ) -> Result<WorkDone<'a>, Trouble<'a>>
     ensures { IfOk result (λ done. IsReplayText done.text.items) }
 {
-    let inputs = Inputs {
+    let inputs = ImageAndSchedule {
         image: request.image,
         shape: request.shape,
         schedule: request.schedule,
@@ -41,6 +41,16 @@ pub fn answer<'a, R: Files + AllocGlobal + Threads + Sync>(
         Ok(text) => Ok(WorkDone::printing(text)),
         Err(unreplayed) => Err(replay_trouble(unreplayed, &image, &schedule)),
     }
+}
+
+/// The failure of a command that follows a schedule on an image: which file it is about, and which line of the schedule.
+pub(crate) fn replay_trouble<'a, F: Drop>(
+    unreplayed: Unreplayed,
+    image: &Watched<'a, F>,
+    schedule: &Watched<'a, F>,
+) -> Trouble<'a> {
+    let Unreplayed { fault, line } = unreplayed;
+    Trouble::from(fault).if_image(image).if_line(schedule, line)
 }
 
 /// Why a schedule isn't replayed.

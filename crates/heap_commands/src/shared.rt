@@ -1,5 +1,4 @@
 //! What several commands share.
 
-pub(crate) mod inputs;
 pub(crate) mod live_share;
 pub(crate) mod versions;

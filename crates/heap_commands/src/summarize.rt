@@ -3,9 +3,9 @@ ghost use Rattle.std.specs.Prelude.{◌≡◌, codes, ℕ, List, IfOk, IfErr, If
 ghost use Rattle.heap_image.specs.Refusals.{IsReason};
 ghost use Rattle.heap_commands.specs.Summarize.{IsSummary, IsSummaryOf, heading, summary_of};
 
-use crate::shared::inputs::open_image;
+use command_files::{WorkDone, open_image};
 use command_line::Summary;
-use command_support::{Screen, Trouble, WorkDone};
+use command_support::{Screen, Trouble};
 use heap_image::{Fault, FromRead, Image, Intake, read_image_by_threads};
 use std::alloc::Global;
 use std::rt::Files;

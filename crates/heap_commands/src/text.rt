@@ -3,9 +3,9 @@ ghost use Rattle.heap_image.specs.Refusals.{IsReason};
 ghost use Rattle.heap_text.specs.Text.{text_of};
 ghost use Rattle.heap_commands.specs.Text.{AreLines, AreLinesOf};
 
-use crate::shared::inputs::open_image;
+use command_files::{WorkDone, open_image};
 use command_line::{Shape, Text};
-use command_support::{Trouble, WorkDone};
+use command_support::Trouble;
 use heap_image::{Fault, FromRead, Image, Intake, read_image_by_threads};
 use heap_text::write_text;
 use std::alloc::Global;

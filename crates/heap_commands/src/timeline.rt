@@ -8,14 +8,14 @@ ghost use Rattle.schedule_timeline.specs.TimelineFigures.{BeginsWithFigures};
 ghost use Rattle.heap_commands.specs.Timeline.{HasLanes, HasPicture, IsFollowed, IsPictureOf, IsTimeline};
 ghost use Rattle.heap_commands.specs.Unreplayed.{IsReplayRefused, IsUnreplayed};
 
-use crate::map::{drawing_target, style_on};
-use crate::replay::{Unreplayed, refused, schedule_in};
-use crate::shared::inputs::{Inputs, Opened, replay_trouble};
-use command_line::Timeline;
-use command_support::{
-    Failure, FileTarget, FileWord, Late, Role, Screen, SystemFile, Trouble, WorkDone,
+use crate::map::style_on;
+use crate::replay::{Unreplayed, refused, replay_trouble, schedule_in};
+use command_files::{
+    FileTarget, ImageAndSchedule, Late, Opened, SystemFile, WorkDone, different_target,
     output_must_differ, reject_same_file,
 };
+use command_line::Timeline;
+use command_support::{Failure, FileWord, Role, Screen, Trouble};
 use heap_image::{
     Fault, FromRead, Image, Intake, Outlet, ToWrite, give_all, read_image_by_threads,
 };
@@ -41,7 +41,7 @@ where
     R::File: SystemFile,
     ensures { IfOk result (λ done. IsTimeline done.text.items) }
 {
-    let inputs = Inputs {
+    let inputs = ImageAndSchedule {
         image: request.image,
         shape: request.shape,
         schedule: request.schedule,
@@ -102,7 +102,7 @@ fn two_pictures<'a>(alloc: Global) -> Result<Trouble<'a>, AllocError> {
 /// Prints the lanes of the schedule in a file.
 fn print_lanes<'a, R: Files + AllocGlobal + Threads + Sync>(
     rt: &R,
-    inputs: Inputs<'a>,
+    inputs: ImageAndSchedule<'a>,
     lanes: Lanes,
 ) -> Result<WorkDone<'a>, Trouble<'a>>
     ensures { IfOk result (λ done. IsTimeline done.text.items) }
@@ -125,7 +125,7 @@ fn print_lanes<'a, R: Files + AllocGlobal + Threads + Sync>(
 /// Writes a drawing or a page of the schedule in a file to another file, and prints the figures.
 fn write_picture<'a, R: Files + AllocGlobal + Threads + Sync>(
     rt: &R,
-    inputs: Inputs<'a>,
+    inputs: ImageAndSchedule<'a>,
     wanted: Wanted<'_>,
     file: FileWord<'a>,
     atomic: bool,
@@ -178,7 +178,7 @@ fn picture_target<'a, H: Files + AllocGlobal>(
     let Opened { image, schedule } = opened;
     output_must_differ(host.alloc(), schedule.word(), file)?;
     let id = schedule.id()?;
-    let target = drawing_target(host, image, file, atomic)?;
+    let target = different_target(host, image, file, atomic)?;
     reject_same_file(host, target, schedule.word(), id)
 }
 

@@ -11,11 +11,9 @@ ghost use Rattle.command_support.specs.Failure.{failed_device};
 ghost use Rattle.command_support.specs.declared.failure.Failure.TheVariants.{Fault as OfFault, Later};
 
 use crate::shared::versions::version_numbered;
+use command_files::{SystemFile, WorkDone, ended, failed_between, image_and_out};
 use command_line::Upgrade;
-use command_support::{
-    Failure, SystemFile, Trouble, WorkDone, ended, failed_between, image_and_out, push_number,
-    push_text,
-};
+use command_support::{Failure, Trouble, push_number, push_text};
 use heap_image::{
     FromRead, Image, Intake, Outlet, ToWrite, Version, read_image, upgrade_to, write_image_buffered,
 };

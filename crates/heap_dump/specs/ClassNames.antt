@@ -1,8 +1,8 @@
 -- The names of the classes in a list of objects.
 use Rattle.std.specs.Prelude.{ℕ, Bool, ◌-◌, ◌/◌, ◌%◌, false, ◌&&◌, ◌||◌, ◌==◌, nat_lt, nat_le, if◌then◌else◌, List, [], ◌∷◌, ◌++◌, flat_map, length, slice_get, slice_range, Option, None, Some, codes}
 use Rattle.std.specs.Fmt.{digit_glyph, digits}
-use Rattle.heap_dump.specs.declared.inventory.class_kind.ClassKind.{ClassKind}
-use Rattle.heap_dump.specs.declared.inventory.class_kind.ClassKind.TheVariants.{Arrays, Classes, Instances}
+use Rattle.heap_dump.specs.declared.listing.class_kind.ClassKind.{ClassKind}
+use Rattle.heap_dump.specs.declared.listing.class_kind.ClassKind.TheVariants.{Arrays, Classes, Instances}
 use Rattle.heap_dump.specs.declared.listing.class_names.ClassNames.{ClassNames}
 use Rattle.heap_dump.specs.declared.listing.class_names.NamedClass.{NamedClass}
 

@@ -1,4 +1,3 @@
-pub mod Window
 pub mod ImportFigures
 pub mod Requested
 pub mod Listing

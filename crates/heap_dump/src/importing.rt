@@ -10,17 +10,16 @@ ghost use Rattle.heap_dump.specs.Listing.{AreObjectsOf};
 ghost use Rattle.heap_dump.specs.Totals.{AreDeadWords, IsRanking, sums_of};
 
 use crate::dead_words::DeadWords;
-use crate::error::ImportError;
-use crate::heap::UnsealedHeap;
 use crate::heap::draft::{Draft, Imported};
 use crate::heap::packed::Packed;
-use crate::inventory::Inventory;
 use crate::listing::class_names::ClassNames;
 use crate::listing::object_classes::ObjectClasses;
 use crate::listing::{ListedObject, list_objects};
 use crate::options::{Options, Regions};
 use crate::totals::{ClassTotals, Totals, ranking};
 use crate::transcription::transcribed::Transcribed;
+use dump_objects::{Inventory, UnsealedHeap};
+use dump_records::ImportError;
 use heap_image::Intake;
 use std::alloc::{AllocError, Global};
 

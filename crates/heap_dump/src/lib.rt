@@ -10,12 +10,9 @@
 #![tactic(auto)]
 
 mod dead_words;
-mod dump;
-mod error;
 mod figures;
 mod heap;
 mod importing;
-mod inventory;
 mod limits;
 mod listing;
 mod options;
@@ -23,7 +20,7 @@ mod totals;
 mod transcription;
 
 pub use dead_words::DeadWords;
-pub use error::{ImportError, Problem};
+pub use dump_records::{ImportError, Problem};
 pub use figures::ImportFigures;
 pub use heap::draft::Imported;
 pub use importing::{ListedImport, import, import_listed};

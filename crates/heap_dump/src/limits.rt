@@ -3,7 +3,7 @@ ghost use Rattle.std.specs.Prelude.{◌≡◌, ◌<◌, ◌≤◌, ◌^◌, All,
 ghost use Rattle.std.specs.List.{concat};
 ghost use Rattle.heap_image.specs.HeapImage.{AreBlocks, IsWithinLimits};
 
-use crate::error::ImportError;
+use dump_records::ImportError;
 use heap_image::{Fault, Version, blocks_joined};
 use raw_region::Region;
 

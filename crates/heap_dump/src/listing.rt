@@ -3,12 +3,13 @@ ghost use Rattle.std.specs.Prelude.{◌≡◌, ◌≢◌, ◌<◌, ◌≤◌, �
 ghost use Rattle.heap_image.specs.HeapImage.{heap_words, size_at};
 ghost use Rattle.heap_dump.specs.Listing.{AreObjectsBefore, AreObjectsOf, IsNextLive};
 
+pub(crate) mod class_kind;
 pub(crate) mod class_names;
 pub(crate) mod class_number;
 pub(crate) mod object_classes;
 pub(crate) mod texts;
 
-use crate::error::ImportError;
+use dump_records::ImportError;
 use heap_image::header::size;
 use heap_image::{Fault, Image};
 use std::alloc::Global;

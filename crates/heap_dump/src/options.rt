@@ -4,7 +4,7 @@ ghost use Rattle.std.specs.Option.{ForSome};
 ghost use Rattle.heap_image.specs.Version.{Allows, IsChosen, has_roots};
 ghost use Rattle.heap_dump.specs.Requested.{requested_log};
 
-use crate::error::ImportError;
+use dump_records::ImportError;
 use heap_image::limits::MIN_REGION_LOG;
 use heap_image::{Fault, Version};
 

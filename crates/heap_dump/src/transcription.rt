@@ -5,17 +5,12 @@ ghost use Rattle.std.specs.Io.KnownBytes.{IsAtEnd};
 mod slots;
 pub(crate) mod transcribed;
 
-use crate::dump::Dump;
-use crate::dump::field_type::FieldType;
-use crate::dump::record::{ObjectKind, ObjectRecord, Record};
-use crate::dump::record_visitor::RecordVisitor;
-use crate::error::{ImportError, Problem};
-use crate::heap::{UnsealedHeap, first_word};
-use crate::inventory::Inventory;
-use crate::inventory::contents::Contents;
-use crate::inventory::objects::Place;
-use crate::listing::class_number::UNKNOWN_ARRAYS;
 use crate::listing::texts::Texts;
+use dump_objects::{Inventory, Place, UNKNOWN_ARRAYS, UnsealedHeap, first_word};
+use dump_records::{
+    Contents, Dump, FieldType, ImportError, ObjectKind, ObjectRecord, Problem, Record,
+    RecordVisitor,
+};
 use heap_image::Intake;
 use slots::Slots;
 use std::alloc::{AllocError, Global};

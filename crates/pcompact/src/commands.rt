@@ -7,8 +7,9 @@ ghost use Rattle.pcompact.specs.Commands.{IsPrintedBy};
 ghost use Rattle.command_support.specs.Failure.{out_of_memory};
 
 use collection_commands::{collect, record, verify};
+use command_files::{SystemFile, WorkDone};
 use command_line::Request;
-use command_support::{Screen, SystemFile, Trouble, WorkDone};
+use command_support::{Screen, Trouble};
 use heap_commands::{
     assemble, board, generate, import, map, order, replay, summarize, text, timeline, upgrade,
 };

@@ -10,11 +10,12 @@ ghost use Rattle.command_support.specs.Failure.{failed_device, out_of_memory, st
 ghost use Rattle.command_support.specs.Json.{as_shown};
 
 use crate::commands;
+use command_files::{SystemFile, WorkDone};
 use command_line::{Request, Respelled, Unread};
 use command_support::{
-    FailedCall, Failure, Printable, Reason, Screen, Stats, SystemCall, SystemFile, Trouble,
-    WorkDone, push_json,
+    FailedCall, Failure, Printable, Reason, Screen, SystemCall, Trouble, push_json,
 };
+use command_times::Stats;
 use heap_image::Fault;
 use std::alloc::{AllocError, Global};
 use std::io;

@@ -1,19 +1,22 @@
 //! Open files that note how calls on them fail.
 ghost use Rattle.std.specs.Prelude.{◌≡◌, ◌+◌, None, length, min};
 
-use super::access::is_private;
 use super::file_id::FileId;
-use super::file_target::Writing;
 use super::file_word::FileWord;
 use super::head::reshape;
+use super::writing::Writing;
 use crate::trouble::failed_call::{FailedCall, SystemCall};
 use crate::trouble::{Trouble, on_file};
 use command_line::Shape;
 use heap_image::FRONT_BYTES;
 use std::fs::{Metadata, OpenFile};
 use std::io::{Read, Seek, SeekFrom, Write};
+use std::os::unix::fs::MetadataExt;
 use std::rt::Files;
 use std::{fs, io};
+
+/// The mode bits by which others than its owner may read a file.
+const OTHERS_READ: u32 = 0o044;
 
 /// An open file of the command line. It reads and writes as the file does, and keeps the first bytes that were read and the
 /// last call that failed. An image is read as if its head had the values of the shape.
@@ -258,4 +261,9 @@ impl Front {
         self.bytes[from..from + count].copy_from_slice(&bytes[..count]);
         self.count = from + count;
     }
+}
+
+/// Whether it is a regular file that only its owner may read.
+fn is_private(metadata: &Metadata) -> bool {
+    metadata.is_file() && metadata.mode() & OTHERS_READ == 0
 }

@@ -3,8 +3,8 @@ ghost use Rattle.std.specs.Prelude.{◌≡◌};
 ghost use Rattle.command_support.specs.Hints.{hint_of, hint_of_dump, hint_of_found, hint_of_words};
 
 use crate::files::content::Content;
-use crate::stats::tenths::Tenths;
-use heap_dump::ImportError;
+use command_times::Tenths;
+use dump_records::ImportError;
 use std::fmt;
 
 /// What is known of a file that a command refuses.

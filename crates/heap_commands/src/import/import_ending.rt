@@ -3,9 +3,8 @@ ghost use Rattle.std.specs.Prelude.{◌≡◌, IfOk, string_bytes};
 
 use super::ImportMade;
 use super::object_list::give_list;
-use command_support::{
-    FileTarget, Late, Output, SystemFile, Trouble, Watched, WorkDone, both_ended, failed,
-};
+use command_files::{FileTarget, Late, Output, SystemFile, WorkDone, both_ended, failed};
+use command_support::{Trouble, Watched};
 use heap_dump::ListedImport;
 use heap_image::ToWrite;
 use std::io::Write;

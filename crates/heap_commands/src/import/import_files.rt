@@ -1,12 +1,12 @@
 //! The files of `import`.
 ghost use Rattle.std.specs.Prelude.{◌≡◌, ◌⊎◌, IfErr};
 
-use crate::map::drawing_target;
-use command_line::Import;
-use command_support::{
-    Content, FileTarget, FileWord, Late, Role, SystemFile, Trouble, Watched, must_differ,
-    not_regular, output_must_differ, same_file, target_beside,
+use command_files::{
+    FileTarget, Late, SystemFile, different_target, must_differ, not_regular, output_must_differ,
+    same_file, target_beside,
 };
+use command_line::Import;
+use command_support::{Content, FileWord, Role, Trouble, Watched};
 use heap_image::Fault;
 use std::alloc::Global;
 use std::fs::OpenFile;
@@ -73,7 +73,7 @@ fn list_target<'a, H: Files + AllocGlobal>(
     };
     let list = FileWord::new(Role::Drawing, name);
     must_differ(host.alloc(), image.word(), list)?;
-    let found = drawing_target(host, dump, list, request.atomic)?;
+    let found = different_target(host, dump, list, request.atomic)?;
     match found.is_same(host, image) {
         Ok(false) => Ok(Some(found)),
         Ok(true) => {

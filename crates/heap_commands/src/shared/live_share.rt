@@ -3,7 +3,7 @@ ghost use Rattle.std.specs.Prelude.{◌≡◌, ℕ, List, sum_by};
 ghost use Rattle.heap_image.specs.HeapImage.{heap_words, size_at};
 ghost use Rattle.heap_dump.specs.Totals.{held};
 
-use command_support::LiveShare;
+use command_times::LiveShare;
 use heap_image::Image;
 use heap_image::header::size;
 

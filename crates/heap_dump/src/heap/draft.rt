@@ -5,12 +5,12 @@ ghost use Rattle.heap_image.specs.HeapImage.{IsValid, heap_words, roots_of};
 ghost use Rattle.heap_image.specs.Version.{IsChosen, has_roots};
 ghost use Rattle.heap_dump.specs.ImportFigures.{AreFiguresOf};
 
-use super::UnsealedHeap;
 use super::roots::roots_to;
-use crate::error::ImportError;
 use crate::figures::ImportFigures;
 use crate::limits::words_within_limits;
 use crate::options::Regions;
+use dump_objects::UnsealedHeap;
+use dump_records::ImportError;
 use heap_image::{Fault, Image, ImageParts, mark_from_roots, marked_parts_are_valid};
 use std::alloc::Global;
 

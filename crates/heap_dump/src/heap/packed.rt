@@ -2,10 +2,9 @@
 ghost use Rattle.std.specs.Prelude.{OnOk, ◌≡◌, IsTrue};
 ghost use Rattle.std.specs.Io.KnownBytes.{IsAtEnd};
 
-use super::survivors::Survivors;
-use crate::error::ImportError;
-use crate::inventory::Inventory;
 use crate::transcription::transcribed::Transcribed;
+use dump_objects::{Inventory, Survivors};
+use dump_records::ImportError;
 use heap_image::Intake;
 use heap_image::limits::MAX_REGION_LOG;
 use std::alloc::Global;

@@ -2,10 +2,10 @@
 ghost use Rattle.std.specs.Prelude.{◌≡◌, ◌++◌, OnOk, string_bytes, option_copied, flat_map};
 ghost use Rattle.heap_dump.specs.ClassNames.{class_of, inner_name, is_shown, most_padding, name_of, shown_byte};
 
-use super::class_number::{CLASS_OBJECTS, FIRST_CLASS, first_name};
+use super::class_kind::ClassKind;
+use super::class_number::{FIRST_CLASS, first_name};
 use super::texts::Texts;
-use crate::inventory::Inventory;
-use crate::inventory::class_kind::ClassKind;
+use dump_objects::{CLASS_OBJECTS, Inventory};
 use std::alloc::{AllocError, Global};
 
 /// A class of the dump.

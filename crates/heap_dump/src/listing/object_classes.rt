@@ -1,9 +1,7 @@
 //! The classes of the objects of a heap.
 use super::class_names::ClassNames;
-use super::class_number::CLASS_OBJECTS;
 use super::texts::Texts;
-use crate::heap::{UnsealedHeap, size};
-use crate::inventory::Inventory;
+use dump_objects::{CLASS_OBJECTS, Inventory, UnsealedHeap, size};
 use std::alloc::{AllocError, Global};
 
 /// The class number of each object, in the order of addresses, and the names of the classes. It is empty unless classes

@@ -1,8 +1,7 @@
 //! The texts of a dump that are names of classes.
 ghost use Rattle.std.specs.Prelude.{◌≡◌, IsTrue};
 
-use crate::dump::Dump;
-use crate::error::ImportError;
+use dump_records::{Dump, ImportError};
 use heap_image::Intake;
 use std::alloc::{AllocError, Global};
 

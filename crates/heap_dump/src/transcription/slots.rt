@@ -1,8 +1,8 @@
 //! Fills in the words of one object.
 ghost use Rattle.std.specs.Prelude.{◌<◌};
 
-use crate::heap::UnsealedHeap;
 use byteorder::{ByteOrder, LittleEndian};
+use dump_objects::UnsealedHeap;
 
 /// The addresses of the next reference and the next primitive data of an object.
 ///

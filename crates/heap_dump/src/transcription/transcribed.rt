@@ -3,13 +3,10 @@ ghost use Rattle.std.specs.Prelude.{◌≤◌, OnOk, ◌≡◌, ◌≢◌, IsTru
 ghost use Rattle.std.specs.Io.KnownBytes.{IsAtEnd};
 
 use super::{Transcript, Transcription};
-use crate::error::ImportError;
-use crate::heap::UnsealedHeap;
-use crate::heap::arrangement::Arrangement;
 use crate::heap::draft::Draft;
-use crate::heap::forwarding::{copy_survivors, new_address};
-use crate::inventory::Inventory;
 use crate::listing::object_classes::ObjectClasses;
+use dump_objects::{Arrangement, Inventory, UnsealedHeap, copy_survivors, new_address};
+use dump_records::ImportError;
 use heap_image::Intake;
 use std::alloc::Global;
 

@@ -1,0 +1,126 @@
+//! Files that are changed only once there is something to write.
+ghost use Rattle.std.specs.Prelude.{◌≡◌, IfOk, string_bytes};
+
+use crate::file_target::FileTarget;
+use crate::files::ended;
+use crate::output::Output;
+use crate::system_file::SystemFile;
+use crate::work_done::WorkDone;
+use command_support::Trouble;
+use heap_image::Fault;
+use std::io;
+use std::io::{Error, ErrorKind, Write};
+use std::rt::Files;
+
+/// A file that is emptied, or made anew, only with the first byte that is written.
+pub struct Late<'a, 'h, H: Files> {
+    host: &'h H,
+    /// The file before its first byte.
+    found: Option<FileTarget<'a, H::File>>,
+    /// The name that a new file doesn't get.
+    apart: Option<String>,
+    /// The file from its first byte on, or the error that prevented it.
+    begun: Option<Result<Output<'a, H::File>, Trouble<'a>>>,
+}
+
+impl<H: Files> Drop for Late<'_, '_, H> {
+    fn drop(self) {
+        let Late {
+            host: _,
+            found: _,
+            apart: _,
+            begun: _,
+        } = self;
+    }
+}
+
+impl<'a, 'h, H: Files + AllocGlobal> Late<'a, 'h, H>
+where
+    H::File: SystemFile,
+{
+    /// Wraps a file, which stays unchanged until the first byte.
+    pub fn new(host: &'h H, found: FileTarget<'a, H::File>) -> Late<'a, 'h, H> {
+        Late {
+            host,
+            found: Some(found),
+            apart: None,
+            begun: None,
+        }
+    }
+
+    /// Wraps a file, which stays unchanged until the first byte. A new file doesn't get this name, which is that of the other file
+    /// that the command writes.
+    pub fn apart(host: &'h H, found: FileTarget<'a, H::File>, name: String) -> Late<'a, 'h, H> {
+        Late {
+            host,
+            found: Some(found),
+            apart: Some(name),
+            begun: None,
+        }
+    }
+
+    fn begin(&mut self) {
+        if let Some(found) = self.found.take() {
+            let apart = match &self.apart {
+                Some(name) => Some(name.as_str()),
+                None => None,
+            };
+            self.begun = Some(found.begin_apart(self.host, apart));
+        }
+    }
+
+    /// The file, begun even if nothing was written.
+    ///
+    /// Fault 13 if it can't be begun, and 11 if memory runs out.
+    pub fn into_output(mut self) -> Result<Output<'a, H::File>, Trouble<'a>> {
+        self.begin();
+        match self.begun.take() {
+            Some(begun) => begun,
+            None => Err(Trouble::from(Fault::Io)),
+        }
+    }
+
+    /// Finishes the file, even if nothing was written. The command prints this line.
+    pub fn ended(self, line: String) -> Result<WorkDone<'a>, Trouble<'a>>
+        ensures { IfOk result (λ done. done.text.items ≡ string_bytes line) }
+    {
+        let host = self.host;
+        ended(host, line, self.into_output()?)
+    }
+
+    /// The error of a command that failed before the file was complete. A file that wasn't begun is unchanged.
+    pub fn failed(mut self, trouble: Trouble<'a>) -> Trouble<'a> {
+        if let Some(found) = self.found.take() {
+            found.leave(self.host);
+        }
+        match self.begun.take() {
+            Some(Ok(output)) => {
+                let trouble = trouble.if_failed(&output.file);
+                output.abandon(self.host);
+                trouble
+            }
+            Some(Err(earlier)) => earlier,
+            None => trouble,
+        }
+    }
+}
+
+impl<H: Files + AllocGlobal> Write for Late<'_, '_, H>
+where
+    H::File: SystemFile,
+{
+    fn write(&mut self, buf: &[u8]) -> io::Result<usize> {
+        self.begin();
+        match &mut self.begun {
+            Some(Ok(output)) => output.file.write(buf),
+            _ => Err(Error::from(ErrorKind::Other)),
+        }
+    }
+
+    fn flush(&mut self) -> io::Result<()> {
+        match &mut self.begun {
+            Some(Ok(output)) => output.file.flush(),
+            _ => Ok(()),
+        }
+    }
+}

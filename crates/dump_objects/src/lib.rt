@@ -1,0 +1,23 @@
+//! The classes and the objects of a heap dump, and the words of their heap.
+//!
+//! [`Inventory::of`] reads a dump for the first time: it keeps the classes, the sizes of the objects by their ids, and the roots.
+//! An [`UnsealedHeap`] has the words, in an [`Arrangement`]; it may be larger than an image. [`Survivors`] are what its roots
+//! reach.
+//!
+//! **Proved**, for all inputs: at Ok a reading is at the end of the dump; an input error comes only where a device has failed; no
+//! call indexes out of range, overflows or runs forever. **Only tested**: that objects, classes and roots are those of the
+//! dump. See the README.
+#![tactic(auto)]
+
+mod heap;
+mod inventory;
+
+pub use heap::arrangement::Arrangement;
+pub use heap::forwarding::{copy_survivors, new_address};
+pub use heap::survivors::Survivors;
+pub use heap::{UnsealedHeap, first_word, size};
+pub use inventory::Inventory;
+pub use inventory::class_number::{CLASS_OBJECTS, UNKNOWN_ARRAYS};
+pub use inventory::classes::{Class, Classes};
+pub use inventory::name_ids::{NameId, NameIds};
+pub use inventory::objects::{Object, Objects, Place};

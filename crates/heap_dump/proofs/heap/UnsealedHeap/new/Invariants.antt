@@ -1,5 +1,0 @@
-use Rattle.heap_image.specs.HeapImage.{AreBlocks}
-use Rattle.heap_dump.proofs.heap.UnsealedHeap.new.Given as goal
-
-abbrev pub invariant-loop-r : goal.invariant-loop-r
-invariant-loop-r l = AreBlocks l.region_log l.regions.items
