@@ -1,4 +1,4 @@
-ghost use Rattle.std.specs.Prelude.{◌≡◌, ℕ, ◌+◌, ◌*◌, ◌<◌, ◌≤◌, ◌↔◌, ◌==◌, length, All, take, count_by, SomeIff, IsTrue, IfOk, IfSome, OnOk, true, false};
+ghost use Rattle.std.specs.Prelude.{◌≡◌, ℕ, ◌+◌, ◌<◌, ◌≤◌, ◌↔◌, ◌==◌, length, All, take, count_by, SomeIff, IsTrue, IfOk, IfSome, OnOk, true, false};
 ghost use Rattle.scheduler.specs.State.{opening, unsettled};
 ghost use Rattle.scheduler.specs.MoveTable.{MoveTable, IsMoveTable, IsAscending, IsFirstPlace, IsNextSource, Slides, table_of, is_before, has_source, region_count, pairs_before};
 
@@ -195,30 +195,18 @@ fn fill_of<M: Moves>(alloc: Global, moves: &M, regions: u32) -> Result<Vec<bool>
     Ok(fill)
 }
 
-/// All pairs, by destination and then by source.
+/// All pairs, by destination and then by source. A region has at most two readers, so there are at most twice as many
+/// pairs as regions.
 fn pairs_of<M: Moves>(alloc: Global, moves: &M, regions: u32) -> Result<Vec<(u32, u32)>, AllocError>
     requires number { regions ≡ region_count (M.table moves.now) }
     requires lawful { IsMoveTable (M.table moves.now) }
     ensures { IfOk result (λ pairs. pairs.items ≡ (M.table moves.now).pairs) }
 {
-    let mut pairs = Vec::with_capacity(alloc, pair_count(moves, regions))?;
+    let mut pairs = Vec::with_capacity(alloc, 2 * regions as usize)?;
     for destination in 0..regions {
         push_pairs(&mut pairs, moves, destination)?;
     }
     Ok(pairs)
-}
-
-/// The number of pairs, each counted at its source. A region has at most two readers.
-fn pair_count<M: Moves>(moves: &M, regions: u32) -> usize
-    requires number { regions ≡ region_count (M.table moves.now) }
-    requires lawful { IsMoveTable (M.table moves.now) }
-    ensures few { result ≤ 2 * regions }
-{
-    let mut count = 0;
-    for source in 0..regions {
-        count += moves.count(source) as usize;
-    }
-    count
 }
 
 /// Appends the pairs of one destination.
