@@ -49,7 +49,7 @@ typedef struct pcompact_answer {
 } pcompact_answer;
 
 /* Tells what a collection will do to the image with these bytes. Returns the number of the fault in `answer`, which is that
- * of pcompact_check: 0 if there is none. Takes the memory of the image, and about 5 bits for each of its words. `bytes`
+ * of pcompact_check: 0 if there is none. Takes the memory of the image, and about 4 bits for each of its words. `bytes`
  * and `answer` aren't null, and nobody writes there meanwhile. `answer` need not be filled before. */
 uint32_t pcompact_summary_of_image(const uint8_t *bytes, size_t len, pcompact_answer *answer);
 
@@ -61,7 +61,7 @@ typedef struct pcompact_settings {
 
 /* Tells what a collection will do to the heap with these words, from address 0 up, and these live addresses, ascending. Returns
  * the number of the fault in `answer`: 0, 3, 4, 6 to 9, or 11 if memory runs out. Takes the memory of a copy of the
- * words, and about 5 bits for each of them. No pointer is null, also with a count of 0, and nobody writes there meanwhile.
+ * words, and about 4 bits for each of them. No pointer is null, also with a count of 0, and nobody writes there meanwhile.
  * Nothing but `answer` is written. */
 uint32_t pcompact_summary(const uint64_t *words, size_t word_count, const uint64_t *live, size_t live_count,
                           pcompact_settings settings, pcompact_answer *answer);
